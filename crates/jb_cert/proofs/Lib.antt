@@ -1,0 +1,11 @@
+pub mod LowerBound
+pub mod Rounds
+pub mod EndToEnd
+pub mod Sets
+pub mod Planned
+pub mod Certified
+pub mod Judged
+pub mod FirstFault
+pub mod NoFault
+pub mod Faultless
+pub mod Rows

@@ -1,0 +1,26 @@
+-- The first fault as a walk over a plan finds it, for the checker's own loops; Faults has the definition.
+use Rattle.std.specs.Prelude.{ℕ, List, [], ◌∷◌, ◌++◌, Option, Some, None}
+use Rattle.jb_cert.specs.declared.plans.Slot.{Slot}
+use Rattle.jb_cert.specs.declared.plans.PlanFault.{PlanFault}
+use Rattle.jb_cert.specs.Faults.{slots_in_all, fault_of, missing_fault}
+
+-- the first of two
+abbrev pub or_else : Option PlanFault → Option PlanFault → Option PlanFault
+or_else (Some fault) later = Some fault
+or_else None later = later
+
+-- among the rest of a round, with the slots here before them
+abbrev pub fault_in_round : List ℕ → ℕ → (ℕ → ℕ) → List Slot → List Slot → Option PlanFault
+fault_in_round counts threads ran here [] = None
+fault_in_round counts threads ran here (slot ∷ rest) =
+    or_else (fault_of counts threads ran here slot) (fault_in_round counts threads ran (here ++ slot ∷ []) rest)
+
+-- among the rest of the rounds, with these before them, and at the end
+abbrev pub fault_after : List ℕ → ℕ → List (List Slot) → List (List Slot) → Option PlanFault
+fault_after counts threads before [] = missing_fault counts (λ p. slots_in_all p before)
+fault_after counts threads before (round ∷ rest) =
+    or_else (fault_in_round counts threads (λ p. slots_in_all p before) [] round) (fault_after counts threads (before ++ round ∷ []) rest)
+
+-- in the whole plan
+abbrev pub found_fault : List ℕ → ℕ → List (List Slot) → Option PlanFault
+found_fault counts threads rounds = fault_after counts threads [] rounds

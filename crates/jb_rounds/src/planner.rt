@@ -1,0 +1,73 @@
+//! Whole plans.
+ghost use Rattle.std.specs.Prelude.{◌≡◌, IfOk, length, map};
+ghost use Rattle.jb_cert.specs.Load.{IsWithinLimits, mcnaughton};
+ghost use Rattle.jb_cert.specs.Certificates.{Holds, certificate_of};
+ghost use Rattle.jb_cert.specs.Plans.{StandsForLeast, rounds_of};
+ghost use Rattle.jb_rounds.specs.Slots.{slots_of_round, wrapped_rounds};
+
+use crate::cursor::RoundCursor;
+use jb_cert::{Certificate, Plan, Slot};
+use std::alloc::{AllocError, Global};
+
+/// A lawful plan of the fewest rounds for these counts of chunks, one for each partition, on so many threads, by
+/// McNaughton's wrap-around of 1959, and the reason why no lawful plan has fewer.
+///
+/// The slots of a round stand by rising lane. The plan holds a slot for each chunk, and the work is in proportion to
+/// the chunks. The only error is want of memory.
+pub fn plan(alloc: Global, counts: &[u64], threads: u32) -> Result<(Plan, Certificate), AllocError>
+    requires { IsWithinLimits counts.now threads }
+    ensures slots { IfOk result (λ made. rounds_of made.0 ≡ wrapped_rounds counts.now threads) }
+    ensures least { IfOk result (λ made. StandsForLeast counts.now threads (rounds_of made.0)) }
+    ensures certificate { IfOk result (λ made. made.1 ≡ certificate_of counts.now threads) }
+    ensures certified { IfOk result (λ made. Holds counts.now threads (length (rounds_of made.0)) made.1) }
+{
+    let total: u64 = counts.iter().sum();
+    let cursor = RoundCursor::new(alloc, counts, threads)?;
+    let rounds = rounds_of_cursor(alloc, &cursor, threads, total)?;
+    let certificate = cursor.certificate();
+    Ok((Plan { rounds }, certificate))
+}
+
+// The slots of all rounds. The total is that of the chunks: it tells how much memory each round takes.
+fn rounds_of_cursor(
+    alloc: Global,
+    cursor: &RoundCursor,
+    threads: u32,
+    total: u64,
+) -> Result<Vec<Vec<Slot>>, AllocError>
+    requires { threads ≡ cursor.now.threads }
+    ensures { IfOk result (λ rounds. map (λ round. round.items) rounds.items ≡ wrapped_rounds cursor.now.counts threads) }
+{
+    let length = cursor.rounds();
+    let mut rounds = Vec::with_capacity(alloc, length as usize)?;
+    for round in 0..length {
+        let lanes = total.saturating_sub(round).div_ceil(length);
+        rounds.push(round_of_cursor(alloc, cursor, threads, round, lanes as usize)?)?;
+    }
+    Ok(rounds)
+}
+
+// The slots of one round, of which memory for so many lanes is taken at once.
+fn round_of_cursor(
+    alloc: Global,
+    cursor: &RoundCursor,
+    threads: u32,
+    round: u64,
+    lanes: usize,
+) -> Result<Vec<Slot>, AllocError>
+    requires { threads ≡ cursor.now.threads }
+    ensures { IfOk result (λ slots. slots.items ≡ slots_of_round cursor.now.counts threads round) }
+{
+    let mut slots = Vec::with_capacity(alloc, lanes)?;
+    for lane in 0..threads {
+        let Some((partition, chunk)) = cursor.slot(round, lane) else {
+            break;
+        };
+        slots.push(Slot {
+            lane,
+            partition,
+            chunk,
+        })?;
+    }
+    Ok(slots)
+}
