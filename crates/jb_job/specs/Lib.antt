@@ -1,0 +1,5 @@
+pub mod Names
+pub mod Reading
+pub mod Records
+pub mod JobRecord
+pub mod Worked

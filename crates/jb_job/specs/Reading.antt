@@ -1,0 +1,127 @@
+-- Reading a JSON tree by tables of fields (own choice): what a field of each kind gives, or the first fault.
+--
+-- A kind is a function from a field and a tree to a value or a fault, so a fault names its field, and a range stands in
+-- the table. A field that is missing where it is required, or of the wrong kind, is of the wrong shape; then a value may
+-- be out of its range, and a list may have too many members. `null` is of the wrong kind for every field. Of a key that
+-- the text repeats, the tree has the last value.
+use Rattle.std.specs.Prelude.{◌≡◌, ℕ, ◌&&◌, Bool, List, [], ◌∷◌, length, Option, Some, None, option_and_then, Result, Ok, Err, IsErrAnd, ◌⊎◌, nat_le, bytes_eq, if◌then◌else◌}
+use Rattle.std.specs.List.{list_all, list_any}
+use Rattle.std.specs.Str.{is_utf8}
+use Rattle.serde_json.specs.Data.{Data, Items, Members, no_members, member}
+use Rattle.serde_json.specs.Events.{items_len}
+use Rattle.serde_json.specs.Find.{get, as_bool, as_number, as_str, as_array, as_object, as_u64}
+use Rattle.serde_json.specs.Read.{read}
+use Rattle.jb_job.specs.declared.error.JobError.{JobError}
+use Rattle.jb_job.specs.declared.error.JobError.TheVariants.{NotJson, WrongShape, OutOfRange, TooMany, UnknownClass, Memory}
+use Rattle.jb_job.specs.declared.field.Field.{Field}
+use Rattle.jb_job.specs.declared.field.Field.TheVariants as field
+use Rattle.jb_job.specs.Names.{name_of}
+
+-- what is wrong with a tree
+pub data Fault : Type 0 where
+  wrong_shape : Field → Fault
+  out_of_range : Field → Fault
+  too_many : Field → Fault
+  unknown_class : Fault
+
+-- a value, or the first fault
+abbrev pub Read : Type 0 → Type 0
+Read A = Result A Fault
+
+-- One reading after another: the first fault ends them.
+infixl 10 ◌>>=◌
+abbrev pub ◌>>=◌ : {A B : Type 0} → Read A → (A → Read B) → Read B
+(Ok x) >>= f = f x
+(Err e) >>= f = Err e
+
+-- ---- what code is held to
+
+-- The error is what reading gives, unless memory ran out. A tree never gives NotJson.
+abbrev pub Fails : {Y : Type 0} → JobError → Read Y → Type 0
+Fails Memory read = Unit {0}
+Fails NotJson read = ⊥
+Fails (WrongShape f) read = read ≡ Err (wrong_shape f)
+Fails (OutOfRange f) read = read ≡ Err (out_of_range f)
+Fails (TooMany f) read = read ≡ Err (too_many f)
+Fails UnknownClass read = read ≡ Err unknown_class
+
+-- What a function returned, seen by view, is what reading gives, unless memory ran out.
+abbrev pub Gives : {X Y : Type 0} → (X → Y) → Result X JobError → Read Y → Type 0
+Gives view (Ok x) read = read ≡ Ok (view x)
+Gives view (Err e) read = Fails e read
+
+-- ---- kinds of fields
+
+-- a value of the field's kind
+abbrev pub shaped : {A : Type 0} → Field → Option A → Read A
+shaped f None = Err (wrong_shape f)
+shaped f (Some x) = Ok x
+
+-- a value in the field's range
+abbrev pub ranged : {A : Type 0} → Field → Bool → A → Read A
+ranged f inside x = if inside then Ok x else Err (out_of_range f)
+
+-- an object's keys
+abbrev pub member_names : Members → List (List ℕ)
+member_names no_members = []
+member_names (member k d ms) = k ∷ member_names ms
+
+-- a key of the table
+abbrev pub is_named : List Field → List ℕ → Bool
+is_named table name = list_any (λ f. bytes_eq (name_of f) name) table
+
+abbrev pub known : List Field → Data → Members → Read Data
+known table d ms = if list_all (is_named table) (member_names ms) then Ok d else Err (wrong_shape field.Unknown)
+
+-- an object that has no key besides the table's
+unfoldable pub object_at : Field → List Field → Data → Read Data
+object_at f table d = shaped f (as_object d) >>= known table d
+
+-- a text of low to high bytes
+unfoldable pub text_at : ℕ → ℕ → Field → Data → Read (List ℕ)
+text_at low high f d = do
+  s ← shaped f (as_str d)
+  ranged f (nat_le low (length s) && nat_le (length s) high) s
+
+-- A number is a whole one below 2^64, as the text wrote it: `1.0`, `1e2`, `-1` and `-0` are of another kind.
+abbrev pub whole_number : Data → Option ℕ
+whole_number d = option_and_then as_u64 (as_number d)
+
+-- a number from low to high
+unfoldable pub number_at : ℕ → ℕ → Field → Data → Read ℕ
+number_at low high f d = do
+  n ← shaped f (whole_number d)
+  ranged f (nat_le low n && nat_le n high) n
+
+-- a truth value
+unfoldable pub flag_at : Field → Data → Read Bool
+flag_at f d = shaped f (as_bool d)
+
+-- a list of low to high members
+unfoldable pub list_at : ℕ → ℕ → Field → Data → Read Items
+list_at low high f d = do
+  items ← shaped f (as_array d)
+  if nat_le (items_len items) high then ranged f (nat_le low (items_len items)) items else Err (too_many f)
+
+-- a field that has to be there
+unfoldable pub required : {A : Type 0} → (Field → Data → Read A) → Field → Data → Read A
+required kind f d = shaped f (get (name_of f) d) >>= kind f
+
+abbrev pub or_else : {A : Type 0} → (Data → Read A) → A → Option Data → Read A
+or_else kind absent None = Ok absent
+or_else kind absent (Some d) = kind d
+
+-- a field that may be absent
+unfoldable pub optional : {A : Type 0} → (Field → Data → Read A) → A → Field → Data → Read A
+optional kind absent f d = or_else (kind f) absent (get (name_of f) d)
+
+-- ---- text
+
+-- The tree of a text: UTF-8 that is JSON, with nothing but blanks around it, and nests no deeper than 127.
+abbrev pub tree_of : List ℕ → Option Data
+tree_of bytes = if is_utf8 bytes then read bytes else None
+
+-- What reading a text gives, seen by view: NotJson exactly where it has no tree, unless memory ran out.
+abbrev pub GivesOfText : {X Y : Type 0} → (X → Y) → (Data → Read Y) → Result X JobError → Option Data → Type 0
+GivesOfText view kind result None = IsErrAnd result (λ e. (e ≡ NotJson) ⊎ (e ≡ Memory))
+GivesOfText view kind result (Some d) = Gives view result (kind d)

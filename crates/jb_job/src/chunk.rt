@@ -1,0 +1,93 @@
+//! The object `chunk`: the item count of a step, and its rules of skipping and retrying.
+
+ghost use Rattle.std.specs.Prelude.{◌≡◌, ◌≤◌, IfOk, None};
+ghost use Rattle.std.specs.Option.{ForSome};
+ghost use Rattle.serde_json.specs.View.{view};
+ghost use Rattle.jb_job.specs.Reading.{Gives, number_at, optional};
+ghost use Rattle.jb_job.specs.Records.{rules_record};
+ghost use Rattle.jb_job.specs.JobRecord.{limit_at, chunk_at};
+ghost use Rattle.jb_job.specs.declared.field.Field.TheVariants as field;
+
+use crate::class_set::class_field;
+use crate::classes::Classes;
+use crate::error::JobError;
+use crate::field::Field;
+use crate::kinds::{number, object};
+use crate::rules::Rules;
+use serde_json::Value;
+
+const DEFAULT_ITEM_COUNT: u64 = 10;
+
+const MAX_ITEM_COUNT: u64 = 1_000_000;
+
+const MAX_SKIP_LIMIT: u64 = 10_000_000;
+
+const DEFAULT_RETRY_LIMIT: u64 = 1_000;
+
+const MAX_RETRY_LIMIT: u64 = 100_000;
+
+#[tactic(auto, unfolding(crate::specs::Reading::optional))]
+fn item_count(chunk: &Value) -> Result<u64, JobError>
+    ensures exact { Gives (λ n. n) result (optional (number_at 1 1000000) 10 field.ItemCount (view chunk.now)) }
+    ensures least { IfOk result (λ n. 1 ≤ n) }
+    ensures most { IfOk result (λ n. n ≤ 1000000) }
+{
+    match chunk.get(Field::ItemCount.name()) {
+        None => Ok(DEFAULT_ITEM_COUNT),
+        Some(count) => number(1, MAX_ITEM_COUNT, Field::ItemCount, count),
+    }
+}
+
+#[tactic(auto, unfolding(crate::specs::JobRecord::limit_at, crate::specs::Reading::optional))]
+fn skip_limit(chunk: &Value) -> Result<Option<u64>, JobError>
+    ensures exact { Gives (λ n. n) result (optional (limit_at 10000000) None field.SkipLimit (view chunk.now)) }
+    ensures most { IfOk result (λ limit. ForSome limit (λ n. n ≤ 10000000)) }
+{
+    match chunk.get(Field::SkipLimit.name()) {
+        None => Ok(None),
+        Some(limit) => Ok(Some(number(0, MAX_SKIP_LIMIT, Field::SkipLimit, limit)?)),
+    }
+}
+
+#[tactic(auto, unfolding(crate::specs::Reading::optional))]
+fn retry_limit(chunk: &Value) -> Result<u64, JobError>
+    ensures exact { Gives (λ n. n) result (optional (number_at 0 100000) 1000 field.RetryLimit (view chunk.now)) }
+    ensures most { IfOk result (λ n. n ≤ 100000) }
+{
+    match chunk.get(Field::RetryLimit.name()) {
+        None => Ok(DEFAULT_RETRY_LIMIT),
+        Some(limit) => number(0, MAX_RETRY_LIMIT, Field::RetryLimit, limit),
+    }
+}
+
+/// The item count and the rules of a step.
+#[tactic(auto, unfolding(crate::specs::JobRecord::chunk_at))]
+pub fn chunk_parts(classes: &Classes, tree: &Value) -> Result<(u64, Rules), JobError>
+    ensures exact { Gives (λ c. (c.0, rules_record c.1)) result (chunk_at classes.now field.Chunk (view tree.now)) }
+    ensures least { IfOk result (λ c. 1 ≤ c.0) }
+    ensures most { IfOk result (λ c. c.0 ≤ 1000000) }
+{
+    let chunk = object(
+        Field::Chunk,
+        &[
+            Field::ItemCount,
+            Field::SkipLimit,
+            Field::RetryLimit,
+            Field::SkippableExceptionClasses,
+            Field::RetryableExceptionClasses,
+        ],
+        tree,
+    )?;
+    let item_count = item_count(chunk)?;
+    let skip_limit = skip_limit(chunk)?;
+    let retry_limit = retry_limit(chunk)?;
+    let skippable = class_field(classes, Field::SkippableExceptionClasses, chunk)?;
+    let retryable = class_field(classes, Field::RetryableExceptionClasses, chunk)?;
+    let rules = Rules {
+        skippable,
+        retryable,
+        skip_limit,
+        retry_limit,
+    };
+    Ok((item_count, rules))
+}

@@ -1,0 +1,38 @@
+//! The job record: its types, and the Job that a JSON tree stands for.
+//!
+//! A job names its fault classes and its chunk steps. Its keys are those of Jakarta Batch 2.1's job
+//! specification language; that it is JSON, and the keys `exception-classes`, `ranges` and `override`,
+//! are this project's own.
+#![tactic(auto)]
+
+mod artifact_error;
+mod chunk;
+mod class;
+mod class_list;
+mod class_set;
+mod classes;
+mod error;
+mod field;
+mod job;
+pub mod kinds;
+mod lists;
+mod partition;
+mod reading;
+mod rules;
+mod text;
+mod tree;
+
+pub use artifact_error::ArtifactError;
+pub use class::ClassId;
+pub use classes::Classes;
+pub use error::JobError;
+pub use field::Field;
+pub use job::{Job, Range, Spec, Step};
+pub use lists::{Ranges, Steps};
+pub use reading::{job_of, read_job};
+pub use rules::Rules;
+pub use text::Text;
+pub use tree::read_tree;
+
+#[cfg(test)]
+mod tests;

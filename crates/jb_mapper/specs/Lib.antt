@@ -1,0 +1,2 @@
+pub mod EvenCover
+pub mod Mapping

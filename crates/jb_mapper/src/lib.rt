@@ -1,0 +1,16 @@
+//! Partition mappers: how the records of a step are divided among partitions.
+//!
+//! - `mapper`: the interface.
+//! - `even`: as many even ranges as are asked for.
+//! - `fixed`: the same plan whatever the number of records.
+#![tactic(auto)]
+
+mod even;
+mod fixed;
+mod mapper;
+#[cfg(test)]
+mod tests;
+
+pub use even::{EvenMapper, MAX_PARTITIONS_ASKED, even_cover};
+pub use fixed::FixedMapper;
+pub use mapper::PartitionMapper;

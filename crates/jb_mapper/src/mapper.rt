@@ -1,0 +1,24 @@
+//! The interface of a partition mapper.
+
+ghost use Rattle.std.specs.Prelude.{◌≡◌};
+ghost use Rattle.jb_mapper.specs.Mapping.{Mapping, Answers};
+
+use jb_job::ArtifactError;
+use jb_plan::PartitionPlan;
+
+/// Divides the records of a step among partitions (Jakarta Batch 2.1, "Partition Mapper").
+///
+/// Its meaning is a plan or a fault class for each number of records. The plan isn't checked:
+/// [`jb_plan::checked`] does that.
+pub trait PartitionMapper {
+    ghost mapping: { Self → Mapping };
+
+    /// The plan for a step of so many records.
+    ///
+    /// # Errors
+    /// The mapper's fault for that number, or `Memory` where there is none for the plan. No call changes what the
+    /// mapper means.
+    fn map(&mut self, records: u64) -> Result<PartitionPlan, ArtifactError>
+        ensures answer { Answers result (mapping self.old records) }
+        ensures same { mapping self.new ≡ mapping self.old };
+}

@@ -1,0 +1,2 @@
+pub mod BlockLists
+mod NoFaults

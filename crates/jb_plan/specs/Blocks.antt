@@ -1,0 +1,43 @@
+-- The chunks that are left of a range of records.
+use Rattle.std.specs.Prelude.{ℕ, ◌+◌, ◌-◌, ◌*◌, ◌/◌, if◌then◌else◌, nat_lt, ◌==◌, min, max, Option, Some, None, List, ◌++◌, length, map, filter}
+use Rattle.std.specs.List.{range_with_len}
+use Rattle.jb_job.specs.declared.job.Range.{Range}
+
+-- the one record x
+abbrev pub single : (x : ℕ) → Range
+single x = record { lo = x; hi = x + 1 }
+
+-- the records from a to b - 1, one by one
+abbrev pub singles : (a b : ℕ) → List Range
+singles a b = map single (range_with_len a (b - a))
+
+-- the j-th block of `count` records from s on, cut off at `hi`
+abbrev pub block : (s hi count j : ℕ) → Range
+block s hi count j = record { lo = s + j * count; hi = min hi (s + (j + 1) * count) }
+
+-- the blocks of `count` records from s on that begin below `hi`
+abbrev pub full_blocks : (s hi count : ℕ) → List Range
+full_blocks s hi count = map (block s hi count) (filter (λ j. nat_lt (s + j * count) hi) (range_with_len 0 (hi - s)))
+
+-- The chunks that are left of the records from `at` to `hi - 1` (Jakarta Batch 2.1, "Chunk": as many items as the
+-- step's item-count says; that it is shorter at the range's end alone is this project's choice). Below `redo`, up to
+-- which a rolled-back chunk is done again, each record is a chunk of its own (also this project's choice).
+unfoldable pub blocks : (at redo hi count : ℕ) → List Range
+blocks at redo hi count = singles at redo ++ full_blocks (max at redo) hi count
+
+-- how many chunks are left
+abbrev pub left : (at redo hi count : ℕ) → ℕ
+left at redo hi count = length (blocks at redo hi count)
+
+-- THE SAME AS FORMULAS, for proofs
+
+-- the first of the blocks
+abbrev pub first_block : (at redo hi count : ℕ) → Option Range
+first_block at redo hi count =
+    if at == hi
+    then None
+    else (if nat_lt at redo then Some (record { lo = at; hi = at + 1 }) else Some (record { lo = at; hi = min hi (at + count) }))
+
+-- the number of blocks
+abbrev pub blocks_left : (at redo hi count : ℕ) → ℕ
+blocks_left at redo hi count = (redo - at) + ((hi - max at redo) + (count - 1)) / count

@@ -1,0 +1,90 @@
+//! The check of a partition plan.
+
+ghost use Rattle.std.specs.Prelude.{◌≡◌, ◌≤◌, ◌<◌, ◌+◌, ◌↔◌, [], Some, length, drop, IsOk, IfOk, IfErr};
+ghost use Rattle.jb_plan.specs.Plans.{IsLawful, checked_plan};
+ghost use Rattle.jb_plan.specs.Faults.{first, do_overlap, bound_faults, overlaps_with, overlap_faults, faults_of, FirstOf, list_faults};
+
+use crate::fault::PlanError;
+use crate::limits::{MAX_PARTITIONS, MAX_RECORDS, MAX_THREADS_ASKED};
+use crate::plan::{Checked, PartitionPlan};
+use jb_job::Range;
+
+/// Whether some record stands in both ranges.
+fn do_overlap(left: Range, right: Range) -> bool
+    ensures { result ≡ do_overlap left right }
+{
+    left.lo.max(right.lo) < left.hi.min(right.hi)
+}
+
+/// Refuses the first range that is reversed or ends past the last record.
+fn check_bounds(ranges: &[Range], records: u64) -> Result<(), PlanError>
+    ensures { FirstOf (bound_faults records 0 ranges.now) result }
+{
+    for i in 0..ranges.len() {
+        if ranges[i].hi < ranges[i].lo {
+            return Err(PlanError::Reversed(i));
+        }
+        if records < ranges[i].hi {
+            return Err(PlanError::PastEnd(i));
+        }
+    }
+    Ok(())
+}
+
+/// Refuses an empty list of ranges, and the first range that is reversed or ends past the last record. An empty range
+/// is neither. This is the part of `checked` that looks at each range by itself.
+pub fn ranges_in(ranges: &[Range], records: u64) -> Result<(), PlanError>
+    ensures ok { IsOk result ↔ (list_faults records ranges.now ≡ []) }
+    ensures err { IfErr result (λ fault. first (list_faults records ranges.now) ≡ Some fault) }
+{
+    if ranges.is_empty() {
+        return Err(PlanError::NoPartition);
+    }
+    check_bounds(ranges, records)
+}
+
+/// Refuses the first range after the i-th that has a record of it.
+fn check_apart(i: usize, range: Range, ranges: &[Range]) -> Result<(), PlanError>
+    requires { i < length ranges.now }
+    ensures { FirstOf (overlaps_with i range (i + 1) (drop (i + 1) ranges.now)) result }
+{
+    for j in i + 1..ranges.len() {
+        if do_overlap(range, ranges[j]) {
+            return Err(PlanError::Overlap(i, j));
+        }
+    }
+    Ok(())
+}
+
+/// Refuses the first pair of ranges that have a record in common.
+fn check_all_apart(ranges: &[Range]) -> Result<(), PlanError>
+    ensures { FirstOf (overlap_faults 0 ranges.now) result }
+{
+    for i in 0..ranges.len() {
+        check_apart(i, ranges[i], ranges)?;
+    }
+    Ok(())
+}
+
+/// Checks a plan for a step of so many records.
+///
+/// It is refused where it has no range or more than 256, where a range is reversed or ends past the last record, where
+/// some record stands in two ranges, and where it asks for more than 4,096 threads. Of several faults the first in
+/// this order is answered, ranges and pairs of ranges by their places. No memory is taken.
+pub fn checked(plan: PartitionPlan, records: u64) -> Result<Checked, PlanError>
+    requires { records ≤ MAX_RECORDS }
+    ensures ok { IsOk result ↔ IsLawful records plan }
+    ensures value { IfOk result (λ plan_checked. plan_checked ≡ checked_plan plan) }
+    ensures err { IfErr result (λ fault. first (faults_of records plan) ≡ Some fault) }
+{
+    let ranges = plan.ranges.as_slice();
+    if ranges.len() > MAX_PARTITIONS {
+        return Err(PlanError::TooMany);
+    }
+    ranges_in(ranges, records)?;
+    check_all_apart(ranges)?;
+    if plan.threads > MAX_THREADS_ASKED {
+        return Err(PlanError::Threads);
+    }
+    Ok(Checked::of(plan, records))
+}

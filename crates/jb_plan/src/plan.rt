@@ -1,0 +1,92 @@
+//! Partition plans, and plans that were checked.
+
+ghost use Rattle.std.specs.Prelude.{◌≡◌, ◌≤◌};
+ghost use Rattle.jb_plan.specs.Plans.{IsLawful, IsChecked, checked_plan, threads_of};
+
+use crate::limits::{MAX_RECORDS, MAX_THREADS};
+use jb_job::{Range, Ranges};
+use std::marker::Model;
+
+/// How a step's records are to be partitioned (Jakarta Batch 2.1, "Partition Plan"; the ranges are this project's own).
+#[derive(Debug, Drop)]
+pub struct PartitionPlan {
+    /// The records of each partition.
+    pub ranges: Ranges,
+    /// How many threads to use; 0 asks for as many as there are partitions.
+    pub threads: u32,
+    /// Whether a restart begins all partitions anew (partitionsOverride).
+    pub replace: bool,
+}
+
+/// A plan that can be run: 1 to 256 ranges, none reversed, no record in two of them, and 1 to 64 threads.
+#[derive(Debug, Drop)]
+pub struct Checked {
+    ranges: Ranges,
+    threads: u32,
+    replace: bool,
+}
+
+impl Model for Checked {
+    ghost use Rattle.jb_plan.specs.Plans.{CheckedPlan, IsChecked};
+
+    ghost Value = { CheckedPlan };
+
+    ghost view = { λ c. record { ranges = c.ranges; threads = c.threads; replace = c.replace } };
+
+    ghost invariant = { λ c. IsChecked (record { ranges = c.ranges; threads = c.threads; replace = c.replace }) };
+}
+
+impl PartitionPlan {
+    /// How many threads the plan gets.
+    fn threads(&self, records: u64) -> u32
+        requires { IsLawful records self.now }
+        ensures { result ≡ threads_of self.now }
+    {
+        let asked = match self.threads {
+            0 => self.ranges.as_slice().len() as u32,
+            asked => asked,
+        };
+        asked.min(MAX_THREADS)
+    }
+}
+
+impl Checked {
+    /// A plan that is lawful for a step of so many records.
+    pub(crate) fn of(plan: PartitionPlan, records: u64) -> Checked
+        requires lawful { IsLawful records plan }
+        requires records { records ≤ MAX_RECORDS }
+        ensures { result ≡ checked_plan plan }
+    {
+        let threads = plan.threads(records);
+        Checked {
+            ranges: plan.ranges,
+            threads,
+            replace: plan.replace,
+        }
+    }
+
+    /// The records of each partition.
+    pub fn ranges(&self) -> &[Range]
+        ensures ranges { result.now ≡ self.now.ranges }
+        ensures lawful { IsChecked self.now }
+    {
+        self.ranges.as_slice()
+    }
+
+    /// How many threads the step uses: as many as were asked for, or as there are partitions where 0 was, but 64 at
+    /// most (Jakarta Batch 2.1, "Partition Plan", lets a runtime use fewer; the limit is this project's own).
+    pub fn threads(&self) -> u32
+        ensures threads { result ≡ self.now.threads }
+        ensures some { 1 ≤ result }
+        ensures few { result ≤ MAX_THREADS }
+    {
+        self.threads
+    }
+
+    /// Whether a restart begins all partitions anew.
+    pub fn replace(&self) -> bool
+        ensures { result ≡ self.now.replace }
+    {
+        self.replace
+    }
+}

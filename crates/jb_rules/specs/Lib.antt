@@ -1,0 +1,4 @@
+pub mod Counts
+pub mod Decide
+pub mod Rows
+pub mod Sound

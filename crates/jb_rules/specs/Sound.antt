@@ -1,0 +1,33 @@
+-- The rules that the row of a partition keeps (this project's own choice, but for the meaning of the counts).
+use Rattle.std.specs.Prelude.{◌≡◌, ◌+◌, ◌-◌, ◌≤◌, ◌<◌, ◌↔◌}
+use Rattle.jb_plan.specs.declared.limits.TheConstants.{MAX_RECORDS}
+use Rattle.jb_rules.specs.declared.row.TheConstants.{MAX_ROLLBACKS}
+use Rattle.jb_rules.specs.declared.row.Row.{Row}
+use Rattle.jb_rules.specs.declared.row.RowState.TheVariants.{Finished}
+
+-- the next record and the redo mark stand in the range
+pub record IsPlaced (r : Row) : Type 0 where
+  pub at_from : r.lo ≤ r.at
+  pub at_to : r.at ≤ r.hi
+  pub redo_from : r.lo ≤ r.redo
+  pub redo_to : r.redo ≤ r.hi
+  pub records : r.hi ≤ MAX_RECORDS
+
+-- The counts account for the records up to the checkpoint: each was read or its read skipped; of the items read, each had
+-- its process call skipped, was filtered, was written, or was dropped by a skipped write call; each commit passed a record.
+pub record IsCounted (r : Row) : Type 0 where
+  pub passed : r.counts.read + r.counts.read_skip ≡ r.at - r.lo
+  pub written : r.counts.write ≡ r.written
+  pub settled : r.counts.write + r.counts.process_skip + r.counts.filter ≤ r.counts.read
+  pub exact : r.counts.write_skip ≡ 0 → r.counts.write + r.counts.process_skip + r.counts.filter ≡ r.counts.read
+  pub write_skips : r.counts.write_skip ≤ r.counts.commit
+  pub commits : r.counts.commit ≤ r.at - r.lo
+  pub committed : r.lo < r.at → 1 ≤ r.counts.commit
+  pub retried : r.retries ≤ r.counts.rollback
+  pub rolled : r.counts.rollback ≤ MAX_ROLLBACKS
+
+-- the row rules
+pub record IsSoundRow (r : Row) : Type 0 where
+  pub placed : IsPlaced r
+  pub counted : IsCounted r
+  pub finished : (r.state ≡ Finished) ↔ (r.at ≡ r.hi)

@@ -1,0 +1,50 @@
+//! What becomes of a fault.
+
+ghost use Rattle.std.specs.Prelude.{◌≡◌};
+ghost use Rattle.jb_rules.specs.Decide.{is_in, is_below, choice_of};
+
+use jb_job::{ClassId, Rules};
+
+/// What becomes of a fault.
+#[derive(Clone, Copy, Debug, PartialEq, Eq)]
+pub enum Choice {
+    /// The item, or the write call, is left out.
+    Skip,
+    /// The chunk is rolled back and done again.
+    Retry,
+    /// The partition fails.
+    Fail,
+}
+
+fn has_class(classes: u64, class: ClassId) -> bool
+    ensures { result ≡ is_in classes class }
+{
+    (classes >> class.number()) % 2 == 1
+}
+
+fn is_under(limit: Option<u64>, used: u64) -> bool
+    ensures { result ≡ is_below limit used }
+{
+    match limit {
+        None => true,
+        Some(limit) => used < limit,
+    }
+}
+
+/// Settles a fault of this class, where `skips` faults were skipped and `retries` chunks were retried before it.
+///
+/// A fault that is both skippable and retryable is retried first; where the record is done again after a rollback, it
+/// is skipped first (Jakarta Batch 2.1, "Retry and Skip the Same Exception"). A fault over both limits, or of a class in
+/// neither set, fails the partition. The limits hold for each partition by itself.
+pub fn decide(rules: &Rules, class: ClassId, retrying: bool, skips: u64, retries: u64) -> Choice
+    ensures { result ≡ choice_of rules.now class retrying skips retries }
+{
+    let skip_open = has_class(rules.skippable, class) && is_under(rules.skip_limit, skips);
+    let retry_open = has_class(rules.retryable, class) && retries < rules.retry_limit;
+    match (retrying, skip_open, retry_open) {
+        (false, _, true) => Choice::Retry,
+        (_, true, _) => Choice::Skip,
+        (_, false, true) => Choice::Retry,
+        (_, false, false) => Choice::Fail,
+    }
+}

@@ -1,0 +1,56 @@
+//! The metrics of a chunk step.
+
+ghost use Rattle.std.specs.Prelude.{◌≡◌};
+ghost use Rattle.jb_rules.specs.Counts.{plus_counts, SumsFit};
+
+/// The metrics of a partition (Jakarta Batch 2.1, "Metric"). They are kept over restarts.
+#[derive(Clone, Copy, Debug, PartialEq, Eq)]
+pub struct Counts {
+    /// READ_COUNT: items that were read.
+    pub read: u64,
+    /// WRITE_COUNT: results that were written.
+    pub write: u64,
+    /// COMMIT_COUNT: chunks that were committed.
+    pub commit: u64,
+    /// ROLLBACK_COUNT: chunks that were rolled back or failed.
+    pub rollback: u64,
+    /// READ_SKIP_COUNT: faults of a read that were skipped.
+    pub read_skip: u64,
+    /// PROCESS_SKIP_COUNT: faults of a process call that were skipped.
+    pub process_skip: u64,
+    /// FILTER_COUNT: items for which the processor gave no result.
+    pub filter: u64,
+    /// WRITE_SKIP_COUNT: write calls that were skipped.
+    pub write_skip: u64,
+}
+
+impl Counts {
+    /// No count at all.
+    pub const ZERO: Counts = Counts {
+        read: 0,
+        write: 0,
+        commit: 0,
+        rollback: 0,
+        read_skip: 0,
+        process_skip: 0,
+        filter: 0,
+        write_skip: 0,
+    };
+
+    /// The sums, number by number.
+    pub fn plus(&self, other: &Counts) -> Counts
+        requires { SumsFit self.now other.now }
+        ensures { result ≡ plus_counts self.now other.now }
+    {
+        Counts {
+            read: self.read + other.read,
+            write: self.write + other.write,
+            commit: self.commit + other.commit,
+            rollback: self.rollback + other.rollback,
+            read_skip: self.read_skip + other.read_skip,
+            process_skip: self.process_skip + other.process_skip,
+            filter: self.filter + other.filter,
+            write_skip: self.write_skip + other.write_skip,
+        }
+    }
+}

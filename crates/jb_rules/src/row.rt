@@ -1,0 +1,111 @@
+//! How a partition stands, and the rules that each row keeps.
+
+ghost use Rattle.std.specs.Prelude.{◌≡◌, ◌↔◌, ◌≤◌, IsTrue};
+ghost use Rattle.jb_rules.specs.Rows.{fresh_row};
+ghost use Rattle.jb_rules.specs.Sound.{IsCounted, IsPlaced, IsSoundRow};
+
+use crate::counts::Counts;
+use jb_job::Range;
+use jb_plan::MAX_RECORDS;
+
+/// The most rollbacks of a partition, over all restarts.
+pub const MAX_ROLLBACKS: u64 = 1_000_000_000_000;
+
+/// Where a partition stands.
+#[derive(Clone, Copy, Debug, PartialEq, Eq)]
+pub enum RowState {
+    /// Some chunk is left, and none is being done.
+    Waiting,
+    /// The lane of this number does the next chunk.
+    Running(u32),
+    /// No record is left.
+    Finished,
+    /// A fault was neither skipped nor retried.
+    Failed,
+}
+
+/// The checkpoint of a partition: its range, the next record, and its counts.
+#[derive(Clone, Copy, Debug, PartialEq, Eq)]
+pub struct Row {
+    /// The first record of the range.
+    pub lo: u64,
+    /// The end of the range: the number after its last record.
+    pub hi: u64,
+    /// The next record: those before it are committed.
+    pub at: u64,
+    /// Up to here records are done in chunks of one, since an earlier chunk was rolled back.
+    pub redo: u64,
+    /// How many chunks were rolled back to be retried.
+    pub retries: u64,
+    /// How many results the writer holds.
+    pub written: u64,
+    /// The metrics.
+    pub counts: Counts,
+    /// Where the partition stands.
+    pub state: RowState,
+}
+
+impl Row {
+    /// The row of a partition that has not begun. An empty range is finished from the start.
+    pub fn fresh(range: Range) -> Row
+        ensures { result ≡ fresh_row range }
+    {
+        Row {
+            lo: range.lo,
+            hi: range.hi,
+            at: range.lo,
+            redo: range.lo,
+            retries: 0,
+            written: 0,
+            counts: Counts::ZERO,
+            state: if range.lo == range.hi {
+                RowState::Finished
+            } else {
+                RowState::Waiting
+            },
+        }
+    }
+
+    fn is_placed(&self) -> bool
+        ensures { IsTrue result ↔ IsPlaced self.now }
+    {
+        self.lo <= self.at
+            && self.at <= self.hi
+            && self.hi <= MAX_RECORDS
+            && self.lo <= self.redo
+            && self.redo <= self.hi
+    }
+
+    fn is_counted(&self) -> bool
+        requires { IsPlaced self.now }
+        ensures { IsTrue result ↔ IsCounted self.now }
+    {
+        let counts = &self.counts;
+        let passed = self.at - self.lo;
+        if counts.read > passed || counts.read_skip != passed - counts.read {
+            return false;
+        }
+        if counts.write != self.written || counts.write > counts.read {
+            return false;
+        }
+        let left = counts.read - counts.write;
+        if counts.process_skip > left || counts.filter > left - counts.process_skip {
+            return false;
+        }
+        let exact = counts.filter == left - counts.process_skip;
+        (counts.write_skip != 0 || exact)
+            && counts.write_skip <= counts.commit
+            && counts.commit <= passed
+            && (passed == 0 || counts.commit >= 1)
+            && self.retries <= counts.rollback
+            && counts.rollback <= MAX_ROLLBACKS
+    }
+
+    /// Whether the row keeps the row rules, which every row that a run leaves does.
+    pub fn sound(&self) -> bool
+        ensures { IsTrue result ↔ IsSoundRow self.now }
+    {
+        let finished = matches!(self.state, RowState::Finished);
+        self.is_placed() && self.is_counted() && finished == (self.at == self.hi)
+    }
+}
