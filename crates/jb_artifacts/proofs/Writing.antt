@@ -1,0 +1,108 @@
+-- Results that are written in turn.
+use Rattle.std.proofs.Common.{◌≡◌, ℕ, zero, suc, ◌+◌, ◌<◌, ◌≤◌, List, [], ◌∷◌, ◌++◌, length, length-append, get_or, take, ◌-◌, Err, Ok, Bool, true, false, not, cond, None, Some, refl, ap, sym, ◌∙◌, arith, append_assoc}
+use Rattle.std.specs.Prelude.{is_some}
+use Rattle.std.specs.List.{find, prefix_len}
+use Rattle.std.specs.Option.{option_or}
+use Rattle.std.proofs.Math.Seq.{take-suc}
+use Rattle.std.proofs.lemmas.List.{map-append, take_all, length-take-le}
+use Rattle.std.proofs.lemmas.List.Folds.{find-append}
+use Rattle.jb_job.specs.declared.artifact_error.ArtifactError.{ArtifactError}
+use Rattle.jb_job.specs.declared.artifact_error.ArtifactError.TheVariants.{Fault, Memory}
+use Rattle.jb_artifacts.specs.Answers.{Answers}
+use Rattle.jb_artifacts.specs.Faults.{live, is_live, used_at}
+use Rattle.jb_artifacts.specs.Writer.{Numbered, Writer, texts_of, failing, write_fault, after_write, fault_of, used_for, torn, Appends}
+
+-- the first `count` results are appended, none of their records has a live fault, and the plans are unchanged
+pub record IsWrittenTo (old : Writer) (results : Numbered) (count : ℕ) (now : Writer) : Type 0 where
+  pub sound : failing old.faults (take count results) ≡ None
+  pub is : now ≡ record old { written = old.written ++ texts_of (take count results) }
+
+module _ {X : Type 0} (p : X → Bool) where
+  past : (y : X) (ys : List X) (n : ℕ) (x : X) (b : Bool) → p y ≡ b → cond b (Some y) (find p (take n ys)) ≡ None
+      → (find p (take n ys) ≡ None → (find p ys ≡ Some x) × (prefix_len (λ y. not (p y)) ys ≡ n))
+      → (find p (y ∷ ys) ≡ Some x) × (prefix_len (λ y. not (p y)) (y ∷ ys) ≡ 1 + n)
+  past y ys n x true e none more = grind (arith, none)
+  past y ys n x false e none more =
+      let rest = more none in
+      (ap (λ b. cond b (Some y) (find p ys)) e ∙ rest.0, ap (λ b. cond (not b) (1 + prefix_len (λ y. not (p y)) ys) 0) e ∙ ap (λ k. 1 + k) rest.1)
+
+  -- the first `n` don't pass, and the next does
+  stops : (xs : List X) (n : ℕ) (x : X) → n < length xs → x ≡ get_or xs n x → find p (take n xs) ≡ None → p x ≡ true
+      → (find p xs ≡ Some x) × (prefix_len (λ y. not (p y)) xs ≡ n)
+  stops [] n x below is none one = let never : ⊥ = omega (arith, below) in elim never [ ]
+  stops (y ∷ ys) zero x below is none one =
+      let e = ap p (sym is) ∙ one in
+      (ap (λ b. cond b (Some y) (find p ys)) e ∙ ap Some (sym is), ap (λ b. cond (not b) (1 + prefix_len (λ y. not (p y)) ys) 0) e)
+  stops (y ∷ ys) (suc n) x below is none one =
+      let found = past y ys n x (p y) refl none (λ rest. stops ys n x (omega (arith, below)) is rest one) in
+      let one_more : 1 + n ≡ suc n = omega arith in
+      (found.0, found.1 ∙ one_more)
+
+  all-at : (y : X) (ys : List X) (b : Bool) → p y ≡ b → cond b (Some y) (find p ys) ≡ None
+      → (find p ys ≡ None → prefix_len (λ y. not (p y)) ys ≡ length ys)
+      → prefix_len (λ y. not (p y)) (y ∷ ys) ≡ 1 + length ys
+  all-at y ys true e none more = grind (arith, none)
+  all-at y ys false e none more = ap (λ b. cond (not b) (1 + prefix_len (λ y. not (p y)) ys) 0) e ∙ ap (λ k. 1 + k) (more none)
+
+  -- none passes
+  all-fail : (xs : List X) → find p xs ≡ None → prefix_len (λ y. not (p y)) xs ≡ length xs
+  all-fail [] none = refl
+  all-fail (y ∷ ys) none = let one_more : 1 + length ys ≡ length (y ∷ ys) = omega arith in all-at y ys (p y) refl none (all-fail ys) ∙ one_more
+
+  -- one more doesn't pass
+  one-more : (xs : List X) (n : ℕ) (x : X) → n < length xs → x ≡ get_or xs n x → find p (take n xs) ≡ None → p x ≡ false → find p (take (n + 1) xs) ≡ None
+  one-more xs n x below is none fails =
+      let one_more : n + 1 ≡ suc n = omega arith in
+      ap (λ k. find p (take k xs)) one_more ∙ ap (find p) (take-suc xs n x below) ∙ find-append p (take n xs) (get_or xs n x ∷ []) ∙ ap (λ o. option_or o (find p (get_or xs n x ∷ []))) none
+      ∙ ap (λ y. find p (y ∷ [])) (sym is) ∙ ap (λ b. cond b (Some x) None) fails
+
+length-texts : (xs : Numbered) → length (texts_of xs) ≡ length xs
+length-texts [] = refl
+length-texts (x ∷ xs) = let more = length-texts xs in omega (arith, more)
+
+module _ (old : Writer) (results : Numbered) (n : ℕ) (now : Writer) (h : IsWrittenTo old results n now) where
+  -- the next result is not appended
+  pub stopped : (r : ℕ × List ℕ) (error : ArtifactError) (new : Writer) → n < length results → r ≡ get_or results n r → Appends (Err error) r.0 r.1 now new
+      → Answers (Err error) (write_fault old results) (tt {0}) (torn old results (length new.written)) (after_write old results) new
+  stopped r Memory new below is left =
+      let count : length new.written ≡ length old.written + length (take n results) =
+      ap (λ (w : Writer). length w.written) (left ∙ h.is) ∙ length-append old.written (texts_of (take n results))
+      ∙ ap (λ k. length old.written + k) (length-texts (take n results)) in
+      let taken : length (take n results) ≡ n = length-take-le n results (omega (arith, below)) in
+      let grown : length new.written - length old.written ≡ n = omega (arith, count, taken) in
+      left ∙ h.is ∙ (λ i. record old { written = old.written ++ texts_of (take (sym grown i) results) })
+  stopped r (Fault class) new below is left =
+      let here : live (old.faults r.0) ≡ Some class = ap (λ (w : Writer). live (w.faults r.0)) (sym h.is) ∙ left.0 in
+      let found = stops (λ r. is_live old.faults r.0) results n r below is h.sound (ap is_some here) in (
+        ap (fault_of old.faults) found.0 ∙ here,
+        left.1 ∙ ap (λ (w : Writer). record w { faults = used_at w.faults r.0 }) h.is
+            ∙ (λ i. record { written = old.written ++ texts_of (take (sym found.1 i) results); faults = used_for old.faults (sym found.0 i) }),
+      )
+
+  -- the next result is appended
+  pub written-more : (r : ℕ × List ℕ) (done : Unit {0}) (new : Writer) → n < length results → r ≡ get_or results n r → Appends (Ok done) r.0 r.1 now new
+      → IsWrittenTo old results (n + 1) new
+  written-more r done new below is left =
+      let one_more : n + 1 ≡ suc n = omega arith in
+      let here : live (old.faults r.0) ≡ None = ap (λ (w : Writer). live (w.faults r.0)) (sym h.is) ∙ left.0 in
+      let texts : old.written ++ texts_of (take n results) ++ r.1 ∷ [] ≡ old.written ++ texts_of (take (n + 1) results) =
+      append_assoc old.written (texts_of (take n results)) (r.1 ∷ [])
+      ∙ ap (λ (x : ℕ × List ℕ). old.written ++ (texts_of (take n results) ++ x.1 ∷ [])) is
+      ∙ ap (λ t. old.written ++ t) (sym (map-append (λ (x : ℕ × List ℕ). x.1) (take n results) (get_or results n r ∷ [])))
+      ∙ ap (λ rs. old.written ++ texts_of rs) (sym (take-suc results n r below))
+      ∙ ap (λ k. old.written ++ texts_of (take k results)) (sym one_more) in
+      record {
+        sound = one-more (λ r. is_live old.faults r.0) results n r below is h.sound (ap is_some here);
+        is = left.1 ∙ ap (λ (w : Writer). record w { written = w.written ++ r.1 ∷ [] }) h.is ∙ (λ i. record old { written = texts i });
+      }
+
+  -- all are appended
+  pub all-written : length results ≤ n → n ≤ length results → (write_fault old results ≡ None) × (now ≡ after_write old results)
+  all-written ended within =
+      let at_end : n ≡ length results = omega (arith, ended, within) in
+      let whole : take n results ≡ results = take_all n results ended in
+      let none : failing old.faults results ≡ None = ap (failing old.faults) (sym whole) ∙ h.sound in
+      let count : n ≡ prefix_len (λ r. not (is_live old.faults r.0)) results = at_end ∙ sym (all-fail (λ r. is_live old.faults r.0) results none) in (
+        ap (fault_of old.faults) none,
+        h.is ∙ (λ i. record { written = old.written ++ texts_of (take (count i) results); faults = used_for old.faults (sym none i) }),
+      )

@@ -1,0 +1,62 @@
+-- What an item writer means (Jakarta Batch 2.1, "ItemWriter"; that it keeps a list, and that faults are planned, is own choice).
+use Rattle.std.specs.Prelude.{ℕ, ◌≡◌, ◌-◌, List, [], ◌∷◌, length, take, map, ◌++◌, Option, Some, None, not, find, take_while, Result, Ok, Err}
+use Rattle.jb_job.specs.declared.class.ClassId.{ClassId}
+use Rattle.jb_job.specs.declared.artifact_error.ArtifactError.{ArtifactError}
+use Rattle.jb_job.specs.declared.artifact_error.ArtifactError.TheVariants.{Fault, Memory}
+use Rattle.jb_artifacts.specs.Faults.{Plans, live, is_live, used_at}
+
+-- results in the order in which they were written
+abbrev pub Texts : Type 0
+Texts = List (List ℕ)
+
+-- results with the numbers of their records
+abbrev pub Numbered : Type 0
+Numbered = List (ℕ × List ℕ)
+
+-- the results alone
+abbrev pub texts_of : Numbered → Texts
+texts_of results = map (λ r. r.1) results
+
+-- the list written, and a fault plan per record
+pub record Writer : Type 0 where
+  pub written : Texts
+  pub faults : Plans
+
+-- the writer with its first `count` results alone
+abbrev pub cut : Writer → ℕ → Writer
+cut w count = record w { written = take count w.written }
+
+-- the first result whose record has a live fault
+abbrev pub failing : Plans → Numbered → Option (ℕ × List ℕ)
+failing plans results = find (λ r. is_live plans r.0) results
+
+-- the fault with which these results are answered, if one has a live one
+abbrev pub fault_of : Plans → Option (ℕ × List ℕ) → Option ClassId
+fault_of plans None = None
+fault_of plans (Some r) = live (plans r.0)
+
+-- the plans after that fault
+abbrev pub used_for : Plans → Option (ℕ × List ℕ) → Plans
+used_for plans None = plans
+used_for plans (Some r) = used_at plans r.0
+
+-- the fault with which a write of these results fails, if it does
+abbrev pub write_fault : Writer → Numbered → Option ClassId
+write_fault w results = fault_of w.faults (failing w.faults results)
+
+-- the results before the failing one are appended, and its fault is used
+abbrev pub after_write : Writer → Numbered → Writer
+after_write w results = record {
+  written = w.written ++ texts_of (take_while (λ r. not (is_live w.faults r.0)) results);
+  faults = used_for w.faults (failing w.faults results);
+}
+
+-- a write without memory: as many of the first results are appended as the list has grown, and no fault is used
+abbrev pub torn : Writer → Numbered → (count : ℕ) → Writer
+torn w results count = record w { written = w.written ++ texts_of (take (count - length w.written) results) }
+
+-- one result is appended, or its record's plan has a fault, or there was no memory and nothing changed
+abbrev pub Appends : Result (Unit {0}) ArtifactError → (number : ℕ) → (text : List ℕ) → (old new : Writer) → Type 0
+Appends (Err Memory) number text old new = new ≡ old
+Appends (Err (Fault class)) number text old new = (live (old.faults number) ≡ Some class) × (new ≡ record old { faults = used_at old.faults number })
+Appends (Ok done) number text old new = (live (old.faults number) ≡ None) × (new ≡ record old { written = old.written ++ text ∷ [] })

@@ -1,0 +1,73 @@
+//! The fault plans of an artifact's records.
+
+ghost use Rattle.std.specs.Prelude.{◌≡◌, None, OnOk, OnErr};
+ghost use Rattle.jb_artifacts.specs.Faults.{live, plans_of, used_at, with_plan};
+
+use crate::faults::FaultPlan;
+use jb_job::ClassId;
+use std::alloc::{AllocError, Global};
+use std::collections::BTreeMap;
+use std::marker::Model;
+
+/// A fault plan for each record, by its number. A contract sees the table of those that were put in; each other record
+/// is sound. A look-up takes time in proportion to the logarithm of their number.
+#[derive(Drop)]
+pub struct FaultPlans {
+    table: BTreeMap<u64, FaultPlan>,
+}
+
+impl Model for FaultPlans {
+    ghost use Rattle.std.specs.Prelude.{ℕ, List};
+    ghost use Rattle.jb_artifacts.specs.declared.faults.FaultPlan.{FaultPlan};
+
+    ghost Value = { List (ℕ × FaultPlan) };
+
+    ghost view = { λ plans. plans.table.entries };
+}
+
+impl FaultPlans {
+    ghost use Rattle.jb_artifacts.specs.declared.faults.FaultPlan.TheVariants.{Sound};
+
+    /// Each record is sound. Takes no memory.
+    pub fn new(alloc: Global) -> FaultPlans
+        ensures { plans_of result ≡ λ _. Sound }
+    {
+        FaultPlans {
+            table: BTreeMap::new(alloc),
+        }
+    }
+
+    /// Gives the record this plan, in place of its plan so far.
+    pub fn insert(&mut self, number: u64, plan: FaultPlan) -> Result<(), AllocError>
+        ensures ok { OnOk result (plans_of self.new ≡ with_plan (plans_of self.old) number plan) }
+        ensures err { OnErr result (plans_of self.new ≡ plans_of self.old) }
+    {
+        match self.table.insert(number, plan) {
+            Ok(_) => Ok(()),
+            Err(_) => Err(AllocError),
+        }
+    }
+
+    /// The class with which the next call for the record fails, if it does.
+    pub fn live(&self, number: u64) -> Option<ClassId>
+        ensures { result ≡ live (plans_of self.now number) }
+    {
+        match self.table.get(&number) {
+            Some(plan) => plan.live(),
+            None => None,
+        }
+    }
+
+    /// The class with which this call for the record fails, if it does. The record's plan goes on, and a call that does
+    /// not fail changes nothing.
+    pub fn strike(&mut self, number: u64) -> Option<ClassId>
+        ensures class { result ≡ live (plans_of self.old number) }
+        ensures plans { plans_of self.new ≡ used_at (plans_of self.old) number }
+        ensures sound { result ≡ None → plans_of self.new ≡ plans_of self.old }
+    {
+        match self.table.get_mut(&number) {
+            Some(plan) => plan.strike(),
+            None => None,
+        }
+    }
+}

@@ -1,0 +1,94 @@
+//! The interfaces of the artifacts of a chunk step, after Jakarta Batch 2.1 ("ItemReader", "ItemProcessor",
+//! "ItemWriter", "Partition Collector"). What an artifact means is a ghost member of its interface; each call answers
+//! by that meaning, and its clause says what the meaning is afterwards.
+//!
+//! No function takes an allocator: an artifact keeps its own. That checkpoints are a record's number and a count of
+//! results, and that faults are planned for each record, is this project's choice.
+
+ghost use Rattle.std.specs.Prelude.{◌≡◌, ◌≤◌, ◌<◌, ℕ, List, length, take, slice_get, option_copied, IfOk};
+ghost use Rattle.jb_artifacts.specs.declared.view.RowView.{RowView};
+ghost use Rattle.jb_artifacts.specs.Answers.{Answers};
+ghost use Rattle.jb_artifacts.specs.Reader.{Reader, reader_end, opened, record_at, read_fault, after_read};
+ghost use Rattle.jb_artifacts.specs.Processor.{Processor, process_fault, after_process};
+ghost use Rattle.jb_artifacts.specs.Writer.{Writer, cut, write_fault, after_write, torn};
+
+use crate::item::Item;
+use crate::view::RowView;
+use jb_job::ArtifactError;
+use std::alloc::AllocError;
+
+/// A reader of records that are numbered from `first` to `end - 1`. It stands at the record that is read next.
+pub trait ItemReader: Send {
+    ghost reader: { Self → Reader };
+
+    /// The number of the first record.
+    fn first(&self) -> u64
+        ensures { result ≡ (reader self.now).first };
+
+    /// The number after the last record's.
+    fn end(&self) -> u64
+        ensures { result ≡ reader_end (reader self.now) };
+
+    /// The number of the record that is read next, or `end`.
+    fn place(&self) -> u64
+        ensures { result ≡ (reader self.now).place };
+
+    /// Goes to the record of this number, or to the end.
+    fn open_at(&mut self, at: u64)
+        requires from { (reader self.old).first ≤ at }
+        requires to { at ≤ reader_end (reader self.old) }
+        ensures { reader self.new ≡ opened (reader self.old) at };
+
+    /// The next record, or the fault of its plan; the reader goes past it in both cases. At the end there is none, and
+    /// nothing changes. Nor does it where there is no memory.
+    fn read_item(&mut self) -> Result<Option<Item>, ArtifactError>
+        ensures ended { (reader self.old).place ≡ reader_end (reader self.old) → (result ≡ Ok None) × (reader self.new ≡ reader self.old) }
+        ensures read { let r = reader self.old in
+            r.place < reader_end r → Answers result (read_fault r) (Some (record_at r r.place)) r (after_read r) (reader self.new) };
+}
+
+/// A processor: for each record's number and item it has one answer, the result, or none, which filters the item.
+pub trait ItemProcessor: Send {
+    ghost processor: { Self → Processor };
+
+    /// The answer for this item of this record, or the fault of the record's plan. Where there is no memory, nothing
+    /// changes.
+    fn process_item(&mut self, number: u64, item: &[u8]) -> Result<Option<Item>, ArtifactError>
+        ensures { let p = processor self.old in
+            Answers result (process_fault p number) (p.answer number item.now) p (after_process p number) (processor self.new) };
+}
+
+/// A writer of results. It keeps the list of those that were written.
+pub trait ItemWriter: Send {
+    ghost writer: { Self → Writer };
+
+    /// How many results were written.
+    fn count(&self) -> u64
+        ensures { result ≡ length (writer self.now).written };
+
+    /// Cuts the list to its first `count` results.
+    fn open_at(&mut self, count: u64)
+        requires { count ≤ length (writer self.old).written }
+        ensures { writer self.new ≡ cut (writer self.old) count };
+
+    /// Appends the results, each given with its record's number. Where the plan of such a record has a fault, only the
+    /// results before the first such record are appended, and that fault is answered. Where there is no memory, some of
+    /// the first results are appended, and no plan changes.
+    fn write_items(&mut self, results: &[(u64, Item)]) -> Result<(), ArtifactError>
+        ensures { let w = writer self.old in
+            let count = length (writer self.new).written in
+            Answers result (write_fault w results.now) tt (torn w results.now count) (after_write w results.now) (writer self.new) };
+
+    /// The result at this place of the list, the first being 0, or none past its end.
+    fn item_at(&self, i: u64) -> Option<&[u8]>
+        ensures { option_copied result ≡ slice_get (writer self.now).written i };
+}
+
+/// A collector: for each view of a partition it has one text.
+pub trait Collector: Send {
+    ghost collected: { Self → RowView → List ℕ };
+
+    /// The text for this view.
+    fn collect(&self, view: &RowView) -> Result<Item, AllocError>
+        ensures { IfOk result (λ text. text ≡ collected self.now view.now) };
+}

@@ -1,0 +1,104 @@
+-- An attempt from its parts.
+use Rattle.std.proofs.Common.{◌≡◌, ℕ, List, [], length, take, Some, ap, sym, ◌∙◌, subst, arith}
+use Rattle.std.specs.Prelude.{unwrap_or, slice_get}
+use Rattle.jb_job.specs.declared.job.Range.{Range}
+use Rattle.jb_rules.specs.Sound.{IsSoundRow}
+use Rattle.jb_rules.specs.declared.row.Row.{Row}
+use Rattle.jb_rules.specs.declared.counts.Counts.{Counts}
+use Rattle.jb_plan.specs.Blocks.{blocks}
+use Rattle.jb_artifacts.specs.Reader.{Reader, opened, reader_end}
+use Rattle.jb_artifacts.specs.Writer.{Writer}
+use Rattle.jb_artifacts.specs.Meaning.{Workplace}
+use Rattle.jb_chunk.specs.declared.end.End.{End}
+use Rattle.jb_chunk.specs.declared.end.End.TheVariants.{Written, Unwritten, Rolled, Failed}
+use Rattle.jb_chunk.specs.declared.outcome.Outcome.{Outcome}
+use Rattle.jb_chunk.specs.declared.outcome.Outcome.TheVariants.{NoMemory}
+use Rattle.jb_chunk.specs.declared.tried.Tried.{Tried}
+use Rattle.jb_chunk.specs.Attempt.{Trial, IsRestored, trial_of, block_of, row_by, row_with, values_with, IsAttempt, outcome_by, outcome_with, ending_of, attempt_of}
+use Rattle.jb_chunk.specs.Standing.{TaskState, IsReady}
+use Rattle.jb_chunk.specs.Tried.{IsTried}
+use Rattle.jb_chunk.proofs.Leaving.{ready-by, tried-attempt, restored-by, collector-by}
+
+abbrev pub trial_at : TaskState → Range → Workplace → Trial
+trial_at t block work = record { rules = t.rules; row = t.row; hi = block.hi; work = work }
+
+abbrev pub none_left : TaskState → Range
+none_left t = record { lo = t.row.at; hi = t.row.hi }
+
+pub trial-same : (t : TaskState) (block : Range) (work : Workplace) → Some block ≡ slice_get (blocks t.row.at t.row.redo t.row.hi t.item_count) 0 → work ≡ t.work → trial_at t block work ≡ trial_of t
+trial-same t block work b w =
+    let hi : block ≡ block_of t = ap (λ o. unwrap_or o (none_left t)) b in
+    λ i. record { rules = t.rules; row = t.row; hi = (hi i).hi; work = w i }
+
+pub tried-same : (t : TaskState) (block : Range) (work now : Workplace) (tried : Tried) → Some block ≡ slice_get (blocks t.row.at t.row.redo t.row.hi t.item_count) 0 → work ≡ t.work → IsTried (trial_at t block work) tried now → IsTried (trial_of t) tried now
+tried-same t block work now tried b w done = let P : Trial → Type 0 = λ u. IsTried u tried now in subst P (trial-same t block work b w) done
+
+attempt-by : (t : TaskState) (e : End) (d : Counts) (values : List (List ℕ)) (after : TaskState) → ending_of after (outcome_with e d) values ≡ attempt_of t → IsAttempt t (ending_of after (outcome_with e d) values)
+attempt-by t Written d values after done = done
+attempt-by t Unwritten d values after done = done
+attempt-by t (Rolled class) d values after done = done
+attempt-by t (Failed class) d values after done = done
+
+pub row-same : (t : TaskState) (block : Range) (work now : Workplace) (tried : Tried) (row : Row) → Some block ≡ slice_get (blocks t.row.at t.row.redo t.row.hi t.item_count) 0 → work ≡ t.work → IsTried (trial_at t block work) tried now → row ≡ row_with t.row block.hi tried.end tried.delta → row ≡ row_by (trial_of t) tried.end
+row-same t block work now tried row b w done r =
+    r ∙ ap (row_with t.row block.hi tried.end) done.delta ∙ ap (λ u. row_by u tried.end) (trial-same t block work b w)
+
+pub done-attempt : (t : TaskState) (block : Range) (work now : Workplace) (tried : Tried) (row : Row) (out : Outcome) (values : List (List ℕ)) (after : TaskState) → Some block ≡ slice_get (blocks t.row.at t.row.redo t.row.hi t.item_count) 0 → work ≡ t.work → IsTried (trial_at t block work) tried now → row ≡ row_with t.row block.hi tried.end tried.delta → out ≡ outcome_with tried.end tried.delta → values ≡ values_with now.collector t.partition row tried.end → after ≡ record t { row = row; work = now } → IsAttempt t (ending_of after out values)
+done-attempt t block work now tried row out values after b w done r o v a =
+    let tr = tried-same t block work now tried b w done in
+    let row_is = row-same t block work now tried row b w done r in
+    let Now : Workplace → Type 0 = λ x. IsTried (trial_of t) tried x in
+    let left = subst Now (sym (ap (λ (x : TaskState). x.work) a)) tr in
+    let collected = v ∙ ap (λ c. values_with c t.partition row tried.end) (collector-by (trial_of t) tried.end now tr.left) ∙ ap (λ x. values_with t.work.collector t.partition x tried.end) row_is in
+    let same : after ≡ record t { row = after.row; work = after.work } = a ∙ (λ i. record t { row = (sym a i).row; work = (sym a i).work }) in
+    let finished = tried-attempt t tried values after left same (ap (λ (x : TaskState). x.row) a ∙ row_is) collected in
+    let delta : outcome_with tried.end tried.delta ≡ outcome_by (trial_of t) tried.end = ap (outcome_with tried.end) tr.delta in
+    let Out : Outcome → Type 0 = λ x. IsAttempt t (ending_of after x values) in
+    subst Out (sym (o ∙ delta)) (attempt-by t tried.end _ values after finished)
+
+pub done-ready : (t : TaskState) (block : Range) (work now : Workplace) (tried : Tried) (row : Row) (after : TaskState) → IsReady t → IsSoundRow row → Some block ≡ slice_get (blocks t.row.at t.row.redo t.row.hi t.item_count) 0 → work ≡ t.work → IsTried (trial_at t block work) tried now → row ≡ row_with t.row block.hi tried.end tried.delta → after ≡ record t { row = row; work = now } → IsReady after
+done-ready t block work now tried row after ready sound b w done r a =
+    let tr = tried-same t block work now tried b w done in
+    let row_is = row-same t block work now tried row b w done r in
+    subst IsReady (sym (a ∙ (λ i. record t { row = row_is i; work = tr.left i }))) (ready-by t tried.end (subst IsSoundRow row_is sound) ready)
+
+-- the collector found no memory: what the end left is opened again at the checkpoint
+abbrev pub reopened : Row → Workplace → Workplace
+reopened row w = record w { reader = opened w.reader row.at; writer = record w.writer { written = take row.written w.writer.written } }
+
+pub undone-restored : (t : TaskState) (block : Range) (work now : Workplace) (tried : Tried) → IsReady t → Some block ≡ slice_get (blocks t.row.at t.row.redo t.row.hi t.item_count) 0 → work ≡ t.work → IsTried (trial_at t block work) tried now → IsRestored t.work (reopened t.row now)
+undone-restored t block work now tried ready b w done =
+    let tr = tried-same t block work now tried b w done in
+    let P : Workplace → Type 0 = λ x. IsRestored t.work (reopened t.row x) in
+    subst P (sym tr.left) (restored-by t tried.end ready)
+
+pub undone-attempt : (t : TaskState) (work : Workplace) (out : Outcome) (values : List (List ℕ)) (after : TaskState) → out ≡ NoMemory → values ≡ [] → after ≡ record t { work = work } → IsRestored t.work work → IsAttempt t (ending_of after out values)
+undone-attempt t work out values after o v a restored =
+    let Out : Outcome → Type 0 = λ x. IsAttempt t (ending_of after x values) in
+    let Left : Workplace → Type 0 = λ x. IsRestored t.work x in
+    subst Out (sym o) (
+      v,
+      record {
+        task = a ∙ (λ i. record t { work = (sym a i).work });
+        work = subst Left (sym (ap (λ (x : TaskState). x.work) a)) restored;
+      },
+    )
+
+pub undone-ready : (t : TaskState) (work : Workplace) (after : TaskState) → IsReady t → IsRestored t.work work → after ≡ record t { work = work } → IsReady after
+undone-ready t work after ready restored a =
+    let first : work.reader.first ≡ t.work.reader.first = ap (λ (r : Reader). r.first) restored.reader in
+    let place : work.reader.place ≡ t.work.reader.place = ap (λ (r : Reader). r.place) restored.reader in
+    let to : reader_end work.reader ≡ reader_end t.work.reader = ap (λ (r : Reader). reader_end r) restored.reader in
+    let written : length work.writer.written ≡ length t.work.writer.written = ap (λ (r : Writer). length r.written) restored.writer in
+    let fits_from = ready.fits.from in
+    let fits_to = ready.fits.to in
+    let fits_count = ready.fits.count in
+    let stands = ready.place in
+    let count = ready.count in
+    subst IsReady (sym a) (record {
+      sound = ready.sound;
+      item_counted = ready.item_counted;
+      fits = record { from = omega (arith, first, fits_from); to = omega (arith, to, fits_to); count = omega (arith, written, fits_count) };
+      place = place ∙ ready.place;
+      count = written ∙ ready.count;
+    })

@@ -1,0 +1,13 @@
+pub mod Counting
+pub mod Passing
+pub mod Settling
+pub mod Wearing
+pub mod Ending
+pub mod Trying
+pub mod Leaving
+pub mod Attempting
+pub mod Running
+pub mod Calm
+pub mod Following
+pub mod Worked
+pub mod Crossing

@@ -1,0 +1,239 @@
+-- A task that runs alone.
+use Rattle.std.proofs.Common.{◌≡◌, ℕ, ◌+◌, ◌-◌, ◌≤◌, ◌<◌, Bool, true, false, cond, List, [], ◌∷◌, ◌++◌, length, length-append, Option, Some, None, refl, ap, sym, ◌∙◌, subst, arith}
+use Rattle.std.specs.Prelude.{◌&&◌, nat_lt, min, unwrap_or, ◌==◌}
+use Rattle.std.proofs.lemmas.Bool.Decides.{nat_tests}
+use Rattle.jb_job.specs.declared.class.ClassId.{ClassId}
+use Rattle.jb_job.specs.declared.job.Range.{Range}
+use Rattle.jb_job.specs.declared.rules.Rules.{Rules}
+use Rattle.jb_plan.proofs.BlockLists.{first_is}
+use Rattle.jb_rules.specs.declared.counts.Counts.{Counts}
+use Rattle.jb_rules.specs.declared.row.Row.{Row}
+use Rattle.jb_rules.specs.declared.row.RowState.{RowState}
+use Rattle.jb_rules.specs.declared.row.RowState.TheVariants as state
+use Rattle.jb_rules.specs.declared.choice.Choice.{Choice}
+use Rattle.jb_rules.specs.declared.choice.Choice.TheVariants.{Skip, Retry, Fail}
+use Rattle.jb_rules.specs.Decide.{choice_by, is_in}
+use Rattle.jb_rules.specs.Rows.{state_at}
+use Rattle.jb_rules.specs.Sound.{IsSoundRow}
+use Rattle.jb_chunk.specs.declared.end.End.{End}
+use Rattle.jb_chunk.specs.declared.end.End.TheVariants.{Written, Unwritten, Rolled, Failed}
+use Rattle.jb_chunk.specs.declared.outcome.Outcome.{Outcome}
+use Rattle.jb_chunk.specs.declared.outcome.Outcome.TheVariants as outcome
+use Rattle.jb_chunk.specs.Alone.{IsRunOf, IsAlone, IsBroken, has_ended, retries_left, attempts_left}
+use Rattle.jb_chunk.specs.Attempt.{Trial, Ending, trial_of, block_of, after_end, end_of, end_after, end_at, end_by, settled_at, outcome_by, attempt_of, ending_of, IsUnfinished}
+use Rattle.jb_chunk.specs.Block.{choice_at}
+use Rattle.jb_chunk.specs.Standing.{TaskState, IsReady, HasItemCount}
+
+-- a retry is chosen only where one is left
+choice-retry : (retrying skip retry : Bool) → choice_by retrying skip retry ≡ Retry → retry ≡ true
+choice-retry false skip true e = refl
+choice-retry false true false e = cc
+choice-retry false false false e = cc
+choice-retry true true retry e = cc
+choice-retry true false true e = refl
+choice-retry true false false e = cc
+
+open-below : (b : Bool) (m n : ℕ) → (b && nat_lt m n) ≡ true → m < n
+open-below b m n e = grind (arith, nat_tests)
+
+end-retry : (choice : Choice) (k class : ClassId) → end_by choice k ≡ Rolled class → choice ≡ Retry
+end-retry Skip k class e = cc
+end-retry Retry k class e = refl
+end-retry Fail k class e = cc
+
+end-below : (rules : Rules) (row : Row) (fault : Option ClassId) (skips : ℕ) (class : ClassId) → end_at rules row fault skips ≡ Rolled class → row.retries < rules.retry_limit
+end-below rules row None skips class e = cc
+end-below rules row (Some k) skips class e = open-below (is_in rules.retryable k) row.retries rules.retry_limit (choice-retry _ _ _ (end-retry (choice_at rules row k skips) k class e))
+
+after-below : (t : Trial) (settled : Option ℕ) (class : ClassId) → end_after t settled ≡ Rolled class → t.row.retries < t.rules.retry_limit
+after-below t None class e = end-below t.rules t.row _ _ class e
+after-below t (Some k) class e = end-below t.rules t.row _ _ class e
+
+pub rolled-below : (t : Trial) (class : ClassId) → end_of t ≡ Rolled class → t.row.retries < t.rules.retry_limit
+unfolding end_of
+rolled-below t class e = after-below t (settled_at t) class e
+
+-- a block has a record, and none beyond the range
+abbrev pub block_by : (last single : Bool) (at hi count : ℕ) → Range
+block_by last single at hi count = unwrap_or {T = Range} (cond last None (cond single (Some (record { lo = at; hi = at + 1 })) (Some (record { lo = at; hi = min hi (at + count) })))) (record { lo = at; hi = hi })
+
+block-by : (last single : Bool) (at redo hi count : ℕ) → at < hi → 1 ≤ count → (at < (block_by last single at hi count).hi) × ((block_by last single at hi count).hi ≤ hi)
+block-by true single at redo hi count lt c = (lt, omega arith)
+block-by false true at redo hi count lt c = (omega arith, omega arith)
+block-by false false at redo hi count lt c = (omega arith, omega arith)
+
+-- the next block, by the formula of the first of the chunks that are left
+pub block-is : (t : TaskState) → t.row.at ≤ t.row.hi → t.row.redo ≤ t.row.hi → block_of t ≡ block_by (t.row.at == t.row.hi) (nat_lt t.row.at t.row.redo) t.row.at t.row.hi t.item_count
+block-is t le redo = ap (λ o. unwrap_or {T = Range} o (record { lo = t.row.at; hi = t.row.hi })) (first_is t.row.at t.row.redo t.row.hi t.item_count le redo)
+
+pub block-in : (t : TaskState) → t.row.at < t.row.hi → t.row.redo ≤ t.row.hi → HasItemCount t.item_count → (t.row.at < (block_of t).hi) × ((block_of t).hi ≤ t.row.hi)
+block-in t lt redo c =
+    let P : Range → Type 0 = λ r. (t.row.at < r.hi) × (r.hi ≤ t.row.hi) in
+    subst P (sym (block-is t (omega (arith, lt)) redo)) (block-by (t.row.at == t.row.hi) (nat_lt t.row.at t.row.redo) t.row.at t.row.redo t.row.hi t.item_count lt c.some)
+
+-- there is a number for each rollback to come
+abbrev pub HasRoom : TaskState → Type 0
+HasRoom t = t.row.counts.rollback + retries_left t < 1000000000000
+
+-- the task after an attempt from which another may follow
+pub record IsFurther (before after : TaskState) : Type 0 where
+  pub fewer : attempts_left after < attempts_left before
+  pub room : after.row.counts.rollback + retries_left after ≤ before.row.counts.rollback + retries_left before
+
+pub record IsCommit (before after : TaskState) : Type 0 where
+  pub further : IsFurther before after
+  pub stands : after.row.state ≡ state_at after.row.at after.row.hi
+
+commit-by : (t : TaskState) (e : End) (d : Counts) → (t.row.at < (block_of t).hi) × ((block_of t).hi ≤ t.row.hi) → outcome.Committed d ≡ outcome_by (trial_of t) e → IsCommit t (after_end t e)
+commit-by t Written d b o = let lt = b.0 in let le = b.1 in record { further = record { fewer = omega (arith, lt, le); room = omega arith }; stands = refl }
+commit-by t Unwritten d b o = let lt = b.0 in let le = b.1 in record { further = record { fewer = omega (arith, lt, le); room = omega arith }; stands = refl }
+commit-by t (Rolled class) d b o = cc
+commit-by t (Failed class) d b o = cc
+
+roll-by : (t : TaskState) (e : End) (class : ClassId) → e ≡ end_of (trial_of t) → t.row.state ≡ state.Waiting → outcome.Rolled class ≡ outcome_by (trial_of t) e → IsFurther t (after_end t e) × ((after_end t e).row.state ≡ state.Waiting)
+roll-by t Written class h w o = cc
+roll-by t Unwritten class h w o = cc
+roll-by t (Rolled k) class h w o =
+    let below = rolled-below (trial_of t) k (sym h) in
+    (record { fewer = omega (arith, below); room = omega (arith, below) }, w)
+roll-by t (Failed k) class h w o = cc
+
+fail-by : (t : TaskState) (e : End) (class : ClassId) → outcome.Failed class ≡ outcome_by (trial_of t) e → (after_end t e).row.state ≡ state.Failed
+fail-by t Written class o = cc
+fail-by t Unwritten class o = cc
+fail-by t (Rolled k) class o = cc
+fail-by t (Failed k) class o = refl
+
+same-of : (m n : ℕ) → (m == n) ≡ true → m ≡ n
+same-of m n e = grind (arith, nat_tests)
+
+differ-of : (m n : ℕ) → (m == n) ≡ false → m ≤ n → m < n
+differ-of m n e le = grind (arith, nat_tests)
+
+unlike : (s : RowState) → s ≡ state.Finished → s ≡ state.Waiting → 1 ≤ 0
+unlike s f w = cc
+
+below-by : (b : Bool) (row : Row) → (row.at == row.hi) ≡ b → row.at ≤ row.hi → (row.at ≡ row.hi → row.state ≡ state.Finished) → row.state ≡ state.Waiting → row.at < row.hi
+below-by true row e le finished waiting = let never = unlike row.state (finished (same-of row.at row.hi e)) waiting in omega (arith, never)
+below-by false row e le finished waiting = differ-of row.at row.hi e le
+
+-- a Waiting row has a record left
+pub left-waiting : (row : Row) → IsSoundRow row → row.state ≡ state.Waiting → row.at < row.hi
+left-waiting row sound waiting = below-by (row.at == row.hi) row refl sound.placed.at_to (λ e. sound.finished.1 e) waiting
+
+-- what an attempt with this outcome leaves
+left-by : (t after : TaskState) (out : Outcome) (values : List (List ℕ)) → ending_of after out values ≡ attempt_of t → after ≡ after_end t (end_of (trial_of t))
+left-by t after out values done = ap (λ (e : Ending). e.task) done
+
+ended-by : (t after : TaskState) (out : Outcome) (values : List (List ℕ)) → ending_of after out values ≡ attempt_of t → out ≡ outcome_by (trial_of t) (end_of (trial_of t))
+ended-by t after out values done = ap (λ (e : Ending). e.outcome) done
+
+commit-left : (before after : TaskState) (d : Counts) (values : List (List ℕ)) → IsReady before → before.row.state ≡ state.Waiting → ending_of after (outcome.Committed d) values ≡ attempt_of before → IsCommit before after
+commit-left before after d values ready waiting done =
+    let P : TaskState → Type 0 = λ u. IsCommit before u in
+    let block = block-in before (left-waiting before.row ready.sound waiting) ready.sound.placed.redo_to ready.item_counted in
+    subst P (sym (left-by before after _ values done)) (commit-by before (end_of (trial_of before)) d block (ended-by before after _ values done))
+
+roll-left : (before after : TaskState) (class : ClassId) (values : List (List ℕ)) → before.row.state ≡ state.Waiting → ending_of after (outcome.Rolled class) values ≡ attempt_of before → IsFurther before after × (after.row.state ≡ state.Waiting)
+roll-left before after class values waiting done =
+    let P : TaskState → Type 0 = λ u. IsFurther before u × (u.row.state ≡ state.Waiting) in
+    subst P (sym (left-by before after _ values done)) (roll-by before (end_of (trial_of before)) class refl waiting (ended-by before after _ values done))
+
+fail-left : (before after : TaskState) (class : ClassId) (values : List (List ℕ)) → ending_of after (outcome.Failed class) values ≡ attempt_of before → after.row.state ≡ state.Failed
+fail-left before after class values done =
+    let P : TaskState → Type 0 = λ u. u.row.state ≡ state.Failed in
+    subst P (sym (left-by before after _ values done)) (fail-by before (end_of (trial_of before)) class (ended-by before after _ values done))
+
+-- no more is retried than the limit of a step's retries
+pub has-room : (t : TaskState) → t.row.counts.rollback ≤ 999000000000 → HasRoom t
+has-room t few = let most = t.rules.retry_limit_most in omega (arith, few, most)
+
+-- some attempts were made, and there may be as many more as are left now
+pub record IsUnderWay (start now : TaskState) : Type 0 where
+  pub attempts : List Ending
+  pub run : IsRunOf start attempts now
+  pub few : length attempts + attempts_left now ≤ attempts_left start
+
+pub begun : (t : TaskState) → IsUnderWay t t
+begun t = record { attempts = []; run = refl; few = omega arith }
+
+-- one more attempt
+pub run-more : (t : TaskState) (es : List Ending) (s : TaskState) (e : Ending) → IsRunOf t es s → s.row.state ≡ state.Waiting → e ≡ attempt_of s → IsRunOf t (es ++ e ∷ []) e.task
+run-more t [] s e run waiting last = (ap (λ (v : TaskState). v.row.state) (sym run) ∙ waiting, last ∙ ap attempt_of run, refl)
+run-more t (f ∷ es) s e run waiting last = (run.0, run.1, run-more f.task es s e run.2 waiting last)
+
+pub further-way : (start now : TaskState) (e : Ending) → IsUnderWay start now → now.row.state ≡ state.Waiting → e ≡ attempt_of now → attempts_left e.task < attempts_left now → IsUnderWay start e.task
+further-way start now e way waiting last fewer = record {
+  attempts = way.attempts ++ e ∷ [];
+  run = run-more start way.attempts now e way.run waiting last;
+  few = let few = way.few in let more = length-append way.attempts (e ∷ []) in omega (arith, few, fewer, more);
+}
+
+-- the last attempt
+last-alone : (start now : TaskState) (e : Ending) → IsUnderWay start now → IsReady now → now.row.state ≡ state.Waiting → e ≡ attempt_of now → has_ended e.task.row.state ≡ true → IsAlone start e.task
+last-alone start now e way ready waiting last ended = record {
+  attempts = way.attempts ++ e ∷ [];
+  run = run-more start way.attempts now e way.run waiting last;
+  ended = ended;
+  few =
+      let few = way.few in
+      let more = length-append way.attempts (e ∷ []) in
+      let lt = left-waiting now.row ready.sound waiting in
+      omega (arith, few, more, lt);
+}
+
+pub finished-at : (at hi : ℕ) → at ≡ hi → state_at at hi ≡ state.Finished
+finished-at at hi e = let same : (at == hi) ≡ true = grind (arith, nat_tests) in ap (λ b. cond b state.Finished state.Waiting) same
+
+pub waiting-at : (at hi : ℕ) → at < hi → state_at at hi ≡ state.Waiting
+waiting-at at hi lt = let other : (at == hi) ≡ false = grind (arith, nat_tests) in ap (λ b. cond b state.Finished state.Waiting) other
+
+-- a chunk that was committed ends the task where no record is left
+pub commit-ends : (start now after : TaskState) (d : Counts) (values : List (List ℕ)) → IsReady now → now.row.state ≡ state.Waiting → IsUnderWay start now → ending_of after (outcome.Committed d) values ≡ attempt_of now → after.row.at ≡ after.row.hi → IsAlone start after × (after.row.state ≡ state.Finished)
+commit-ends start now after d values ready waiting way done at =
+    let commit = commit-left now after d values ready waiting done in
+    let ended = commit.stands ∙ finished-at after.row.at after.row.hi at in
+    (last-alone start now (ending_of after (outcome.Committed d) values) way ready waiting done (ap has_ended ended), ended)
+
+-- what holds where the task is to be attempted again
+pub record IsNext (start now after : TaskState) : Type 0 where
+  pub waiting : after.row.state ≡ state.Waiting
+  pub room : HasRoom after
+  pub reached : IsUnderWay start after
+  pub fewer : attempts_left after < attempts_left now
+
+next-of : (start now : TaskState) (e : Ending) → now.row.state ≡ state.Waiting → HasRoom now → IsUnderWay start now → e ≡ attempt_of now → IsFurther now e.task → e.task.row.state ≡ state.Waiting → IsNext start now e.task
+next-of start now e waiting room way last further again =
+    let less = further.room in
+    record {
+      waiting = again;
+      room = omega (arith, less, room);
+      reached = further-way start now e way waiting last further.fewer;
+      fewer = further.fewer;
+    }
+
+pub commit-next : (start now after : TaskState) (d : Counts) (values : List (List ℕ)) → IsReady now → now.row.state ≡ state.Waiting → HasRoom now → IsUnderWay start now → ending_of after (outcome.Committed d) values ≡ attempt_of now → after.row.at < after.row.hi → IsNext start now after
+commit-next start now after d values ready waiting room way done lt =
+    let commit = commit-left now after d values ready waiting done in
+    next-of start now (ending_of after (outcome.Committed d) values) waiting room way done commit.further (commit.stands ∙ waiting-at after.row.at after.row.hi lt)
+
+pub roll-next : (start now after : TaskState) (class : ClassId) (values : List (List ℕ)) → now.row.state ≡ state.Waiting → HasRoom now → IsUnderWay start now → ending_of after (outcome.Rolled class) values ≡ attempt_of now → IsNext start now after
+roll-next start now after class values waiting room way done =
+    let rolled = roll-left now after class values waiting done in
+    next-of start now (ending_of after (outcome.Rolled class) values) waiting room way done rolled.0 rolled.1
+
+-- a chunk that failed ends the task
+pub fail-ends : (start now after : TaskState) (class : ClassId) (values : List (List ℕ)) → IsReady now → now.row.state ≡ state.Waiting → IsUnderWay start now → ending_of after (outcome.Failed class) values ≡ attempt_of now → IsAlone start after × (after.row.state ≡ state.Failed)
+fail-ends start now after class values ready waiting way done =
+    let ended = fail-left now after class values done in
+    (last-alone start now (ending_of after (outcome.Failed class) values) way ready waiting done (ap has_ended ended), ended)
+
+-- an attempt that found no memory breaks the run off
+pub breaks-off : (start now after : TaskState) → IsReady now → now.row.state ≡ state.Waiting → IsUnderWay start now → IsUnfinished now after → IsBroken start after
+breaks-off start now after ready waiting way unfinished = record {
+  attempts = way.attempts;
+  last = now;
+  run = way.run;
+  few = let few = way.few in let lt = left-waiting now.row ready.sound waiting in omega (arith, few, lt);
+  unfinished = unfinished;
+}

@@ -1,0 +1,97 @@
+-- A block that is tried.
+use Rattle.std.proofs.Common.{◌≡◌, ℕ, ◌+◌, ◌-◌, ◌≤◌, ◌++◌, List, length, take, Some, None, false, refl, ap, sym, ◌∙◌, subst, arith}
+use Rattle.std.proofs.lemmas.Grind.{common_steps}
+use Rattle.jb_job.specs.declared.class.ClassId.{ClassId}
+use Rattle.jb_rules.specs.declared.choice.Choice.{Choice}
+use Rattle.jb_rules.specs.Rows.{skips_of}
+use Rattle.jb_rules.specs.Counts.{no_counts}
+use Rattle.jb_artifacts.specs.Reader.{opened}
+use Rattle.jb_artifacts.specs.Writer.{Writer, Numbered, texts_of, write_fault, torn}
+use Rattle.jb_artifacts.specs.Meaning.{Workplace}
+use Rattle.jb_chunk.specs.declared.tally.Tally.{Tally}
+use Rattle.jb_chunk.specs.declared.tried.Tried.{Tried}
+use Rattle.jb_chunk.specs.Attempt.{Trial, settled_at, found_in, end_at, end_by, delta_by, counts_by, place_by, kept_by, work_by, work_with}
+use Rattle.jb_chunk.specs.Block.{entry, choice_at, skips_before, is_skip, passed}
+use Rattle.jb_chunk.specs.Entries.{fault_in}
+use Rattle.jb_chunk.specs.Gathering.{IsTally, IsWornTo}
+use Rattle.jb_chunk.specs.Tried.{IsTried, IsFinish, IsTorn, writer_by}
+use Rattle.jb_chunk.proofs.Counting.{all-counted}
+use Rattle.jb_chunk.proofs.Settling.{skips-tally}
+use Rattle.jb_chunk.proofs.Ending.{settled-end, settled-work, settled-delta, write-end}
+use Rattle.jb_chunk.proofs.Wearing.{worn-passed}
+
+pub tally-records : (w : Workplace) (lo hi : ℕ) (t : Tally) → lo ≤ hi → IsTally w lo hi t → t.read_skips + t.process_skips + t.filtered + length t.found.items ≡ hi - lo
+tally-records w lo hi t le tally =
+    let found = ap length tally.found in
+    let reads = tally.read_skips in
+    let processes = tally.process_skips in
+    let filtered = tally.filtered in
+    omega (arith, all-counted w lo hi le, found, reads, processes, filtered)
+
+pub settled-tried : (t : Trial) (k : ℕ) (class : ClassId) (choice : Choice) (stopped now : Workplace) (tried : Tried) → settled_at t ≡ Some k → fault_in (entry t.work k) ≡ Some class → choice ≡ choice_at t.rules t.row class (skips_before t.row t.work k) → is_skip choice ≡ false → stopped ≡ passed t.work t.row.at (k + 1) → tried.end ≡ end_by choice class → tried.delta ≡ no_counts → now ≡ record stopped { reader = opened stopped.reader t.row.at } → IsTried t tried now
+settled-tried t k class choice stopped now tried at fault chosen unskipped passes end delta left = record {
+  ended = end ∙ settled-end t k class choice at fault chosen;
+  delta = delta ∙ settled-delta t choice class unskipped ∙ ap (λ e. delta_by t e) (sym end);
+  left = left ∙ settled-work t k class choice stopped at unskipped passes ∙ ap (λ e. work_by t e) (sym end);
+}
+
+pub whole-tried : (t : Trial) (tally : Tally) (whole now : Workplace) (tried : Tried) → settled_at t ≡ None → IsTally t.work t.row.at t.hi tally → whole ≡ passed t.work t.row.at t.hi → IsFinish t.rules t.row t.hi tally whole tried now → IsTried t tried now
+unfolding work_with
+whole-tried t tally whole now tried at counted passes finish = record {
+  ended =
+      finish.ended
+      ∙ ap (λ (v : Workplace). end_at t.rules t.row (write_fault v.writer tally.found.items) (skips_of t.row + tally.read_skips + tally.process_skips)) passes
+      ∙ ap (λ (xs : Numbered). end_at t.rules t.row (write_fault t.work.writer xs) (skips_of t.row + tally.read_skips + tally.process_skips)) counted.found
+      ∙ ap (λ n. end_at t.rules t.row (write_fault t.work.writer (found_in t)) n) (sym (skips-tally t.row t.work t.hi tally counted))
+      ∙ write-end t _ at refl;
+  delta =
+      finish.delta
+      ∙ (λ i. counts_by tried.end (t.hi - t.row.at) (counted.read_skips i) (counted.process_skips i) (counted.filtered i) (length (counted.found i)));
+  left =
+      finish.left
+      ∙ ap (λ (v : Workplace). record v { reader = opened v.reader (place_by tried.end t.row.at t.hi); writer = writer_by tried.end v.writer tally.found.items }) passes
+      ∙ ap (λ (xs : Numbered). record (passed t.work t.row.at t.hi) { reader = opened (passed t.work t.row.at t.hi).reader (place_by tried.end t.row.at t.hi); writer = writer_by tried.end t.work.writer xs }) counted.found
+      ∙ ap (λ s. work_with t s (place_by tried.end t.row.at t.hi) (kept_by tried.end t.work.writer.written (texts_of (found_in t)))) (sym at);
+}
+
+front-kept : (xs ys : List (List ℕ)) → take (length xs) (xs ++ ys) ≡ xs
+front-kept xs ys = grind (arith, common_steps)
+
+front-longer : (xs ys : List (List ℕ)) → length xs ≤ length (xs ++ ys)
+front-longer xs ys = grind (arith, common_steps)
+
+take-same : (xs ys : List (List ℕ)) → ys ≡ xs → take (length xs) ys ≡ xs
+take-same xs ys e = rw e (grind (arith, common_steps))
+
+-- a block that found no memory before its write
+pub torn-worn : (w now : Workplace) → IsWornTo w now → IsTorn w now
+torn-worn w now worn =
+    let same : now.writer.written ≡ w.writer.written = ap (λ (v : Writer). v.written) worn.writer in
+    record {
+      reader = worn.reader;
+      processor = worn.processor;
+      collector = worn.collector;
+      read_plans = worn.read_plans;
+      process_plans = worn.process_plans;
+      write_plans = ap (λ (v : Writer). v.faults) worn.writer;
+      written = take-same w.writer.written now.writer.written same;
+      longer = omega (arith, ap length same);
+    }
+
+-- a block that found no memory in its write
+pub torn-written : (w whole now : Workplace) (lo hi count : ℕ) (found : Numbered) → whole ≡ passed w lo hi → now ≡ record whole { writer = torn whole.writer found count } → IsTorn w now
+torn-written w whole now lo hi count found passes e =
+    let P : Workplace → Type 0 = λ v. IsTorn w v in
+    let at = e ∙ ap (λ (v : Workplace). record v { writer = torn v.writer found count }) passes in
+    let worn = worn-passed w (passed w lo hi) lo hi refl in
+    let more = texts_of (take (count - length w.writer.written) found) in
+    subst P (sym at) (record {
+      reader = refl;
+      processor = refl;
+      collector = refl;
+      read_plans = worn.read_plans;
+      process_plans = worn.process_plans;
+      write_plans = refl;
+      written = front-kept w.writer.written more;
+      longer = front-longer w.writer.written more;
+    })

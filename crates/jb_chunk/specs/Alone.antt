@@ -1,0 +1,57 @@
+-- Run alone: a partition's attempts, by itself, to its end.
+use Rattle.std.specs.Prelude.{ℕ, ◌≡◌, ◌≤◌, ◌<◌, ◌+◌, ◌-◌, Bool, true, false, List, [], ◌∷◌, length, ⊤}
+use Rattle.jb_rules.specs.declared.row.RowState.{RowState}
+use Rattle.jb_rules.specs.declared.row.RowState.TheVariants as state
+use Rattle.jb_chunk.specs.declared.alone.AloneEnd.{AloneEnd}
+use Rattle.jb_chunk.specs.declared.alone.AloneEnd.TheVariants.{Finished, Failed, NoMemory}
+use Rattle.jb_chunk.specs.Attempt.{Ending, attempt_of, IsUnfinished}
+use Rattle.jb_chunk.specs.Plain.{IsCalm, IsPlain}
+use Rattle.jb_chunk.specs.Standing.{TaskState}
+
+-- these attempts, one after another, lead a task from one place to another: each is the attempt of where it stood, and it
+-- waited there
+abbrev pub IsRunOf : TaskState → List Ending → TaskState → Type 0
+IsRunOf t [] s = s ≡ t
+IsRunOf t (e ∷ es) s = (t.row.state ≡ state.Waiting) × (e ≡ attempt_of t) × IsRunOf e.task es s
+
+abbrev pub has_ended : RowState → Bool
+has_ended state.Waiting = false
+has_ended (state.Running lane) = false
+has_ended state.Finished = true
+has_ended state.Failed = true
+
+-- how often a chunk of the task may still be retried
+abbrev pub retries_left : TaskState → ℕ
+retries_left t = t.rules.retry_limit - t.row.retries
+
+-- each attempt uses up a retry, or a record at least, or is the last
+abbrev pub attempts_left : TaskState → ℕ
+attempts_left t = retries_left t + (t.row.hi - t.row.at)
+
+-- The task's attempts alone lead to this place, where it is finished or failed. No other partition, no thread and no round
+-- is named, so the place doesn't depend on them.
+pub record IsAlone (t s : TaskState) : Type 0 where
+  pub attempts : List Ending
+  pub run : IsRunOf t attempts s
+  pub ended : has_ended s.row.state ≡ true
+  pub few : length attempts ≤ attempts_left t
+
+-- some attempts alone were made, and then one that found no memory
+pub record IsBroken (t s : TaskState) : Type 0 where
+  pub attempts : List Ending
+  pub last : TaskState
+  pub run : IsRunOf t attempts last
+  pub few : length attempts < attempts_left t
+  pub unfinished : IsUnfinished last s
+
+-- how a task ends that runs alone
+abbrev pub EndsAlone : TaskState → AloneEnd → TaskState → Type 0
+EndsAlone t Finished s = IsAlone t s × (s.row.state ≡ state.Finished)
+EndsAlone t Failed s = IsAlone t s × (s.row.state ≡ state.Failed)
+EndsAlone t NoMemory s = IsBroken t s
+
+-- where no call in the range fails, the task does what its Plain run does, if there is memory
+abbrev pub KeepsPlain : TaskState → AloneEnd → TaskState → Type 0
+KeepsPlain t Finished s = IsCalm t.work t.row.at t.row.hi → IsPlain t s
+KeepsPlain t Failed s = IsCalm t.work t.row.at t.row.hi → ⊥
+KeepsPlain t NoMemory s = ⊤

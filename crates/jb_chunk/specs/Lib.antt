@@ -1,0 +1,9 @@
+pub mod Alone
+pub mod Attempt
+pub mod Block
+pub mod Entries
+pub mod Gathering
+pub mod Plain
+pub mod Standing
+pub mod Tried
+pub mod Worked

@@ -1,0 +1,48 @@
+-- Where a task stands, and what is asked of it between two chunks.
+use Rattle.std.specs.Prelude.{ℕ, ◌≡◌, ◌≤◌, length, take}
+use Rattle.jb_job.specs.declared.rules.Rules.{Rules}
+use Rattle.jb_plan.specs.declared.limits.TheConstants.{MAX_ITEM_COUNT}
+use Rattle.jb_rules.specs.declared.row.Row.{Row}
+use Rattle.jb_rules.specs.Sound.{IsSoundRow}
+use Rattle.jb_artifacts.specs.Reader.{opened}
+use Rattle.jb_artifacts.specs.Meaning.{Workplace, Fits}
+
+-- a partition's task: its row, the rules and the item count of its step, and where its artifacts stand
+pub record TaskState : Type 0 where
+  pub partition : ℕ
+  pub row : Row
+  pub rules : Rules
+  pub item_count : ℕ
+  pub work : Workplace
+
+-- the number of records in a chunk (Jakarta Batch 2.1, "Chunk"; the upper limit is this project's choice)
+pub record HasItemCount (item_count : ℕ) : Type 0 where
+  pub some : 1 ≤ item_count
+  pub few : item_count ≤ MAX_ITEM_COUNT
+
+-- The row is sound, the artifacts serve it, and reader and writer stand at its checkpoint: the next record, and behind the
+-- results that were committed (Jakarta Batch 2.1, "Checkpoint Algorithm"; that these checkpoints are numbers is this
+-- project's choice).
+pub record IsReady (t : TaskState) : Type 0 where
+  pub sound : IsSoundRow t.row
+  pub item_counted : HasItemCount t.item_count
+  pub fits : Fits t.work t.row
+  pub place : t.work.reader.place ≡ t.row.at
+  pub count : length t.work.writer.written ≡ t.row.written
+
+-- reader and writer opened at the row's checkpoint: what was written past it is cut off
+abbrev pub at_checkpoint : Row → Workplace → Workplace
+at_checkpoint row w = record w {
+  reader = opened w.reader row.at;
+  writer = record w.writer { written = take row.written w.writer.written };
+}
+
+-- the task of a partition that is begun, or taken up again, from its row
+abbrev pub started : (partition : ℕ) → Row → Rules → (item_count : ℕ) → Workplace → TaskState
+started partition row rules item_count w = record {
+  partition = partition;
+  row = row;
+  rules = rules;
+  item_count = item_count;
+  work = at_checkpoint row w;
+}

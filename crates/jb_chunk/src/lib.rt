@@ -1,0 +1,30 @@
+//! One attempt at the next chunk of a partition, and a partition's attempts run alone.
+//!
+//! - `partition_task`: what a partition's task is to the crates above.
+//! - `task`: a task with boxed artifacts.
+//! - `outcome`: how an attempt ends.
+//! - `alone`: a task's attempts, one after another.
+//! - `block`: one block tried to its end, `end`, with what it adds to the counts, `tried`.
+//! - `gather`: its records, read and processed one by one; each has an entry, `entry`, and they are counted, `tally`.
+//! - `checkpoint`: reader and writer, opened again.
+#![tactic(auto)]
+
+mod alone;
+mod block;
+mod checkpoint;
+mod end;
+mod entry;
+mod gather;
+mod outcome;
+mod partition_task;
+mod tally;
+mod task;
+mod tried;
+
+pub use alone::{Alone, AloneEnd, run_alone};
+pub use outcome::{Done, Outcome};
+pub use partition_task::PartitionTask;
+pub use task::Task;
+
+#[cfg(test)]
+mod tests;

@@ -1,0 +1,74 @@
+//! What a partition's task is to the crates above.
+
+ghost use Rattle.std.specs.Prelude.{◌≡◌, ◌↔◌, ◌<◌, IsTrue};
+ghost use Rattle.jb_rules.specs.Sound.{IsSoundRow};
+ghost use Rattle.jb_rules.specs.declared.row.RowState.TheVariants.{Waiting};
+ghost use Rattle.jb_rules.specs.declared.row.TheConstants.{MAX_ROLLBACKS};
+ghost use Rattle.jb_artifacts.specs.Meaning.{Fits};
+ghost use Rattle.jb_chunk.specs.Attempt.{IsAttempt, ending_of};
+ghost use Rattle.jb_chunk.specs.Standing.{TaskState, IsReady, HasItemCount, started};
+
+use crate::outcome::Done;
+use jb_artifacts::Meaning;
+use jb_job::Rules;
+use jb_rules::Row;
+use std::alloc::Global;
+
+/// A partition's row, with the rules of its step and what it works with. Its meaning is where it stands.
+///
+/// The crates above are generic over this trait. `Task`, with its boxed artifacts, is its implementation.
+pub trait PartitionTask: Send + Drop {
+    /// What the task works with.
+    type Artifacts: Meaning + Send + Drop;
+
+    ghost standing: { Self → TaskState };
+
+    /// Whether the artifacts serve the row: its records are there, and its committed results.
+    fn fits(artifacts: &Self::Artifacts, row: &Row) -> bool
+        ensures { IsTrue result ↔ Fits (Self.Artifacts.workplace artifacts.now) row.now };
+
+    /// The task of a partition, with reader and writer opened at the row's checkpoint. What is written past it is cut off.
+    ///
+    /// `item_count` is the number of records in a chunk, 1 to 1,000,000.
+    fn start(
+        partition: u32,
+        row: Row,
+        rules: Rules,
+        item_count: u64,
+        artifacts: Self::Artifacts,
+    ) -> Self
+        requires fit { Fits (Self.Artifacts.workplace artifacts) row }
+        requires sound { IsSoundRow row }
+        requires waiting { row.state ≡ Waiting }
+        requires item_counted { HasItemCount item_count }
+        ensures task { standing result ≡ started partition row rules item_count (Self.Artifacts.workplace artifacts) }
+        ensures ready { IsReady (standing result) };
+
+    /// The partition's number.
+    fn partition(&self) -> u32
+        ensures { result ≡ (standing self.now).partition };
+
+    /// The partition's row.
+    fn row(&self) -> &Row
+        ensures { result.now ≡ (standing self.now).row };
+
+    /// Whether reader and writer stand at the checkpoint of a sound row. `start` and `attempt` leave the task so.
+    fn is_ready(&self) -> bool
+        ensures { IsTrue result ↔ IsReady (standing self.now) };
+
+    /// Attempts the next chunk: reads and processes each of its records, writes the results in one call, and then calls
+    /// the collector. A fault is skipped, retried or fails the partition as `jb_rules::decide` says.
+    ///
+    /// Where the chunk isn't committed, reader and writer stand at the checkpoint again; without memory the row is as it
+    /// was, too.
+    fn attempt(self, alloc: Global) -> Done<Self>
+        requires waiting { (standing self).row.state ≡ Waiting }
+        requires room { (standing self).row.counts.rollback < MAX_ROLLBACKS }
+        requires ready { IsReady (standing self) }
+        ensures attempt { IsAttempt (standing self) (ending_of (standing result.task) result.outcome result.values.items) }
+        ensures ready { IsReady (standing result.task) };
+
+    /// What the task worked with, as it now stands.
+    fn into_artifacts(self) -> Self::Artifacts
+        ensures { Self.Artifacts.workplace result ≡ (standing self).work };
+}

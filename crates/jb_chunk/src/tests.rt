@@ -1,0 +1,6 @@
+//! Values of worked rows, and what no clause says.
+
+mod own;
+mod rows;
+mod threads;
+mod worked;

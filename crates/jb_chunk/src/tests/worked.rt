@@ -1,0 +1,24 @@
+//! The definitions, computed on worked rows apart from the code.
+
+ghost use Rattle.jb_chunk.specs.Worked.{FirstRun, EverythingFiltered, NoRecord, RetryToSingles, SkipInRedo, OneFailed, TornWrite, RetryLimit, ReadSkip, RolledBackSkip, PlainRuns};
+
+use std::test::*;
+
+fn worked_rows()
+    ensures first_run { FirstRun }
+    ensures everything_filtered { EverythingFiltered }
+    ensures no_record { NoRecord }
+    ensures retry_to_singles { RetryToSingles }
+    ensures skip_in_redo { SkipInRedo }
+    ensures one_failed { OneFailed }
+    ensures torn_write { TornWrite }
+    ensures retry_limit { RetryLimit }
+    ensures read_skip { ReadSkip }
+    ensures rolled_back_skip { RolledBackSkip }
+    ensures plain_runs { PlainRuns }
+{}
+
+#[test]
+fn definitions(_rt: HostRuntime) {
+    worked_rows();
+}
