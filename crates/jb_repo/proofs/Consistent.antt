@@ -1,0 +1,390 @@
+-- In every accepted history: a lane runs a partition exactly where the partition's row says so, both are marked, and the rows are sound.
+use Rattle.std.proofs.Common.{◌≡◌, ◌≢◌, ℕ, zero, suc, ◌+◌, ◌<◌, ◌≤◌, Bool, true, false, cond, ◌||◌, ◌⊎◌, inl, inr, nat_eq, is_some, List, [], ◌∷◌, length, slice_get, Option, Some, None, refl, sym, ◌∙◌, ap, subst, eq-eqb, arith}
+use Rattle.std.proofs.lemmas.Bool.{ne_eqb, cases_eq}
+use Rattle.jb_rules.specs.declared.counts.Counts.{Counts}
+use Rattle.jb_rules.specs.declared.row.Row.{Row}
+use Rattle.jb_rules.specs.declared.row.RowState.{RowState}
+use Rattle.jb_rules.specs.declared.row.RowState.TheVariants.{Waiting, Running, Finished, Failed}
+use Rattle.jb_cert.specs.declared.certificates.Certificate.{Certificate}
+use Rattle.jb_repo.specs.declared.events.Event.{Event}
+use Rattle.jb_repo.specs.declared.events.Event.TheVariants.{Plan, Begin, Commit, Roll, Fail, Drop, Round, Stop}
+use Rattle.jb_rules.specs.Sound.{IsSoundRow}
+use Rattle.jb_repo.specs.States.{is_running, is_finished, is_over}
+use Rattle.jb_repo.specs.History.{own, owner, names_lane, begun_by, partition_of, running, is_lane_marked, is_partition_marked, is_round}
+use Rattle.jb_rules.specs.Rows.{state_at}
+use Rattle.jb_repo.specs.Rows.{row_after}
+use Rattle.jb_repo.specs.Table.{Journal, refusal, AcceptedPast, is_good_commit, is_commit_of}
+use Rattle.jb_repo.specs.Ready.{IsReady}
+use Rattle.jb_repo.specs.Steps.{step, CanStep, IsCommit}
+use Rattle.jb_repo.proofs.RowLemmas.{own-yes, own-no, own-none, owner-yes, owner-no, row_after-step, plus_counts-zero}
+use Rattle.jb_repo.proofs.SoundSteps.{sound-step}
+use Rattle.jb_repo.proofs.Passing.{BeginPasses, begin_passes, commit_passes, roll_passes, fail_passes, drop_passes, round_passes, row_of-is, leb_false}
+
+-- the journal of the same repository at another history
+abbrev pub at_past : Journal → List Event → Journal
+at_past j past = record j { past = past }
+
+-- what is known of a lane that runs a partition
+pub record IsLane (j : Journal) (past : List Event) (l p : ℕ) : Type 0 where
+  pub lane : l < j.threads
+  pub partition : p < length j.opening
+  pub lane_marked : is_lane_marked l past ≡ true
+  pub partition_marked : is_partition_marked p past ≡ true
+
+pub record Consistent (j : Journal) (past : List Event) : Type 0 where
+  pub lanes : (l p : ℕ) → owner l past ≡ Some p → IsLane j past l p
+  pub states : (l p : ℕ) (r : Row) → owner l past ≡ Some p → slice_get j.opening p ≡ Some r → (row_after j.item_count r (own p past)).state ≡ Running l
+  pub owners : (l p : ℕ) (r : Row) → slice_get j.opening p ≡ Some r → (row_after j.item_count r (own p past)).state ≡ Running l → owner l past ≡ Some p
+  pub sound : (p : ℕ) (r : Row) → slice_get j.opening p ≡ Some r → IsSoundRow (row_after j.item_count r (own p past))
+  pub below : (p : ℕ) (r : Row) → slice_get j.opening p ≡ Some r → is_running (row_after j.item_count r (own p past)).state ≡ true → (row_after j.item_count r (own p past)).counts.rollback < 1000000000000
+
+-- MARKS
+
+pub lane_marked-same : (k : ℕ) (e : Event) (past : List Event) → is_round e ≡ false → begun_by e ≡ None → is_lane_marked k (e ∷ past) ≡ is_lane_marked k past
+lane_marked-same k e past r b = rw (r, b) refl
+
+pub partition_marked-same : (k : ℕ) (e : Event) (past : List Event) → is_round e ≡ false → begun_by e ≡ None → is_partition_marked k (e ∷ past) ≡ is_partition_marked k past
+partition_marked-same k e past r b = rw (r, b) refl
+
+or_right : (a b : Bool) → b ≡ true → (a || b) ≡ true
+or_right true b h = refl
+or_right false b h = h
+
+-- where none of the lanes below n runs, none of them has an owner
+pub none_owns : (n : ℕ) (past : List Event) (l p : ℕ) → running n past ≡ 0 → l < n → owner l past ≡ Some p → ⊥
+none_owns zero past l p none lt h = absurd (omega arith)
+none_owns (suc n) past l p none lt h =
+    elim (cases_eq l n) [
+      | inl e ↦
+          let r : is_some (owner n past) ≡ true = rw (← e, h) refl in
+          let t = rw r at none in absurd (omega (arith, t))
+      | inr ne ↦ none_owns n past l p (omega arith) (omega arith) h
+    ]
+
+not_finished : (state : RowState) → is_over state ≡ false → is_finished state ≡ false
+not_finished Waiting h = refl
+not_finished (Running l) h = refl
+not_finished Finished h = h
+not_finished Failed h = refl
+
+-- EVENTS THAT NAME NO LANE
+
+module _ (j : Journal) (past : List Event) (some : 1 ≤ j.item_count) (old : Consistent j past) where
+  no_lane : (e : Event) → ((k : ℕ) → names_lane k e ≡ false) → partition_of e past ≡ None → ((l p : ℕ) → owner l past ≡ Some p → IsLane j (e ∷ past) l p) → Consistent j (e ∷ past)
+  no_lane e names part lane =
+      record {
+        lanes = λ l p h. lane l p (sym (owner-no l e past (names l)) ∙ h);
+        states = λ l p r h o.
+            let s = old.states l p r (sym (owner-no l e past (names l)) ∙ h) o in
+            rw (own-none p e past part) s;
+        owners = λ l p r o s.
+            let s' = rw (own-none p e past part) at s in
+            owner-no l e past (names l) ∙ old.owners l p r o s';
+        sound = λ p r o. rw (own-none p e past part) (old.sound p r o);
+        below = λ p r o s.
+            let s' = rw (own-none p e past part) at s in
+            rw (own-none p e past part) (old.below p r o s');
+      }
+
+  -- a Plan or a Stop changes no mark
+  unmarking : (e : Event) → is_round e ≡ false → begun_by e ≡ None → (l p : ℕ) → owner l past ≡ Some p → IsLane j (e ∷ past) l p
+  unmarking e r b l p h =
+      let k = old.lanes l p h in
+      record {
+        lane = k.lane;
+        partition = k.partition;
+        lane_marked = lane_marked-same l e past r b ∙ k.lane_marked;
+        partition_marked = partition_marked-same p e past r b ∙ k.partition_marked;
+      }
+
+  plan_keeps : (n : ℕ) (k : Certificate) → Consistent j (Plan n k ∷ past)
+  plan_keeps n k = no_lane (Plan n k) (λ _. refl) refl (unmarking (Plan n k) refl refl)
+
+  stop_keeps : Consistent j (Stop ∷ past)
+  stop_keeps = no_lane Stop (λ _. refl) refl (unmarking Stop refl refl)
+
+  -- where none of the lanes runs, none has an owner
+  round_keeps : running j.threads past ≡ 0 → Consistent j (Round ∷ past)
+  round_keeps none = no_lane Round (λ _. refl) refl
+      (λ l p h. absurd (none_owns j.threads past l p none (old.lanes l p h).lane h))
+
+  -- A BEGIN
+
+  module _ (l p : ℕ) (ok : BeginPasses (at_past j past) l p) where
+    -- the lane doesn't run yet, and no lane runs the partition
+    lane_free : (q : ℕ) → owner l past ≡ Some q → ⊥
+    lane_free q h = let m = (old.lanes l q h).lane_marked in let u = ok.lane_unmarked in cc
+
+    partition_free : (k : ℕ) → owner k past ≡ Some p → ⊥
+    partition_free k h = let m = (old.lanes k p h).partition_marked in let u = ok.partition_unmarked in cc
+
+    begin_owner_same : owner l (Begin l p ∷ past) ≡ Some p
+    begin_owner_same = owner-yes l (Begin l p) past (eq-eqb l l refl)
+
+    begin_owner_other : (k : ℕ) → l ≢ k → owner k (Begin l p ∷ past) ≡ owner k past
+    begin_owner_other k ne = owner-no k (Begin l p) past (ne_eqb l k ne)
+
+    begin_own_same : own p (Begin l p ∷ past) ≡ Begin l p ∷ own p past
+    begin_own_same = own-yes p (Begin l p) past refl
+
+    begin_own_other : (q : ℕ) → p ≢ q → own q (Begin l p ∷ past) ≡ own q past
+    begin_own_other q ne = own-no p q (Begin l p) past refl ne
+
+    begin_lanes : (k q : ℕ) → owner k (Begin l p ∷ past) ≡ Some q → (l ≡ k) ⊎ (l ≢ k) → IsLane j (Begin l p ∷ past) k q
+    begin_lanes k q h (inl e) =
+        let s = begin_owner_same in
+        let q' : p ≡ q = cc in
+        record {
+          lane = rw (← e) ok.lane;
+          partition = rw (← q') ok.partition;
+          lane_marked = rw (eq-eqb l k e) refl;
+          partition_marked = rw (eq-eqb p q q') refl;
+        }
+    begin_lanes k q h (inr ne) =
+        let o = old.lanes k q (sym (begin_owner_other k ne) ∙ h) in
+        record {
+          lane = o.lane;
+          partition = o.partition;
+          lane_marked = or_right _ _ o.lane_marked;
+          partition_marked = or_right _ _ o.partition_marked;
+        }
+
+    begin_states : (k q : ℕ) (r : Row) → owner k (Begin l p ∷ past) ≡ Some q → slice_get j.opening q ≡ Some r → (l ≡ k) ⊎ (l ≢ k) → (row_after j.item_count r (own q (Begin l p ∷ past))).state ≡ Running k
+    begin_states k q r h o (inl e) =
+        let s = begin_owner_same in
+        let q' : p ≡ q = cc in
+        rw (own-yes q (Begin l p) past (ap Some q')) (ap Running e)
+    begin_states k q r h o (inr ne) =
+        let h' = sym (begin_owner_other k ne) ∙ h in
+        let not_p : p ≢ q = λ e. partition_free k (rw (← e) at h') in
+        rw (begin_own_other q not_p) (old.states k q r h' o)
+
+    begin_owners : (k q : ℕ) (r : Row) → slice_get j.opening q ≡ Some r → (row_after j.item_count r (own q (Begin l p ∷ past))).state ≡ Running k → (p ≡ q) ⊎ (p ≢ q) → owner k (Begin l p ∷ past) ≡ Some q
+    begin_owners k q r o s (inl e) =
+        let s' = rw (own-yes q (Begin l p) past (ap Some e)) at s in
+        let same : l ≡ k = cc in
+        owner-yes k (Begin l p) past (eq-eqb l k same) ∙ ap Some e
+    begin_owners k q r o s (inr ne) =
+        let s' = rw (begin_own_other q ne) at s in
+        let h = old.owners k q r o s' in
+        let not_l : l ≢ k = λ e. lane_free q (rw e h) in
+        begin_owner_other k not_l ∙ h
+
+    -- the partition's row before the Begin
+    begin_open : (r : Row) → slice_get j.opening p ≡ Some r → is_over (row_after j.item_count r (own p past)).state ≡ false
+    begin_open r o = rw (row_of-is (at_past j past) p r o) at ok.not_over
+
+    begin_below : (r : Row) → slice_get j.opening p ≡ Some r → (row_after j.item_count r (own p past)).counts.rollback < 1000000000000
+    begin_below r o = let h = rw (row_of-is (at_past j past) p r o) at ok.below_limit in leb_false _ _ h
+
+    begin_sound : (q : ℕ) (r : Row) → slice_get j.opening q ≡ Some r → (p ≡ q) ⊎ (p ≢ q) → IsSoundRow (row_after j.item_count r (own q (Begin l p ∷ past)))
+    begin_sound q r o (inl e) =
+        let o' : slice_get j.opening p ≡ Some r = rw e o in
+        rw (own-yes q (Begin l p) past (ap Some e), row_after-step j.item_count r (Begin l p) (own q past), ← e)
+        (sound-step j.item_count (row_after j.item_count r (own p past)) some (Begin l p) (record {
+          sound = old.sound p r o';
+          unfinished = not_finished _ (begin_open r o');
+          below_limit = λ h. absurd h;
+          commit = tt;
+        }))
+    begin_sound q r o (inr ne) = rw (begin_own_other q ne) (old.sound q r o)
+
+    begin_below_all : (q : ℕ) (r : Row) → slice_get j.opening q ≡ Some r → is_running (row_after j.item_count r (own q (Begin l p ∷ past))).state ≡ true → (p ≡ q) ⊎ (p ≢ q) → (row_after j.item_count r (own q (Begin l p ∷ past))).counts.rollback < 1000000000000
+    begin_below_all q r o s (inl e) =
+        let o' : slice_get j.opening p ≡ Some r = rw e o in
+        let b = subst (λ (x : ℕ). (row_after j.item_count r (own x past)).counts.rollback < 1000000000000) e (begin_below r o') in
+        rw (own-yes q (Begin l p) past (ap Some e)) (omega (arith, b))
+    begin_below_all q r o s (inr ne) =
+        let s' = rw (begin_own_other q ne) at s in
+        rw (begin_own_other q ne) (old.below q r o s')
+
+    begin_keeps : Consistent j (Begin l p ∷ past)
+    begin_keeps =
+        record {
+          lanes = λ k q h. begin_lanes k q h (cases_eq l k);
+          states = λ k q r h o. begin_states k q r h o (cases_eq l k);
+          owners = λ k q r o s. begin_owners k q r o s (cases_eq p q);
+          sound = λ q r o. begin_sound q r o (cases_eq p q);
+          below = λ q r o s. begin_below_all q r o s (cases_eq p q);
+        }
+
+  -- AN OUTCOME
+
+  module _ (e : Event) (l p : ℕ) (names : (k : ℕ) → names_lane k e ≡ nat_eq l k) (begins : begun_by e ≡ None) (part : partition_of e past ≡ Some p) (no_round : is_round e ≡ false) (idle : (row : Row) → is_running (step j.item_count row e).state ≡ false) (owned : owner l past ≡ Some p) (can : (r : Row) → slice_get j.opening p ≡ Some r → CanStep j.item_count (row_after j.item_count r (own p past)) e) where
+    outcome_owner_same : (k : ℕ) → l ≡ k → owner k (e ∷ past) ≡ None
+    outcome_owner_same k same = owner-yes k e past (names k ∙ eq-eqb l k same) ∙ begins
+
+    outcome_owner_other : (k : ℕ) → l ≢ k → owner k (e ∷ past) ≡ owner k past
+    outcome_owner_other k ne = owner-no k e past (names k ∙ ne_eqb l k ne)
+
+    outcome_own_other : (q : ℕ) → p ≢ q → own q (e ∷ past) ≡ own q past
+    outcome_own_other q ne = own-no p q e past part ne
+
+    outcome_row : (q : ℕ) (r : Row) → p ≡ q → row_after j.item_count r (own q (e ∷ past)) ≡ step j.item_count (row_after j.item_count r (own p past)) e
+    outcome_row q r same = rw (own-yes q e past (part ∙ ap Some same), same) (row_after-step j.item_count r e (own q past))
+
+    outcome_lanes : (k q : ℕ) → owner k (e ∷ past) ≡ Some q → (l ≡ k) ⊎ (l ≢ k) → IsLane j (e ∷ past) k q
+    outcome_lanes k q h (inl same) = let n = outcome_owner_same k same in absurd cc
+    outcome_lanes k q h (inr ne) = unmarking e no_round begins k q (sym (outcome_owner_other k ne) ∙ h)
+
+    -- another lane runs another partition
+    outcome_apart : (k q : ℕ) (r : Row) → l ≢ k → owner k past ≡ Some q → slice_get j.opening q ≡ Some r → p ≢ q
+    outcome_apart k q r ne h o same =
+        let owned' : owner l past ≡ Some q = rw (← same) owned in
+        let a = old.states l q r owned' o in
+        let b = old.states k q r h o in
+        let eq : l ≡ k = cc in
+        ne eq
+
+    outcome_states : (k q : ℕ) (r : Row) → owner k (e ∷ past) ≡ Some q → slice_get j.opening q ≡ Some r → (l ≡ k) ⊎ (l ≢ k) → (row_after j.item_count r (own q (e ∷ past))).state ≡ Running k
+    outcome_states k q r h o (inl same) = let n = outcome_owner_same k same in absurd cc
+    outcome_states k q r h o (inr ne) =
+        let h' = sym (outcome_owner_other k ne) ∙ h in
+        rw (outcome_own_other q (outcome_apart k q r ne h' o)) (old.states k q r h' o)
+
+    outcome_idle : (q : ℕ) (r : Row) → p ≡ q → is_running (row_after j.item_count r (own q (e ∷ past))).state ≡ false
+    outcome_idle q r same = ap (λ (row : Row). is_running row.state) (outcome_row q r same) ∙ idle (row_after j.item_count r (own p past))
+
+    outcome_owners : (k q : ℕ) (r : Row) → slice_get j.opening q ≡ Some r → (row_after j.item_count r (own q (e ∷ past))).state ≡ Running k → (p ≡ q) ⊎ (p ≢ q) → owner k (e ∷ past) ≡ Some q
+    outcome_owners k q r o s (inl same) =
+        let i = outcome_idle q r same in
+        let t : is_running (row_after j.item_count r (own q (e ∷ past))).state ≡ true = rw s refl in
+        absurd cc
+    outcome_owners k q r o s (inr ne) =
+        let s' = rw (outcome_own_other q ne) at s in
+        let h = old.owners k q r o s' in
+        let not_l : l ≢ k = λ same. let h' : owner l past ≡ Some q = rw same h in ne cc in
+        outcome_owner_other k not_l ∙ h
+
+    outcome_sound : (q : ℕ) (r : Row) → slice_get j.opening q ≡ Some r → (p ≡ q) ⊎ (p ≢ q) → IsSoundRow (row_after j.item_count r (own q (e ∷ past)))
+    outcome_sound q r o (inl same) =
+        let o' : slice_get j.opening p ≡ Some r = rw same o in
+        rw (outcome_row q r same) (sound-step j.item_count (row_after j.item_count r (own p past)) some e (can r o'))
+    outcome_sound q r o (inr ne) = rw (outcome_own_other q ne) (old.sound q r o)
+
+    outcome_below : (q : ℕ) (r : Row) → slice_get j.opening q ≡ Some r → is_running (row_after j.item_count r (own q (e ∷ past))).state ≡ true → (p ≡ q) ⊎ (p ≢ q) → (row_after j.item_count r (own q (e ∷ past))).counts.rollback < 1000000000000
+    outcome_below q r o s (inl same) = let i = outcome_idle q r same in absurd cc
+    outcome_below q r o s (inr ne) =
+        let s' = rw (outcome_own_other q ne) at s in
+        rw (outcome_own_other q ne) (old.below q r o s')
+
+    outcome_keeps : Consistent j (e ∷ past)
+    outcome_keeps =
+        record {
+          lanes = λ k q h. outcome_lanes k q h (cases_eq l k);
+          states = λ k q r h o. outcome_states k q r h o (cases_eq l k);
+          owners = λ k q r o s. outcome_owners k q r o s (cases_eq p q);
+          sound = λ q r o. outcome_sound q r o (cases_eq p q);
+          below = λ q r o s. outcome_below q r o s (cases_eq p q);
+        }
+
+-- EVERY ACCEPTED HISTORY
+
+state_at_idle : (at hi : ℕ) → is_running (state_at at hi) ≡ false
+state_at_idle at hi =
+    elim (nat_eq at hi) as (λ b. is_running (cond b Finished Waiting) ≡ false) [ true ↦ refl | false ↦ refl ]
+
+running_unfinished : (l : ℕ) (state : RowState) → state ≡ Running l → is_finished state ≡ false
+running_unfinished l state h = rw h refl
+
+-- a row that runs may take each outcome but a Commit that isn't its block's
+module _ (j : Journal) (past : List Event) (old : Consistent j past) (l p : ℕ) (owned : owner l past ≡ Some p) where
+  running_can : (e : Event) → ((r : Row) → slice_get j.opening p ≡ Some r → IsCommit j.item_count (row_after j.item_count r (own p past)) e) → (r : Row) → slice_get j.opening p ≡ Some r → CanStep j.item_count (row_after j.item_count r (own p past)) e
+  running_can e commit r o =
+      let s = old.states l p r owned o in
+      let t : is_running (row_after j.item_count r (own p past)).state ≡ true = rw s refl in
+      record {
+        sound = old.sound p r o;
+        unfinished = running_unfinished l _ s;
+        below_limit = λ _. old.below p r o t;
+        commit = commit r o;
+      }
+
+pub commit_of_row : (j : Journal) (p : ℕ) (r : Row) (o : Option ℕ) (d : Counts) (w : ℕ) → o ≡ Some p → slice_get j.opening p ≡ Some r → is_good_commit j o d w ≡ true → is_commit_of j.item_count (row_after j.item_count r (own p j.past)) d w ≡ true
+commit_of_row j p r o d w is got h =
+    let h' = rw (is, row_of-is j p r got) at h in h'
+
+step_keeps : (j : Journal) (past : List Event) → 1 ≤ j.item_count → (e : Event) → refusal (at_past j past) e ≡ None → Consistent j past → Consistent j (e ∷ past)
+step_keeps j past some (Plan n k) ok old = plan_keeps j past some old n k
+step_keeps j past some (Begin l p) ok old = begin_keeps j past some old l p (begin_passes (at_past j past) l p ok)
+step_keeps j past some (Commit l d w) ok old =
+    let k = commit_passes (at_past j past) l d w ok in
+    let q = k.0 in
+    outcome_keeps j past some old (Commit l d w) l q.partition (λ _. refl) refl q.owned refl (λ row. state_at_idle _ _) q.owned
+    (running_can j past old l q.partition q.owned (Commit l d w) (λ r o. commit_of_row (at_past j past) q.partition r (owner l past) d w q.owned o k.1))
+step_keeps j past some (Roll l k) ok old =
+    let q = roll_passes (at_past j past) l k ok in
+    outcome_keeps j past some old (Roll l k) l q.partition (λ _. refl) refl q.owned refl (λ row. refl) q.owned
+    (running_can j past old l q.partition q.owned (Roll l k) (λ r o. tt))
+step_keeps j past some (Fail l k) ok old =
+    let q = fail_passes (at_past j past) l k ok in
+    outcome_keeps j past some old (Fail l k) l q.partition (λ _. refl) refl q.owned refl (λ row. refl) q.owned
+    (running_can j past old l q.partition q.owned (Fail l k) (λ r o. tt))
+step_keeps j past some (Drop l) ok old =
+    let q = drop_passes (at_past j past) l ok in
+    outcome_keeps j past some old (Drop l) l q.partition (λ _. refl) refl q.owned refl (λ row. refl) q.owned
+    (running_can j past old l q.partition q.owned (Drop l) (λ r o. tt))
+step_keeps j past some Round ok old = round_keeps j past some old (round_passes (at_past j past) ok).none_runs
+step_keeps j past some Stop ok old = stop_keeps j past some old
+
+pub row_eq_opening : (c : ℕ) (r : Row) → row_after c r [] ≡ r
+row_eq_opening c r =
+    let a : r.at + 0 ≡ r.at = omega arith in
+    let b : r.retries + 0 ≡ r.retries = omega arith in
+    let d = plus_counts-zero r.counts in
+    rw (a, b, d) refl
+
+pub opening_consistent : (j : Journal) → IsReady j → Consistent j []
+opening_consistent j ready =
+    record {
+      lanes = λ l p h. absurd cc;
+      states = λ l p r h o. absurd cc;
+      owners = λ l p r o s.
+          let i = (ready.idle p r o).1 in
+          let t : is_running r.state ≡ true = rw s refl in
+          absurd cc;
+      sound = λ p r o. rw (row_eq_opening j.item_count r) (ready.idle p r o).0;
+      below = λ p r o s. let i = (ready.idle p r o).1 in absurd cc;
+    }
+
+pub consistent : (j : Journal) → IsReady j → (past : List Event) → AcceptedPast j past → Consistent j past
+consistent j ready [] ok = opening_consistent j ready
+consistent j ready (e ∷ past) ok = step_keeps j past ready.some_items e ok.0 (consistent j ready past ok.1)
+
+-- the partition that an accepted event is about is there, and its row can take the step
+pub record IsStep (j : Journal) (past : List Event) (e : Event) (p : ℕ) : Type 0 where
+  pub partition : p < length j.opening
+  pub can : (r : Row) → slice_get j.opening p ≡ Some r → CanStep j.item_count (row_after j.item_count r (own p past)) e
+
+some_same : (o : Option ℕ) (p q : ℕ) → o ≡ Some p → o ≡ Some q → p ≡ q
+some_same o p q h k = cc
+
+module _ (j : Journal) (past : List Event) (old : Consistent j past) where
+  outcome_step : (e : Event) (l p q : ℕ) → owner l past ≡ Some p → owner l past ≡ Some q → ((r : Row) → slice_get j.opening p ≡ Some r → IsCommit j.item_count (row_after j.item_count r (own p past)) e) → IsStep j past e q
+  outcome_step e l p q owned part commit =
+      subst (λ (x : ℕ). IsStep j past e x) (some_same _ p q owned part)
+      (record { partition = (old.lanes l p owned).partition; can = running_can j past old l p owned e commit })
+
+  pub is_step : (e : Event) (p : ℕ) → refusal (at_past j past) e ≡ None → partition_of e past ≡ Some p → IsStep j past e p
+  is_step (Plan n k) p ok part = absurd cc
+  is_step (Begin l q) p ok part =
+      let b = begin_passes (at_past j past) l q ok in
+      let e : q ≡ p = cc in
+      subst (λ (x : ℕ). IsStep j past (Begin l q) x) e (record {
+        partition = b.partition;
+        can = λ r o.
+            let h : is_over (row_after j.item_count r (own q past)).state ≡ false = rw (row_of-is (at_past j past) q r o) at b.not_over in
+            record { sound = old.sound q r o; unfinished = not_finished _ h; below_limit = λ i. absurd i; commit = tt };
+      })
+  is_step (Commit l d w) p ok part =
+      let k = commit_passes (at_past j past) l d w ok in
+      let q = k.0 in
+      outcome_step (Commit l d w) l q.partition p q.owned part (λ r o. commit_of_row (at_past j past) q.partition r (owner l past) d w q.owned o k.1)
+  is_step (Roll l k) p ok part =
+      let q = roll_passes (at_past j past) l k ok in outcome_step (Roll l k) l q.partition p q.owned part (λ r o. tt)
+  is_step (Fail l k) p ok part =
+      let q = fail_passes (at_past j past) l k ok in outcome_step (Fail l k) l q.partition p q.owned part (λ r o. tt)
+  is_step (Drop l) p ok part =
+      let q = drop_passes (at_past j past) l ok in outcome_step (Drop l) l q.partition p q.owned part (λ r o. tt)
+  is_step Round p ok part = absurd cc
+  is_step Stop p ok part = absurd cc

@@ -1,0 +1,14 @@
+pub mod Consistent
+pub mod Keeping
+pub mod LawProofs
+pub mod Passing
+pub mod Ranges
+pub mod Openings
+pub mod RowFacts
+pub mod RowLemmas
+pub mod Certified
+pub mod Runs
+pub mod SoundSteps
+pub mod Tables
+pub mod Totals
+pub mod Worked

@@ -1,0 +1,151 @@
+-- What the table's silence says of each event.
+use Rattle.std.proofs.Common.{◌≡◌, ℕ, ◌+◌, ◌<◌, ◌≤◌, Bool, true, false, not, ◌||◌, nat_le, nat_lt, is_none, List, [], ◌∷◌, length, slice_get, Option, Some, None, refl, ◌∙◌, arith}
+use Rattle.std.proofs.lemmas.Bool.Decides.{nat_tests}
+use Rattle.jb_rules.specs.declared.counts.Counts.{Counts}
+use Rattle.jb_rules.specs.declared.row.Row.{Row}
+use Rattle.jb_cert.specs.declared.certificates.Certificate.{Certificate}
+use Rattle.jb_job.specs.declared.class.ClassId.{ClassId}
+use Rattle.jb_repo.specs.declared.events.Event.TheVariants.{Plan, Begin, Commit, Roll, Fail, Drop, Round, Stop}
+use Rattle.jb_repo.specs.History.{own, owner, is_lane_marked, is_partition_marked, is_plan_open, is_stopping}
+use Rattle.jb_repo.specs.Rows.{row_after}
+use Rattle.jb_repo.specs.Table.{Journal, Condition, conditions, first_refusal, refusal, row_of, reserved, is_full, is_good_plan, is_good_commit, is_over_row, is_at_limit}
+use Rattle.jb_repo.proofs.RowLemmas.{slice_get-rows_from}
+
+-- each condition of the list fails
+abbrev pub NoneHolds : List Condition → Type 0
+NoneHolds [] = Unit {0}
+NoneHolds ((holds, refused) ∷ others) = (holds ≡ false) × NoneHolds others
+
+pub passes : (conditions : List Condition) → first_refusal conditions ≡ None → NoneHolds conditions
+passes [] h = tt
+passes ((true, refused) ∷ others) h = absurd cc
+passes ((false, refused) ∷ others) h = (refl, passes others h)
+
+pub or_false : (a b : Bool) → (a || b) ≡ false → (a ≡ false) × (b ≡ false)
+or_false true b h = absurd cc
+or_false false b h = (refl, h)
+
+pub not_false : (a : Bool) → not a ≡ false → a ≡ true
+not_false true h = refl
+not_false false h = absurd cc
+
+pub some_value : {X : Type 0} (o : Option X) → is_none o ≡ false → (x : X) × (o ≡ Some x)
+some_value None h = absurd cc
+some_value (Some x) h = (x, refl)
+
+pub leb_false : (a b : ℕ) → nat_le a b ≡ false → b < a
+leb_false a b h = grind (arith, nat_tests)
+
+pub ltb_false : (a b : ℕ) → nat_lt a b ≡ false → b ≤ a
+ltb_false a b h = grind (arith, nat_tests)
+
+pub full_false : (j : Journal) (n : ℕ) → is_full j n ≡ false → length j.past + reserved j + n ≤ 1000000000
+full_false j n h = ltb_false _ _ h
+
+pub record BeginPasses (j : Journal) (l p : ℕ) : Type 0 where
+  pub not_stopping : is_stopping j.past ≡ false
+  pub partition : p < length j.opening
+  pub lane : l < j.threads
+  pub lane_unmarked : is_lane_marked l j.past ≡ false
+  pub partition_unmarked : is_partition_marked p j.past ≡ false
+  pub not_over : is_over_row (row_of j p) ≡ false
+  pub open_plan : is_plan_open j.past ≡ true
+  pub room : length j.past + reserved j + 2 ≤ 1000000000
+  pub below_limit : is_at_limit (row_of j p) ≡ false
+
+pub begin_passes : (j : Journal) (l p : ℕ) → refusal j (Begin l p) ≡ None → BeginPasses j l p
+begin_passes j l p h =
+    let a = passes (conditions j (Begin l p)) h in
+    let b = a.1 in
+    let c = b.1 in
+    let d = c.1 in
+    let e = d.1 in
+    let f = e.1 in
+    let g = f.1 in
+    let idle = or_false _ _ e.0 in
+    let full = or_false _ _ g.0 in
+    record {
+      not_stopping = a.0;
+      partition = leb_false _ _ b.0;
+      lane = leb_false _ _ c.0;
+      lane_unmarked = d.0;
+      partition_unmarked = idle.0;
+      not_over = idle.1;
+      open_plan = not_false _ f.0;
+      room = full_false j 2 full.0;
+      below_limit = full.1;
+    }
+
+pub record PlanPasses (j : Journal) (n : ℕ) (k : Certificate) : Type 0 where
+  pub not_stopping : is_stopping j.past ≡ false
+  pub none_runs : reserved j ≡ 0
+  pub no_plan : is_plan_open j.past ≡ false
+  pub good : is_good_plan j n k ≡ true
+  pub room : length j.past + reserved j + 1 ≤ 1000000000
+
+none_below : (n : ℕ) → nat_lt 0 n ≡ false → n ≡ 0
+none_below n h = grind (arith, nat_tests)
+
+pub plan_passes : (j : Journal) (n : ℕ) (k : Certificate) → refusal j (Plan n k) ≡ None → PlanPasses j n k
+plan_passes j n k h =
+    let a = passes (conditions j (Plan n k)) h in
+    let b = a.1 in
+    let c = b.1 in
+    let d = c.1 in
+    let still = or_false _ _ b.0 in
+    record { not_stopping = a.0; none_runs = none_below _ still.0; no_plan = still.1; good = not_false _ c.0; room = full_false j 1 d.0 }
+
+pub record OutcomePasses (j : Journal) (l : ℕ) : Type 0 where
+  pub lane : l < j.threads
+  pub partition : ℕ
+  pub owned : owner l j.past ≡ Some partition
+
+pub commit_passes : (j : Journal) (l : ℕ) (d : Counts) (w : ℕ) → refusal j (Commit l d w) ≡ None → OutcomePasses j l × (is_good_commit j (owner l j.past) d w ≡ true)
+commit_passes j l d w h =
+    let a = passes (conditions j (Commit l d w)) h in
+    let b = a.1 in
+    let c = b.1 in
+    let v = some_value _ b.0 in
+    (record { lane = leb_false _ _ a.0; partition = v.0; owned = v.1 }, not_false _ c.0)
+
+pub roll_passes : (j : Journal) (l : ℕ) (k : ClassId) → refusal j (Roll l k) ≡ None → OutcomePasses j l
+roll_passes j l k h =
+    let a = passes (conditions j (Roll l k)) h in
+    let b = a.1 in
+    let v = some_value _ b.0 in
+    record { lane = leb_false _ _ a.0; partition = v.0; owned = v.1 }
+
+pub fail_passes : (j : Journal) (l : ℕ) (k : ClassId) → refusal j (Fail l k) ≡ None → OutcomePasses j l
+fail_passes j l k h =
+    let a = passes (conditions j (Fail l k)) h in
+    let b = a.1 in
+    let v = some_value _ b.0 in
+    record { lane = leb_false _ _ a.0; partition = v.0; owned = v.1 }
+
+pub drop_passes : (j : Journal) (l : ℕ) → refusal j (Drop l) ≡ None → OutcomePasses j l
+drop_passes j l h =
+    let a = passes (conditions j (Drop l)) h in
+    let b = a.1 in
+    let v = some_value _ b.0 in
+    record { lane = leb_false _ _ a.0; partition = v.0; owned = v.1 }
+
+pub record RoundPasses (j : Journal) : Type 0 where
+  pub none_runs : reserved j ≡ 0
+  pub open_plan : is_plan_open j.past ≡ true
+  pub room : length j.past + reserved j + 1 ≤ 1000000000
+
+pub round_passes : (j : Journal) → refusal j Round ≡ None → RoundPasses j
+round_passes j h =
+    let a = passes (conditions j Round) h in
+    let b = a.1 in
+    let c = b.1 in
+    record { none_runs = none_below _ a.0; open_plan = not_false _ b.0; room = full_false j 1 c.0 }
+
+pub stop_passes : (j : Journal) → refusal j Stop ≡ None → length j.past + reserved j + 1 ≤ 1000000000
+stop_passes j h = full_false j 1 (passes (conditions j Stop) h).0
+
+-- the row of a partition, from its opening row
+pub row_of-is : (j : Journal) (p : ℕ) (r : Row) → slice_get j.opening p ≡ Some r → row_of j p ≡ Some (row_after j.item_count r (own p j.past))
+row_of-is j p r h =
+    let e : 0 + p ≡ p = omega arith in
+    slice_get-rows_from j.item_count j.past 0 j.opening p ∙ rw (h, e) refl

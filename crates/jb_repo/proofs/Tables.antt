@@ -1,0 +1,222 @@
+-- The kept table of rows and the definition's rows.
+use Rattle.std.proofs.Common.{◌≡◌, ◌≢◌, ℕ, zero, suc, ◌+◌, ◌<◌, ◌≤◌, Bool, true, false, cond, nat_eq, is_some, inl, inr, List, [], ◌∷◌, ◌++◌, length, take, set, get_or, slice_get, Option, Some, None, option_map, refl, sym, ◌∙◌, ap, subst, eq-eqb, arith, IfSome}
+use Rattle.std.proofs.lemmas.Bool.{ne_eqb, cases_eq}
+use Rattle.std.proofs.lemmas.Option.{slice_get-get_or, slice_get_past, get_or_from_slice_get}
+use Rattle.std.proofs.lemmas.List.{get_or-take}
+use Rattle.std.proofs.Math.Seq.{take-set-lt}
+use Rattle.jb_rules.specs.declared.row.Row.{Row}
+use Rattle.jb_rules.specs.declared.row.RowState.TheVariants.{Waiting, Running}
+use Rattle.jb_repo.specs.declared.events.Event.{Event}
+use Rattle.jb_repo.specs.declared.events.Event.TheVariants.{Plan, Begin, Commit, Roll, Fail, Drop, Round, Stop}
+use Rattle.jb_rules.specs.Sound.{IsSoundRow}
+use Rattle.jb_repo.specs.States.{is_finished}
+use Rattle.jb_rules.specs.Counts.{no_counts}
+use Rattle.std.specs.Prelude.{sum}
+use Rattle.jb_repo.specs.History.{own, owner, names_lane, begun_by, partition_of, running, runs}
+use Rattle.jb_repo.specs.Rows.{row_after, remaining, remaining_of, counts_of}
+use Rattle.jb_repo.specs.Table.{Journal, Accepted, refusal, after, rows_of, row_of, reserved}
+use Rattle.jb_repo.specs.Answers.{places_of}
+use Rattle.jb_repo.specs.Ready.{IsReady}
+use Rattle.jb_repo.specs.Sound.{IsTable}
+use Rattle.jb_repo.specs.Steps.{step, stepped_rows, CanStep}
+use Rattle.jb_repo.proofs.RowLemmas.{length-rows_from, slice_get-rows_from, rows_from-none, rows_from-some, owner-yes, owner-no}
+use Rattle.jb_repo.proofs.Consistent.{consistent, IsStep, is_step}
+use Rattle.jb_repo.proofs.Passing.{row_of-is, begin_passes, OutcomePasses, commit_passes, roll_passes, fail_passes, drop_passes}
+use Rattle.jb_repo.proofs.Ranges.{remaining-small}
+
+-- OPENING ROWS
+
+-- each row now comes from an opening row
+pub record HasOpening (j : Journal) (p : ℕ) (row : Row) : Type 0 where
+  pub opening : Row
+  pub partition : p < length j.opening
+  pub opens : slice_get j.opening p ≡ Some opening
+  pub becomes : row ≡ row_after j.item_count opening (own p j.past)
+
+pub inside : (rows : List Row) (p : ℕ) (r : Row) → slice_get rows p ≡ Some r → p < length rows
+inside [] p r h = absurd cc
+inside (x ∷ rows) zero r h = omega arith
+inside (x ∷ rows) (suc p) r h = omega (arith, inside rows p r h)
+
+pub at_some : (rows : List Row) (p : ℕ) → p < length rows → (r : Row) × (slice_get rows p ≡ Some r)
+at_some [] p h = absurd (omega arith)
+at_some (x ∷ rows) zero h = (x, refl)
+at_some (x ∷ rows) (suc p) h = at_some rows p (omega arith)
+
+opening_of : (j : Journal) (p : ℕ) (row : Row) (o : Option Row) → slice_get j.opening p ≡ o → row_of j p ≡ Some row → HasOpening j p row
+opening_of j p row None h is =
+    let e = slice_get-rows_from j.item_count j.past 0 j.opening p in
+    let f : option_map (λ (r : Row). row_after j.item_count r (own (0 + p) j.past)) (slice_get j.opening p) ≡ None = rw h refl in
+    absurd cc
+opening_of j p row (Some r) h is =
+    let e = row_of-is j p r h in
+    let f : row ≡ row_after j.item_count r (own p j.past) = cc in
+    record { opening = r; partition = inside j.opening p r h; opens = h; becomes = f }
+
+pub has_opening : (j : Journal) (p : ℕ) (row : Row) → row_of j p ≡ Some row → HasOpening j p row
+has_opening j p row is = opening_of j p row (slice_get j.opening p) refl is
+
+pub row_sound : (j : Journal) → IsReady j → Accepted j → (p : ℕ) (row : Row) → row_of j p ≡ Some row → IsSoundRow row
+row_sound j ready ok p row is =
+    let o = has_opening j p row is in
+    subst (λ (x : Row). IsSoundRow x) (sym o.becomes) ((consistent j ready j.past ok).sound p o.opening o.opens)
+
+-- the row of a partition that a lane runs is not finished
+pub row_unfinished : (j : Journal) → IsReady j → Accepted j → (l p : ℕ) (row : Row) → owner l j.past ≡ Some p → row_of j p ≡ Some row → is_finished row.state ≡ false
+row_unfinished j ready ok l p row owned is =
+    let o = has_opening j p row is in
+    let s = (consistent j ready j.past ok).states l p o.opening owned o.opens in
+    let t : row.state ≡ Running l = ap (λ (x : Row). x.state) o.becomes ∙ s in
+    ap is_finished t
+
+pub remaining_fits : (j : Journal) → IsReady j → Accepted j → sum (remaining j.item_count (rows_of j)) ≤ 10000000
+remaining_fits j ready ok =
+    remaining-small j.item_count j.past j.opening ready.some_items ready.disjoint (consistent j ready j.past ok).sound
+
+-- THE KEPT TABLE
+
+pub kept_row : (j : Journal) (rows : List Row) (p : ℕ) (d : Row) → take (length j.opening) rows ≡ rows_of j → p < length j.opening → row_of j p ≡ Some (get_or rows p d)
+kept_row j rows p d table lt =
+    let n : length (rows_of j) ≡ length j.opening = length-rows_from j.item_count j.past 0 j.opening in
+    let q : p < length (rows_of j) = omega (arith, n) in
+    let e : slice_get (rows_of j) p ≡ Some (get_or (rows_of j) p d) = slice_get-get_or (rows_of j) p d q in
+    let g : get_or (take (length j.opening) rows) p d ≡ get_or rows p d = get_or-take (length j.opening) rows p d lt in
+    let h : get_or (rows_of j) p d ≡ get_or rows p d = ap (λ (x : List Row). get_or x p d) (sym table) ∙ g in
+    e ∙ ap Some h
+
+pub no_row : (j : Journal) (p : ℕ) → length j.opening ≤ p → row_of j p ≡ None
+no_row j p le =
+    let n = length-rows_from j.item_count j.past 0 j.opening in
+    slice_get_past (rows_of j) p (omega (arith, n))
+
+module _ (j : Journal) (ready : IsReady j) (ok : Accepted j) (e : Event) (passes : refusal j e ≡ None) where
+  pub step_at : (p : ℕ) → partition_of e j.past ≡ Some p → IsStep j j.past e p
+  step_at p part = is_step j j.past (consistent j ready j.past ok) e p passes part
+
+  pub can_step : (p : ℕ) (row : Row) → partition_of e j.past ≡ Some p → row_of j p ≡ Some row → CanStep j.item_count row e
+  can_step p row part is =
+      let o = has_opening j p row is in
+      subst (λ (x : Row). CanStep j.item_count x e) (sym o.becomes) ((step_at p part).can o.opening o.opens)
+
+  pub table_after : (rows : List Row) (d : Row) (o : Option ℕ) → take (length j.opening) rows ≡ rows_of j → partition_of e j.past ≡ o → take (length j.opening) (stepped_rows j.item_count rows o e d) ≡ rows_of (after j e)
+  table_after rows d None table part = table ∙ sym (rows_from-none j.item_count e j.past 0 j.opening part)
+  table_after rows d (Some p) table part =
+      let lt : p < length j.opening = (step_at p part).partition in
+      let is = kept_row j rows p d table lt in
+      let z : p ≡ 0 + p = omega arith in
+      let r = rows_from-some j.item_count e j.past p p 0 j.opening (get_or rows p d) part z is in
+      take-set-lt (length j.opening) rows p (step j.item_count (get_or rows p d) e) lt
+      ∙ ap (λ (x : List Row). set x p (step j.item_count (get_or rows p d) e)) table
+      ∙ sym r
+
+-- RESERVED PLACES
+
+abbrev one : Bool → ℕ
+one b = cond b 1 0
+
+one_le : (b : Bool) → one b ≤ 1
+one_le true = omega arith
+one_le false = omega arith
+
+running-same : (n : ℕ) (e : Event) (past : List Event) → ((k : ℕ) → names_lane k e ≡ false) → running n (e ∷ past) ≡ running n past
+running-same zero e past silent = refl
+running-same (suc n) e past silent =
+    let t = owner-no n e past (silent n) in
+    let u = running-same n e past silent in
+    rw (t, u) refl
+
+-- only lane l changes
+module _ (l : ℕ) (e : Event) (past : List Event) (names : (k : ℕ) → names_lane k e ≡ nat_eq l k) where
+  others : (k : ℕ) → l ≢ k → runs k (e ∷ past) ≡ runs k past
+  others k ne = ap is_some (owner-no k e past (names k ∙ ne_eqb l k ne))
+
+  running-above : (n : ℕ) → n ≤ l → running n (e ∷ past) ≡ running n past
+  running-above zero le = refl
+  running-above (suc n) le =
+      let t = others n (λ h. absurd (omega arith)) in
+      let u = running-above n (omega arith) in
+      rw (t, u) refl
+
+  running-one : (n : ℕ) → l < n → running n (e ∷ past) + one (runs l past) ≡ running n past + one (runs l (e ∷ past))
+  running-one zero lt = absurd (omega arith)
+  running-one (suc n) lt =
+      elim (cases_eq l n) [
+        | inl same ↦
+            let u = running-above n (omega arith) in
+            let a : one (runs l past) ≡ one (runs n past) = ap (λ (x : ℕ). one (runs x past)) same in
+            let b : one (runs l (e ∷ past)) ≡ one (runs n (e ∷ past)) = ap (λ (x : ℕ). one (runs x (e ∷ past))) same in
+            omega (arith, u, a, b)
+        | inr ne ↦
+            let t : one (runs n (e ∷ past)) ≡ one (runs n past) = ap one (others n ne) in
+            let u = running-one n (omega arith) in
+            omega (arith, t, u)
+      ]
+
+-- the places that an accepted event asks for are enough for it and for the outcomes that are still to come
+module _ (j : Journal) (ready : IsReady j) (ok : Accepted j) where
+  outcome_places : (e : Event) (l : ℕ) → ((k : ℕ) → names_lane k e ≡ nat_eq l k) → begun_by e ≡ None → OutcomePasses j l → 1 + running j.threads (e ∷ j.past) ≤ running j.threads j.past
+  outcome_places e l names begins q =
+      let a = running-one l e j.past names j.threads q.lane in
+      let b : one (runs l j.past) ≡ 1 = rw q.owned refl in
+      let c : one (runs l (e ∷ j.past)) ≡ 0 = rw (owner-yes l e j.past (names l ∙ eq-eqb l l refl), begins) refl in
+      omega (arith, a, b, c)
+
+  pub places_enough : (e : Event) → refusal j e ≡ None → 1 + reserved (after j e) ≤ reserved j + places_of e
+  places_enough (Plan n k) passes = let a = running-same j.threads (Plan n k) j.past (λ _. refl) in omega (arith, a)
+  places_enough (Begin l p) passes =
+      let q = begin_passes j l p passes in
+      let a = running-one l (Begin l p) j.past (λ _. refl) j.threads q.lane in
+      let c : one (runs l (Begin l p ∷ j.past)) ≤ 1 = one_le (runs l (Begin l p ∷ j.past)) in
+      omega (arith, a, c)
+  places_enough (Commit l d w) passes = let a = outcome_places (Commit l d w) l (λ _. refl) refl (commit_passes j l d w passes).0 in omega (arith, a)
+  places_enough (Roll l k) passes = let a = outcome_places (Roll l k) l (λ _. refl) refl (roll_passes j l k passes) in omega (arith, a)
+  places_enough (Fail l k) passes = let a = outcome_places (Fail l k) l (λ _. refl) refl (fail_passes j l k passes) in omega (arith, a)
+  places_enough (Drop l) passes = let a = outcome_places (Drop l) l (λ _. refl) refl (drop_passes j l passes) in omega (arith, a)
+  places_enough Round passes = let a = running-same j.threads Round j.past (λ _. refl) in omega (arith, a)
+  places_enough Stop passes = let a = running-same j.threads Stop j.past (λ _. refl) in omega (arith, a)
+
+-- WHAT THE CODE NEEDS
+
+-- what a read past the end of a list of rows gives
+abbrev pub waiting_row : Row
+waiting_row = record { lo = 0; hi = 0; at = 0; redo = 0; retries = 0; written = 0; counts = no_counts; state = Waiting }
+
+pub read_row : (rows : List Row) (i : ℕ) (d : Row) → i < length rows → slice_get rows i ≡ Some (get_or rows i d)
+read_row rows i d lt = slice_get-get_or rows i d lt
+
+pub remaining-push : (c : ℕ) (rows : List Row) (row : Row) → remaining c (rows ++ row ∷ []) ≡ remaining c rows ++ remaining_of c row row.state ∷ []
+remaining-push c [] row = refl
+remaining-push c (r ∷ rows) row = let t = remaining-push c rows row in rw t refl
+
+pub kept_get : (j : Journal) (rows : List Row) (p : ℕ) (row : Row) → take (length j.opening) rows ≡ rows_of j → p < length j.opening → slice_get rows p ≡ Some row → row_of j p ≡ Some row
+kept_get j rows p row table lt h = kept_row j rows p row table lt ∙ ap Some (get_or_from_slice_get rows p row row h)
+
+module _ (j : Journal) (ready : IsReady j) (ok : Accepted j) (e : Event) (passes : refusal j e ≡ None) where
+  pub inside_all : (o : Option ℕ) → partition_of e j.past ≡ o → IfSome o (λ p. p < 256)
+  inside_all None part = tt
+  inside_all (Some p) part = omega (arith, (step_at j ready ok e passes p part).partition, ready.few_rows)
+
+  pub can_all : (rows : List Row) (o : Option ℕ) → take (length j.opening) rows ≡ rows_of j → partition_of e j.past ≡ o → IfSome o (λ p. (row : Row) → slice_get rows p ≡ Some row → CanStep j.item_count row e)
+  can_all rows None table part = tt
+  can_all rows (Some p) table part = λ row h.
+      can_step j ready ok e passes p row part (kept_get j rows p row table (step_at j ready ok e passes p part).partition h)
+
+-- the rows of a lawful journal are a table
+pub is_table : (j : Journal) → IsReady j → Accepted j → IsTable (rows_of j) (counts_of (rows_of j))
+is_table j ready ok =
+    let n = length-rows_from j.item_count j.past 0 j.opening in
+    record {
+      some_rows = omega (arith, n, ready.some_rows);
+      few_rows = omega (arith, n, ready.few_rows);
+      sound = row_sound j ready ok;
+      disjoint = λ i k r s lt a b.
+          let o = has_opening j i r a in
+          let p = has_opening j k s b in
+          let d = ready.disjoint i k o.opening p.opening lt o.opens p.opens in
+          let rl : r.lo ≡ o.opening.lo = ap (λ (x : Row). x.lo) o.becomes in
+          let rh : r.hi ≡ o.opening.hi = ap (λ (x : Row). x.hi) o.becomes in
+          let sl : s.lo ≡ p.opening.lo = ap (λ (x : Row). x.lo) p.becomes in
+          let sh : s.hi ≡ p.opening.hi = ap (λ (x : Row). x.hi) p.becomes in
+          λ x h1 h2 h3 h4. d x (omega arith) (omega arith) (omega arith) (omega arith);
+      sum = refl;
+    }

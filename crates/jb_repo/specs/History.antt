@@ -1,0 +1,174 @@
+-- Questions about a history. A history is a list of events, the newest first: in `e ∷ past` the event e comes after past.
+-- (What a job repository keeps is left open by Jakarta Batch 2.1, "Job Repository"; the events are this project's own.)
+use Rattle.std.specs.Prelude.{ℕ, zero, suc, ◌+◌, nat_eq, nat_lt, Bool, true, false, not, ◌&&◌, ◌||◌, if◌then◌else◌, List, [], ◌∷◌, Option, Some, None, is_some}
+use Rattle.jb_repo.specs.declared.events.Event.{Event}
+use Rattle.jb_repo.specs.declared.events.Event.TheVariants.{Plan, Begin, Commit, Roll, Fail, Drop, Round, Stop}
+
+abbrev pub is_some_of : Option ℕ → ℕ → Bool
+is_some_of None n = false
+is_some_of (Some m) n = nat_eq m n
+
+-- the lane that an event names
+abbrev pub lane_of : Event → Option ℕ
+lane_of (Plan n certificate) = None
+lane_of (Begin lane partition) = Some lane
+lane_of (Commit lane delta written) = Some lane
+lane_of (Roll lane class) = Some lane
+lane_of (Fail lane class) = Some lane
+lane_of (Drop lane) = Some lane
+lane_of Round = None
+lane_of Stop = None
+
+-- the partition that a Begin names
+abbrev pub begun_by : Event → Option ℕ
+begun_by (Plan n certificate) = None
+begun_by (Begin lane partition) = Some partition
+begun_by (Commit lane delta written) = None
+begun_by (Roll lane class) = None
+begun_by (Fail lane class) = None
+begun_by (Drop lane) = None
+begun_by Round = None
+begun_by Stop = None
+
+abbrev pub is_plan : Event → Bool
+is_plan (Plan n certificate) = true
+is_plan (Begin lane partition) = false
+is_plan (Commit lane delta written) = false
+is_plan (Roll lane class) = false
+is_plan (Fail lane class) = false
+is_plan (Drop lane) = false
+is_plan Round = false
+is_plan Stop = false
+
+abbrev pub is_round : Event → Bool
+is_round (Plan n certificate) = false
+is_round (Begin lane partition) = false
+is_round (Commit lane delta written) = false
+is_round (Roll lane class) = false
+is_round (Fail lane class) = false
+is_round (Drop lane) = false
+is_round Round = true
+is_round Stop = false
+
+abbrev pub is_stop : Event → Bool
+is_stop (Plan n certificate) = false
+is_stop (Begin lane partition) = false
+is_stop (Commit lane delta written) = false
+is_stop (Roll lane class) = false
+is_stop (Fail lane class) = false
+is_stop (Drop lane) = false
+is_stop Round = false
+is_stop Stop = true
+
+-- the next Round after it closes the plan
+abbrev pub ends_plan : Event → Bool
+ends_plan (Plan n certificate) = false
+ends_plan (Begin lane partition) = false
+ends_plan (Commit lane delta written) = false
+ends_plan (Roll lane class) = true
+ends_plan (Fail lane class) = true
+ends_plan (Drop lane) = true
+ends_plan Round = false
+ends_plan Stop = true
+
+-- some event passes the test
+abbrev pub some : (Event → Bool) → List Event → Bool
+some test [] = false
+some test (e ∷ past) = test e || some test past
+
+-- how many events pass the test
+abbrev pub number : (Event → Bool) → List Event → ℕ
+number test [] = 0
+number test (e ∷ past) = (if test e then 1 else 0) + number test past
+
+-- the events after the last one that passes the test
+abbrev pub since : (Event → Bool) → List Event → List Event
+since test [] = []
+since test (e ∷ past) = if test e then [] else e ∷ since test past
+
+-- the last event that passes the test
+abbrev pub last : (Event → Bool) → List Event → Option Event
+last test [] = None
+last test (e ∷ past) = if test e then Some e else last test past
+
+-- LANES AND PARTITIONS
+
+abbrev pub names_lane : ℕ → Event → Bool
+names_lane lane e = is_some_of (lane_of e) lane
+
+abbrev pub begun : Option Event → Option ℕ
+begun None = None
+begun (Some e) = begun_by e
+
+-- A lane runs if the last event that names it is a Begin; its partition is then the owner of the lane's outcome
+abbrev pub owner : ℕ → List Event → Option ℕ
+owner lane past = begun (last (names_lane lane) past)
+
+abbrev pub runs : ℕ → List Event → Bool
+runs lane past = is_some (owner lane past)
+
+-- how many of the lanes below n run
+abbrev pub running : ℕ → List Event → ℕ
+running zero past = 0
+running (suc n) past = (if runs n past then 1 else 0) + running n past
+
+abbrev pub begins_lane : ℕ → Event → Bool
+begins_lane lane e = is_some (begun_by e) && names_lane lane e
+
+abbrev pub begins_partition : ℕ → Event → Bool
+begins_partition partition e = is_some_of (begun_by e) partition
+
+-- A lane or a partition is marked if a Begin names it after the last Round
+abbrev pub is_lane_marked : ℕ → List Event → Bool
+is_lane_marked lane past = some (begins_lane lane) (since is_round past)
+
+abbrev pub is_partition_marked : ℕ → List Event → Bool
+is_partition_marked partition past = some (begins_partition partition) (since is_round past)
+
+-- PLANS
+
+-- a Round stands after an event that ends the plan
+abbrev pub is_closed : List Event → Bool
+is_closed [] = false
+is_closed (e ∷ past) = (is_round e && some ends_plan past) || is_closed past
+
+abbrev pub planned : Option Event → ℕ
+planned None = 0
+planned (Some (Plan n certificate)) = n
+planned (Some (Begin lane partition)) = 0
+planned (Some (Commit lane delta written)) = 0
+planned (Some (Roll lane class)) = 0
+planned (Some (Fail lane class)) = 0
+planned (Some (Drop lane)) = 0
+planned (Some Round) = 0
+planned (Some Stop) = 0
+
+-- the rounds of the last plan
+abbrev pub planned_rounds : List Event → ℕ
+planned_rounds past = planned (last is_plan past)
+
+-- A plan is open if after the last Plan stand fewer Rounds than it has, and no Round after a Roll, Fail, Drop or Stop
+abbrev pub is_plan_open : List Event → Bool
+is_plan_open past = nat_lt (number is_round (since is_plan past)) (planned_rounds past) && not (is_closed (since is_plan past))
+
+abbrev pub is_stopping : List Event → Bool
+is_stopping past = some is_stop past
+
+-- OWN EVENTS
+
+-- the partition that an event is about, after past: the one that a Begin names, or the owner of an outcome
+abbrev pub partition_of : Event → List Event → Option ℕ
+partition_of (Plan n certificate) past = None
+partition_of (Begin lane partition) past = Some partition
+partition_of (Commit lane delta written) past = owner lane past
+partition_of (Roll lane class) past = owner lane past
+partition_of (Fail lane class) past = owner lane past
+partition_of (Drop lane) past = owner lane past
+partition_of Round past = None
+partition_of Stop past = None
+
+-- a partition's own events: its Begins and the outcomes that it owns
+abbrev pub own : ℕ → List Event → List Event
+own partition [] = []
+own partition (e ∷ past) =
+    if is_some_of (partition_of e past) partition then e ∷ own partition past else own partition past

@@ -1,0 +1,14 @@
+pub mod Blocks
+pub mod Certificates
+pub mod History
+pub mod Rows
+pub mod States
+pub mod Answers
+pub mod Table
+pub mod Ready
+pub mod Steps
+pub mod Kept
+pub mod Shown
+pub mod Laws
+pub mod Sound
+pub mod Worked

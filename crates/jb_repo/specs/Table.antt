@@ -1,0 +1,134 @@
+-- The table of the events: which are refused, and which histories are accepted (this project's own choice).
+use Rattle.std.specs.Prelude.{◌≡◌, ℕ, ◌+◌, nat_eq, nat_lt, nat_le, Bool, false, not, ◌&&◌, ◌||◌, if◌then◌else◌, List, [], ◌∷◌, length, slice_get, Option, Some, None, is_none}
+use Rattle.jb_rules.specs.declared.counts.Counts.{Counts}
+use Rattle.jb_rules.specs.declared.row.Row.{Row}
+use Rattle.jb_cert.specs.declared.certificates.Certificate.{Certificate}
+use Rattle.jb_repo.specs.declared.events.Event.{Event}
+use Rattle.jb_repo.specs.declared.events.Event.TheVariants.{Plan, Begin, Commit, Roll, Fail, Drop, Round, Stop}
+use Rattle.jb_repo.specs.declared.refused.Refused.{Refused}
+use Rattle.jb_repo.specs.declared.refused.Refused.TheVariants.{Stopping, NoPartition, LaneRange, LaneBusy, NotIdle, NotRunning, BadDelta, StillRunning, PastPlan, BadPlan, Full}
+use Rattle.jb_repo.specs.States.{is_over}
+use Rattle.jb_repo.specs.Blocks.{block_end}
+use Rattle.jb_repo.specs.Certificates.{is_least_plan}
+use Rattle.jb_rules.specs.declared.row.TheConstants.{MAX_ROLLBACKS}
+use Rattle.jb_repo.specs.declared.events.TheConstants.{MAX_EVENTS}
+use Rattle.jb_repo.specs.History.{owner, running, is_lane_marked, is_partition_marked, is_plan_open, is_stopping}
+use Rattle.jb_repo.specs.Rows.{rows_from, remaining}
+
+-- what a repository holds: what it was opened with, and its events, the newest first
+pub record Journal : Type 0 where
+  pub opening : List Row
+  pub threads : ℕ
+  pub item_count : ℕ
+  pub past : List Event
+
+-- the rows now
+abbrev pub rows_of : Journal → List Row
+rows_of j = rows_from j.item_count j.past 0 j.opening
+
+abbrev pub row_of : Journal → ℕ → Option Row
+row_of j partition = slice_get (rows_of j) partition
+
+-- the places that are reserved for outcomes
+abbrev pub reserved : Journal → ℕ
+reserved j = running j.threads j.past
+
+-- there are not so many places left
+abbrev pub is_full : Journal → ℕ → Bool
+is_full j places = nat_lt MAX_EVENTS (length j.past + reserved j + places)
+
+-- n is the least number of rounds for what is left, and the certificate holds
+abbrev pub is_good_plan : Journal → ℕ → Certificate → Bool
+is_good_plan j n certificate =
+    is_least_plan (remaining j.item_count (rows_of j)) j.threads n certificate
+
+abbrev pub is_over_row : Option Row → Bool
+is_over_row None = false
+is_over_row (Some row) = is_over row.state
+
+abbrev pub is_at_limit : Option Row → Bool
+is_at_limit None = false
+is_at_limit (Some row) = nat_le MAX_ROLLBACKS row.counts.rollback
+
+-- the delta and the number written are those of a commit of the row's next block
+abbrev pub is_commit_of : ℕ → Row → Counts → ℕ → Bool
+is_commit_of item_count row delta written =
+    nat_eq (row.at + (delta.read + delta.read_skip)) (block_end item_count row.at row.redo row.hi)
+    && nat_eq delta.commit 1
+    && nat_eq delta.rollback 0
+    && ((nat_eq delta.write_skip 0 && nat_eq delta.read (delta.process_skip + delta.filter + delta.write))
+    || (nat_eq delta.write_skip 1 && nat_eq delta.write 0 && nat_lt (delta.process_skip + delta.filter) delta.read))
+    && nat_eq written (row.written + delta.write)
+
+abbrev pub is_commit_of_row : ℕ → Option Row → Counts → ℕ → Bool
+is_commit_of_row item_count None delta written = false
+is_commit_of_row item_count (Some row) delta written = is_commit_of item_count row delta written
+
+abbrev pub is_good_commit : Journal → Option ℕ → Counts → ℕ → Bool
+is_good_commit j None delta written = false
+is_good_commit j (Some partition) delta written = is_commit_of_row j.item_count (row_of j partition) delta written
+
+-- THE TABLE: the conditions under which an event is refused, in their order
+
+abbrev pub Condition : Type 0
+Condition = Bool × Refused
+
+abbrev pub outcome_conditions : Journal → ℕ → List Condition
+outcome_conditions j lane =
+    (nat_le j.threads lane, LaneRange)
+    ∷ (is_none (owner lane j.past), NotRunning)
+    ∷ []
+
+abbrev pub conditions : Journal → Event → List Condition
+conditions j (Plan n certificate) =
+    (is_stopping j.past, Stopping)
+    ∷ (nat_lt 0 (reserved j) || is_plan_open j.past, StillRunning)
+    ∷ (not (is_good_plan j n certificate), BadPlan)
+    ∷ (is_full j 1, Full)
+    ∷ []
+conditions j (Begin lane partition) =
+    (is_stopping j.past, Stopping)
+    ∷ (nat_le (length j.opening) partition, NoPartition)
+    ∷ (nat_le j.threads lane, LaneRange)
+    ∷ (is_lane_marked lane j.past, LaneBusy)
+    ∷ (is_partition_marked partition j.past || is_over_row (row_of j partition), NotIdle)
+    ∷ (not (is_plan_open j.past), PastPlan)
+    ∷ (is_full j 2 || is_at_limit (row_of j partition), Full)
+    ∷ []
+conditions j (Commit lane delta written) =
+    (nat_le j.threads lane, LaneRange)
+    ∷ (is_none (owner lane j.past), NotRunning)
+    ∷ (not (is_good_commit j (owner lane j.past) delta written), BadDelta)
+    ∷ []
+conditions j (Roll lane class) = outcome_conditions j lane
+conditions j (Fail lane class) = outcome_conditions j lane
+conditions j (Drop lane) = outcome_conditions j lane
+conditions j Round =
+    (nat_lt 0 (reserved j), StillRunning)
+    ∷ (not (is_plan_open j.past), PastPlan)
+    ∷ (is_full j 1, Full)
+    ∷ []
+conditions j Stop =
+    (is_full j 1, Full)
+    ∷ []
+
+-- the first refusal whose condition holds
+abbrev pub first_refusal : List Condition → Option Refused
+first_refusal [] = None
+first_refusal ((holds, refused) ∷ others) = if holds then Some refused else first_refusal others
+
+abbrev pub refusal : Journal → Event → Option Refused
+refusal j e = first_refusal (conditions j e)
+
+-- the journal after one more event
+abbrev pub after : Journal → Event → Journal
+after j e = record j { past = e ∷ j.past }
+
+-- ACCEPTED HISTORIES: each event passes the table after those before it
+
+abbrev pub AcceptedPast : Journal → List Event → Type 0
+AcceptedPast j [] = Unit {0}
+AcceptedPast j (e ∷ past) = (refusal (record j { past = past }) e ≡ None) × AcceptedPast j past
+
+abbrev pub Accepted : Journal → Type 0
+Accepted j = AcceptedPast j j.past

@@ -1,0 +1,44 @@
+//! Why an event is refused.
+
+use thiserror::Error;
+
+/// Why an event is refused.
+#[derive(Clone, Copy, Debug, PartialEq, Eq, Error)]
+pub enum Refused {
+    /// A stop was asked for.
+    #[error("Stopping")]
+    Stopping,
+    /// There is no such partition.
+    #[error("NoPartition")]
+    NoPartition,
+    /// There is no such lane.
+    #[error("LaneRange")]
+    LaneRange,
+    /// The lane has begun a chunk in this round.
+    #[error("LaneBusy")]
+    LaneBusy,
+    /// The partition's chunk of this round was begun, or the partition is finished or has failed.
+    #[error("NotIdle")]
+    NotIdle,
+    /// The lane runs no chunk.
+    #[error("NotRunning")]
+    NotRunning,
+    /// The counts or the number of results are not those of a commit of the partition's next chunk.
+    #[error("BadDelta")]
+    BadDelta,
+    /// A lane runs, or a plan is open.
+    #[error("StillRunning")]
+    StillRunning,
+    /// No plan is open.
+    #[error("PastPlan")]
+    PastPlan,
+    /// The number of rounds is not the least one for the chunks that are left, or the certificate doesn't hold.
+    #[error("BadPlan")]
+    BadPlan,
+    /// There was no memory for the event.
+    #[error("Memory")]
+    Memory,
+    /// The history would pass 1,000,000,000 events, or the partition is at its limit of rollbacks.
+    #[error("Full")]
+    Full,
+}
