@@ -1,0 +1,10 @@
+pub mod Documents
+pub mod FaultPlans
+pub mod Least
+pub mod Mapped
+pub mod Partitions
+pub mod Refusals
+pub mod Reports
+pub mod Trees
+pub mod Triples
+pub mod Writing

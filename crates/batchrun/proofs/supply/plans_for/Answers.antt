@@ -1,0 +1,15 @@
+use Rattle.std.proofs.Common.{◌≡◌, length, take, filter, get_or}
+use Rattle.std.proofs.lemmas.List.{take_more}
+use Rattle.jb_artifacts.specs.Faults.{plans_of}
+use Rattle.batchrun.specs.Partitions.{is_in, planned, plans_with}
+use Rattle.batchrun.proofs.FaultPlans.{planned-more}
+use Rattle.batchrun.proofs.supply.plans_for.Goals as goal
+
+pub loop-fault-preserved : goal.loop-fault-preserved
+loop-fault-preserved c =
+    let faults = c.as_slice-faults.result.now in
+    let fault = c.fault-item.result in
+    let i = c.loop-fault.fault-index in
+    let before : plans_of c.loop-fault.plans ≡ planned (filter (is_in c.args.range) (take i faults)) = c.loop-fault.invariant in
+    let put : plans_of c.put_plan.new.plans ≡ plans_with c.args.range (plans_of c.loop-fault.plans) fault = c.in_ok-put_plan.ensures in
+    rw (take_more faults i fault c.loop-fault-test.true, ← c.fault-item.is, planned-more c.args.range (take i faults) fault, ← before) put

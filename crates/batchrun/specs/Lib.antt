@@ -1,0 +1,15 @@
+pub mod Answer
+pub mod CheckDocument
+pub mod CheckText
+pub mod CommandLine
+pub mod FaultLists
+pub mod JobRun
+pub mod Partitions
+pub mod PlanDocument
+pub mod PlanText
+pub mod Refusals
+pub mod Report
+pub mod RunDocument
+pub mod Statuses
+pub mod StepFields
+pub mod Worked

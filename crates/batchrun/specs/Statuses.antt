@@ -1,0 +1,42 @@
+-- The exit status of the program (own choice).
+use Rattle.std.specs.Prelude.{ℕ}
+use Rattle.jb_job.specs.declared.error.JobError.{JobError}
+use Rattle.jb_job.specs.declared.error.JobError.TheVariants as fault
+use Rattle.jb_plan.specs.declared.fault.PlanError.{PlanError}
+use Rattle.jb_plan.specs.declared.fault.PlanError.TheVariants as plan_fault
+use Rattle.batchrun.specs.declared.failure.Failure.{Failure}
+use Rattle.batchrun.specs.declared.failure.Failure.TheVariants as failure
+use Rattle.batchrun.specs.declared.results.Status.{Status}
+use Rattle.batchrun.specs.declared.results.Status.TheVariants as status
+
+-- that of a job
+abbrev pub status_code : Status → ℕ
+status_code status.Completed = 0
+status_code status.Failed = 1
+
+-- 3 where the document or a plan is refused, 4 for memory and streams, 5 for the command line
+abbrev pub failure_code : Failure → ℕ
+failure_code (failure.Document f) = 3
+failure_code (failure.Plan f) = 3
+failure_code failure.Memory = 4
+failure_code failure.Stream = 4
+failure_code failure.Usage = 5
+
+-- the failure that a fault of a document is
+abbrev pub failure_of : JobError → Failure
+failure_of fault.Memory = failure.Memory
+failure_of fault.NotJson = failure.Document fault.NotJson
+failure_of (fault.WrongShape f) = failure.Document (fault.WrongShape f)
+failure_of (fault.OutOfRange f) = failure.Document (fault.OutOfRange f)
+failure_of (fault.TooMany f) = failure.Document (fault.TooMany f)
+failure_of fault.UnknownClass = failure.Document fault.UnknownClass
+
+-- the failure that a fault of a partition plan is
+abbrev pub plan_failure : PlanError → Failure
+plan_failure plan_fault.Memory = failure.Memory
+plan_failure plan_fault.NoPartition = failure.Plan plan_fault.NoPartition
+plan_failure plan_fault.TooMany = failure.Plan plan_fault.TooMany
+plan_failure (plan_fault.Reversed i) = failure.Plan (plan_fault.Reversed i)
+plan_failure (plan_fault.PastEnd i) = failure.Plan (plan_fault.PastEnd i)
+plan_failure (plan_fault.Overlap i j) = failure.Plan (plan_fault.Overlap i j)
+plan_failure plan_fault.Threads = failure.Plan plan_fault.Threads

@@ -1,0 +1,91 @@
+//! The program over any reader and any two writers.
+
+ghost use Rattle.std.specs.Prelude.{◌≡◌, ◌≢◌, ◌⊎◌, ◌<◌, map, Some, IfErr, IfOk, IfSome};
+ghost use Rattle.std.specs.Io.KnownBytes.{Appends, Keeps};
+ghost use Rattle.jb_job.specs.declared.error.JobError.{JobError};
+ghost use Rattle.jb_plan.specs.declared.fault.PlanError.{PlanError};
+ghost use Rattle.batchrun.specs.Report.{report_text};
+ghost use Rattle.batchrun.specs.Statuses.{status_code};
+ghost use Rattle.clap.specs.Words.{subcommand_of};
+ghost use Rattle.batchrun.specs.declared.line.Line.{Line};
+ghost use Rattle.batchrun.specs.CommandLine.{app, line_in};
+ghost use Rattle.batchrun.specs.Answer.{IsAnswer, IsRun, IsRefusedDocument, IsRefusedPlan};
+
+use crate::checking::run_check;
+use crate::document::read_document;
+use crate::failure::{Failure, write_failure};
+use crate::input::read_all;
+use crate::job_run::run_job;
+use crate::line::{Word, line_of};
+use crate::planning::run_plan;
+use crate::report::text_of;
+use crate::results::Report;
+use std::alloc::{AllocGlobal, Global};
+use std::io::{Read, Write};
+
+/// Writes the report whole, and gives the exit status.
+fn write_report<W: Write>(alloc: Global, report: &Report, writer: &mut W) -> Result<u8, Failure>
+    ensures ok { IfOk result (λ status. (status ≡ status_code report.now.status) × Appends (W.contents writer.old) (W.contents writer.new) (report_text report.now)) }
+    ensures silent { IfErr result (λ e. (e ≡ Failure.Memory × Keeps (W.contents writer.old) (W.contents writer.new)) ⊎ (e ≡ Failure.Stream)) }
+{
+    let text = text_of(alloc, report)?;
+    writer.write_all(text.as_bytes())?;
+    writer.flush()?;
+    Ok(report.status.code())
+}
+
+/// Reads a document of `run`, runs its job and writes the report. The exit status is 0 where the job is completed, and 1
+/// where it failed.
+pub fn run<R: Read, W: Write>(alloc: Global, reader: &mut R, writer: &mut W) -> Result<u8, Failure>
+    ensures ok { IfOk result (IsRun (R.remaining reader.old) (W.contents writer.old) (W.contents writer.new)) }
+    ensures refused { IfErr result (λ e. (fault : JobError) → e ≡ Failure.Document fault → IfSome (R.remaining reader.old) (IsRefusedDocument fault)) }
+    ensures unplanned { IfErr result (λ e. (fault : PlanError) → e ≡ Failure.Plan fault → IfSome (R.remaining reader.old) (IsRefusedPlan fault)) }
+    ensures silent { IfErr result (λ e. e ≢ Failure.Stream → Keeps (W.contents writer.old) (W.contents writer.new)) }
+{
+    let bytes = read_all(alloc, reader)?;
+    let document = read_document(alloc, &bytes)?;
+    let report = run_job(alloc, &document)?;
+    write_report(alloc, &report, writer)
+}
+
+/// Does what the words ask.
+fn try_perform<'a, R: Read, W: Write>(
+    alloc: Global,
+    words: &'a [&'a str],
+    reader: &mut R,
+    writer: &mut W,
+) -> Result<u8, Failure>
+    ensures ok { IfOk result (λ status. (line : Line) × (line_in (subcommand_of app (map (λ w. w.now) words.now)) ≡ Some line) × IsAnswer line.word (R.remaining reader.old) (W.contents writer.old) (W.contents writer.new) status) }
+    ensures silent { IfErr result (λ e. e ≢ Failure.Stream → Keeps (W.contents writer.old) (W.contents writer.new)) }
+{
+    let line = line_of(alloc, words)?;
+    match line.word {
+        Word::Run => run(alloc, reader, writer),
+        Word::Plan => run_plan(alloc, reader, writer),
+        Word::Check => run_check(alloc, reader, writer),
+    }
+}
+
+/// Does what the words after the program's name ask, and gives the exit status: 0 and 1 for an answer, which the writer
+/// then holds, 3 where the document or a step's partition plan is refused, 4 where there is no memory or a stream fails,
+/// and 5 where the program knows no such words. What is wrong is written to the fault writer.
+pub fn perform<'a, T: AllocGlobal, R: Read, W: Write, F: Write>(
+    rt: &T,
+    words: &'a [&'a str],
+    reader: &mut R,
+    writer: &mut W,
+    fault_writer: &mut F,
+) -> u8
+    ensures answered { result < 3 → (line : Line) × (line_in (subcommand_of app (map (λ w. w.now) words.now)) ≡ Some line) × IsAnswer line.word (R.remaining reader.old) (W.contents writer.old) (W.contents writer.new) result }
+    ensures quiet { result < 3 → Keeps (F.contents fault_writer.old) (F.contents fault_writer.new) }
+    ensures refused { result ≡ 3 → Keeps (W.contents writer.old) (W.contents writer.new) }
+    ensures unknown { result ≡ 5 → Keeps (W.contents writer.old) (W.contents writer.new) }
+{
+    match try_perform(rt.alloc(), words, reader, writer) {
+        Ok(status) => status,
+        Err(failure) => match write_failure(failure, fault_writer) {
+            Ok(()) => failure.status(),
+            Err(_) => Failure::Stream.status(),
+        },
+    }
+}

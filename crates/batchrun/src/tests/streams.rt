@@ -1,0 +1,110 @@
+//! The program on a document in memory, and streams that fail.
+
+use crate::perform::perform;
+use std::alloc::Global;
+use std::io;
+use std::io::{Read, Write};
+
+/// What the program left on a document.
+#[derive(Drop)]
+pub struct Outcome {
+    pub status: u8,
+    pub output: Vec<u8>,
+    pub faults: Vec<u8>,
+}
+
+/// Runs the program on a document.
+pub fn performed(rt: &HostRuntime, words: &[&str], document: &str) -> Outcome {
+    let alloc = rt.alloc();
+    let mut output = Vec::new(alloc);
+    let mut faults = Vec::new(alloc);
+    let status = perform(
+        rt,
+        words,
+        &mut document.as_bytes(),
+        &mut output,
+        &mut faults,
+    );
+    Outcome {
+        status,
+        output,
+        faults,
+    }
+}
+
+/// Gives one byte at each call, and fails at one of them.
+#[derive(Drop)]
+pub struct FailingReader<'a> {
+    bytes: &'a [u8],
+    calls: u64,
+    fails_at: u64,
+}
+
+impl<'a> FailingReader<'a> {
+    pub fn new(bytes: &'a [u8], fails_at: u64) -> FailingReader<'a> {
+        FailingReader {
+            bytes,
+            calls: 0,
+            fails_at,
+        }
+    }
+
+    /// How often it was called.
+    pub fn calls(&self) -> u64 {
+        self.calls
+    }
+}
+
+impl Read for FailingReader<'_> {
+    fn read(&mut self, buf: &mut [u8]) -> io::Result<usize> {
+        self.calls = self.calls.saturating_add(1);
+        if self.calls == self.fails_at {
+            return Err(io::Error::from(io::ErrorKind::Other));
+        }
+        let len = buf.len().min(1);
+        self.bytes.read(&mut buf[..len])
+    }
+}
+
+/// Takes one byte at each call, and fails at one of them.
+#[derive(Drop)]
+pub struct FailingWriter {
+    bytes: Vec<u8>,
+    calls: u64,
+    fails_at: u64,
+}
+
+impl FailingWriter {
+    pub fn new(alloc: Global, fails_at: u64) -> FailingWriter {
+        FailingWriter {
+            bytes: Vec::new(alloc),
+            calls: 0,
+            fails_at,
+        }
+    }
+
+    pub fn bytes(&self) -> &[u8] {
+        &self.bytes
+    }
+
+    /// How often it was called.
+    pub fn calls(&self) -> u64 {
+        self.calls
+    }
+}
+
+impl Write for FailingWriter {
+    fn write(&mut self, buf: &[u8]) -> io::Result<usize> {
+        self.calls = self.calls.saturating_add(1);
+        if self.calls == self.fails_at {
+            return Err(io::Error::from(io::ErrorKind::Other));
+        }
+        let len = buf.len().min(1);
+        self.bytes.extend_from_slice(&buf[..len])?;
+        Ok(len)
+    }
+
+    fn flush(&mut self) -> io::Result<()> {
+        Ok(())
+    }
+}
