@@ -31,10 +31,10 @@ impl Model for DataList {
 }
 
 impl DataList {
-    pub fn new(data: Vec<StepData>) -> DataList
-        ensures { result ≡ data.items }
+    pub fn new(steps: Vec<StepData>) -> DataList
+        ensures { result ≡ steps.items }
     {
-        DataList { data }
+        DataList { data: steps }
     }
 
     pub fn as_slice(&self) -> &[StepData]
