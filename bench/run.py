@@ -4,6 +4,7 @@
 The last row of each kind should take about ten times the one before it: the cost grows linearly. No number here decides the gate.
 """
 import json
+import multiprocessing
 import os
 import tempfile
 
@@ -34,6 +35,11 @@ def document(records, faulty):
     return {"job": job, "data": [data]}
 
 
+def write(path, records, faulty):
+    with open(path, "w", encoding="utf-8") as file:
+        json.dump(document(records, faulty), file)
+
+
 def main():
     built()
     rows = []
@@ -42,8 +48,10 @@ def main():
             for size in SIZES:
                 name = f"{size:,} records" + (", 1 in 100 shaky, 1 in 100 bad" if faulty else "")
                 path = os.path.join(room, f"{size}-{faulty}.json")
-                with open(path, "w", encoding="utf-8") as file:
-                    json.dump(document(size, faulty), file)
+                # In a process of its own: a child's peak memory is never below that of the process that started it.
+                writer = multiprocessing.Process(target=write, args=(path, size, faulty))
+                writer.start()
+                writer.join()
                 rows.append((name, path, measure("run", path)))
         report(rows)
 

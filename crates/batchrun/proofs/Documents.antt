@@ -2,7 +2,6 @@
 use Rattle.std.proofs.Common.{◌≡◌, ℕ, List, Option, Some, None, Result, Ok, Err, IfOk, IfSome, refl}
 use Rattle.serde_json.specs.Data.{Data}
 use Rattle.jb_job.specs.Reading.{tree_of, GivesOfText}
-use Rattle.jb_job.specs.declared.error.JobError.{JobError}
 use Rattle.batchrun.specs.declared.document.Document.{Document}
 use Rattle.batchrun.specs.declared.failure.Failure.{Failure}
 use Rattle.batchrun.specs.RunDocument.{DocumentRecord, document_at, document_record}

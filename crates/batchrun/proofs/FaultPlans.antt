@@ -1,11 +1,10 @@
 -- One fault plan more.
-use Rattle.std.proofs.Common.{◌≡◌, ℕ, ◌++◌, ◌∷◌, [], ◌==◌, List, Bool, true, false, cond, filter, find, reverse, Option, Some, refl, ap, sym, ◌∙◌}
+use Rattle.std.proofs.Common.{◌≡◌, ℕ, ◌++◌, ◌∷◌, [], ◌==◌, List, Bool, true, false, cond, filter, find, reverse, Option, Some, refl}
 use Rattle.std.proofs.Math.Path.{fun_ext}
 use Rattle.std.proofs.lemmas.List.{reverse-append, append-nil}
 use Rattle.std.proofs.lemmas.List.Elements.{filter-append}
 use Rattle.jb_job.specs.declared.job.Range.{Range}
-use Rattle.jb_artifacts.specs.declared.faults.FaultPlan.{FaultPlan}
-use Rattle.jb_artifacts.specs.Faults.{Plans, with_plan}
+use Rattle.jb_artifacts.specs.Faults.{with_plan}
 use Rattle.batchrun.specs.declared.faults.RecordFault.{RecordFault}
 use Rattle.batchrun.specs.Partitions.{is_in, plan_by, plan_of, planned, plans_with}
 

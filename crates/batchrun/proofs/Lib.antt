@@ -1,3 +1,4 @@
+pub mod CommandLines
 pub mod Documents
 pub mod FaultPlans
 pub mod Least

@@ -1,5 +1,5 @@
 -- A partition's first row and its artifacts, and how its task ends.
-use Rattle.std.proofs.Common.{◌≡◌, ℕ, ◌+◌, ◌-◌, ◌≤◌, ◌<◌, List, length, map, take, drop, refl, ap, sym, subst, ◌∙◌, arith, length-take, length-drop}
+use Rattle.std.proofs.Common.{◌≡◌, ℕ, ◌+◌, ◌-◌, ◌≤◌, List, length, map, drop, refl, ap, sym, subst, ◌∙◌, arith, length-take, length-drop}
 use Rattle.jb_job.specs.declared.job.Range.{Range}
 use Rattle.std.specs.Str.Lossy.{utf8_lossy}
 use Rattle.jb_rules.specs.declared.row.Row.{Row}

@@ -3,7 +3,6 @@ use Rattle.std.specs.Prelude.{◌≡◌, ℕ, ◌<◌, List, Option, Some, Ok, E
 use Rattle.std.specs.Io.KnownBytes.{Appends}
 use Rattle.serde_json.specs.Data.{Data}
 use Rattle.jb_job.specs.declared.error.JobError.{JobError}
-use Rattle.jb_job.specs.declared.error.JobError.TheVariants.{Memory}
 use Rattle.jb_job.specs.Reading.{tree_of, GivesOfText}
 use Rattle.jb_plan.specs.declared.fault.PlanError.{PlanError}
 use Rattle.batchrun.specs.declared.document.Document.{Document}
@@ -14,8 +13,10 @@ use Rattle.batchrun.specs.Report.{report_text}
 use Rattle.batchrun.specs.Statuses.{status_code}
 use Rattle.batchrun.specs.declared.line.Word.{Word}
 use Rattle.batchrun.specs.declared.line.Word.TheVariants.{Run, Plan, Check}
-use Rattle.batchrun.specs.PlanText.{IsPlanned}
-use Rattle.batchrun.specs.CheckText.{IsChecked}
+use Rattle.batchrun.specs.PlanText.{IsPlanned, IsRefusedLoad}
+use Rattle.batchrun.specs.CheckText.{IsChecked, IsRefusedClaim}
+use Rattle.batchrun.specs.declared.failure.Failure.{Failure}
+use Rattle.batchrun.specs.declared.failure.Failure.TheVariants as failure
 
 -- the bytes are the JSON text of this document
 pub record IsDocument (bytes : List ℕ) (document : Document) : Type 0 where
@@ -51,3 +52,11 @@ abbrev pub IsAnswer : Word → (given old new : Option (List ℕ)) → (status :
 IsAnswer Run given old new status = (status < 2) × IsRun given old new status
 IsAnswer Plan given old new status = (status ≡ 0) × IsPlanned given old new
 IsAnswer Check given old new status = (status < 2) × IsChecked given old new status
+
+-- The bytes are refused by this word, and the failure names why: their first fault, or the first refused plan of a job.
+abbrev pub IsRefusedBy : Word → Failure → List ℕ → Type 0
+IsRefusedBy Run (failure.Document fault) bytes = IsRefusedDocument fault bytes
+IsRefusedBy Run (failure.Plan fault) bytes = IsRefusedPlan fault bytes
+IsRefusedBy Plan (failure.Document fault) bytes = IsRefusedLoad fault bytes
+IsRefusedBy Check (failure.Document fault) bytes = IsRefusedClaim fault bytes
+IsRefusedBy _ _ bytes = ⊥

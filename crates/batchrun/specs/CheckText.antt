@@ -71,5 +71,5 @@ abbrev pub IsChecked : Option (List ℕ) → Option (List ℕ) → Option (List 
 IsChecked given old new status = (claim : Claim) × IsAnswered claim old new status × IfSome given (Claims claim)
 
 -- The bytes are refused for this fault: they have no tree, or it is the first fault of the document.
-abbrev pub IsRefusedCheck : JobError → List ℕ → Type 0
-IsRefusedCheck fault bytes = GivesOfText {X = Claim} (λ claim. claim) check_document_at (Err fault) (tree_of bytes)
+abbrev pub IsRefusedClaim : JobError → List ℕ → Type 0
+IsRefusedClaim fault bytes = GivesOfText {X = Claim} (λ claim. claim) check_document_at (Err fault) (tree_of bytes)

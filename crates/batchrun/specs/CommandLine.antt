@@ -1,6 +1,6 @@
 -- The command line of the program, and what its matches ask for (own choice: one word, with no argument).
-use Rattle.std.specs.Prelude.{List, true, Option, Some, None, option_map, codes, bytes_eq, if◌then◌else◌}
-use Rattle.clap.specs.Words.{App, Row, Shape, Text, new_app, with_subcommand}
+use Rattle.std.specs.Prelude.{◌≡◌, ◌⊎◌, List, true, false, Option, Some, None, option_map, codes, bytes_eq, if◌then◌else◌}
+use Rattle.clap.specs.Words.{App, Row, Shape, Text, new_app, subcommand_of, takes, with_subcommand}
 use Rattle.batchrun.specs.declared.line.Line.{Line}
 use Rattle.batchrun.specs.declared.line.Word.{Word}
 use Rattle.batchrun.specs.declared.line.Word.TheVariants.{Run, Plan, Check}
@@ -26,3 +26,11 @@ word_in name = if bytes_eq name (codes "run") then Some Run
 abbrev pub line_in : Option (Text × List Row) → Option Line
 line_in None = None
 line_in (Some found) = option_map (λ word. record { word = word; rounds = None }) (word_in found.0)
+
+-- what the words after the program's name ask for, by `clap`'s matches of them
+abbrev pub asked_by : List Text → Option Line
+asked_by words = line_in (subcommand_of app words)
+
+-- the program doesn't know the words: `clap` doesn't take them, or they ask for nothing
+abbrev pub AreUnknown : List Text → Type 0
+AreUnknown words = (takes app words ≡ false) ⊎ (asked_by words ≡ None)

@@ -1,7 +1,7 @@
 -- The run of a job: its steps in order, up to the first that fails (Jakarta Batch 2.1: the steps of a job run one after
 -- another; that a failed one ends the job, and all else here, is this project's choice).
 use Rattle.std.specs.Prelude.{ℕ, ◌≡◌, ◌-◌, ◌⊎◌, List, [], ◌∷◌, length, slice_get, Option, Some, None}
-use Rattle.jb_job.specs.Records.{SpecRecord, StepRecord, RulesRecord, rules_record}
+use Rattle.jb_job.specs.Records.{SpecRecord, StepRecord, rules_record}
 use Rattle.jb_job.specs.declared.job.Range.{Range}
 use Rattle.jb_job.specs.declared.rules.Rules.{Rules}
 use Rattle.jb_plan.specs.declared.fault.PlanError.{PlanError}

@@ -64,5 +64,5 @@ abbrev pub IsPlanned : Option (List ℕ) → Option (List ℕ) → Option (List 
 IsPlanned given old new = (load : Load) × IsPlannedFor load old new × IfSome given (AsksFor load)
 
 -- The bytes are refused for this fault: they have no tree, or it is the first fault of the document.
-abbrev pub IsRefusedPlan : JobError → List ℕ → Type 0
-IsRefusedPlan fault bytes = GivesOfText {X = Load} (λ load. load) plan_document_at (Err fault) (tree_of bytes)
+abbrev pub IsRefusedLoad : JobError → List ℕ → Type 0
+IsRefusedLoad fault bytes = GivesOfText {X = Load} (λ load. load) plan_document_at (Err fault) (tree_of bytes)

@@ -1,12 +1,17 @@
--- How the words that plan and check fail.
+-- How the words fail.
 use Rattle.jb_job.specs.declared.error.JobError.TheVariants as fault
 use Rattle.batchrun.specs.declared.failure.Failure.{Failure}
 use Rattle.batchrun.specs.declared.failure.Failure.TheVariants as failure
 
--- a fault of the document, want of memory, or a failing stream; want of memory is no fault of the document
+-- plan and check: a fault of the document, want of memory, or a failing stream; want of memory is no fault of the document
 abbrev pub IsFailure : Failure → Type 0
 IsFailure (failure.Document fault.Memory) = ⊥
 IsFailure (failure.Document _) = Unit
 IsFailure failure.Memory = Unit
 IsFailure failure.Stream = Unit
 IsFailure _ = ⊥
+
+-- run: also a fault of a step's partition plan
+abbrev pub IsRunFailure : Failure → Type 0
+IsRunFailure (failure.Plan _) = Unit
+IsRunFailure e = IsFailure e

@@ -9,7 +9,6 @@ use Rattle.jb_job.specs.declared.field.Field.TheVariants as field
 use Rattle.jb_job.specs.declared.job.Job.{Job}
 use Rattle.jb_job.specs.Reading.{wrong_shape, Read, ◌>>=◌, shaped, object_at, required}
 use Rattle.jb_job.specs.JobRecord.{job_at}
-use Rattle.batchrun.specs.declared.step_data.StepData.{StepData}
 use Rattle.batchrun.specs.declared.document.Document.{Document}
 use Rattle.batchrun.specs.StepFields.{DataRecord, data_at, data_record}
 

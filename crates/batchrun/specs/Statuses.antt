@@ -4,6 +4,8 @@ use Rattle.jb_job.specs.declared.error.JobError.{JobError}
 use Rattle.jb_job.specs.declared.error.JobError.TheVariants as fault
 use Rattle.jb_plan.specs.declared.fault.PlanError.{PlanError}
 use Rattle.jb_plan.specs.declared.fault.PlanError.TheVariants as plan_fault
+use Rattle.batchrun.specs.declared.line.LineFault.{LineFault}
+use Rattle.batchrun.specs.declared.line.LineFault.TheVariants as line_fault
 use Rattle.batchrun.specs.declared.failure.Failure.{Failure}
 use Rattle.batchrun.specs.declared.failure.Failure.TheVariants as failure
 use Rattle.batchrun.specs.declared.results.Status.{Status}
@@ -40,3 +42,8 @@ plan_failure (plan_fault.Reversed i) = failure.Plan (plan_fault.Reversed i)
 plan_failure (plan_fault.PastEnd i) = failure.Plan (plan_fault.PastEnd i)
 plan_failure (plan_fault.Overlap i j) = failure.Plan (plan_fault.Overlap i j)
 plan_failure plan_fault.Threads = failure.Plan plan_fault.Threads
+
+-- the failure that a fault of the command line is
+abbrev pub line_failure : LineFault → Failure
+line_failure line_fault.Usage = failure.Usage
+line_failure line_fault.Memory = failure.Memory

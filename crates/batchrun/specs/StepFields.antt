@@ -1,6 +1,6 @@
 -- The data of a step that a JSON tree stands for, or its first fault (own choice): the records to be read, a prefix for
 -- each result, the beginning of the items that are filtered, and planned faults.
-use Rattle.std.specs.Prelude.{ℕ, List, [], ◌∷◌, ◌++◌, length, map, Option, Some, None, Ok}
+use Rattle.std.specs.Prelude.{ℕ, List, [], ◌∷◌, ◌++◌, length, Option, Some, None, Ok}
 use Rattle.serde_json.specs.Data.{Data, Items, no_items, item}
 use Rattle.jb_job.specs.declared.field.Field.{Field}
 use Rattle.jb_job.specs.declared.field.Field.TheVariants as field

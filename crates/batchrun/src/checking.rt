@@ -6,7 +6,7 @@ ghost use Rattle.serde_json.specs.View.{view};
 ghost use Rattle.jb_job.specs.Reading.{Gives, GivesOfText, tree_of};
 ghost use Rattle.jb_job.specs.declared.error.JobError.{JobError};
 ghost use Rattle.batchrun.specs.CheckDocument.{check_document_at};
-ghost use Rattle.batchrun.specs.CheckText.{IsAnswered, IsChecked, IsJudged, IsRefusedCheck, certificate_word, check_status, claim_of};
+ghost use Rattle.batchrun.specs.CheckText.{IsAnswered, IsChecked, IsJudged, IsRefusedClaim, certificate_word, check_status, claim_of};
 ghost use Rattle.batchrun.specs.Refusals.{IsFailure};
 
 use crate::counts::{ChunkLoad, counts_of, threads_of};
@@ -148,7 +148,7 @@ pub fn run_check<R: Read, W: Write>(
     writer: &mut W,
 ) -> Result<u8, Failure>
     ensures checked { IfOk result (IsChecked (R.remaining reader.old) (W.contents writer.old) (W.contents writer.new)) }
-    ensures refused { IfErr result (λ e. (fault : JobError) → e ≡ Failure.Document fault → IfSome (R.remaining reader.old) (IsRefusedCheck fault)) }
+    ensures refused { IfErr result (λ e. (fault : JobError) → e ≡ Failure.Document fault → IfSome (R.remaining reader.old) (IsRefusedClaim fault)) }
     ensures failures { IfErr result IsFailure }
     ensures silent { IfErr result (λ e. e ≢ Failure.Stream → Keeps (W.contents writer.old) (W.contents writer.new)) }
 {

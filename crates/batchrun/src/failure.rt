@@ -1,6 +1,6 @@
 //! Why the program gives no report.
 
-ghost use Rattle.std.specs.Prelude.{◌≡◌};
+ghost use Rattle.std.specs.Prelude.{◌≡◌, ◌≤◌};
 ghost use Rattle.batchrun.specs.Statuses.{failure_code};
 
 use crate::line::LineFault;
@@ -44,7 +44,8 @@ pub enum Failure {
 impl Failure {
     /// The exit status: 3 where the document or a plan is refused, 4 for memory and streams, 5 for the command line.
     pub fn status(self) -> u8
-        ensures { result ≡ failure_code self }
+        ensures code { result ≡ failure_code self }
+        ensures range { (3 ≤ result) × (result ≤ 5) }
     {
         match self {
             Failure::Document(_) | Failure::Plan(_) => 3,
@@ -88,6 +89,11 @@ impl From<io::Error> for Failure {
 }
 
 impl From<LineFault> for Failure {
+    ghost use Rattle.std.specs.Prelude.{◌≡◌};
+    ghost use Rattle.batchrun.specs.Statuses.{line_failure};
+
+    ghost from_gives = { λ fault failure. failure ≡ line_failure fault };
+
     fn from(fault: LineFault) -> Failure {
         match fault {
             LineFault::Usage => Failure::Usage,

@@ -1,8 +1,10 @@
 //! The command line: the words after the program's name.
 
-ghost use Rattle.std.specs.Prelude.{◌≡◌, true, map, Some, IfOk, IfErr, IfSome};
+ghost use Rattle.std.specs.Prelude.{◌≡◌, true, map, Some, IfOk, IfErr};
+ghost use Rattle.clap.specs.Values.{kind_of};
+ghost use Rattle.clap.specs.declared.error.kind.ErrorKind.TheVariants.{OutOfMemory};
 ghost use Rattle.clap.specs.Words.{app_of, subcommand_of, subcommand_rows_of, takes, with_subcommand};
-ghost use Rattle.batchrun.specs.CommandLine.{app, line_in, program as program_app, word_app, word_in};
+ghost use Rattle.batchrun.specs.CommandLine.{app, asked_by, program as program_app, word_app, word_in, AreUnknown};
 
 use clap::error::ErrorKind;
 use clap::{ArgMatches, Command, Error};
@@ -47,13 +49,14 @@ impl From<AllocError> for LineFault {
     }
 }
 
-impl From<Error> for LineFault {
-    fn from(fault: Error) -> LineFault {
-        if fault.kind() == ErrorKind::OutOfMemory {
-            LineFault::Memory
-        } else {
-            LineFault::Usage
-        }
+/// Why `clap` takes none of the words: there was no memory, or the program doesn't know them.
+fn fault_of(fault: &Error) -> LineFault
+    ensures { kind_of fault.now ≡ OutOfMemory → result ≡ LineFault.Memory }
+{
+    if fault.kind() == ErrorKind::OutOfMemory {
+        LineFault::Memory
+    } else {
+        LineFault::Usage
     }
 }
 
@@ -90,10 +93,14 @@ fn command<'a>(alloc: Global) -> Result<Command<'a>, AllocError>
 
 /// What `clap` finds in the words.
 fn matches_of<'a>(alloc: Global, words: &'a [&'a str]) -> Result<ArgMatches<'a>, LineFault>
-    ensures { IfOk result (λ m. subcommand_rows_of m ≡ subcommand_of app (map (λ w. w.now) words.now)) }
+    ensures ok { IfOk result (λ m. subcommand_rows_of m ≡ subcommand_of app (map (λ w. w.now) words.now)) }
+    ensures err { IfErr result (λ e. takes app (map (λ w. w.now) words.now) ≡ true → e ≡ LineFault.Memory) }
 {
     let command = command(alloc)?;
-    Ok(command.try_get_matches_from(words)?)
+    match command.try_get_matches_from(words) {
+        Ok(matches) => Ok(matches),
+        Err(fault) => Err(fault_of(&fault)),
+    }
 }
 
 fn word_of(name: &str) -> Option<Word>
@@ -107,9 +114,11 @@ fn word_of(name: &str) -> Option<Word>
     }
 }
 
-/// What the words after the program's name ask for.
+/// What the words after the program's name ask for. They are refused as `Usage` where `clap` doesn't take them, or where
+/// its matches of them ask for nothing.
 pub fn line_of<'a>(alloc: Global, words: &'a [&'a str]) -> Result<Line, LineFault>
-    ensures { IfOk result (λ line. line_in (subcommand_of app (map (λ w. w.now) words.now)) ≡ Some line) }
+    ensures ok { IfOk result (λ line. asked_by (map (λ w. w.now) words.now) ≡ Some line) }
+    ensures err { IfErr result (λ e. e ≡ LineFault.Usage → AreUnknown (map (λ w. w.now) words.now)) }
 {
     let matches = matches_of(alloc, words)?;
     let Some((name, _)) = matches.subcommand() else {

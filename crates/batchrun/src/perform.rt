@@ -1,15 +1,15 @@
 //! The program over any reader and any two writers.
 
-ghost use Rattle.std.specs.Prelude.{◌≡◌, ◌≢◌, ◌⊎◌, ◌<◌, map, Some, IfErr, IfOk, IfSome};
+ghost use Rattle.std.specs.Prelude.{◌≡◌, ◌≢◌, ◌⊎◌, ◌<◌, ◌≤◌, map, Some, IfErr, IfOk, IfSome};
 ghost use Rattle.std.specs.Io.KnownBytes.{Appends, Keeps};
 ghost use Rattle.jb_job.specs.declared.error.JobError.{JobError};
 ghost use Rattle.jb_plan.specs.declared.fault.PlanError.{PlanError};
 ghost use Rattle.batchrun.specs.Report.{report_text};
-ghost use Rattle.batchrun.specs.Statuses.{status_code};
-ghost use Rattle.clap.specs.Words.{subcommand_of};
+ghost use Rattle.batchrun.specs.Statuses.{status_code, failure_code};
 ghost use Rattle.batchrun.specs.declared.line.Line.{Line};
-ghost use Rattle.batchrun.specs.CommandLine.{app, line_in};
-ghost use Rattle.batchrun.specs.Answer.{IsAnswer, IsRun, IsRefusedDocument, IsRefusedPlan};
+ghost use Rattle.batchrun.specs.CommandLine.{asked_by, AreUnknown};
+ghost use Rattle.batchrun.specs.Refusals.{IsRunFailure};
+ghost use Rattle.batchrun.specs.Answer.{IsAnswer, IsRun, IsRefusedBy, IsRefusedDocument, IsRefusedPlan};
 
 use crate::checking::run_check;
 use crate::document::read_document;
@@ -40,6 +40,7 @@ pub fn run<R: Read, W: Write>(alloc: Global, reader: &mut R, writer: &mut W) -> 
     ensures ok { IfOk result (IsRun (R.remaining reader.old) (W.contents writer.old) (W.contents writer.new)) }
     ensures refused { IfErr result (λ e. (fault : JobError) → e ≡ Failure.Document fault → IfSome (R.remaining reader.old) (IsRefusedDocument fault)) }
     ensures unplanned { IfErr result (λ e. (fault : PlanError) → e ≡ Failure.Plan fault → IfSome (R.remaining reader.old) (IsRefusedPlan fault)) }
+    ensures failures { IfErr result IsRunFailure }
     ensures silent { IfErr result (λ e. e ≢ Failure.Stream → Keeps (W.contents writer.old) (W.contents writer.new)) }
 {
     let bytes = read_all(alloc, reader)?;
@@ -55,7 +56,10 @@ fn try_perform<'a, R: Read, W: Write>(
     reader: &mut R,
     writer: &mut W,
 ) -> Result<u8, Failure>
-    ensures ok { IfOk result (λ status. (line : Line) × (line_in (subcommand_of app (map (λ w. w.now) words.now)) ≡ Some line) × IsAnswer line.word (R.remaining reader.old) (W.contents writer.old) (W.contents writer.new) status) }
+    ensures ok { IfOk result (λ status. (line : Line) × (asked_by (map (λ w. w.now) words.now) ≡ Some line) × IsAnswer line.word (R.remaining reader.old) (W.contents writer.old) (W.contents writer.new) status) }
+    ensures status { IfOk result (λ status. status < 2) }
+    ensures refused { IfErr result (λ e. failure_code e ≡ 3 → (line : Line) × (asked_by (map (λ w. w.now) words.now) ≡ Some line) × IfSome (R.remaining reader.old) (IsRefusedBy line.word e)) }
+    ensures unknown { IfErr result (λ e. e ≡ Failure.Usage → AreUnknown (map (λ w. w.now) words.now)) }
     ensures silent { IfErr result (λ e. e ≢ Failure.Stream → Keeps (W.contents writer.old) (W.contents writer.new)) }
 {
     let line = line_of(alloc, words)?;
@@ -67,8 +71,8 @@ fn try_perform<'a, R: Read, W: Write>(
 }
 
 /// Does what the words after the program's name ask, and gives the exit status: 0 and 1 for an answer, which the writer
-/// then holds, 3 where the document or a step's partition plan is refused, 4 where there is no memory or a stream fails,
-/// and 5 where the program knows no such words. What is wrong is written to the fault writer.
+/// then holds; 3 where the document or a step's partition plan is refused, by its first fault; 4 where there is no memory or
+/// a stream fails; 5 where the program doesn't know the words. What is wrong is written to the fault writer.
 pub fn perform<'a, T: AllocGlobal, R: Read, W: Write, F: Write>(
     rt: &T,
     words: &'a [&'a str],
@@ -76,10 +80,12 @@ pub fn perform<'a, T: AllocGlobal, R: Read, W: Write, F: Write>(
     writer: &mut W,
     fault_writer: &mut F,
 ) -> u8
-    ensures answered { result < 3 → (line : Line) × (line_in (subcommand_of app (map (λ w. w.now) words.now)) ≡ Some line) × IsAnswer line.word (R.remaining reader.old) (W.contents writer.old) (W.contents writer.new) result }
+    ensures answered { result < 3 → (line : Line) × (asked_by (map (λ w. w.now) words.now) ≡ Some line) × IsAnswer line.word (R.remaining reader.old) (W.contents writer.old) (W.contents writer.new) result }
+    ensures status { (result < 2) ⊎ ((3 ≤ result) × (result ≤ 5)) }
     ensures quiet { result < 3 → Keeps (F.contents fault_writer.old) (F.contents fault_writer.new) }
-    ensures refused { result ≡ 3 → Keeps (W.contents writer.old) (W.contents writer.new) }
-    ensures unknown { result ≡ 5 → Keeps (W.contents writer.old) (W.contents writer.new) }
+    ensures refused { result ≡ 3 → (line : Line) × (asked_by (map (λ w. w.now) words.now) ≡ Some line) × (failure : Failure) × IfSome (R.remaining reader.old) (IsRefusedBy line.word failure) }
+    ensures unknown { result ≡ 5 → AreUnknown (map (λ w. w.now) words.now) }
+    ensures silent { (result ≡ 3) ⊎ (result ≡ 5) → Keeps (W.contents writer.old) (W.contents writer.new) }
 {
     match try_perform(rt.alloc(), words, reader, writer) {
         Ok(status) => status,

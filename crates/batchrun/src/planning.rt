@@ -8,7 +8,7 @@ ghost use Rattle.jb_job.specs.Reading.{Gives, GivesOfText, tree_of};
 ghost use Rattle.jb_job.specs.declared.error.JobError.{JobError};
 ghost use Rattle.jb_cert.specs.Plans.{rounds_of};
 ghost use Rattle.batchrun.specs.PlanDocument.{plan_document_at};
-ghost use Rattle.batchrun.specs.PlanText.{IsPlanned, IsPlannedFor, IsRefusedPlan, lane_text, lanes_text, lines_of, plan_text, round_line};
+ghost use Rattle.batchrun.specs.PlanText.{IsPlanned, IsPlannedFor, IsRefusedLoad, lane_text, lanes_text, lines_of, plan_text, round_line};
 ghost use Rattle.batchrun.specs.Refusals.{IsFailure};
 
 use crate::counts::{ChunkLoad, counts_of, threads_of};
@@ -166,7 +166,7 @@ pub fn run_plan<R: Read, W: Write>(
 ) -> Result<u8, Failure>
     ensures status { IfOk result (λ status. status ≡ 0) }
     ensures planned { OnOk result (IsPlanned (R.remaining reader.old) (W.contents writer.old) (W.contents writer.new)) }
-    ensures refused { IfErr result (λ e. (fault : JobError) → e ≡ Failure.Document fault → IfSome (R.remaining reader.old) (IsRefusedPlan fault)) }
+    ensures refused { IfErr result (λ e. (fault : JobError) → e ≡ Failure.Document fault → IfSome (R.remaining reader.old) (IsRefusedLoad fault)) }
     ensures failures { IfErr result IsFailure }
     ensures silent { IfErr result (λ e. e ≢ Failure.Stream → Keeps (W.contents writer.old) (W.contents writer.new)) }
 {

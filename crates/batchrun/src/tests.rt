@@ -2,6 +2,7 @@
 
 mod check_word;
 mod command_line;
+mod fault_lists;
 mod faulty_runs;
 mod plan_word;
 mod refused;

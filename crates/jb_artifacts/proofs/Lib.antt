@@ -1,2 +1,2 @@
 pub mod Plans
-mod Writing
+pub mod Writing

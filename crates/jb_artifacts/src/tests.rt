@@ -1,4 +1,4 @@
-//! Ready artifacts, and one of the caller's own, through their boxes; and worked values of the definitions.
+//! Ready artifacts through their boxes, and worked values of the definitions.
 
 ghost use Rattle.std.specs.Prelude.{◌≡◌, ◌++◌, [], ◌∷◌, Some, None, codes, if◌then◌else◌, ◌==◌, true, false};
 ghost use Rattle.jb_artifacts.specs.declared.faults.FaultPlan.TheVariants.{Sound, Bad, Shaky};
@@ -229,32 +229,20 @@ fn collects_counts(rt: HostRuntime) -> Result<(), Fail> {
     Ok(())
 }
 
-/// A processor of the caller's own: the result is the item twice.
-#[derive(Drop)]
-struct Doubler {
-    alloc: Global,
-}
-
-impl ItemProcessor for Doubler {
-    ghost processor = { λ _. record { answer = λ _ item. Some (item ++ item); faults = λ _. Sound } };
-
-    fn process_item(&mut self, _number: u64, item: &[u8]) -> Result<Option<Item>, ArtifactError> {
-        let mut bytes = Vec::from_slice(self.alloc, item)?;
-        bytes.extend_from_slice(item)?;
-        Ok(Some(Item::from_vec(bytes)))
-    }
-}
-
 #[test]
 fn fits_a_row(rt: HostRuntime) -> Result<(), Fail> {
     let alloc = rt.alloc();
     let records = items(alloc, &["a", "b"])?;
+    let prefix = item(alloc, "x")?;
     let mut artifacts = Artifacts {
         reader: Box::new(
             alloc,
             TableReader::new(alloc, 3, records, FaultPlans::new(alloc)),
         )?,
-        processor: Box::new(alloc, Doubler { alloc })?,
+        processor: Box::new(
+            alloc,
+            PrefixProcessor::new(alloc, prefix, None, FaultPlans::new(alloc)),
+        )?,
         writer: Box::new(
             alloc,
             ListWriter::new(alloc, Vec::new(alloc), FaultPlans::new(alloc)),
@@ -271,7 +259,7 @@ fn fits_a_row(rt: HostRuntime) -> Result<(), Fail> {
     };
     assert!(rt; !artifacts.fit(&row));
     let result = artifacts.processor.process_item(3, "ab".as_bytes());
-    assert_eq!(rt; told(&result), Ok(Some("abab".as_bytes())));
+    assert_eq!(rt; told(&result), Ok(Some("xab".as_bytes())));
     let bytes = item(alloc, "kept")?.into_vec();
     assert_eq!(rt; bytes.as_slice(), "kept".as_bytes());
     Ok(())

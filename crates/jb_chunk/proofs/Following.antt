@@ -1,5 +1,5 @@
 -- A task none of whose calls fails: running alone does what the Plain run does.
-use Rattle.std.proofs.Common.{◌≡◌, ℕ, zero, suc, ◌+◌, ◌-◌, ◌/◌, ◌≤◌, ◌<◌, Bool, true, false, cond, List, [], ◌∷◌, ◌++◌, length, None, refl, ap, sym, ◌∙◌, subst, arith, length-append, append-nil, append_assoc}
+use Rattle.std.proofs.Common.{◌≡◌, ℕ, ◌+◌, ◌-◌, ◌/◌, ◌≤◌, ◌<◌, Bool, true, false, cond, List, [], ◌∷◌, ◌++◌, length, None, refl, ap, sym, ◌∙◌, subst, arith, length-append, append-nil, append_assoc}
 use Rattle.std.specs.Prelude.{max, min, nat_lt, nat_le, ◌==◌}
 use Rattle.std.specs.List.{filter_map, range_with_len}
 use Rattle.std.proofs.lemmas.List.Elements.{filter_map-append}
@@ -13,12 +13,10 @@ use Rattle.jb_plan.specs.Blocks.{left, blocks_left}
 use Rattle.jb_chunk.specs.Alone.{IsRunOf, IsAlone, has_ended}
 use Rattle.jb_rules.specs.Rows.{committed_row, state_at}
 use Rattle.jb_rules.specs.Counts.{no_counts}
-use Rattle.jb_rules.specs.Sound.{IsSoundRow}
 use Rattle.jb_artifacts.specs.Faults.{Plans, live}
 use Rattle.jb_artifacts.specs.Writer.{fault_of, used_for}
 use Rattle.jb_artifacts.specs.Meaning.{Workplace}
 use Rattle.jb_chunk.specs.declared.end.End.TheVariants.{Written}
-use Rattle.jb_chunk.specs.Alone.{attempts_left}
 use Rattle.jb_chunk.specs.Attempt.{Trial, trial_of, block_of, end_of, end_after, end_at, found_in, work_with, after_end, delta_by, Ending, attempt_of}
 use Rattle.jb_chunk.specs.Block.{count_of, skips_before}
 use Rattle.jb_chunk.specs.Entries.{is_read_fault, is_filtered}

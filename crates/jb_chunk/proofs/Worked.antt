@@ -6,7 +6,7 @@ use Rattle.jb_plan.specs.Blocks.{blocks}
 use Rattle.jb_rules.specs.declared.row.RowState.{RowState}
 use Rattle.jb_rules.specs.declared.row.RowState.TheVariants.{Waiting, Running, Finished, Failed}
 use Rattle.jb_artifacts.specs.Faults.{used_at}
-use Rattle.jb_chunk.specs.Alone.{IsRunOf, has_ended}
+use Rattle.jb_chunk.specs.Alone.{IsRunOf}
 use Rattle.jb_chunk.specs.Attempt.{Ending, attempt_of, end_of, work_with}
 use Rattle.jb_chunk.specs.Block.{entry, results, count_of, settles, settling, used_between}
 use Rattle.jb_chunk.specs.Plain.{answers}

@@ -1,5 +1,6 @@
 //! Values of worked rows, and what no clause says.
 
+mod calls;
 mod own;
 mod rows;
 mod threads;

@@ -1,10 +1,11 @@
 -- Even ranges cover the records.
-use Rattle.std.proofs.Common.{◌≡◌, ℕ, zero, suc, ◌+◌, ◌-◌, ◌*◌, ◌/◌, ◌%◌, ◌<◌, ◌≤◌, Bool, true, false, length, refl, arith, subst}
+use Rattle.std.proofs.Common.{◌≡◌, ℕ, zero, suc, ◌+◌, ◌-◌, ◌*◌, ◌/◌, ◌%◌, ◌<◌, ◌≤◌, Bool, true, false, length, get_or, refl, sym, arith, subst}
 use Rattle.std.proofs.Math.Nat.{mul-le-mul_right, div-add-mod, mod-lt, suc-mul, zero-mul}
-use Rattle.std.specs.Prelude.{min, nat_lt, if◌then◌else◌}
+use Rattle.std.specs.Prelude.{min, nat_lt, if◌then◌else◌, All, AllPairs}
 use Rattle.std.proofs.lemmas.List.FromFn.{get_or-map-range_with_len, length-map-range_with_len}
 use Rattle.std.proofs.lemmas.Bool.{ltb-true, ltb-false}
 use Rattle.jb_job.specs.declared.job.Range.{Range}
+use Rattle.jb_plan.specs.Plans.{IsWithin, AreDisjoint}
 use Rattle.jb_mapper.specs.EvenCover.{bound, even_range, even_ranges, range_at, StandsIn, IsEvenCover}
 
 -- no range goes past the records
@@ -63,7 +64,7 @@ place : (records parts i : ℕ) → i < parts → range_at (even_ranges records 
 unfolding even_ranges
 place records parts i lt = get_or-map-range_with_len (even_range records parts) 0 parts i i _ lt (omega arith)
 
-number : (records parts : ℕ) → length (even_ranges records parts) ≡ parts
+pub number : (records parts : ℕ) → length (even_ranges records parts) ≡ parts
 unfolding even_ranges
 number records parts = length-map-range_with_len (even_range records parts) 0 parts
 
@@ -109,3 +110,30 @@ is_even_cover records parts some = record {
   somewhere = λ x lt. stands records parts x (between records parts parts x (rw (bound-all records parts some) lt));
   once = λ i j x a b. once records parts i j x a b;
 }
+
+within_at : (records parts i : ℕ) → 1 ≤ parts → i < parts → IsWithin records (even_range records parts i)
+within_at records parts i some lt =
+    (bound-rises records parts i (i + 1) (omega arith), bound_below records parts (i + 1) some (omega (arith, lt)))
+
+apart_at : (records parts i j : ℕ) → i < j → AreDisjoint (even_range records parts i) (even_range records parts j)
+apart_at records parts i j lt x from to from' to' = not_before records parts i j x to from' lt
+
+-- the k-th of the list of even ranges, whatever stands past its end
+listed : (records parts k : ℕ) (d : Range) → k < parts → get_or (even_ranges records parts) k d ≡ even_range records parts k
+unfolding even_ranges
+listed records parts k d lt = get_or-map-range_with_len (even_range records parts) 0 parts k k d lt (omega arith)
+
+-- even ranges lie within the records, and no record stands in two of them
+pub even_within : (records parts : ℕ) → 1 ≤ parts → All (IsWithin records) (even_ranges records parts)
+even_within records parts some k d below =
+    let count = number records parts in
+    let lt : k < parts = omega (arith, count, below) in
+    subst (IsWithin records) (sym (listed records parts k d lt)) (within_at records parts k some lt)
+
+pub even_apart : (records parts : ℕ) → AllPairs AreDisjoint (even_ranges records parts)
+even_apart records parts i j d before below =
+    let count = number records parts in
+    let lt : j < parts = omega (arith, count, below) in
+    let first : i < parts = omega (arith, before, lt) in
+    subst (λ r. AreDisjoint r (get_or (even_ranges records parts) j d)) (sym (listed records parts i d first))
+    (subst (AreDisjoint (even_range records parts i)) (sym (listed records parts j d lt)) (apart_at records parts i j before))

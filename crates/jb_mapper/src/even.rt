@@ -1,6 +1,8 @@
 //! A mapper that divides the records evenly.
 
 ghost use Rattle.std.specs.Prelude.{◌≡◌, ◌≤◌, ◌<◌, IfOk};
+ghost use Rattle.jb_plan.specs.Plans.{IsLawful};
+ghost use Rattle.jb_plan.specs.declared.limits.TheConstants.{MAX_PARTITIONS, MAX_THREADS_ASKED};
 ghost use Rattle.jb_mapper.specs.EvenCover.{bound, even_ranges, IsEvenCover};
 ghost use Rattle.jb_mapper.specs.Mapping.{even};
 
@@ -82,4 +84,13 @@ fn ranges(alloc: Global, records: u64, partitions: u64) -> Result<Vec<Range>, Al
 pub fn even_cover(records: u64, partitions: u32)
     requires { 1 ≤ partitions }
     ensures { IsEvenCover records partitions (even_ranges records partitions) }
+{}
+
+/// The law of even plans: with 1 to 256 partitions and at most 4,096 threads they are lawful, so `jb_plan::checked`
+/// accepts them for any number of records.
+pub fn even_plan_is_lawful(records: u64, partitions: u32, threads: u32, replace: bool)
+    requires some { 1 ≤ partitions }
+    requires few { partitions ≤ MAX_PARTITIONS }
+    requires threads { threads ≤ MAX_THREADS_ASKED }
+    ensures { IsLawful records (record { ranges = even_ranges records partitions; threads = threads; replace = replace }) }
 {}

@@ -11,6 +11,6 @@ mod mapper;
 #[cfg(test)]
 mod tests;
 
-pub use even::{EvenMapper, MAX_PARTITIONS_ASKED, even_cover};
+pub use even::{EvenMapper, MAX_PARTITIONS_ASKED, even_cover, even_plan_is_lawful};
 pub use fixed::FixedMapper;
 pub use mapper::PartitionMapper;

@@ -5,7 +5,7 @@ ghost use Rattle.jb_mapper.specs.EvenCover.{even_ranges};
 
 use crate::{EvenMapper, FixedMapper, PartitionMapper};
 use jb_job::{Range, Ranges};
-use jb_plan::{PartitionPlan, checked};
+use jb_plan::{PartitionPlan, PlanError, checked};
 
 /// The even covers of seven records by three partitions, of two by four, and of none by one.
 fn worked_covers()
@@ -72,5 +72,15 @@ fn an_even_plan_is_checked(rt: HostRuntime) {
         mapper
             .map(1_000)
             .is_ok_and(|plan| checked(plan, 1_000).is_err())
+    );
+}
+
+#[test]
+fn a_plan_of_5_000_threads_is_refused(rt: HostRuntime) {
+    let mut mapper = EvenMapper::new(rt.alloc(), 3, 5_000, false);
+    assert!(rt;
+        mapper
+            .map(7)
+            .is_ok_and(|plan| matches!(checked(plan, 7), Err(PlanError::Threads)))
     );
 }

@@ -10,64 +10,64 @@ fn worked_checks(rt: HostRuntime) {
         // The plan of three equal partitions on two threads: as it is, with another certificate, and with two chunks
         // of a partition exchanged.
         (
-            "{\"counts\":[3,3,3],\"threads\":2,\"rounds\":[[[0,0,0],[1,1,0]],[[0,0,1],[1,2,0]],[[0,0,2],[1,2,1]],[[0,1,1],[1,2,2]],[[0,1,2]]],\"certificate\":\"FullLoad\"}",
+            r#"{"counts":[3,3,3],"threads":2,"rounds":[[[0,0,0],[1,1,0]],[[0,0,1],[1,2,0]],[[0,0,2],[1,2,1]],[[0,1,1],[1,2,2]],[[0,1,2]]],"certificate":"FullLoad"}"#,
             "plan lawful\ncertificate yes\n",
             0,
         ),
         (
-            "{\"counts\":[3,3,3],\"threads\":2,\"rounds\":[[[0,0,0],[1,1,0]],[[0,0,1],[1,2,0]],[[0,0,2],[1,2,1]],[[0,1,1],[1,2,2]],[[0,1,2]]],\"certificate\":0}",
+            r#"{"counts":[3,3,3],"threads":2,"rounds":[[[0,0,0],[1,1,0]],[[0,0,1],[1,2,0]],[[0,0,2],[1,2,1]],[[0,1,1],[1,2,2]],[[0,1,2]]],"certificate":0}"#,
             "plan lawful\ncertificate no\n",
             1,
         ),
         (
-            "{\"counts\":[3,3,3],\"threads\":2,\"rounds\":[[[0,0,0],[1,1,0]],[[0,0,1],[1,2,0]],[[0,0,2],[1,2,1]],[[0,1,2],[1,2,2]],[[0,1,1]]],\"certificate\":\"FullLoad\"}",
+            r#"{"counts":[3,3,3],"threads":2,"rounds":[[[0,0,0],[1,1,0]],[[0,0,1],[1,2,0]],[[0,0,2],[1,2,1]],[[0,1,2],[1,2,2]],[[0,1,1]]],"certificate":"FullLoad"}"#,
             "plan OutOfOrder\ncertificate yes\n",
             1,
         ),
         // One of each kind.
         (
-            "{\"counts\":[2,1],\"threads\":2,\"rounds\":[[[0,0,0],[1,1,0]],[[0,0,1]]],\"certificate\":0}",
+            r#"{"counts":[2,1],"threads":2,"rounds":[[[0,0,0],[1,1,0]],[[0,0,1]]],"certificate":0}"#,
             "plan lawful\ncertificate yes\n",
             0,
         ),
         (
-            "{\"counts\":[2,1],\"threads\":2,\"rounds\":[[],[[0,0,0],[1,1,0]],[[0,0,1]]],\"certificate\":\"FullLoad\"}",
+            r#"{"counts":[2,1],"threads":2,"rounds":[[],[[0,0,0],[1,1,0]],[[0,0,1]]],"certificate":"FullLoad"}"#,
             "plan lawful\ncertificate no\n",
             1,
         ),
         (
-            "{\"counts\":[2,1],\"threads\":2,\"rounds\":[[[0,0,0],[2,1,0]],[[0,0,1]]],\"certificate\":0}",
+            r#"{"counts":[2,1],"threads":2,"rounds":[[[0,0,0],[2,1,0]],[[0,0,1]]],"certificate":0}"#,
             "plan LaneRange\ncertificate yes\n",
             1,
         ),
         (
-            "{\"counts\":[2,1],\"threads\":2,\"rounds\":[[[0,0,0],[1,1,1]],[[0,0,1]]],\"certificate\":0}",
+            r#"{"counts":[2,1],"threads":2,"rounds":[[[0,0,0],[1,1,1]],[[0,0,1]]],"certificate":0}"#,
             "plan Stranger\ncertificate yes\n",
             1,
         ),
         (
-            "{\"counts\":[2,1],\"threads\":2,\"rounds\":[[[0,0,0],[1,0,1]],[[0,1,0]]],\"certificate\":0}",
+            r#"{"counts":[2,1],"threads":2,"rounds":[[[0,0,0],[1,0,1]],[[0,1,0]]],"certificate":0}"#,
             "plan TwiceInRound\ncertificate yes\n",
             1,
         ),
         (
-            "{\"counts\":[2,1],\"threads\":2,\"rounds\":[[[0,0,0],[1,1,0]],[[0,0,0]]],\"certificate\":0}",
+            r#"{"counts":[2,1],"threads":2,"rounds":[[[0,0,0],[1,1,0]],[[0,0,0]]],"certificate":0}"#,
             "plan OutOfOrder\ncertificate yes\n",
             1,
         ),
         (
-            "{\"counts\":[2,1],\"threads\":2,\"rounds\":[[[0,0,0],[1,1,0]]],\"certificate\":\"FullLoad\"}",
+            r#"{"counts":[2,1],"threads":2,"rounds":[[[0,0,0],[1,1,0]]],"certificate":"FullLoad"}"#,
             "plan Missing\ncertificate yes\n",
             1,
         ),
         // Numbers at their limits; a partition that isn't there.
         (
-            "{\"counts\":[10000000],\"threads\":64,\"rounds\":[[[4294967295,4294967295,18446744073709551615]]],\"certificate\":4294967295}",
+            r#"{"counts":[10000000],"threads":64,"rounds":[[[4294967295,4294967295,18446744073709551615]]],"certificate":4294967295}"#,
             "plan LaneRange\ncertificate no\n",
             1,
         ),
         (
-            "{\"counts\":[],\"threads\":1,\"rounds\":[],\"certificate\":\"Nothing\"}",
+            r#"{"counts":[],"threads":1,"rounds":[],"certificate":"Nothing"}"#,
             "plan lawful\ncertificate yes\n",
             0,
         ),
@@ -85,77 +85,77 @@ fn worked_checks(rt: HostRuntime) {
 fn refused_claims(rt: HostRuntime) {
     let cases = [
         ("[]", "WrongShape(unknown)"),
-        ("{\"plan\":[],\"counts\":7}", "WrongShape(unknown)"),
+        (r#"{"plan":[],"counts":7}"#, "WrongShape(unknown)"),
         (
-            "{\"threads\":0,\"rounds\":7,\"certificate\":\"\"}",
+            r#"{"threads":0,"rounds":7,"certificate":""}"#,
             "WrongShape(counts)",
         ),
         (
-            "{\"counts\":[10000001],\"threads\":0,\"rounds\":7,\"certificate\":\"\"}",
+            r#"{"counts":[10000001],"threads":0,"rounds":7,"certificate":""}"#,
             "OutOfRange(counts)",
         ),
         (
-            "{\"counts\":[1],\"rounds\":7,\"certificate\":\"\"}",
+            r#"{"counts":[1],"rounds":7,"certificate":""}"#,
             "WrongShape(threads)",
         ),
         (
-            "{\"counts\":[1],\"threads\":0,\"rounds\":7,\"certificate\":\"\"}",
+            r#"{"counts":[1],"threads":0,"rounds":7,"certificate":""}"#,
             "OutOfRange(threads)",
         ),
         (
-            "{\"counts\":[1],\"threads\":1,\"certificate\":\"\"}",
+            r#"{"counts":[1],"threads":1,"certificate":""}"#,
             "WrongShape(rounds)",
         ),
         (
-            "{\"counts\":[1],\"threads\":1,\"rounds\":{},\"certificate\":\"\"}",
+            r#"{"counts":[1],"threads":1,"rounds":{},"certificate":""}"#,
             "WrongShape(rounds)",
         ),
         (
-            "{\"counts\":[1],\"threads\":1,\"rounds\":[7],\"certificate\":\"\"}",
+            r#"{"counts":[1],"threads":1,"rounds":[7],"certificate":""}"#,
             "WrongShape(rounds)",
         ),
         (
-            "{\"counts\":[1],\"threads\":1,\"rounds\":[[7]],\"certificate\":\"\"}",
+            r#"{"counts":[1],"threads":1,"rounds":[[7]],"certificate":""}"#,
             "WrongShape(rounds)",
         ),
         (
-            "{\"counts\":[1],\"threads\":1,\"rounds\":[[[0,0]]],\"certificate\":\"\"}",
+            r#"{"counts":[1],"threads":1,"rounds":[[[0,0]]],"certificate":""}"#,
             "WrongShape(rounds)",
         ),
         (
-            "{\"counts\":[1],\"threads\":1,\"rounds\":[[[0,0,0,0]]],\"certificate\":\"\"}",
+            r#"{"counts":[1],"threads":1,"rounds":[[[0,0,0,0]]],"certificate":""}"#,
             "WrongShape(rounds)",
         ),
         (
-            "{\"counts\":[1],\"threads\":1,\"rounds\":[[[4294967296,0,\"0\"]]],\"certificate\":\"\"}",
+            r#"{"counts":[1],"threads":1,"rounds":[[[4294967296,0,"0"]]],"certificate":""}"#,
             "WrongShape(rounds)",
         ),
         (
-            "{\"counts\":[1],\"threads\":1,\"rounds\":[[[4294967296,0,0],7]],\"certificate\":\"\"}",
+            r#"{"counts":[1],"threads":1,"rounds":[[[4294967296,0,0],7]],"certificate":""}"#,
             "OutOfRange(rounds)",
         ),
         (
-            "{\"counts\":[1],\"threads\":1,\"rounds\":[[[0,4294967296,0]],7],\"certificate\":\"\"}",
+            r#"{"counts":[1],"threads":1,"rounds":[[[0,4294967296,0]],7],"certificate":""}"#,
             "OutOfRange(rounds)",
         ),
         (
-            "{\"counts\":[1],\"threads\":1,\"rounds\":[[],7,[[4294967296,0,0]]],\"certificate\":\"\"}",
+            r#"{"counts":[1],"threads":1,"rounds":[[],7,[[4294967296,0,0]]],"certificate":""}"#,
             "WrongShape(rounds)",
         ),
         (
-            "{\"counts\":[1],\"threads\":1,\"rounds\":[]}",
+            r#"{"counts":[1],"threads":1,"rounds":[]}"#,
             "WrongShape(certificate)",
         ),
         (
-            "{\"counts\":[1],\"threads\":1,\"rounds\":[],\"certificate\":\"Longest(0)\"}",
+            r#"{"counts":[1],"threads":1,"rounds":[],"certificate":"Longest(0)"}"#,
             "WrongShape(certificate)",
         ),
         (
-            "{\"counts\":[1],\"threads\":1,\"rounds\":[],\"certificate\":[0]}",
+            r#"{"counts":[1],"threads":1,"rounds":[],"certificate":[0]}"#,
             "WrongShape(certificate)",
         ),
         (
-            "{\"counts\":[1],\"threads\":1,\"rounds\":[],\"certificate\":4294967296}",
+            r#"{"counts":[1],"threads":1,"rounds":[],"certificate":4294967296}"#,
             "OutOfRange(certificate)",
         ),
     ];
@@ -209,13 +209,13 @@ fn claim_text(
     let mut document = String::new(alloc);
     write!(
         document,
-        "{{\"counts\":{counts},\"threads\":{threads},\"certificate\":"
+        r#"{{"counts":{counts},"threads":{threads},"certificate":"#
     )?;
     match certificate.strip_prefix("Longest(") {
         Some(partition) => document.push_str(partition.trim_end_matches(')'))?,
-        None => write!(document, "\"{certificate}\"")?,
+        None => write!(document, r#""{certificate}""#)?,
     }
-    document.push_str(",\"rounds\":[")?;
+    document.push_str(r#","rounds":["#)?;
     for (round, line) in lines.enumerate() {
         if round > 0 {
             document.push(',')?;
@@ -234,7 +234,7 @@ fn printed_plans_pass(rt: HostRuntime) {
             let counts = counts_text(alloc, length, number).expect(&rt, "memory");
             for threads in 1..5 {
                 let document = format!(in alloc;
-                    "{{\"counts\":{counts},\"threads\":{threads}}}"
+                    r#"{{"counts":{counts},"threads":{threads}}}"#
                 ).expect(&rt, "memory");
                 let planned = performed(&rt, &["plan"], &document);
                 assert_eq!(rt; planned.status, 0, "{document}");
@@ -248,7 +248,7 @@ fn printed_plans_pass(rt: HostRuntime) {
 }
 
 const CLAIM: &str =
-    "{\"counts\":[2,1],\"threads\":2,\"rounds\":[[[0,0,0],[1,1,0]]],\"certificate\":\"FullLoad\"}";
+    r#"{"counts":[2,1],"threads":2,"rounds":[[[0,0,0],[1,1,0]]],"certificate":"FullLoad"}"#;
 
 const FOUND: &str = "plan Missing\ncertificate yes\n";
 

@@ -7,50 +7,50 @@ fn faulty_runs(rt: HostRuntime) {
     let cases = [
         // Retry rolls back to single records.
         (
-            "{\"data\":[{\"records\":[\"a\",\"b\",\"c\",\"d\"],\"prefix\":\"x\",\"faults\":{\"process\":[[2,\"shaky\",[\"E\"]]]}}],\"job\":{\"id\":\"j\",\"exception-classes\":[\"E\"],\"step\":[{\"id\":\"s\",\"chunk\":{\"item-count\":4,\"retryable-exception-classes\":{\"include\":[\"E\"]}}}]}}",
-            "{\"job\":\"j\",\"status\":\"COMPLETED\",\"steps\":[{\"outputs\":[[\"xa\",\"xb\",\"xc\",\"xd\"]],\"rows\":[[0,4,4,4,1,4,4,4,4,1,0,0,0,0,\"done\"]],\"status\":\"COMPLETED\",\"step\":\"s\"}]}",
+            r#"{"data":[{"records":["a","b","c","d"],"prefix":"x","faults":{"process":[[2,"shaky",["E"]]]}}],"job":{"id":"j","exception-classes":["E"],"step":[{"id":"s","chunk":{"item-count":4,"retryable-exception-classes":{"include":["E"]}}}]}}"#,
+            r#"{"job":"j","status":"COMPLETED","steps":[{"outputs":[["xa","xb","xc","xd"]],"rows":[[0,4,4,4,1,4,4,4,4,1,0,0,0,0,"done"]],"status":"COMPLETED","step":"s"}]}"#,
             0,
         ),
         // Skip in the single-record redo.
         (
-            "{\"data\":[{\"records\":[\"a\",\"b\",\"c\",\"d\"],\"prefix\":\"x\",\"faults\":{\"process\":[[1,\"bad\",\"E\"]]}}],\"job\":{\"id\":\"j\",\"exception-classes\":[\"E\"],\"step\":[{\"id\":\"s\",\"chunk\":{\"item-count\":2,\"retryable-exception-classes\":{\"include\":[\"E\"]},\"skippable-exception-classes\":{\"include\":[\"E\"]},\"skip-limit\":1}}]}}",
-            "{\"job\":\"j\",\"status\":\"COMPLETED\",\"steps\":[{\"outputs\":[[\"xa\",\"xc\",\"xd\"]],\"rows\":[[0,4,4,2,1,3,4,3,3,1,0,1,0,0,\"done\"]],\"status\":\"COMPLETED\",\"step\":\"s\"}]}",
+            r#"{"data":[{"records":["a","b","c","d"],"prefix":"x","faults":{"process":[[1,"bad","E"]]}}],"job":{"id":"j","exception-classes":["E"],"step":[{"id":"s","chunk":{"item-count":2,"retryable-exception-classes":{"include":["E"]},"skippable-exception-classes":{"include":["E"]},"skip-limit":1}}]}}"#,
+            r#"{"job":"j","status":"COMPLETED","steps":[{"outputs":[["xa","xc","xd"]],"rows":[[0,4,4,2,1,3,4,3,3,1,0,1,0,0,"done"]],"status":"COMPLETED","step":"s"}]}"#,
             0,
         ),
         // One failed partition: the other runs to its end, and no further step runs.
         (
-            "{\"data\":[{\"prefix\":\"x\",\"records\":[\"a\",\"b\",\"c\",\"d\",\"e\",\"f\"],\"faults\":{\"process\":[[0,\"bad\",\"E\"],[3,\"bad\",\"E\"]]}},{\"records\":[\"g\"]}],\"job\":{\"id\":\"j\",\"exception-classes\":[\"E\"],\"step\":[{\"id\":\"s\",\"chunk\":{\"item-count\":2,\"skippable-exception-classes\":{\"include\":[\"E\"]},\"skip-limit\":1},\"partition\":{\"plan\":{\"ranges\":[[0,4],[4,6]],\"threads\":2}}},{\"id\":\"t\",\"chunk\":{}}]}}",
-            "{\"job\":\"j\",\"status\":\"FAILED\",\"steps\":[{\"outputs\":[[\"xb\"],[\"xe\",\"xf\"]],\"rows\":[[0,4,2,0,0,1,2,1,1,1,0,1,0,0,\"failed\"],[4,6,6,4,0,2,2,2,1,0,0,0,0,0,\"done\"]],\"status\":\"FAILED\",\"step\":\"s\"}]}",
+            r#"{"data":[{"prefix":"x","records":["a","b","c","d","e","f"],"faults":{"process":[[0,"bad","E"],[3,"bad","E"]]}},{"records":["g"]}],"job":{"id":"j","exception-classes":["E"],"step":[{"id":"s","chunk":{"item-count":2,"skippable-exception-classes":{"include":["E"]},"skip-limit":1},"partition":{"plan":{"ranges":[[0,4],[4,6]],"threads":2}}},{"id":"t","chunk":{}}]}}"#,
+            r#"{"job":"j","status":"FAILED","steps":[{"outputs":[["xb"],["xe","xf"]],"rows":[[0,4,2,0,0,1,2,1,1,1,0,1,0,0,"failed"],[4,6,6,4,0,2,2,2,1,0,0,0,0,0,"done"]],"status":"FAILED","step":"s"}]}"#,
             1,
         ),
         // A torn write that is skipped.
         (
-            "{\"data\":[{\"records\":[\"a\",\"b\",\"c\"],\"prefix\":\"x\",\"faults\":{\"write\":[[1,\"bad\",\"E\"]]}}],\"job\":{\"id\":\"j\",\"exception-classes\":[\"E\"],\"step\":[{\"id\":\"s\",\"chunk\":{\"item-count\":3,\"skippable-exception-classes\":{\"include\":[\"E\"]}}}]}}",
-            "{\"job\":\"j\",\"status\":\"COMPLETED\",\"steps\":[{\"outputs\":[[]],\"rows\":[[0,3,3,0,0,0,3,0,1,0,0,0,0,1,\"done\"]],\"status\":\"COMPLETED\",\"step\":\"s\"}]}",
+            r#"{"data":[{"records":["a","b","c"],"prefix":"x","faults":{"write":[[1,"bad","E"]]}}],"job":{"id":"j","exception-classes":["E"],"step":[{"id":"s","chunk":{"item-count":3,"skippable-exception-classes":{"include":["E"]}}}]}}"#,
+            r#"{"job":"j","status":"COMPLETED","steps":[{"outputs":[[]],"rows":[[0,3,3,0,0,0,3,0,1,0,0,0,0,1,"done"]],"status":"COMPLETED","step":"s"}]}"#,
             0,
         ),
         // The retry limit reached.
         (
-            "{\"data\":[{\"records\":[\"a\"],\"prefix\":\"x\",\"faults\":{\"process\":[[0,\"bad\",\"E\"]]}}],\"job\":{\"id\":\"j\",\"exception-classes\":[\"E\"],\"step\":[{\"id\":\"s\",\"chunk\":{\"item-count\":1,\"retryable-exception-classes\":{\"include\":[\"E\"]},\"retry-limit\":2}}]}}",
-            "{\"job\":\"j\",\"status\":\"FAILED\",\"steps\":[{\"outputs\":[[]],\"rows\":[[0,1,0,1,2,0,0,0,0,3,0,0,0,0,\"failed\"]],\"status\":\"FAILED\",\"step\":\"s\"}]}",
+            r#"{"data":[{"records":["a"],"prefix":"x","faults":{"process":[[0,"bad","E"]]}}],"job":{"id":"j","exception-classes":["E"],"step":[{"id":"s","chunk":{"item-count":1,"retryable-exception-classes":{"include":["E"]},"retry-limit":2}}]}}"#,
+            r#"{"job":"j","status":"FAILED","steps":[{"outputs":[[]],"rows":[[0,1,0,1,2,0,0,0,0,3,0,0,0,0,"failed"]],"status":"FAILED","step":"s"}]}"#,
             1,
         ),
         // A read that is skipped.
         (
-            "{\"data\":[{\"records\":[\"a\",\"b\",\"c\"],\"prefix\":\"x\",\"faults\":{\"read\":[[0,\"bad\",\"E\"]]}}],\"job\":{\"id\":\"j\",\"exception-classes\":[\"E\"],\"step\":[{\"id\":\"s\",\"chunk\":{\"item-count\":2,\"skippable-exception-classes\":{\"include\":[\"E\"]}}}]}}",
-            "{\"job\":\"j\",\"status\":\"COMPLETED\",\"steps\":[{\"outputs\":[[\"xb\",\"xc\"]],\"rows\":[[0,3,3,0,0,2,2,2,2,0,1,0,0,0,\"done\"]],\"status\":\"COMPLETED\",\"step\":\"s\"}]}",
+            r#"{"data":[{"records":["a","b","c"],"prefix":"x","faults":{"read":[[0,"bad","E"]]}}],"job":{"id":"j","exception-classes":["E"],"step":[{"id":"s","chunk":{"item-count":2,"skippable-exception-classes":{"include":["E"]}}}]}}"#,
+            r#"{"job":"j","status":"COMPLETED","steps":[{"outputs":[["xb","xc"]],"rows":[[0,3,3,0,0,2,2,2,2,0,1,0,0,0,"done"]],"status":"COMPLETED","step":"s"}]}"#,
             0,
         ),
         // A skip of a rolled-back chunk isn't counted.
         (
-            "{\"data\":[{\"records\":[\"a\",\"b\",\"c\"],\"prefix\":\"x\",\"faults\":{\"read\":[[0,\"bad\",\"E\"]],\"process\":[[1,\"shaky\",[\"F\"]]]}}],\"job\":{\"id\":\"j\",\"exception-classes\":[\"E\",\"F\"],\"step\":[{\"id\":\"s\",\"chunk\":{\"item-count\":2,\"skippable-exception-classes\":{\"include\":[\"E\"]},\"skip-limit\":1,\"retryable-exception-classes\":{\"include\":[\"F\"]}}}]}}",
-            "{\"job\":\"j\",\"status\":\"COMPLETED\",\"steps\":[{\"outputs\":[[\"xb\",\"xc\"]],\"rows\":[[0,3,3,2,1,2,2,2,3,1,1,0,0,0,\"done\"]],\"status\":\"COMPLETED\",\"step\":\"s\"}]}",
+            r#"{"data":[{"records":["a","b","c"],"prefix":"x","faults":{"read":[[0,"bad","E"]],"process":[[1,"shaky",["F"]]]}}],"job":{"id":"j","exception-classes":["E","F"],"step":[{"id":"s","chunk":{"item-count":2,"skippable-exception-classes":{"include":["E"]},"skip-limit":1,"retryable-exception-classes":{"include":["F"]}}}]}}"#,
+            r#"{"job":"j","status":"COMPLETED","steps":[{"outputs":[["xb","xc"]],"rows":[[0,3,3,2,1,2,2,2,3,1,1,0,0,0,"done"]],"status":"COMPLETED","step":"s"}]}"#,
             0,
         ),
         // Every class but one is skippable.
         (
-            "{\"data\":[{\"records\":[\"a\",\"b\"],\"prefix\":\"x\",\"faults\":{\"process\":[[0,\"bad\",\"E\"],[1,\"bad\",\"F\"]]}}],\"job\":{\"id\":\"j\",\"exception-classes\":[\"E\",\"F\"],\"step\":[{\"id\":\"s\",\"chunk\":{\"item-count\":2,\"skippable-exception-classes\":{\"include\":[\"*\"],\"exclude\":[\"F\"]}}}]}}",
-            "{\"job\":\"j\",\"status\":\"FAILED\",\"steps\":[{\"outputs\":[[]],\"rows\":[[0,2,0,0,0,0,0,0,0,1,0,0,0,0,\"failed\"]],\"status\":\"FAILED\",\"step\":\"s\"}]}",
+            r#"{"data":[{"records":["a","b"],"prefix":"x","faults":{"process":[[0,"bad","E"],[1,"bad","F"]]}}],"job":{"id":"j","exception-classes":["E","F"],"step":[{"id":"s","chunk":{"item-count":2,"skippable-exception-classes":{"include":["*"],"exclude":["F"]}}}]}}"#,
+            r#"{"job":"j","status":"FAILED","steps":[{"outputs":[[]],"rows":[[0,2,0,0,0,0,0,0,0,1,0,0,0,0,"failed"]],"status":"FAILED","step":"s"}]}"#,
             1,
         ),
     ];

@@ -4,7 +4,7 @@ use super::streams::{FailingReader, FailingWriter, performed};
 use crate::perform::perform;
 use std::alloc::{AllocError, Global};
 
-const THREE_EQUAL: &str = "{\"counts\":[3,3,3],\"threads\":2}";
+const THREE_EQUAL: &str = r#"{"counts":[3,3,3],"threads":2}"#;
 
 const THREE_EQUAL_PLAN: &str =
     "rounds 5 FullLoad\n0: 0.0 1.0\n1: 0.1 2.0\n2: 0.2 2.1\n3: 1.1 2.2\n4: 1.2 -\n";
@@ -14,23 +14,23 @@ fn worked_plans(rt: HostRuntime) {
     let cases = [
         (THREE_EQUAL, THREE_EQUAL_PLAN),
         (
-            "{\"counts\":[5,1,1],\"threads\":3}",
+            r#"{"counts":[5,1,1],"threads":3}"#,
             "rounds 5 Longest(0)\n0: 0.0 1.0 -\n1: 0.1 2.0 -\n2: 0.2 - -\n3: 0.3 - -\n4: 0.4 - -\n",
         ),
-        ("{\"counts\":[0,0],\"threads\":4}", "rounds 0 Nothing\n"),
+        (r#"{"counts":[0,0],"threads":4}"#, "rounds 0 Nothing\n"),
         (
-            "{\"threads\":2,\"counts\":[1,4,3]}",
+            r#"{"threads":2,"counts":[1,4,3]}"#,
             "rounds 4 Longest(1)\n0: 0.0 1.0\n1: 1.1 2.0\n2: 1.2 2.1\n3: 1.3 2.2\n",
         ),
         (
-            "{\"counts\":[2,0,2],\"threads\":2}",
+            r#"{"counts":[2,0,2],"threads":2}"#,
             "rounds 2 Longest(0)\n0: 0.0 2.0\n1: 0.1 2.1\n",
         ),
         (
-            "{\"counts\":[1,1,1],\"threads\":2}",
+            r#"{"counts":[1,1,1],"threads":2}"#,
             "rounds 2 FullLoad\n0: 0.0 2.0\n1: 1.0 -\n",
         ),
-        ("{\"counts\":[],\"threads\":1}", "rounds 0 Nothing\n"),
+        (r#"{"counts":[],"threads":1}"#, "rounds 0 Nothing\n"),
     ];
     for (document, plan) in cases {
         let planned = performed(&rt, &["plan"], document);
@@ -45,35 +45,35 @@ fn worked_plans(rt: HostRuntime) {
 fn refused_loads(rt: HostRuntime) {
     let cases = [
         ("", "NotJson"),
-        ("{\"counts\":[1],\"threads\":1", "NotJson"),
+        (r#"{"counts":[1],"threads":1"#, "NotJson"),
         ("7", "WrongShape(unknown)"),
-        ("{\"rounds\":[],\"threads\":65}", "WrongShape(unknown)"),
-        ("{\"threads\":65}", "WrongShape(counts)"),
-        ("{\"counts\":{},\"threads\":65}", "WrongShape(counts)"),
-        ("{\"counts\":null,\"threads\":65}", "WrongShape(counts)"),
+        (r#"{"rounds":[],"threads":65}"#, "WrongShape(unknown)"),
+        (r#"{"threads":65}"#, "WrongShape(counts)"),
+        (r#"{"counts":{},"threads":65}"#, "WrongShape(counts)"),
+        (r#"{"counts":null,"threads":65}"#, "WrongShape(counts)"),
         (
-            "{\"counts\":[10000001,\"1\"],\"threads\":65}",
+            r#"{"counts":[10000001,"1"],"threads":65}"#,
             "OutOfRange(counts)",
         ),
         (
-            "{\"counts\":[\"1\",10000001],\"threads\":65}",
+            r#"{"counts":["1",10000001],"threads":65}"#,
             "WrongShape(counts)",
         ),
         (
-            "{\"counts\":[10000000,1,1.0],\"threads\":65}",
+            r#"{"counts":[10000000,1,1.0],"threads":65}"#,
             "WrongShape(counts)",
         ),
         (
-            "{\"counts\":[10000000,1],\"threads\":65}",
+            r#"{"counts":[10000000,1],"threads":65}"#,
             "OutOfRange(counts)",
         ),
-        ("{\"counts\":[-1],\"threads\":65}", "WrongShape(counts)"),
-        ("{\"counts\":[1]}", "WrongShape(threads)"),
-        ("{\"counts\":[1],\"threads\":\"1\"}", "WrongShape(threads)"),
-        ("{\"counts\":[1],\"threads\":0}", "OutOfRange(threads)"),
-        ("{\"counts\":[1],\"threads\":65}", "OutOfRange(threads)"),
+        (r#"{"counts":[-1],"threads":65}"#, "WrongShape(counts)"),
+        (r#"{"counts":[1]}"#, "WrongShape(threads)"),
+        (r#"{"counts":[1],"threads":"1"}"#, "WrongShape(threads)"),
+        (r#"{"counts":[1],"threads":0}"#, "OutOfRange(threads)"),
+        (r#"{"counts":[1],"threads":65}"#, "OutOfRange(threads)"),
         (
-            "{\"counts\":[1],\"threads\":4294967297}",
+            r#"{"counts":[1],"threads":4294967297}"#,
             "OutOfRange(threads)",
         ),
     ];
@@ -88,11 +88,11 @@ fn refused_loads(rt: HostRuntime) {
 
 /// A document with so many counts of 0.
 fn zeros(alloc: Global, counts: usize) -> Result<String, AllocError> {
-    let mut document = String::from_str(alloc, "{\"counts\":[")?;
+    let mut document = String::from_str(alloc, r#"{"counts":["#)?;
     for i in 0..counts {
         document.push_str(if i == 0 { "0" } else { ",0" })?;
     }
-    document.push_str("],\"threads\":64}")?;
+    document.push_str(r#"],"threads":64}"#)?;
     Ok(document)
 }
 
@@ -114,7 +114,7 @@ fn most_counts(rt: HostRuntime) {
 // A plan longer than the block in which it is written.
 #[test]
 fn long_plan(rt: HostRuntime) {
-    let planned = performed(&rt, &["plan"], "{\"counts\":[20000],\"threads\":2}");
+    let planned = performed(&rt, &["plan"], r#"{"counts":[20000],"threads":2}"#);
     assert_eq!(rt; planned.status, 0);
     let mut line = planned.output.as_slice().split(|byte| *byte == b'\n');
     assert_eq!(rt; line.next(), Some(b"rounds 20000 Longest(0)".as_slice()));

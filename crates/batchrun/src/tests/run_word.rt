@@ -8,44 +8,44 @@ fn whole_runs(rt: HostRuntime) {
     let cases = [
         // The first run.
         (
-            "{\"data\":[{\"records\":[\"a\",\"b\",\"c\"],\"prefix\":\"x\"}],\"job\":{\"id\":\"j\",\"step\":[{\"id\":\"s\",\"chunk\":{\"item-count\":2},\"partition\":{\"plan\":{\"ranges\":[[0,2],[2,3]],\"threads\":1}}}]}}",
-            "{\"job\":\"j\",\"status\":\"COMPLETED\",\"steps\":[{\"outputs\":[[\"xa\",\"xb\"],[\"xc\"]],\"rows\":[[0,2,2,0,0,2,2,2,1,0,0,0,0,0,\"done\"],[2,3,3,2,0,1,1,1,1,0,0,0,0,0,\"done\"]],\"status\":\"COMPLETED\",\"step\":\"s\"}]}",
+            r#"{"data":[{"records":["a","b","c"],"prefix":"x"}],"job":{"id":"j","step":[{"id":"s","chunk":{"item-count":2},"partition":{"plan":{"ranges":[[0,2],[2,3]],"threads":1}}}]}}"#,
+            r#"{"job":"j","status":"COMPLETED","steps":[{"outputs":[["xa","xb"],["xc"]],"rows":[[0,2,2,0,0,2,2,2,1,0,0,0,0,0,"done"],[2,3,3,2,0,1,1,1,1,0,0,0,0,0,"done"]],"status":"COMPLETED","step":"s"}]}"#,
             0,
         ),
         // Everything filtered.
         (
-            "{\"data\":[{\"records\":[\"za\",\"zb\",\"zc\",\"zd\"],\"prefix\":\"x\",\"drop\":\"z\"}],\"job\":{\"id\":\"j\",\"step\":[{\"id\":\"s\",\"chunk\":{\"item-count\":4}}]}}",
-            "{\"job\":\"j\",\"status\":\"COMPLETED\",\"steps\":[{\"outputs\":[[]],\"rows\":[[0,4,4,0,0,0,4,0,1,0,0,0,4,0,\"done\"]],\"status\":\"COMPLETED\",\"step\":\"s\"}]}",
+            r#"{"data":[{"records":["za","zb","zc","zd"],"prefix":"x","drop":"z"}],"job":{"id":"j","step":[{"id":"s","chunk":{"item-count":4}}]}}"#,
+            r#"{"job":"j","status":"COMPLETED","steps":[{"outputs":[[]],"rows":[[0,4,4,0,0,0,4,0,1,0,0,0,4,0,"done"]],"status":"COMPLETED","step":"s"}]}"#,
             0,
         ),
         // No record at all.
         (
-            "{\"data\":[{\"records\":[],\"prefix\":\"x\"}],\"job\":{\"id\":\"j\",\"step\":[{\"id\":\"s\",\"chunk\":{}}]}}",
-            "{\"job\":\"j\",\"status\":\"COMPLETED\",\"steps\":[{\"outputs\":[[]],\"rows\":[[0,0,0,0,0,0,0,0,0,0,0,0,0,0,\"done\"]],\"status\":\"COMPLETED\",\"step\":\"s\"}]}",
+            r#"{"data":[{"records":[],"prefix":"x"}],"job":{"id":"j","step":[{"id":"s","chunk":{}}]}}"#,
+            r#"{"job":"j","status":"COMPLETED","steps":[{"outputs":[[]],"rows":[[0,0,0,0,0,0,0,0,0,0,0,0,0,0,"done"]],"status":"COMPLETED","step":"s"}]}"#,
             0,
         ),
         // Seven records in three partitions.
         (
-            "{\"data\":[{\"records\":[\"a\",\"b\",\"c\",\"d\",\"e\",\"f\",\"g\"],\"prefix\":\"x\"}],\"job\":{\"id\":\"j\",\"step\":[{\"id\":\"s\",\"chunk\":{\"item-count\":2},\"partition\":{\"plan\":{\"partitions\":3,\"threads\":2}}}]}}",
-            "{\"job\":\"j\",\"status\":\"COMPLETED\",\"steps\":[{\"outputs\":[[\"xa\",\"xb\",\"xc\"],[\"xd\",\"xe\"],[\"xf\",\"xg\"]],\"rows\":[[0,3,3,0,0,3,3,3,2,0,0,0,0,0,\"done\"],[3,5,5,3,0,2,2,2,1,0,0,0,0,0,\"done\"],[5,7,7,5,0,2,2,2,1,0,0,0,0,0,\"done\"]],\"status\":\"COMPLETED\",\"step\":\"s\"}]}",
+            r#"{"data":[{"records":["a","b","c","d","e","f","g"],"prefix":"x"}],"job":{"id":"j","step":[{"id":"s","chunk":{"item-count":2},"partition":{"plan":{"partitions":3,"threads":2}}}]}}"#,
+            r#"{"job":"j","status":"COMPLETED","steps":[{"outputs":[["xa","xb","xc"],["xd","xe"],["xf","xg"]],"rows":[[0,3,3,0,0,3,3,3,2,0,0,0,0,0,"done"],[3,5,5,3,0,2,2,2,1,0,0,0,0,0,"done"],[5,7,7,5,0,2,2,2,1,0,0,0,0,0,"done"]],"status":"COMPLETED","step":"s"}]}"#,
             0,
         ),
         // More partitions than records.
         (
-            "{\"data\":[{\"records\":[\"a\",\"b\"],\"prefix\":\"x\"}],\"job\":{\"id\":\"j\",\"step\":[{\"id\":\"s\",\"chunk\":{},\"partition\":{\"plan\":{\"partitions\":4}}}]}}",
-            "{\"job\":\"j\",\"status\":\"COMPLETED\",\"steps\":[{\"outputs\":[[\"xa\"],[\"xb\"],[],[]],\"rows\":[[0,1,1,0,0,1,1,1,1,0,0,0,0,0,\"done\"],[1,2,2,1,0,1,1,1,1,0,0,0,0,0,\"done\"],[2,2,2,2,0,0,0,0,0,0,0,0,0,0,\"done\"],[2,2,2,2,0,0,0,0,0,0,0,0,0,0,\"done\"]],\"status\":\"COMPLETED\",\"step\":\"s\"}]}",
+            r#"{"data":[{"records":["a","b"],"prefix":"x"}],"job":{"id":"j","step":[{"id":"s","chunk":{},"partition":{"plan":{"partitions":4}}}]}}"#,
+            r#"{"job":"j","status":"COMPLETED","steps":[{"outputs":[["xa"],["xb"],[],[]],"rows":[[0,1,1,0,0,1,1,1,1,0,0,0,0,0,"done"],[1,2,2,1,0,1,1,1,1,0,0,0,0,0,"done"],[2,2,2,2,0,0,0,0,0,0,0,0,0,0,"done"],[2,2,2,2,0,0,0,0,0,0,0,0,0,0,"done"]],"status":"COMPLETED","step":"s"}]}"#,
             0,
         ),
         // An empty range between two, out of order and with a record that is in none.
         (
-            "{\"data\":[{\"records\":[\"a\",\"b\",\"c\",\"d\",\"e\",\"f\",\"g\"],\"prefix\":\"x\"}],\"job\":{\"id\":\"j\",\"step\":[{\"id\":\"s\",\"chunk\":{\"item-count\":10},\"partition\":{\"plan\":{\"ranges\":[[4,6],[2,2],[0,3]]}}}]}}",
-            "{\"job\":\"j\",\"status\":\"COMPLETED\",\"steps\":[{\"outputs\":[[\"xe\",\"xf\"],[],[\"xa\",\"xb\",\"xc\"]],\"rows\":[[4,6,6,4,0,2,2,2,1,0,0,0,0,0,\"done\"],[2,2,2,2,0,0,0,0,0,0,0,0,0,0,\"done\"],[0,3,3,0,0,3,3,3,1,0,0,0,0,0,\"done\"]],\"status\":\"COMPLETED\",\"step\":\"s\"}]}",
+            r#"{"data":[{"records":["a","b","c","d","e","f","g"],"prefix":"x"}],"job":{"id":"j","step":[{"id":"s","chunk":{"item-count":10},"partition":{"plan":{"ranges":[[4,6],[2,2],[0,3]]}}}]}}"#,
+            r#"{"job":"j","status":"COMPLETED","steps":[{"outputs":[["xe","xf"],[],["xa","xb","xc"]],"rows":[[4,6,6,4,0,2,2,2,1,0,0,0,0,0,"done"],[2,2,2,2,0,0,0,0,0,0,0,0,0,0,"done"],[0,3,3,0,0,3,3,3,1,0,0,0,0,0,"done"]],"status":"COMPLETED","step":"s"}]}"#,
             0,
         ),
         // Two steps.
         (
-            "{\"data\":[{\"records\":[\"a\"]},{\"prefix\":\"y\",\"records\":[\"b\",\"c\"]}],\"job\":{\"id\":\"j\",\"step\":[{\"id\":\"one\",\"chunk\":{\"item-count\":1}},{\"id\":\"two\",\"chunk\":{}}]}}",
-            "{\"job\":\"j\",\"status\":\"COMPLETED\",\"steps\":[{\"outputs\":[[\"a\"]],\"rows\":[[0,1,1,0,0,1,1,1,1,0,0,0,0,0,\"done\"]],\"status\":\"COMPLETED\",\"step\":\"one\"},{\"outputs\":[[\"yb\",\"yc\"]],\"rows\":[[0,2,2,0,0,2,2,2,1,0,0,0,0,0,\"done\"]],\"status\":\"COMPLETED\",\"step\":\"two\"}]}",
+            r#"{"data":[{"records":["a"]},{"prefix":"y","records":["b","c"]}],"job":{"id":"j","step":[{"id":"one","chunk":{"item-count":1}},{"id":"two","chunk":{}}]}}"#,
+            r#"{"job":"j","status":"COMPLETED","steps":[{"outputs":[["a"]],"rows":[[0,1,1,0,0,1,1,1,1,0,0,0,0,0,"done"]],"status":"COMPLETED","step":"one"},{"outputs":[["yb","yc"]],"rows":[[0,2,2,0,0,2,2,2,1,0,0,0,0,0,"done"]],"status":"COMPLETED","step":"two"}]}"#,
             0,
         ),
     ];
@@ -62,9 +62,9 @@ fn whole_runs(rt: HostRuntime) {
 #[test]
 fn texts_go_through(rt: HostRuntime) {
     let document =
-        "{\"data\":[{\"prefix\":\"\\u20ac \",\"records\":[\"\\\" \\\\ \\/ \\b \\f \\n \\r \\t \\u0041 \\u00e9 \\ud83d\\ude00\",\"Zoë 東京 😀\"]}],\"job\":{\"id\":\"jöb\",\"step\":[{\"chunk\":{},\"id\":\"ſtep\"}]}}";
+        r#"{"data":[{"prefix":"\u20ac ","records":["\" \\ \/ \b \f \n \r \t \u0041 \u00e9 \ud83d\ude00","Zoë 東京 😀"]}],"job":{"id":"jöb","step":[{"chunk":{},"id":"ſtep"}]}}"#;
     let report =
-        "{\"job\":\"jöb\",\"status\":\"COMPLETED\",\"steps\":[{\"outputs\":[[\"€ \\\" \\\\ / \\b \\f \\n \\r \\t A é 😀\",\"€ Zoë 東京 😀\"]],\"rows\":[[0,2,2,0,0,2,2,2,1,0,0,0,0,0,\"done\"]],\"status\":\"COMPLETED\",\"step\":\"ſtep\"}]}";
+        r#"{"job":"jöb","status":"COMPLETED","steps":[{"outputs":[["€ \" \\ / \b \f \n \r \t A é 😀","€ Zoë 東京 😀"]],"rows":[[0,2,2,0,0,2,2,2,1,0,0,0,0,0,"done"]],"status":"COMPLETED","step":"ſtep"}]}"#;
     let ran = performed(&rt, &["run"], document);
     assert_eq!(rt; ran.status, 0);
     let line = format!(in rt.alloc(); "{report}\n").expect(&rt, "memory");
@@ -72,10 +72,10 @@ fn texts_go_through(rt: HostRuntime) {
 }
 
 const FIRST: &str =
-    "{\"data\":[{\"records\":[\"a\",\"b\",\"c\"],\"prefix\":\"x\"}],\"job\":{\"id\":\"j\",\"step\":[{\"id\":\"s\",\"chunk\":{\"item-count\":2},\"partition\":{\"plan\":{\"ranges\":[[0,2],[2,3]],\"threads\":1}}}]}}";
+    r#"{"data":[{"records":["a","b","c"],"prefix":"x"}],"job":{"id":"j","step":[{"id":"s","chunk":{"item-count":2},"partition":{"plan":{"ranges":[[0,2],[2,3]],"threads":1}}}]}}"#;
 
 const FIRST_REPORT: &str =
-    "{\"job\":\"j\",\"status\":\"COMPLETED\",\"steps\":[{\"outputs\":[[\"xa\",\"xb\"],[\"xc\"]],\"rows\":[[0,2,2,0,0,2,2,2,1,0,0,0,0,0,\"done\"],[2,3,3,2,0,1,1,1,1,0,0,0,0,0,\"done\"]],\"status\":\"COMPLETED\",\"step\":\"s\"}]}\n";
+    r#"{"job":"j","status":"COMPLETED","steps":[{"outputs":[["xa","xb"],["xc"]],"rows":[[0,2,2,0,0,2,2,2,1,0,0,0,0,0,"done"],[2,3,3,2,0,1,1,1,1,0,0,0,0,0,"done"]],"status":"COMPLETED","step":"s"}]}"#;
 
 // A document that ends before its last byte has no tree.
 #[test]
@@ -108,7 +108,8 @@ fn failing_streams(rt: HostRuntime) {
         let line = if fails { "stream failed\n" } else { "" };
         assert_eq!(rt; faults.as_slice(), line.as_bytes(), "{fails_at}");
     }
-    let length = FIRST_REPORT.len() as u64;
+    let report = format!(in alloc; "{FIRST_REPORT}\n").expect(&rt, "memory");
+    let length = report.len() as u64;
     for fails_at in 1..length + 2 {
         let mut writer = FailingWriter::new(alloc, fails_at);
         let mut faults = Vec::new(alloc);
@@ -116,10 +117,7 @@ fn failing_streams(rt: HostRuntime) {
         let status = perform(&rt, &["run"], &mut reader, &mut writer, &mut faults);
         let fails = fails_at < length + 1;
         assert_eq!(rt; status, if fails { 4 } else { 0 }, "{fails_at}");
-        assert!(rt;
-            FIRST_REPORT.as_bytes().starts_with(writer.bytes()),
-            "{fails_at}"
-        );
+        assert!(rt; report.as_bytes().starts_with(writer.bytes()), "{fails_at}");
         assert_eq!(rt; writer.calls(), fails_at.min(length), "{fails_at}");
         let line = if fails { "stream failed\n" } else { "" };
         assert_eq!(rt; faults.as_slice(), line.as_bytes(), "{fails_at}");

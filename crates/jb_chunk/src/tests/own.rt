@@ -1,65 +1,113 @@
-//! Artifacts of a user's own types.
+//! A user's own reader, processor, writer and collector, none of them a ready one, run alone.
 
-ghost use Rattle.std.specs.Prelude.{◌≡◌, ◌<◌, true, codes};
-ghost use Rattle.jb_rules.specs.declared.row.RowState.TheVariants.{Waiting};
-ghost use Rattle.jb_rules.specs.declared.row.TheConstants.{MAX_ROLLBACKS};
+ghost use Rattle.std.specs.Prelude.{◌≡◌, ◌≤◌, ◌++◌, ◌∷◌, [], map, vec_len, Some, codes};
+ghost use Rattle.jb_artifacts.specs.declared.faults.FaultPlan.TheVariants.{Sound};
+ghost use Rattle.jb_artifacts.specs.Writer.{Writer, Appends};
 
-use crate::{Outcome, PartitionTask, Task};
-use jb_artifacts::{
-    Artifacts, Collector, FaultPlans, Item, ItemProcessor, ItemWriter, ListWriter, PrefixProcessor,
-    RowView, TableReader,
-};
+use crate::{AloneEnd, PartitionTask, Task, run_alone};
+use jb_artifacts::{Artifacts, Collector, Item, ItemProcessor, ItemReader, ItemWriter, RowView};
 use jb_job::{ArtifactError, Range, Rules};
-use jb_rules::{Counts, MAX_ROLLBACKS, Row, RowState};
+use jb_rules::{Row, RowState};
 use std::alloc::{AllocError, Global};
-use std::sync::Arc;
-use std::sync::atomic::{AtomicU64, Ordering};
 use std::test::*;
 
-/// A processor that finds no memory for so many calls at record 2.
+/// A reader of the letters of a text: each record is one byte, and the first has the number 0.
 #[derive(Drop)]
-struct Forgetful {
-    processor: PrefixProcessor,
-    refusals: u64,
+struct Letters {
+    alloc: Global,
+    text: Vec<u8>,
+    place: u64,
+    ghost within: { place ≤ vec_len text },
 }
 
-impl ItemProcessor for Forgetful {
-    ghost processor = { λ p. ⟦<PrefixProcessor as ItemProcessor>⟧.processor p.processor };
+impl ItemReader for Letters {
+    ghost reader = { λ l. record { first = 0; records = map (λ letter. letter ∷ []) l.text.items; place = l.place; faults = λ _. Sound } };
 
-    fn process_item(&mut self, number: u64, item: &[u8]) -> Result<Option<Item>, ArtifactError> {
-        if number == 2 && self.refusals > 0 {
-            self.refusals -= 1;
-            return Err(ArtifactError::Memory);
+    fn first(&self) -> u64 {
+        0
+    }
+
+    fn end(&self) -> u64 {
+        self.text.len() as u64
+    }
+
+    fn place(&self) -> u64 {
+        self.place
+    }
+
+    fn open_at(&mut self, at: u64) {
+        self.place = at;
+    }
+
+    fn read_item(&mut self) -> Result<Option<Item>, ArtifactError> {
+        let index = self.place as usize;
+        if index >= self.text.len() {
+            return Ok(None);
         }
-        self.processor.process_item(number, item)
+        let record = Item::copy_of(self.alloc, &[self.text[index]])?;
+        self.place += 1;
+        Ok(Some(record))
     }
 }
 
-/// A writer that counts the calls that write.
+/// A processor whose result is the item twice.
 #[derive(Drop)]
-struct Counted {
-    list: ListWriter,
-    calls: Arc<AtomicU64, Global>,
+struct Doubler {
+    alloc: Global,
 }
 
-impl ItemWriter for Counted {
-    ghost writer = { λ w. ⟦<ListWriter as ItemWriter>⟧.writer w.list };
+impl ItemProcessor for Doubler {
+    ghost processor = { λ _. record { answer = λ _ item. Some (item ++ item); faults = λ _. Sound } };
+
+    fn process_item(&mut self, _number: u64, item: &[u8]) -> Result<Option<Item>, ArtifactError> {
+        let mut bytes = Vec::from_slice(self.alloc, item)?;
+        bytes.extend_from_slice(item)?;
+        Ok(Some(Item::from_vec(bytes)))
+    }
+}
+
+/// A writer that keeps its results in a list of its own.
+#[derive(Drop)]
+struct Journal {
+    alloc: Global,
+    lines: Vec<Item>,
+}
+
+impl Journal {
+    /// Appends a copy of one result. Where there is no memory, nothing changes.
+    fn append(&mut self, number: u64, line: &Item) -> Result<(), ArtifactError>
+        ensures { let old : Writer = record { written = self.old.lines.items; faults = λ _. Sound } in
+            Appends result number line.now old (record { written = self.new.lines.items; faults = λ _. Sound }) }
+    {
+        let copy = Item::copy_of(self.alloc, line.as_slice())?;
+        self.lines.push(copy)?;
+        Ok(())
+    }
+}
+
+impl ItemWriter for Journal {
+    ghost writer = { λ j. record { written = j.lines.items; faults = λ _. Sound } };
 
     fn count(&self) -> u64 {
-        self.list.count()
+        self.lines.len() as u64
     }
 
     fn open_at(&mut self, count: u64) {
-        self.list.open_at(count);
+        self.lines.truncate(count as usize);
     }
 
     fn write_items(&mut self, results: &[(u64, Item)]) -> Result<(), ArtifactError> {
-        self.calls.fetch_add(1, Ordering::SeqCst);
-        self.list.write_items(results)
+        for result in results {
+            self.append(result.0, &result.1)?;
+        }
+        Ok(())
     }
 
     fn item_at(&self, i: u64) -> Option<&[u8]> {
-        self.list.item_at(i)
+        match self.lines.get(i as usize) {
+            Some(line) => Some(line.as_slice()),
+            None => None,
+        }
     }
 }
 
@@ -77,116 +125,67 @@ impl Collector for Word {
     }
 }
 
-/// Whether any chunk may be attempted after this row.
-fn waits(row: &Row) -> bool
-    ensures { result ≡ true → (row.now.state ≡ Waiting) × (row.now.counts.rollback < MAX_ROLLBACKS) }
-{
-    row.state == RowState::Waiting && row.counts.rollback < MAX_ROLLBACKS
+/// What a partition that ran alone left.
+#[derive(Drop)]
+struct Ran {
+    row: Row,
+    end: AloneEnd,
+    /// The outputs, each with a blank behind it.
+    outputs: Vec<u8>,
 }
 
-/// A reader of the lines of a text.
-fn lines_of(alloc: Global, text: &str) -> Result<TableReader, Fail> {
-    let mut lines = Vec::new(alloc);
-    for line in text.lines() {
-        lines.push(Item::copy_of(alloc, line.as_bytes())?)?;
+/// Runs a range of the letters of the text alone, two at a time.
+fn run(alloc: Global, text: &[u8], range: Range) -> Result<Ran, Fail> {
+    let row = Row::fresh(range);
+    let letters = Letters {
+        alloc,
+        text: Vec::from_slice(alloc, text)?,
+        place: 0,
+    };
+    let journal = Journal {
+        alloc,
+        lines: Vec::new(alloc),
+    };
+    let artifacts = Artifacts {
+        reader: Box::new(alloc, letters)?,
+        processor: Box::new(alloc, Doubler { alloc })?,
+        writer: Box::new(alloc, journal)?,
+        collector: Box::new(alloc, Word { alloc })?,
+    };
+    if !row.sound() || row.state != RowState::Waiting || !Task::fits(&artifacts, &row) {
+        return Err(Fail::from("a task"));
     }
-    Ok(TableReader::new(alloc, 0, lines, FaultPlans::new(alloc)))
-}
-
-/// A processor that puts an x before each item and filters those that begin with z.
-fn prefixing(alloc: Global, refusals: u64) -> Result<Forgetful, Fail> {
-    let prefix = Item::copy_of(alloc, b"x")?;
-    let dropped = Some(Item::copy_of(alloc, b"z")?);
-    let processor = PrefixProcessor::new(alloc, prefix, dropped, FaultPlans::new(alloc));
-    Ok(Forgetful {
-        processor,
-        refusals,
-    })
-}
-
-/// No class is skipped or retried.
-fn no_rules() -> Rules {
-    Rules {
+    let rules = Rules {
         skippable: 0,
         retryable: 0,
         skip_limit: None,
         retry_limit: 0,
+    };
+    let task = Task::start(0, row, rules, 2, artifacts);
+    let alone = run_alone(alloc, task);
+    let row = *alone.task.row();
+    let artifacts = alone.task.into_artifacts();
+    let mut outputs = Vec::new(alloc);
+    for i in 0..artifacts.writer.count() {
+        let Some(text) = artifacts.writer.item_at(i) else {
+            return Err(Fail::from("an output"));
+        };
+        outputs.extend_from_slice(text)?;
+        outputs.push(b' ')?;
     }
+    Ok(Ran {
+        row,
+        end: alone.end,
+        outputs,
+    })
 }
 
 #[test]
-fn nothing_written(rt: HostRuntime) -> Result<(), Fail> {
-    let alloc = rt.alloc();
-    let calls = Arc::new(alloc, AtomicU64::new(0))?;
-    let row = Row::fresh(Range { lo: 0, hi: 3 });
-    let reader = lines_of(alloc, "za\nzb\nc")?;
-    let writer = Counted {
-        list: ListWriter::new(alloc, Vec::new(alloc), FaultPlans::new(alloc)),
-        calls: Arc::try_clone(&calls)?,
-    };
-    let artifacts = Artifacts {
-        reader: Box::new(alloc, reader)?,
-        processor: Box::new(alloc, prefixing(alloc, 0)?)?,
-        writer: Box::new(alloc, writer)?,
-        collector: Box::new(alloc, Word { alloc })?,
-    };
-    assert!(rt; row.sound() && waits(&row) && Task::fits(&artifacts, &row));
-    let task = Task::start(0, row, no_rules(), 2, artifacts);
-    assert!(rt; task.row().counts.rollback < MAX_ROLLBACKS);
-    let first = task.attempt(alloc);
-    assert!(rt; matches!(first.outcome, Outcome::Committed(_)));
-    assert_eq!(rt; first.values.len(), 1);
-    assert_eq!(rt; calls.load(Ordering::SeqCst), 0);
-    assert!(rt; waits(first.task.row()));
-    let second = first.task.attempt(alloc);
-    assert!(rt; matches!(second.outcome, Outcome::Committed(_)));
-    assert_eq!(rt; calls.load(Ordering::SeqCst), 1);
-    let counts = second.task.row().counts;
-    let expected = Counts {
-        read: 3,
-        write: 1,
-        commit: 2,
-        filter: 2,
-        ..Counts::ZERO
-    };
-    assert_eq!(rt; counts, expected);
-    Ok(())
-}
-
-#[test]
-fn memory_refused_once(rt: HostRuntime) -> Result<(), Fail> {
-    let alloc = rt.alloc();
-    let row = Row::fresh(Range { lo: 0, hi: 4 });
-    let reader = lines_of(alloc, "a\nb\nc\nd")?;
-    let artifacts = Artifacts {
-        reader: Box::new(alloc, reader)?,
-        processor: Box::new(alloc, prefixing(alloc, 1)?)?,
-        writer: Box::new(
-            alloc,
-            ListWriter::new(alloc, Vec::new(alloc), FaultPlans::new(alloc)),
-        )?,
-        collector: Box::new(alloc, Word { alloc })?,
-    };
-    assert!(rt; row.sound() && waits(&row) && Task::fits(&artifacts, &row));
-    let task = Task::start(0, row, no_rules(), 2, artifacts);
-    assert!(rt; waits(task.row()));
-    let first = task.attempt(alloc);
-    assert!(rt; matches!(first.outcome, Outcome::Committed(_)) && waits(first.task.row()));
-    let row = *first.task.row();
-    let second = first.task.attempt(alloc);
-    assert_eq!(rt; second.outcome, Outcome::NoMemory);
-    assert_eq!(rt; second.task.row(), &row);
-    assert!(rt; second.task.is_ready() && second.values.is_empty() && waits(second.task.row()));
-    let third = second.task.attempt(alloc);
-    assert!(rt; matches!(third.outcome, Outcome::Committed(_)));
-    assert_eq!(rt; third.values.len(), 2);
-    let row = *third.task.row();
-    assert_eq!(rt;
-        (row.at, row.written, row.state),
-        (4, 4, RowState::Finished)
-    );
-    let artifacts = third.task.into_artifacts();
-    assert_eq!(rt; artifacts.writer.count(), 4);
-    assert_eq!(rt; artifacts.writer.item_at(2), Some(b"xc".as_slice()));
+fn own_artifacts(rt: HostRuntime) -> Result<(), Fail> {
+    let ran = run(rt.alloc(), b"abcde", Range { lo: 1, hi: 4 })?;
+    assert_eq!(rt; ran.end, AloneEnd::Finished);
+    let row = ran.row;
+    assert_eq!(rt; (row.at, row.written, row.counts.commit), (4, 3, 2));
+    assert_eq!(rt; ran.outputs.as_slice(), b"bb cc dd ".as_slice());
     Ok(())
 }

@@ -1,4 +1,4 @@
-use Rattle.std.proofs.Common.{◌≡◌, [], drop, map}
+use Rattle.std.proofs.Common.{◌≡◌, [], drop}
 use Rattle.serde_json.specs.View.{items_view}
 use Rattle.batchrun.specs.FaultLists.{fault_records, faults_from}
 use Rattle.batchrun.proofs.faults.entries.Given as goal

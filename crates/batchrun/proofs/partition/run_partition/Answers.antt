@@ -1,18 +1,16 @@
-use Rattle.std.proofs.Common.{rules, ◌≡◌, ◌≤◌, ◌<◌, ℕ, List, [], length, map, refl, ap, sym, subst, ◌∙◌, arith}
+use Rattle.std.proofs.Common.{rules, ◌≡◌, ℕ, List, map, ap, sym, subst, ◌∙◌}
 use denote.Param.Object.{read_made}
 use Rattle.std.specs.Str.Lossy.{utf8_lossy}
 use Rattle.jb_rules.specs.declared.row.Row.{Row}
-use Rattle.jb_rules.specs.Rows.{fresh_row}
 use Rattle.jb_artifacts.specs.declared.view.RowView.{RowView}
 use Rattle.jb_artifacts.specs.Reader.{Reader}
 use Rattle.jb_artifacts.specs.Processor.{Processor}
 use Rattle.jb_artifacts.specs.Writer.{Writer}
 use Rattle.jb_artifacts.specs.Meaning.{Workplace, Fits}
 use Rattle.jb_chunk.specs.declared.alone.AloneEnd.TheVariants.{NoMemory}
-use Rattle.jb_chunk.specs.Standing.{TaskState, started}
+use Rattle.jb_chunk.specs.Standing.{started}
 use Rattle.jb_chunk.proofs.Crossing.{task_crosses, artifacts_cross}
-use Rattle.batchrun.specs.declared.results.PartitionResult.{PartitionResult}
-use Rattle.batchrun.specs.Partitions.{IsPartitionResult, plans_in, records_in, result_of, task_of, workplace_of}
+use Rattle.batchrun.specs.Partitions.{workplace_of}
 use Rattle.batchrun.proofs.Partitions.{fits-fresh, left-by, plain-by}
 use Rattle.batchrun.proofs.partition.run_partition.Goals as goal
 use Rattle.batchrun.proofs.partition.run_partition.Hidden as hidden

@@ -1,6 +1,5 @@
-use Rattle.std.proofs.Common.{◌≡◌, ℕ, List, sym, subst, ◌∙◌}
-use Rattle.batchrun.specs.declared.document.Document.{Document}
-use Rattle.batchrun.specs.Answer.{IsDocument, IsReportOf, IsRun}
+use Rattle.std.proofs.Common.{ℕ, List, subst, ◌∙◌}
+use Rattle.batchrun.specs.Answer.{IsDocument}
 use Rattle.batchrun.proofs.Documents.{is_document, ok-along, some-along}
 use Rattle.batchrun.proofs.perform.run.Goals as goal
 

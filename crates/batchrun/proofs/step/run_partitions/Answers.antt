@@ -1,4 +1,4 @@
-use Rattle.std.proofs.Common.{◌≡◌, ◌≤◌, ◌++◌, List, [], length, drop, refl, arith, sym, ◌∙◌, subst}
+use Rattle.std.proofs.Common.{◌≤◌, List, [], length, drop, refl, sym, ◌∙◌, subst}
 use Rattle.std.proofs.lemmas.List.{append-nil, drop_all}
 use Rattle.batchrun.specs.declared.results.PartitionResult.{PartitionResult}
 use Rattle.batchrun.specs.Partitions.{ArePartitionResults}

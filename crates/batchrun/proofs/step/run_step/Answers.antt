@@ -1,9 +1,9 @@
-use Rattle.std.proofs.Common.{◌≡◌, ℕ, List, length, rules, ap, sym, ◌∙◌, subst}
+use Rattle.std.proofs.Common.{◌≡◌, ℕ, List, length, rules, ap, ◌∙◌, subst}
 use Rattle.jb_job.specs.declared.job.Range.{Range}
 use Rattle.jb_plan.specs.declared.plan.PartitionPlan.{PartitionPlan}
 use Rattle.jb_plan.specs.Plans.{IsLawful}
 use Rattle.batchrun.specs.Partitions.{ArePartitionResults}
-use Rattle.batchrun.specs.JobRun.{IsStepRun, plan_for}
+use Rattle.batchrun.specs.JobRun.{plan_for}
 use Rattle.batchrun.proofs.step.run_step.Goals as goal
 
 pub returns-clause-ran : goal.returns-clause-ran

@@ -1,4 +1,4 @@
-use Rattle.std.proofs.Common.{◌≡◌, length, take, filter, get_or}
+use Rattle.std.proofs.Common.{◌≡◌, take, filter}
 use Rattle.std.proofs.lemmas.List.{take_more}
 use Rattle.jb_artifacts.specs.Faults.{plans_of}
 use Rattle.batchrun.specs.Partitions.{is_in, planned, plans_with}

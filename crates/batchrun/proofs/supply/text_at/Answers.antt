@@ -1,5 +1,4 @@
-use Rattle.std.proofs.Common.{◌≡◌, ℕ, ◌<◌, List, [], length, get_or, Option, Some, None, slice_get, rules, sym, ◌∙◌}
-use Rattle.std.specs.Str.Lossy.{utf8_lossy}
+use Rattle.std.proofs.Common.{◌≡◌, ℕ, ◌<◌, List, [], length, get_or, Some, None, slice_get, rules, sym}
 use Rattle.std.proofs.lemmas.Option.{slice_get-get_or, get_or_from_slice_get}
 use Rattle.batchrun.proofs.supply.text_at.Goals as goal
 

@@ -1,7 +1,7 @@
 use Rattle.std.proofs.Common.{◌≡◌, ◌++◌, ap, sym, refl, rules, Some}
 use Rattle.jb_artifacts.specs.declared.faults.FaultPlan.TheVariants.{Sound}
 use Rattle.jb_artifacts.proofs.Plans.{used_at-sound}
-use Rattle.jb_artifacts.proofs.tests.DoublerItemProcessor.process_item.Goals as goal
+use Rattle.jb_chunk.proofs.tests.own.DoublerItemProcessor.process_item.Goals as goal
 
 pub returns : goal.returns
 returns c =
