@@ -1,5 +1,5 @@
 -- A refused document or plan is a failure of its kind.
-use Rattle.std.proofs.Common.{◌≡◌, ℕ, List, Option, IfSome, Result, Ok, Err, IfErr, refl, arith}
+use Rattle.std.proofs.Common.{◌≡◌, ℕ, List, Option, Some, None, IfSome, Result, Ok, Err, IfErr, refl, arith}
 use Rattle.jb_job.specs.declared.error.JobError.{JobError}
 use Rattle.jb_job.specs.declared.error.JobError.TheVariants as fault
 use Rattle.jb_plan.specs.declared.fault.PlanError.{PlanError}
@@ -7,7 +7,7 @@ use Rattle.batchrun.specs.declared.failure.Failure.{Failure}
 use Rattle.batchrun.specs.declared.failure.Failure.TheVariants as failure
 use Rattle.batchrun.specs.declared.line.Word.TheVariants as word
 use Rattle.batchrun.specs.Statuses.{failure_of, failure_code}
-use Rattle.batchrun.specs.Refusals.{IsFailure}
+use Rattle.batchrun.specs.Refusals.{IsFailure, IsRunFailure}
 use Rattle.batchrun.specs.Answer.{IsRefusedBy, IsRefusedDocument, IsRefusedPlan}
 use Rattle.batchrun.specs.PlanText.{IsRefusedLoad}
 use Rattle.batchrun.specs.CheckText.{IsRefusedClaim}
@@ -22,18 +22,23 @@ failure-of_fault fault.Memory = tt
 
 pub ruleset refusals = (failure-of_fault, failure-of_fault)
 
+-- a fact beside what follows of bytes that are known
+beside : {A : Type 0} (P : List ℕ → Type 0) (given : Option (List ℕ)) → A → IfSome given P → IfSome given (λ bytes. A × P bytes)
+beside P (Some bytes) a p = (a, p)
+beside P None a p = tt
+
 -- what each word refuses
 pub refused_by_run : (given : Option (List ℕ)) (e : Failure) → ((f : JobError) → e ≡ failure.Document f → IfSome given (IsRefusedDocument f))
-    → ((f : PlanError) → e ≡ failure.Plan f → IfSome given (IsRefusedPlan f)) → failure_code e ≡ 3 → IfSome given (IsRefusedBy word.Run e)
-refused_by_run given (failure.Document f) document plan code = document f refl
-refused_by_run given (failure.Plan f) document plan code = plan f refl
-refused_by_run given failure.Memory document plan code = absurd (omega (arith, code))
-refused_by_run given failure.Stream document plan code = absurd (omega (arith, code))
-refused_by_run given failure.Usage document plan code = absurd (omega (arith, code))
+    → ((f : PlanError) → e ≡ failure.Plan f → IfSome given (IsRefusedPlan f)) → IsRunFailure e → failure_code e ≡ 3 → IfSome given (IsRefusedBy word.Run e)
+refused_by_run given (failure.Document f) document plan fails code = beside (IsRefusedDocument f) given fails (document f refl)
+refused_by_run given (failure.Plan f) document plan fails code = plan f refl
+refused_by_run given failure.Memory document plan fails code = absurd (omega (arith, code))
+refused_by_run given failure.Stream document plan fails code = absurd (omega (arith, code))
+refused_by_run given failure.Usage document plan fails code = absurd fails
 
 pub refused_by_plan : (given : Option (List ℕ)) (e : Failure) → ((f : JobError) → e ≡ failure.Document f → IfSome given (IsRefusedLoad f))
     → IsFailure e → failure_code e ≡ 3 → IfSome given (IsRefusedBy word.Plan e)
-refused_by_plan given (failure.Document f) document fails code = document f refl
+refused_by_plan given (failure.Document f) document fails code = beside (IsRefusedLoad f) given fails (document f refl)
 refused_by_plan given (failure.Plan f) document fails code = absurd fails
 refused_by_plan given failure.Memory document fails code = absurd (omega (arith, code))
 refused_by_plan given failure.Stream document fails code = absurd (omega (arith, code))
@@ -41,7 +46,7 @@ refused_by_plan given failure.Usage document fails code = absurd fails
 
 pub refused_by_check : (given : Option (List ℕ)) (e : Failure) → ((f : JobError) → e ≡ failure.Document f → IfSome given (IsRefusedClaim f))
     → IsFailure e → failure_code e ≡ 3 → IfSome given (IsRefusedBy word.Check e)
-refused_by_check given (failure.Document f) document fails code = document f refl
+refused_by_check given (failure.Document f) document fails code = beside (IsRefusedClaim f) given fails (document f refl)
 refused_by_check given (failure.Plan f) document fails code = absurd fails
 refused_by_check given failure.Memory document fails code = absurd (omega (arith, code))
 refused_by_check given failure.Stream document fails code = absurd (omega (arith, code))
@@ -51,3 +56,7 @@ refused_by_check given failure.Usage document fails code = absurd fails
 pub err-both : {P Q S : Failure → Type 0} (r : Result ℕ Failure) → ((e : Failure) → P e → Q e → S e) → IfErr r P → IfErr r Q → IfErr r S
 err-both (Ok x) f p q = tt
 err-both (Err e) f p q = f e p q
+
+pub err-all : {P Q R S : Failure → Type 0} (r : Result ℕ Failure) → ((e : Failure) → P e → Q e → R e → S e) → IfErr r P → IfErr r Q → IfErr r R → IfErr r S
+err-all (Ok x) f p q t = tt
+err-all (Err e) f p q t = f e p q t

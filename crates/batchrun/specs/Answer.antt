@@ -15,6 +15,7 @@ use Rattle.batchrun.specs.declared.line.Word.{Word}
 use Rattle.batchrun.specs.declared.line.Word.TheVariants.{Run, Plan, Check}
 use Rattle.batchrun.specs.PlanText.{IsPlanned, IsRefusedLoad}
 use Rattle.batchrun.specs.CheckText.{IsChecked, IsRefusedClaim}
+use Rattle.batchrun.specs.Refusals.{IsFault}
 use Rattle.batchrun.specs.declared.failure.Failure.{Failure}
 use Rattle.batchrun.specs.declared.failure.Failure.TheVariants as failure
 
@@ -55,8 +56,8 @@ IsAnswer Check given old new status = (status < 2) × IsChecked given old new st
 
 -- The bytes are refused by this word, and the failure names why: their first fault, or the first refused plan of a job.
 abbrev pub IsRefusedBy : Word → Failure → List ℕ → Type 0
-IsRefusedBy Run (failure.Document fault) bytes = IsRefusedDocument fault bytes
+IsRefusedBy Run (failure.Document fault) bytes = IsFault fault × IsRefusedDocument fault bytes
 IsRefusedBy Run (failure.Plan fault) bytes = IsRefusedPlan fault bytes
-IsRefusedBy Plan (failure.Document fault) bytes = IsRefusedLoad fault bytes
-IsRefusedBy Check (failure.Document fault) bytes = IsRefusedClaim fault bytes
+IsRefusedBy Plan (failure.Document fault) bytes = IsFault fault × IsRefusedLoad fault bytes
+IsRefusedBy Check (failure.Document fault) bytes = IsFault fault × IsRefusedClaim fault bytes
 IsRefusedBy _ _ bytes = ⊥

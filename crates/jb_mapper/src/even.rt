@@ -87,7 +87,7 @@ pub fn even_cover(records: u64, partitions: u32)
 {}
 
 /// The law of even plans: with 1 to 256 partitions and at most 4,096 threads they are lawful, so `jb_plan::checked`
-/// accepts them for any number of records.
+/// accepts them for each number of records that it takes.
 pub fn even_plan_is_lawful(records: u64, partitions: u32, threads: u32, replace: bool)
     requires some { 1 ≤ partitions }
     requires few { partitions ≤ MAX_PARTITIONS }

@@ -1,16 +1,16 @@
 use Rattle.std.proofs.Common.{IfSome, sym, subst}
 use Rattle.batchrun.specs.Answer.{IsRefusedBy}
-use Rattle.batchrun.proofs.Refusals.{refused_by_run, refused_by_plan, refused_by_check, err-both}
+use Rattle.batchrun.proofs.Refusals.{refused_by_run, refused_by_plan, refused_by_check, err-both, err-all}
 use Rattle.batchrun.proofs.perform.try_perform.Goals as goal
 
 pub returns-in-Run-clause-refused : goal.returns-in-Run-clause-refused
 returns-in-Run-clause-refused g c =
     let given = g.R.Read.remaining c.args.reader.now in
-    err-both c.run.result (λ e document plan code. (
+    err-all c.run.result (λ e document plan fails code. (
       c.in_ok-line.line,
       c.in_ok-line.ensures.ok,
-      subst (λ word. IfSome given (IsRefusedBy word e)) (sym c.in-Run.is) (refused_by_run given e document plan code),
-    )) c.run.ensures.refused c.run.ensures.unplanned
+      subst (λ word. IfSome given (IsRefusedBy word e)) (sym c.in-Run.is) (refused_by_run given e document plan fails code),
+    )) c.run.ensures.refused c.run.ensures.unplanned c.run.ensures.failures
 
 pub returns-in-Plan-clause-refused : goal.returns-in-Plan-clause-refused
 returns-in-Plan-clause-refused g c =
