@@ -1,4 +1,4 @@
-"""Runs ./batchrun on a document and measures it: wall time, processor time and peak memory of that process alone."""
+"""Runs a command on a document and measures it: wall time, processor time and peak memory of that process alone."""
 import os
 import subprocess
 import sys
@@ -6,20 +6,21 @@ import time
 
 TOP = os.path.dirname(os.path.dirname(os.path.abspath(__file__)))
 PROGRAM = os.path.join(TOP, "crates/batchrun/out/batchrun")
+PYTHON = [sys.executable, "-c", "import json, sys; sys.stdout.write(json.dumps(json.load(sys.stdin), separators=(',', ':')))"]
 
 
 def built():
-    """Builds the program where it isn't built: ./batchrun does so before it refuses a run without a word."""
-    subprocess.run([os.path.join(TOP, "batchrun")], stdin=subprocess.DEVNULL, stdout=subprocess.DEVNULL, stderr=subprocess.DEVNULL)
-    if not os.access(PROGRAM, os.X_OK):
-        sys.exit("the program isn't built; run ./batchrun to see why")
+    """Builds the program where it isn't built: ./batchrun does so before its first run."""
+    ran = subprocess.run([os.path.join(TOP, "batchrun"), "plan"], input=b'{"counts":[],"threads":1}', stdout=subprocess.DEVNULL)
+    if ran.returncode:
+        sys.exit("the program isn't built")
 
 
-def measure(word, document, output=os.devnull):
-    """Gives (status, wall seconds, processor seconds, peak memory in MB) of one run."""
-    with open(document, "rb") as given, open(output, "wb") as taken:
+def measure(command, document):
+    """Gives (status, wall seconds, processor seconds, peak memory in MB) of one run, whose output goes nowhere."""
+    with open(document, "rb") as given, open(os.devnull, "wb") as taken:
         begun = time.monotonic()
-        child = subprocess.Popen([PROGRAM, word], stdin=given, stdout=taken)
+        child = subprocess.Popen(command, stdin=given, stdout=taken)
         _, status, used = os.wait4(child.pid, 0)
         wall = time.monotonic() - begun
         child.returncode = os.waitstatus_to_exitcode(status)
@@ -27,8 +28,10 @@ def measure(word, document, output=os.devnull):
 
 
 def report(rows):
-    """Prints measured rows as a table: (name, document, measure's answer)."""
-    print(f"{'what':<44} {'input MB':>9} {'status':>6} {'wall s':>8} {'cpu s':>8} {'peak MB':>8}")
-    for name, document, (status, wall, cpu, peak) in rows:
-        size = os.path.getsize(document) / 1e6
-        print(f"{name:<44} {size:>9.1f} {status:>6} {wall:>8.2f} {cpu:>8.2f} {peak:>8.0f}")
+    """Prints measured rows as a table; a row is its name, its document and a list of (what ran, measure's answer)."""
+    print(f"{'what':<44} {'input MB':>8}  {'by':<9} {'status':>6} {'wall s':>8} {'cpu s':>8} {'peak MB':>8}")
+    for name, document, runs in rows:
+        begin = f"{name:<44} {os.path.getsize(document) / 1e6:>8.1f}"
+        for by, (status, wall, cpu, peak) in runs:
+            print(f"{begin}  {by:<9} {status:>6} {wall:>8.2f} {cpu:>8.2f} {peak:>8.0f}")
+            begin = " " * len(begin)

@@ -7,7 +7,7 @@ import json
 import os
 import tempfile
 
-from measure import built, measure, report
+from measure import PROGRAM, built, measure, report
 
 CASES = (
     ("4,096 counts of 2,000 on 63 threads", [2_000] * 4_096, 63),
@@ -24,7 +24,7 @@ def main():
             path = os.path.join(room, f"{place}.json")
             with open(path, "w", encoding="utf-8") as file:
                 json.dump({"counts": counts, "threads": threads}, file)
-            rows.append((name, path, measure("plan", path)))
+            rows.append((name, path, [("batchrun", measure([PROGRAM, "plan"], path))]))
         report(rows)
 
 
