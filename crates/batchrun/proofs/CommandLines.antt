@@ -1,7 +1,7 @@
 -- Words that the program refuses.
 use Rattle.std.proofs.Common.{◌≡◌, Bool, true, false, refl, arith}
-use Rattle.batchrun.specs.declared.line.LineFault.{LineFault}
-use Rattle.batchrun.specs.declared.line.LineFault.TheVariants as fault
+use Rattle.batchrun.specs.declared.words.line.LineFault.{LineFault}
+use Rattle.batchrun.specs.declared.words.line.LineFault.TheVariants as fault
 
 -- a fault that isn't want of memory stands for words that weren't taken
 pub not_taken : (taken : Bool) (e : LineFault) → (taken ≡ true → e ≡ fault.Memory) → e ≡ fault.Usage → taken ≡ false

@@ -5,26 +5,27 @@ use Rattle.std.proofs.lemmas.List.{reverse-append, append-nil}
 use Rattle.std.proofs.lemmas.List.Elements.{filter-append}
 use Rattle.jb_job.specs.declared.job.Range.{Range}
 use Rattle.jb_artifacts.specs.Faults.{with_plan}
-use Rattle.batchrun.specs.declared.faults.RecordFault.{RecordFault}
-use Rattle.batchrun.specs.Partitions.{is_in, plan_by, plan_of, planned, plans_with}
+use Rattle.jb_documents.specs.declared.run.faults.PlannedFault.{PlannedFault}
+use Rattle.batchrun.specs.PartitionRun.{is_of_range, fault_plan_by, fault_plan_of, fault_plans}
+use Rattle.batchrun.specs.inside.FaultPlans.{plans_with}
 
-either : (b : Bool) (fault : RecordFault) (later : Option RecordFault) → plan_by (cond b (Some fault) later) ≡ cond b (plan_of fault.fault) (plan_by later)
+either : (b : Bool) (fault : PlannedFault) (later : Option PlannedFault) → fault_plan_by (cond b (Some fault) later) ≡ cond b (fault_plan_of fault.kind) (fault_plan_by later)
 either true fault later = refl
 either false fault later = refl
 
-planned-by : (faults : List RecordFault) (fault : RecordFault) (k : ℕ)
-    → planned (faults ++ fault ∷ []) k ≡ with_plan (planned faults) fault.number (plan_of fault.fault) k
-planned-by faults fault k = rw (reverse-append faults (fault ∷ [])) (either (k == fault.number) fault (find (λ planned. k == planned.number) (reverse faults)))
+plans-by : (faults : List PlannedFault) (fault : PlannedFault) (k : ℕ)
+    → fault_plans (faults ++ fault ∷ []) k ≡ with_plan (fault_plans faults) fault.number (fault_plan_of fault.kind) k
+plans-by faults fault k = rw (reverse-append faults (fault ∷ [])) (either (k == fault.number) fault (find (λ earlier. k == earlier.number) (reverse faults)))
 
-planned-snoc : (faults : List RecordFault) (fault : RecordFault)
-    → planned (faults ++ fault ∷ []) ≡ with_plan (planned faults) fault.number (plan_of fault.fault)
-planned-snoc faults fault = fun_ext (λ k. planned-by faults fault k)
+plans-snoc : (faults : List PlannedFault) (fault : PlannedFault)
+    → fault_plans (faults ++ fault ∷ []) ≡ with_plan (fault_plans faults) fault.number (fault_plan_of fault.kind)
+plans-snoc faults fault = fun_ext (λ k. plans-by faults fault k)
 
-within : (range : Range) (faults : List RecordFault) (fault : RecordFault) (b : Bool) → is_in range fault ≡ b
-    → planned (filter (is_in range) faults ++ filter (is_in range) (fault ∷ [])) ≡ cond b (with_plan (planned (filter (is_in range) faults)) fault.number (plan_of fault.fault)) (planned (filter (is_in range) faults))
-within range faults fault true h = rw h (planned-snoc (filter (is_in range) faults) fault)
-within range faults fault false h = rw (h, append-nil (filter (is_in range) faults)) refl
+within : (range : Range) (faults : List PlannedFault) (fault : PlannedFault) (b : Bool) → is_of_range range fault ≡ b
+    → fault_plans (filter (is_of_range range) faults ++ filter (is_of_range range) (fault ∷ [])) ≡ cond b (with_plan (fault_plans (filter (is_of_range range) faults)) fault.number (fault_plan_of fault.kind)) (fault_plans (filter (is_of_range range) faults))
+within range faults fault true h = rw h (plans-snoc (filter (is_of_range range) faults) fault)
+within range faults fault false h = rw (h, append-nil (filter (is_of_range range) faults)) refl
 
-pub planned-more : (range : Range) (faults : List RecordFault) (fault : RecordFault)
-    → planned (filter (is_in range) (faults ++ fault ∷ [])) ≡ plans_with range (planned (filter (is_in range) faults)) fault
-planned-more range faults fault = rw (filter-append (is_in range) faults (fault ∷ [])) (within range faults fault (is_in range fault) refl)
+pub plans-more : (range : Range) (faults : List PlannedFault) (fault : PlannedFault)
+    → fault_plans (filter (is_of_range range) (faults ++ fault ∷ [])) ≡ plans_with range (fault_plans (filter (is_of_range range) faults)) fault
+plans-more range faults fault = rw (filter-append (is_of_range range) faults (fault ∷ [])) (within range faults fault (is_of_range range fault) refl)

@@ -1,11 +1,9 @@
 pub mod CommandLines
-pub mod Documents
 pub mod FaultPlans
+pub mod Known
 pub mod Least
 pub mod Mapped
 pub mod Partitions
+pub mod Records
 pub mod Refusals
-pub mod Reports
-pub mod Trees
-pub mod Triples
-pub mod Writing
+pub mod Steps

@@ -1,8 +1,7 @@
 -- A partition's first row and its artifacts, and how its task ends.
-use Rattle.std.proofs.Common.{◌≡◌, ℕ, ◌+◌, ◌-◌, ◌≤◌, List, length, map, drop, refl, ap, sym, subst, ◌∙◌, arith, length-take, length-drop}
-use Rattle.jb_job.specs.declared.job.Range.{Range}
+use Rattle.std.proofs.Common.{◌≡◌, ℕ, ◌-◌, ◌≤◌, List, length, map, refl, ap, sym, subst, arith}
 use Rattle.std.specs.Str.Lossy.{utf8_lossy}
-use Rattle.jb_rules.specs.declared.row.Row.{Row}
+use Rattle.jb_job.specs.declared.job.Range.{Range}
 use Rattle.jb_rules.specs.Rows.{fresh_row}
 use Rattle.jb_artifacts.specs.Meaning.{Fits}
 use Rattle.jb_chunk.specs.declared.alone.AloneEnd.{AloneEnd}
@@ -10,17 +9,14 @@ use Rattle.jb_chunk.specs.declared.alone.AloneEnd.TheVariants.{Finished, Failed,
 use Rattle.jb_chunk.specs.Standing.{TaskState}
 use Rattle.jb_chunk.specs.Alone.{EndsAlone, IsAlone, KeepsPlain}
 use Rattle.jb_chunk.specs.Plain.{IsCalm, IsPlain}
-use Rattle.batchrun.specs.declared.step_data.StepData.{StepData}
-use Rattle.batchrun.specs.Partitions.{IsLeftBy, plain_result, records_in, workplace_of}
-
-enough : (records : List (List ℕ)) (range : Range) → range.lo ≤ range.hi → range.hi ≤ length records → range.hi ≤ range.lo + length (records_in records range)
-enough records range order within = rw (length-take (range.hi - range.lo) (drop range.lo records), length-drop range.lo records) (omega arith)
+use Rattle.batchrun.specs.declared.run.settings.StepSettings.{StepSettings}
+use Rattle.batchrun.specs.PartitionRun.{IsPartitionRun, first_task, plain_report, report_of, workplace_of}
 
 -- the artifacts of a range serve its first row
-pub fits-fresh : (step : StepData) (range : Range) → range.lo ≤ range.hi → range.hi ≤ length step.records → Fits (workplace_of step range) (fresh_row range)
-fits-fresh step range order within = record {
+pub fits-fresh : (step : StepSettings) (records : List (List ℕ)) (range : Range) → range.lo ≤ range.hi → length records ≡ range.hi - range.lo → Fits (workplace_of step records range) (fresh_row range)
+fits-fresh step records range order counted = record {
   from = omega arith;
-  to = enough step.records range order within;
+  to = omega (arith, order, counted);
   count = omega arith;
 }
 
@@ -34,18 +30,27 @@ plain-ends before after Finished some h calm = h calm
 plain-ends before after Failed some h calm = absurd (h calm)
 plain-ends before after NoMemory some h calm = absurd (some refl)
 
--- a task that found its memory came to its end by its own attempts
-pub left-by : (before begun after : TaskState) (end : AloneEnd) (row : Row) (outputs : List (List ℕ)) → (end ≡ NoMemory → ⊥) → EndsAlone before end after → before ≡ begun
-    → row ≡ after.row → outputs ≡ map utf8_lossy after.work.writer.written → IsLeftBy begun (record { row = row; outputs = outputs })
-left-by before begun after end row outputs some h same e f =
-    let P : TaskState → Type 0 = λ t. IsAlone t after in
-    (after, subst P same (ends before after end some h), λ i. record { row = e i; outputs = f i })
+same-report : (after : TaskState) (begun : TaskState) → IsPlain begun after → report_of after ≡ plain_report begun
+same-report after begun plain = λ i. record { row = plain.0 i; outputs = ap (map utf8_lossy) plain.1 i }
 
--- and where no call failed, by the Plain run
-pub plain-by : (before begun after : TaskState) (end : AloneEnd) (row : Row) (outputs : List (List ℕ)) → (end ≡ NoMemory → ⊥) → KeepsPlain before end after → before ≡ begun
-    → row ≡ after.row → outputs ≡ map utf8_lossy after.work.writer.written → IsCalm begun.work begun.row.at begun.row.hi → record { row = row; outputs = outputs } ≡ plain_result begun
-plain-by before begun after end row outputs some h same e f calm =
+-- a task that found its memory came to its end by its own attempts, and where no call failed, by the plain run
+pub run-of_task : (step : StepSettings) (records : List (List ℕ)) (partition : ℕ) (range : Range) (before after : TaskState) (end : AloneEnd) → (range.lo ≡ range.hi → ⊥) → (end ≡ NoMemory → ⊥)
+    → before ≡ first_task step records partition range → EndsAlone before end after → KeepsPlain before end after → IsPartitionRun (first_task step records partition range) (report_of after)
+run-of_task step records partition range before after end some memory same alone plain =
+    let begun = first_task step records partition range in
+    let ended : IsAlone begun after = subst (λ t. IsAlone t after) same (ends before after end memory alone) in
     let C : TaskState → Type 0 = λ t. IsCalm t.work t.row.at t.row.hi in
     let P : TaskState → Type 0 = λ t. IsPlain t after in
-    let plain : IsPlain begun after = subst P same (plain-ends before after end some h (subst C (sym same) calm)) in
-    λ i. record { row = (e ∙ plain.0) i; outputs = (f ∙ ap (map utf8_lossy) plain.1) i }
+    record {
+      without_records = λ e. absurd (some e);
+      with_records = λ _. (after, ended, refl);
+      without_faults = λ _ calm. same-report after begun (subst P same (plain-ends before after end memory plain (subst C (sym same) calm)));
+    }
+
+-- a partition with no record is finished from the start
+pub run-of_none : (step : StepSettings) (records : List (List ℕ)) (partition : ℕ) (range : Range) → range.lo ≡ range.hi → IsPartitionRun (first_task step records partition range) (report_of (first_task step records partition range))
+run-of_none step records partition range e = record {
+  without_records = λ _. refl;
+  with_records = λ h. absurd (omega (arith, e, h));
+  without_faults = λ h _. absurd (omega (arith, e, h));
+}

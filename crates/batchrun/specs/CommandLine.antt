@@ -1,9 +1,9 @@
 -- The command line of the program, and what its matches ask for (own choice: one word, with no argument).
 use Rattle.std.specs.Prelude.{◌≡◌, ◌⊎◌, List, true, false, Option, Some, None, option_map, codes, bytes_eq, if◌then◌else◌}
 use Rattle.clap.specs.Words.{App, Row, Shape, Text, new_app, subcommand_of, takes, with_subcommand}
-use Rattle.batchrun.specs.declared.line.Line.{Line}
-use Rattle.batchrun.specs.declared.line.Word.{Word}
-use Rattle.batchrun.specs.declared.line.Word.TheVariants.{Run, Plan, Check}
+use Rattle.batchrun.specs.declared.words.line.Line.{Line}
+use Rattle.batchrun.specs.declared.words.line.Word.{Word}
+use Rattle.batchrun.specs.declared.words.line.Word.TheVariants.{Run, Plan, Check}
 
 -- the program, which needs a word
 abbrev pub program : App

@@ -1,8 +1,8 @@
 -- How the words fail.
 use Rattle.jb_job.specs.declared.error.JobError.{JobError}
 use Rattle.jb_job.specs.declared.error.JobError.TheVariants as fault
-use Rattle.batchrun.specs.declared.failure.Failure.{Failure}
-use Rattle.batchrun.specs.declared.failure.Failure.TheVariants as failure
+use Rattle.batchrun.specs.declared.streams.failure.Failure.{Failure}
+use Rattle.batchrun.specs.declared.streams.failure.Failure.TheVariants as failure
 
 -- want of memory is no fault of a document
 abbrev pub IsFault : JobError → Type 0

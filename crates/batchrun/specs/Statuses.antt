@@ -1,20 +1,13 @@
--- The exit status of the program (own choice).
+-- The exit status of the program where there is no answer (own choice).
 use Rattle.std.specs.Prelude.{ℕ}
 use Rattle.jb_job.specs.declared.error.JobError.{JobError}
 use Rattle.jb_job.specs.declared.error.JobError.TheVariants as fault
 use Rattle.jb_plan.specs.declared.fault.PlanError.{PlanError}
 use Rattle.jb_plan.specs.declared.fault.PlanError.TheVariants as plan_fault
-use Rattle.batchrun.specs.declared.line.LineFault.{LineFault}
-use Rattle.batchrun.specs.declared.line.LineFault.TheVariants as line_fault
-use Rattle.batchrun.specs.declared.failure.Failure.{Failure}
-use Rattle.batchrun.specs.declared.failure.Failure.TheVariants as failure
-use Rattle.batchrun.specs.declared.results.Status.{Status}
-use Rattle.batchrun.specs.declared.results.Status.TheVariants as status
-
--- that of a job
-abbrev pub status_code : Status → ℕ
-status_code status.Completed = 0
-status_code status.Failed = 1
+use Rattle.batchrun.specs.declared.words.line.LineFault.{LineFault}
+use Rattle.batchrun.specs.declared.words.line.LineFault.TheVariants as line_fault
+use Rattle.batchrun.specs.declared.streams.failure.Failure.{Failure}
+use Rattle.batchrun.specs.declared.streams.failure.Failure.TheVariants as failure
 
 -- 3 where the document or a plan is refused, 4 for memory and streams, 5 for the command line
 abbrev pub failure_code : Failure → ℕ

@@ -1,37 +1,20 @@
 //! Runs a batch job, plans rounds of chunks or checks such a plan, from a JSON document on standard input.
 //!
-//! - `line`: the command line. `input`: the document's bytes. `failure`: why there is no answer.
-//! - `document`, `step_data`, `step_fields`, `faults`, `texts`: the document of `run`.
-//! - `job_run`, `step`, `partition`, `supply`: the run of a job, its steps and their partitions.
-//! - `results`, `report`: what a run leaves, and how it is printed.
-//! - `counts`, `planning`: the word `plan`. `rounds`, `checking`: the word `check`.
+//! - `words`: the command line, and what each of its words does.
+//! - `run`: the run of a job, its steps and their partitions.
+//! - `streams`: the document's bytes, and why there is no answer.
 //! - `perform`: the program over any reader and two writers.
 #![tactic(auto)]
 
-mod checking;
-mod counts;
-mod document;
-mod failure;
-mod faults;
-mod input;
-mod job_run;
-mod line;
-mod partition;
 mod perform;
-mod planning;
-mod report;
-mod results;
-mod rounds;
-mod step;
-mod step_data;
-mod step_fields;
-mod supply;
-mod texts;
+mod run;
+mod streams;
+mod words;
 
-use failure::{Failure, write_failure};
 use perform::perform;
 use std::process::ExitCode;
 use std::{env, io};
+use streams::{Failure, write_failure};
 
 #[cfg(test)]
 mod tests;

@@ -2,52 +2,15 @@
 
 ghost use Rattle.std.specs.Prelude.{◌≡◌, ◌≢◌, ◌⊎◌, ◌<◌, ◌≤◌, map, Some, IfErr, IfOk, IfSome};
 ghost use Rattle.std.specs.Io.KnownBytes.{Appends, Keeps};
-ghost use Rattle.jb_job.specs.declared.error.JobError.{JobError};
-ghost use Rattle.jb_plan.specs.declared.fault.PlanError.{PlanError};
-ghost use Rattle.batchrun.specs.Report.{report_text};
-ghost use Rattle.batchrun.specs.Statuses.{status_code, failure_code};
-ghost use Rattle.batchrun.specs.declared.line.Line.{Line};
+ghost use Rattle.batchrun.specs.Statuses.{failure_code};
+ghost use Rattle.batchrun.specs.declared.words.line.Line.{Line};
 ghost use Rattle.batchrun.specs.CommandLine.{asked_by, AreUnknown};
-ghost use Rattle.batchrun.specs.Refusals.{IsRunFailure};
-ghost use Rattle.batchrun.specs.Answer.{IsAnswer, IsRun, IsRefusedBy, IsRefusedDocument, IsRefusedPlan};
+ghost use Rattle.batchrun.specs.Answer.{IsAnswer, IsRefusedBy};
 
-use crate::checking::run_check;
-use crate::document::read_document;
-use crate::failure::{Failure, write_failure};
-use crate::input::read_all;
-use crate::job_run::run_job;
-use crate::line::{Word, line_of};
-use crate::planning::run_plan;
-use crate::report::text_of;
-use crate::results::Report;
+use crate::streams::{Failure, write_failure};
+use crate::words::{Word, line_of, run, run_check, run_plan};
 use std::alloc::{AllocGlobal, Global};
 use std::io::{Read, Write};
-
-/// Writes the report whole, and gives the exit status.
-fn write_report<W: Write>(alloc: Global, report: &Report, writer: &mut W) -> Result<u8, Failure>
-    ensures ok { IfOk result (λ status. (status ≡ status_code report.now.status) × Appends (W.contents writer.old) (W.contents writer.new) (report_text report.now)) }
-    ensures silent { IfErr result (λ e. (e ≡ Failure.Memory × Keeps (W.contents writer.old) (W.contents writer.new)) ⊎ (e ≡ Failure.Stream)) }
-{
-    let text = text_of(alloc, report)?;
-    writer.write_all(text.as_bytes())?;
-    writer.flush()?;
-    Ok(report.status.code())
-}
-
-/// Reads a document of `run`, runs its job and writes the report. The exit status is 0 where the job is completed, and 1
-/// where it failed.
-pub fn run<R: Read, W: Write>(alloc: Global, reader: &mut R, writer: &mut W) -> Result<u8, Failure>
-    ensures ok { IfOk result (IsRun (R.remaining reader.old) (W.contents writer.old) (W.contents writer.new)) }
-    ensures refused { IfErr result (λ e. (fault : JobError) → e ≡ Failure.Document fault → IfSome (R.remaining reader.old) (IsRefusedDocument fault)) }
-    ensures unplanned { IfErr result (λ e. (fault : PlanError) → e ≡ Failure.Plan fault → IfSome (R.remaining reader.old) (IsRefusedPlan fault)) }
-    ensures failures { IfErr result IsRunFailure }
-    ensures silent { IfErr result (λ e. e ≢ Failure.Stream → Keeps (W.contents writer.old) (W.contents writer.new)) }
-{
-    let bytes = read_all(alloc, reader)?;
-    let document = read_document(alloc, &bytes)?;
-    let report = run_job(alloc, &document)?;
-    write_report(alloc, &report, writer)
-}
 
 /// Does what the words ask.
 fn try_perform<'a, R: Read, W: Write>(

@@ -1,11 +1,4 @@
-//! Tests over the whole program.
+//! The program over streams that fail. What it prints for each document is in cases/, over the built program.
 
-mod check_word;
-mod command_line;
-mod fault_lists;
-mod faulty_runs;
-mod plan_word;
-mod refused;
-mod run_word;
+mod failing_streams;
 mod streams;
-mod worked;

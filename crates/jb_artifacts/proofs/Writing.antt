@@ -1,5 +1,5 @@
 -- Results that are written in turn.
-use Rattle.std.proofs.Common.{◌≡◌, ℕ, zero, suc, ◌+◌, ◌<◌, ◌≤◌, List, [], ◌∷◌, ◌++◌, length, length-append, get_or, take, ◌-◌, Err, Ok, Bool, true, false, not, cond, None, Some, refl, ap, sym, ◌∙◌, arith, append_assoc}
+use Rattle.std.proofs.Common.{◌≡◌, ℕ, zero, suc, ◌+◌, ◌<◌, ◌≤◌, List, [], ◌∷◌, ◌++◌, length, length-append, get_or, take, ◌-◌, Result, Err, Ok, Bool, true, false, not, cond, None, Some, refl, ap, sym, subst, ◌∙◌, arith, append_assoc}
 use Rattle.std.specs.Prelude.{is_some}
 use Rattle.std.specs.List.{find, prefix_len}
 use Rattle.std.specs.Option.{option_or}
@@ -8,14 +8,20 @@ use Rattle.std.proofs.lemmas.List.{map-append, take_all, length-take-le}
 use Rattle.std.proofs.lemmas.List.Folds.{find-append}
 use Rattle.jb_job.specs.declared.artifact_error.ArtifactError.{ArtifactError}
 use Rattle.jb_job.specs.declared.artifact_error.ArtifactError.TheVariants.{Fault, Memory}
-use Rattle.jb_artifacts.specs.Answers.{Answers}
+use Rattle.jb_artifacts.specs.Answers.{IfFault, IfNoMemory}
 use Rattle.jb_artifacts.specs.Faults.{live, is_live, used_at}
-use Rattle.jb_artifacts.specs.Writer.{Numbered, Writer, texts_of, failing, write_fault, after_write, fault_of, used_for, torn, Appends}
+use Rattle.jb_artifacts.specs.Writer.{Numbered, Writer, texts_of, failing, write_fault, after_write, fault_of, used_for, torn_write, Appends}
 
 -- the first `count` results are appended, none of their records has a live fault, and the plans are unchanged
 pub record IsWrittenTo (old : Writer) (results : Numbered) (count : ℕ) (now : Writer) : Type 0 where
   pub sound : failing old.faults (take count results) ≡ None
   pub is : now ≡ record old { written = old.written ++ texts_of (take count results) }
+
+-- the write ended by a fault, or for want of memory
+abbrev pub IsStopped : Result (Unit {0}) ArtifactError → Writer → Numbered → Writer → Type 0
+IsStopped result old results new =
+    IfFault result (λ class. (write_fault old results ≡ Some class) × (new ≡ after_write old results))
+    × IfNoMemory result (new ≡ torn_write old results (length new.written))
 
 module _ {X : Type 0} (p : X → Bool) where
   past : (y : X) (ys : List X) (n : ℕ) (x : X) (b : Bool) → p y ≡ b → cond b (Some y) (find p (take n ys)) ≡ None
@@ -62,22 +68,31 @@ length-texts (x ∷ xs) = let more = length-texts xs in omega (arith, more)
 
 module _ (old : Writer) (results : Numbered) (n : ℕ) (now : Writer) (h : IsWrittenTo old results n now) where
   -- the next result is not appended
-  pub stopped : (r : ℕ × List ℕ) (error : ArtifactError) (new : Writer) → n < length results → r ≡ get_or results n r → Appends (Err error) r.0 r.1 now new
-      → Answers (Err error) (write_fault old results) (tt {0}) (torn old results (length new.written)) (after_write old results) new
-  stopped r Memory new below is left =
+  stopped-by : (r : ℕ × List ℕ) (error : ArtifactError) (new : Writer) → n < length results → r ≡ get_or results n r → Appends (Err error) r.0 r.1 now new
+      → IsStopped (Err error) old results new
+  stopped-by r Memory new below is left =
       let count : length new.written ≡ length old.written + length (take n results) =
       ap (λ (w : Writer). length w.written) (left ∙ h.is) ∙ length-append old.written (texts_of (take n results))
       ∙ ap (λ k. length old.written + k) (length-texts (take n results)) in
       let taken : length (take n results) ≡ n = length-take-le n results (omega (arith, below)) in
       let grown : length new.written - length old.written ≡ n = omega (arith, count, taken) in
-      left ∙ h.is ∙ (λ i. record old { written = old.written ++ texts_of (take (sym grown i) results) })
-  stopped r (Fault class) new below is left =
+      (tt, left ∙ h.is ∙ (λ i. record old { written = old.written ++ texts_of (take (sym grown i) results) }))
+  stopped-by r (Fault class) new below is left =
       let here : live (old.faults r.0) ≡ Some class = ap (λ (w : Writer). live (w.faults r.0)) (sym h.is) ∙ left.0 in
       let found = stops (λ r. is_live old.faults r.0) results n r below is h.sound (ap is_some here) in (
-        ap (fault_of old.faults) found.0 ∙ here,
-        left.1 ∙ ap (λ (w : Writer). record w { faults = used_at w.faults r.0 }) h.is
-            ∙ (λ i. record { written = old.written ++ texts_of (take (sym found.1 i) results); faults = used_for old.faults (sym found.0 i) }),
+        (
+          ap (fault_of old.faults) found.0 ∙ here,
+          left.1 ∙ ap (λ (w : Writer). record w { faults = used_at w.faults r.0 }) h.is
+              ∙ (λ i. record { written = old.written ++ texts_of (take (sym found.1 i) results); faults = used_for old.faults (sym found.0 i) }),
+        ),
+        tt,
       )
+
+  pub stopped : (r : ℕ × List ℕ) (error : ArtifactError) (result : Result (Unit {0}) ArtifactError) (new : Writer) → result ≡ Err error
+      → n < length results → r ≡ get_or results n r → Appends (Err error) r.0 r.1 now new → IsStopped result old results new
+  stopped r error result new told below is left =
+      let Left : Result (Unit {0}) ArtifactError → Type 0 = λ x. IsStopped x old results new in
+      subst Left (sym told) (stopped-by r error new below is left)
 
   -- the next result is appended
   pub written-more : (r : ℕ × List ℕ) (done : Unit {0}) (new : Writer) → n < length results → r ≡ get_or results n r → Appends (Ok done) r.0 r.1 now new

@@ -1,12 +1,17 @@
--- What a call of an artifact answers and leaves.
-use Rattle.std.specs.Prelude.{◌≡◌, Option, Some, None, Result, Ok, Err}
+-- Words for what a call of an artifact answers. For a value that it answers std has `IfOk`.
+use Rattle.std.specs.Prelude.{Result, Ok, Err, ⊤}
 use Rattle.jb_job.specs.declared.class.ClassId.{ClassId}
 use Rattle.jb_job.specs.declared.artifact_error.ArtifactError.{ArtifactError}
 use Rattle.jb_job.specs.declared.artifact_error.ArtifactError.TheVariants.{Fault, Memory}
 
--- the call answered this fault, or where there is none this value, and left the state `after`;
--- or there was no memory, and it left the state `on_memory`
-abbrev pub Answers : {A S : Type 0} → Result A ArtifactError → (fault : Option ClassId) → (value : A) → (on_memory after now : S) → Type 0
-Answers (Err Memory) fault value on_memory after now = now ≡ on_memory
-Answers (Err (Fault class)) fault value on_memory after now = (fault ≡ Some class) × (now ≡ after)
-Answers (Ok x) fault value on_memory after now = (fault ≡ None) × (x ≡ value) × (now ≡ after)
+-- if the call answered a fault, this holds of its class
+abbrev pub IfFault : {A : Type 0} → Result A ArtifactError → (ClassId → Type 0) → Type 0
+IfFault (Ok x) P = ⊤
+IfFault (Err (Fault class)) P = P class
+IfFault (Err Memory) P = ⊤
+
+-- if the call found no memory, this holds
+abbrev pub IfNoMemory : {A : Type 0} → Result A ArtifactError → Type 0 → Type 0
+IfNoMemory (Ok x) P = ⊤
+IfNoMemory (Err (Fault class)) P = ⊤
+IfNoMemory (Err Memory) P = P

@@ -52,8 +52,8 @@ after_write w results = record {
 }
 
 -- a write without memory: as many of the first results are appended as the list has grown, and no fault is used
-abbrev pub torn : Writer → Numbered → (count : ℕ) → Writer
-torn w results count = record w { written = w.written ++ texts_of (take (count - length w.written) results) }
+abbrev pub torn_write : Writer → Numbered → (count : ℕ) → Writer
+torn_write w results count = record w { written = w.written ++ texts_of (take (count - length w.written) results) }
 
 -- one result is appended, or its record's plan has a fault, or there was no memory and nothing changed
 abbrev pub Appends : Result (Unit {0}) ArtifactError → (number : ℕ) → (text : List ℕ) → (old new : Writer) → Type 0

@@ -5,12 +5,12 @@
 //! No function takes an allocator: an artifact keeps its own. That checkpoints are a record's number and a count of
 //! results, and that faults are planned for each record, is this project's choice.
 
-ghost use Rattle.std.specs.Prelude.{◌≡◌, ◌≤◌, ◌<◌, ℕ, List, length, take, slice_get, option_copied, IfOk};
+ghost use Rattle.std.specs.Prelude.{◌≡◌, ◌≤◌, ◌<◌, ℕ, List, length, Some, None, slice_get, option_copied, IfOk, OnOk};
 ghost use Rattle.jb_artifacts.specs.declared.view.RowView.{RowView};
-ghost use Rattle.jb_artifacts.specs.Answers.{Answers};
+ghost use Rattle.jb_artifacts.specs.Answers.{IfFault, IfNoMemory};
 ghost use Rattle.jb_artifacts.specs.Reader.{Reader, reader_end, opened, record_at, read_fault, after_read};
 ghost use Rattle.jb_artifacts.specs.Processor.{Processor, process_fault, after_process};
-ghost use Rattle.jb_artifacts.specs.Writer.{Writer, cut, write_fault, after_write, torn};
+ghost use Rattle.jb_artifacts.specs.Writer.{Writer, cut, write_fault, after_write, torn_write};
 
 use crate::item::Item;
 use crate::view::RowView;
@@ -43,8 +43,11 @@ pub trait ItemReader: Send {
     /// nothing changes. Nor does it where there is no memory.
     fn read_item(&mut self) -> Result<Option<Item>, ArtifactError>
         ensures ended { (reader self.old).place ≡ reader_end (reader self.old) → (result ≡ Ok None) × (reader self.new ≡ reader self.old) }
-        ensures read { let r = reader self.old in
-            r.place < reader_end r → Answers result (read_fault r) (Some (record_at r r.place)) r (after_read r) (reader self.new) };
+        ensures answered { let r = reader self.old in
+            r.place < reader_end r → IfOk result (λ item. (read_fault r ≡ None) × (item ≡ Some (record_at r r.place)) × (reader self.new ≡ after_read r)) }
+        ensures faulted { let r = reader self.old in
+            r.place < reader_end r → IfFault result (λ class. (read_fault r ≡ Some class) × (reader self.new ≡ after_read r)) }
+        ensures no_memory { IfNoMemory result (reader self.new ≡ reader self.old) };
 }
 
 /// A processor: for each record's number and item it has one answer, the result, or none, which filters the item.
@@ -54,8 +57,11 @@ pub trait ItemProcessor: Send {
     /// The answer for this item of this record, or the fault of the record's plan. Where there is no memory, nothing
     /// changes.
     fn process_item(&mut self, number: u64, item: &[u8]) -> Result<Option<Item>, ArtifactError>
-        ensures { let p = processor self.old in
-            Answers result (process_fault p number) (p.answer number item.now) p (after_process p number) (processor self.new) };
+        ensures answered { let p = processor self.old in
+            IfOk result (λ answer. (process_fault p number ≡ None) × (answer ≡ p.answer number item.now) × (processor self.new ≡ after_process p number)) }
+        ensures faulted { let p = processor self.old in
+            IfFault result (λ class. (process_fault p number ≡ Some class) × (processor self.new ≡ after_process p number)) }
+        ensures no_memory { IfNoMemory result (processor self.new ≡ processor self.old) };
 }
 
 /// A writer of results. It keeps the list of those that were written.
@@ -75,9 +81,12 @@ pub trait ItemWriter: Send {
     /// results before the first such record are appended, and that fault is answered. Where there is no memory, some of
     /// the first results are appended, and no plan changes.
     fn write_items(&mut self, results: &[(u64, Item)]) -> Result<(), ArtifactError>
-        ensures { let w = writer self.old in
-            let count = length (writer self.new).written in
-            Answers result (write_fault w results.now) tt (torn w results.now count) (after_write w results.now) (writer self.new) };
+        ensures written { let w = writer self.old in
+            OnOk result ((write_fault w results.now ≡ None) × (writer self.new ≡ after_write w results.now)) }
+        ensures faulted { let w = writer self.old in
+            IfFault result (λ class. (write_fault w results.now ≡ Some class) × (writer self.new ≡ after_write w results.now)) }
+        ensures no_memory { let w = writer self.old in
+            IfNoMemory result (writer self.new ≡ torn_write w results.now (length (writer self.new).written)) };
 
     /// The result at this place of the list, the first being 0, or none past its end.
     fn item_at(&self, i: u64) -> Option<&[u8]>

@@ -1,13 +1,14 @@
 //! The artifacts of a chunk step: what reads, processes, writes and reports on the records of a partition.
 //!
 //! - `interfaces`: what an item reader, an item processor, an item writer and a collector answer.
-//! - `artifacts`: the four of a partition, together.
+//! - `artifacts`, `artifacts_of`: the four of a partition together, in boxes and without.
 //! - `item`, `view`: what is read and written, and what a collector sees.
 //! - `faults`, `fault_plans`: when the calls for a record fail.
 //! - `table_reader`, `prefix_processor`, `list_writer`, `count_collector`: ready artifacts.
 #![tactic(auto)]
 
 mod artifacts;
+mod artifacts_of;
 mod count_collector;
 mod fault_plans;
 mod faults;
@@ -19,6 +20,7 @@ mod table_reader;
 mod view;
 
 pub use artifacts::{Artifacts, Meaning};
+pub use artifacts_of::ArtifactsOf;
 pub use count_collector::CountCollector;
 pub use fault_plans::FaultPlans;
 pub use faults::{FaultList, FaultPlan};
@@ -28,6 +30,3 @@ pub use list_writer::ListWriter;
 pub use prefix_processor::PrefixProcessor;
 pub use table_reader::TableReader;
 pub use view::RowView;
-
-#[cfg(test)]
-mod tests;

@@ -69,7 +69,8 @@ fn is_dropped(dropped: &Option<Item>, item: &[u8]) -> bool
 fn joined(alloc: Global, prefix: &[u8], text: &[u8]) -> Result<Item, AllocError>
     ensures { IfOk result (λ item. item ≡ prefix.now ++ text.now) }
 {
-    let mut bytes = Vec::from_slice(alloc, prefix)?;
+    let mut bytes = Vec::with_capacity(alloc, prefix.len() + text.len())?;
+    bytes.extend_from_slice(prefix)?;
     bytes.extend_from_slice(text)?;
     Ok(Item::from_vec(bytes))
 }

@@ -1,5 +1,5 @@
 -- A plan is faultless exactly where it stands for a lawful one.
-use Rattle.std.proofs.Common.{◌≡◌, ◌≢◌, ◌⊎◌, ℕ, zero, suc, ◌+◌, ◌<◌, ◌≤◌, Bool, cond, eqb, ltb, List, [], ◌∷◌, length, get_or, take, map, slice_index, count_by, sum_by, All, AllPairs, Contains, sym, ◌∙◌, refl, ap, subst, inl, inr, arith, add-one, length-take-le, take-take, le_refl, le_antisymm, add-zero, None, ◌-◌}
+use Rattle.std.proofs.Common.{◌≡◌, ◌≢◌, ◌⊎◌, ℕ, zero, suc, ◌+◌, ◌<◌, ◌≤◌, eqb, ltb, List, [], ◌∷◌, length, get_or, take, map, slice_index, count_by, sum_by, All, AllPairs, Contains, sym, ◌∙◌, refl, ap, subst, inl, inr, arith, add-one, length-take-le, take-take, le_refl, le_antisymm, add-zero, None, ◌-◌}
 use Rattle.std.proofs.lemmas.Bool.{cases_lt, cases_eq}
 use Rattle.std.proofs.lemmas.Bool.Decides.{nat_tests}
 use Rattle.std.proofs.lemmas.List.{get_or-map, length-map, take_all, get_or-take, get_or_default}
@@ -7,16 +7,14 @@ use Rattle.std.proofs.lemmas.List.Sums.{sum_by-cons, sum_by-take-le}
 use Rattle.std.proofs.lemmas.List.Elements.{All-from_get_or}
 use Rattle.jb_cert.specs.declared.plans.Slot.{Slot}
 use Rattle.jb_cert.specs.Lawful.{Pair, StandsIn, HasOnePerPartition, IsLawful}
-use Rattle.jb_cert.specs.Plans.{pair_of, sets_of, StandsForLawful}
-use Rattle.jb_cert.specs.Faults.{slots_of, slots_in_all, no_slot}
-use Rattle.jb_cert.specs.Walk.{found_fault}
-use Rattle.jb_cert.proofs.Judged.{slots_in_all-more}
+use Rattle.jb_cert.specs.Plans.{slot_pair, sets_of, StandsForLawful}
+use Rattle.jb_cert.specs.Faults.{slots_of, slots_in_all}
+use Rattle.jb_cert.specs.inside.Walk.{found_fault}
+use Rattle.jb_cert.proofs.Numbers.{one_if}
+use Rattle.jb_cert.proofs.Judged.{no_slot, slots_in_all-more}
 use Rattle.jb_cert.proofs.NoFault.{IsGood, IsFaultless, faultless_from_none, none_from_faultless}
 
 -- ---- counts of slots with one number, as a lane or a partition
-
-abbrev one_if : Bool → ℕ
-one_if b = cond b 1 0
 
 abbrev count_at : (Slot → ℕ) → ℕ → List Slot → ℕ
 count_at f n slots = count_by (λ slot. eqb (f slot) n) slots
@@ -120,26 +118,26 @@ pub record HasSlot (rounds : List (List Slot)) (r p j : ℕ) : Type 0 where
   pub partition_is : (slot_at rounds r place).partition ≡ p
   pub chunk_is : (slot_at rounds r place).chunk ≡ j
 
-set_at : (rounds : List (List Slot)) (r : ℕ) (d : List Pair) → r < length rounds → get_or (sets_of rounds) r d ≡ map pair_of (get_or rounds r [])
-set_at rounds r d within = get_or-map (map pair_of) rounds r [] d within
+set_at : (rounds : List (List Slot)) (r : ℕ) (d : List Pair) → r < length rounds → get_or (sets_of rounds) r d ≡ map slot_pair (get_or rounds r [])
+set_at rounds r d within = get_or-map (map slot_pair) rounds r [] d within
 
 slot_from_stands : (rounds : List (List Slot)) (r p j : ℕ) → StandsIn (sets_of rounds) r (p, j) → HasSlot rounds r p j
 slot_from_stands rounds r p j stands =
-    let round : r < length rounds = omega (arith, stands.0, length-map rounds (map pair_of)) in
-    let contains : Contains (map pair_of (get_or rounds r [])) (p, j) = subst (λ (pairs : List Pair). Contains pairs (p, j)) (set_at rounds r [] round) stands.1 in
-    let within : contains.0 < length (get_or rounds r []) = omega (arith, contains.1, length-map (get_or rounds r []) pair_of) in
-    let is : pair_of (slot_at rounds r contains.0) ≡ (p, j) = sym (get_or-map pair_of (get_or rounds r []) contains.0 no_slot (p, j) within) ∙ contains.2 in
+    let round : r < length rounds = omega (arith, stands.0, length-map rounds (map slot_pair)) in
+    let contains : Contains (map slot_pair (get_or rounds r [])) (p, j) = subst (λ (pairs : List Pair). Contains pairs (p, j)) (set_at rounds r [] round) stands.1 in
+    let within : contains.0 < length (get_or rounds r []) = omega (arith, contains.1, length-map (get_or rounds r []) slot_pair) in
+    let is : slot_pair (slot_at rounds r contains.0) ≡ (p, j) = sym (get_or-map slot_pair (get_or rounds r []) contains.0 no_slot (p, j) within) ∙ contains.2 in
     record { place = contains.0; round = round; within = within; partition_is = ap (λ (u : Pair). u.0) is; chunk_is = ap (λ (u : Pair). u.1) is }
 
-same_pair : (s : Slot) (p j : ℕ) → s.partition ≡ p → s.chunk ≡ j → pair_of s ≡ (p, j)
+same_pair : (s : Slot) (p j : ℕ) → s.partition ≡ p → s.chunk ≡ j → slot_pair s ≡ (p, j)
 same_pair s p j a b = cc
 
 stands_from_slot : (rounds : List (List Slot)) (r i : ℕ) → r < length rounds → i < length (get_or rounds r []) → StandsIn (sets_of rounds) r ((slot_at rounds r i).partition, (slot_at rounds r i).chunk)
 stands_from_slot rounds r i round within =
-    let u : Pair = pair_of (slot_at rounds r i) in
-    let contains : Contains (map pair_of (get_or rounds r [])) u =
-    (i, omega (arith, within, length-map (get_or rounds r []) pair_of), get_or-map pair_of (get_or rounds r []) i no_slot u within) in
-    (omega (arith, round, length-map rounds (map pair_of)), subst (λ (pairs : List Pair). Contains pairs u) (sym (set_at rounds r [] round)) contains)
+    let u : Pair = slot_pair (slot_at rounds r i) in
+    let contains : Contains (map slot_pair (get_or rounds r [])) u =
+    (i, omega (arith, within, length-map (get_or rounds r []) slot_pair), get_or-map slot_pair (get_or rounds r []) i no_slot u within) in
+    (omega (arith, round, length-map rounds (map slot_pair)), subst (λ (pairs : List Pair). Contains pairs u) (sym (set_at rounds r [] round)) contains)
 
 stands_as : (rounds : List (List Slot)) (r i p j : ℕ) → r < length rounds → i < length (get_or rounds r []) → (slot_at rounds r i).partition ≡ p → (slot_at rounds r i).chunk ≡ j → StandsIn (sets_of rounds) r (p, j)
 stands_as rounds r i p j round within a b =
@@ -204,15 +202,15 @@ module _ (counts : List ℕ) (threads : ℕ) (rounds : List (List Slot)) (faultl
         let counted : slice_index counts (slot_at rounds r has.place).partition ≡ slice_index counts p = ap (slice_index counts) has.partition_is in
         (omega (arith, good.partition, has.partition_is), omega (arith, good.chunk, has.chunk_is, counted));
     small = λ r d within.
-        let round : r < length rounds = omega (arith, within, length-map rounds (map pair_of)) in
+        let round : r < length rounds = omega (arith, within, length-map rounds (map slot_pair)) in
         let long = ap length (set_at rounds r d round) in
-        omega (arith, long, length-map (get_or rounds r []) pair_of, few_slots (λ s. s.lane) threads (get_or rounds r []) (lanes_apart_in r round) (λ k e here. (faultless.good r k e round here).lane));
+        omega (arith, long, length-map (get_or rounds r []) slot_pair, few_slots (λ s. s.lane) threads (get_or rounds r []) (lanes_apart_in r round) (λ k e here. (faultless.good r k e round here).lane));
     apart = λ r d within.
-        let round : r < length rounds = omega (arith, within, length-map rounds (map pair_of)) in
+        let round : r < length rounds = omega (arith, within, length-map rounds (map slot_pair)) in
         subst HasOnePerPartition (sym (set_at rounds r d round)) (λ i j e before inside same.
-        let long = length-map (get_or rounds r []) pair_of in
-        let first = get_or-map pair_of (get_or rounds r []) i no_slot e (omega (arith, long)) in
-        let second = get_or-map pair_of (get_or rounds r []) j no_slot e (omega (arith, long)) in
+        let long = length-map (get_or rounds r []) slot_pair in
+        let first = get_or-map slot_pair (get_or rounds r []) i no_slot e (omega (arith, long)) in
+        let second = get_or-map slot_pair (get_or rounds r []) j no_slot e (omega (arith, long)) in
         partitions_apart_in r round i j no_slot before (omega (arith, long))
         (sym (ap (λ (u : Pair). u.0) first) ∙ same ∙ ap (λ (u : Pair). u.0) second));
     somewhere = somewhere;
@@ -272,12 +270,12 @@ chunk_order counts threads sets lawful p c j r t first second before = elim (cas
 module _ (counts : List ℕ) (threads : ℕ) (rounds : List (List Slot)) (plan : StandsForLawful counts threads rounds) where
   apart_by_partition : (r : ℕ) → r < length rounds → AllPairs (λ a b. a.partition ≢ b.partition) (get_or rounds r [])
   apart_by_partition r round i j d before within same =
-      let long = length-map (get_or rounds r []) pair_of in
-      let sets_long = length-map rounds (map pair_of) in
-      let one : HasOnePerPartition (map pair_of (get_or rounds r [])) =
+      let long = length-map (get_or rounds r []) slot_pair in
+      let sets_long = length-map rounds (map slot_pair) in
+      let one : HasOnePerPartition (map slot_pair (get_or rounds r [])) =
       subst HasOnePerPartition (set_at rounds r [] round) (plan.lawful.apart r [] (omega (arith, round, sets_long))) in
-      let first = get_or-map pair_of (get_or rounds r []) i d (0, 0) (omega arith) in
-      let second = get_or-map pair_of (get_or rounds r []) j d (0, 0) within in
+      let first = get_or-map slot_pair (get_or rounds r []) i d (0, 0) (omega arith) in
+      let second = get_or-map slot_pair (get_or rounds r []) j d (0, 0) within in
       one i j (0, 0) before (omega (arith, long)) (ap (λ (u : Pair). u.0) first ∙ same ∙ sym (ap (λ (u : Pair). u.0) second))
 
   few_of_partition : (p r : ℕ) → r < length rounds → slots_of p (get_or rounds r []) ≤ 1

@@ -9,26 +9,29 @@ use Rattle.std.proofs.lemmas.List.FromFn.{length-range_with_len}
 use Rattle.jb_cert.specs.declared.plans.Slot.{Slot}
 use Rattle.jb_cert.specs.declared.plans.PlanFault.{PlanFault}
 use Rattle.jb_cert.specs.declared.plans.PlanFault.TheVariants.{LaneRange, TwiceInRound, OutOfOrder, Missing, Stranger}
-use Rattle.jb_cert.specs.Faults.{slots_of, slots_in_all, has_lane, is_known, collides, fault_of, missing_fault}
-use Rattle.jb_cert.specs.Walk.{or_else, fault_in_round, fault_after, found_fault}
+use Rattle.jb_cert.specs.Faults.{slots_of, slots_in_all, has_lane, is_known, collides, missing_fault}
+use Rattle.jb_cert.specs.inside.Walk.{fault_here, first_of_two, fault_in_round, fault_after, found_fault}
+use Rattle.jb_cert.proofs.Numbers.{one_if}
 use Rattle.jb_cert.proofs.Sets.{get_or-range}
+
+-- what stands past the end of a round
+abbrev pub no_slot : Slot
+no_slot = record { lane = 0; partition = 0; chunk = 0 }
 
 -- ---- only the count of the slot's own partition matters
 
-by_tests : Bool → Bool → Bool → Bool → Option PlanFault
+abbrev pub by_tests : Bool → Bool → Bool → Bool → Option PlanFault
 by_tests lane known twice next =
     cond (not lane) (Some LaneRange) (cond (not known) (Some Stranger) (cond twice (Some TwiceInRound) (cond next None (Some OutOfOrder))))
 
 by_tests-same : (lane known twice : Bool) (chunk f g : ℕ) → (known ≡ true → twice ≡ false → f ≡ g) → by_tests lane known twice (eqb chunk f) ≡ by_tests lane known twice (eqb chunk g)
-unfolding by_tests
 by_tests-same false known twice chunk f g same = refl
 by_tests-same true false twice chunk f g same = refl
 by_tests-same true true true chunk f g same = refl
 by_tests-same true true false chunk f g same = ap (λ n. by_tests true true false (eqb chunk n)) (same refl refl)
 
-pub fault_of-same : (counts : List ℕ) (threads : ℕ) (f g : ℕ → ℕ) (here : List Slot) (slot : Slot) → (is_known counts slot ≡ true → list_any (collides slot) here ≡ false → f slot.partition ≡ g slot.partition) → fault_of counts threads f here slot ≡ fault_of counts threads g here slot
-unfolding by_tests
-fault_of-same counts threads f g here slot same =
+pub fault_here-same : (counts : List ℕ) (threads : ℕ) (f g : ℕ → ℕ) (here : List Slot) (slot : Slot) → (is_known counts slot ≡ true → list_any (collides slot) here ≡ false → f slot.partition ≡ g slot.partition) → fault_here counts threads f here slot ≡ fault_here counts threads g here slot
+fault_here-same counts threads f g here slot same =
     by_tests-same (has_lane threads slot) (is_known counts slot) (list_any (collides slot) here) slot.chunk (f slot.partition) (g slot.partition) same
 
 known_partition : (a n c k : ℕ) → (ltb a n && ltb c k) ≡ true → (a < n) × (c < k)
@@ -40,8 +43,8 @@ known_parts counts slot is = known_partition slot.partition (length counts) slot
 pub fault_in_round-same : (counts : List ℕ) (threads : ℕ) (f g : ℕ → ℕ) → ((p : ℕ) → p < length counts → f p ≡ g p) → (here rest : List Slot) → fault_in_round counts threads f here rest ≡ fault_in_round counts threads g here rest
 fault_in_round-same counts threads f g same here [] = refl
 fault_in_round-same counts threads f g same here (slot ∷ rest) =
-    ap₂ or_else
-    (fault_of-same counts threads f g here slot (λ known apart. same slot.partition (known_parts counts slot known).0))
+    ap₂ first_of_two
+    (fault_here-same counts threads f g here slot (λ known apart. same slot.partition (known_parts counts slot known).0))
     (fault_in_round-same counts threads f g same (here ++ slot ∷ []) rest)
 
 -- ---- the end
@@ -88,16 +91,13 @@ missing_fault-same counts f g same =
 
 -- ---- one slot more of a round
 
-pub round_step : (counts : List ℕ) (threads : ℕ) (ran : ℕ → ℕ) (round : List Slot) (i : ℕ) (d : Slot) → i < length round → fault_in_round counts threads ran (take i round) (drop i round) ≡ or_else (fault_of counts threads ran (take i round) (get_or round i d)) (fault_in_round counts threads ran (take (i + 1) round) (drop (i + 1) round))
+pub round_step : (counts : List ℕ) (threads : ℕ) (ran : ℕ → ℕ) (round : List Slot) (i : ℕ) (d : Slot) → i < length round → fault_in_round counts threads ran (take i round) (drop i round) ≡ first_of_two (fault_here counts threads ran (take i round) (get_or round i d)) (fault_in_round counts threads ran (take (i + 1) round) (drop (i + 1) round))
 round_step counts threads ran round i d within =
     at_drop_more (fault_in_round counts threads ran (take i round)) round i d within
-    ∙ ap (λ (here : List Slot). or_else (fault_of counts threads ran (take i round) (get_or round i d)) (fault_in_round counts threads ran here (drop (i + 1) round))) (sym (take_more round i d within))
+    ∙ ap (λ (here : List Slot). first_of_two (fault_here counts threads ran (take i round) (get_or round i d)) (fault_in_round counts threads ran here (drop (i + 1) round))) (sym (take_more round i d within))
 
 pub round_end : (counts : List ℕ) (threads : ℕ) (ran : ℕ → ℕ) (round : List Slot) (i : ℕ) → length round ≤ i → fault_in_round counts threads ran (take i round) (drop i round) ≡ None
 round_end counts threads ran round i past = at_drop_all (fault_in_round counts threads ran (take i round)) round i past
-
-abbrev one_if : Bool → ℕ
-one_if b = cond b 1 0
 
 -- where no slot of the round collides, none is of the slot's partition
 none_of_partition : (slot : Slot) (here : List Slot) → list_any (collides slot) here ≡ false → slots_of slot.partition here ≡ 0
@@ -108,9 +108,9 @@ none_of_partition slot (other ∷ rest) none =
     let none_here : one_if (eqb other.partition slot.partition) ≡ 0 = ap one_if apart in
     omega (arith, sum_by-cons (λ (s : Slot). cond (eqb s.partition slot.partition) 1 0) other rest, none_here, none_of_partition slot rest parts.1)
 
-pub fault_of-so_far : (counts : List ℕ) (threads : ℕ) (ran now : ℕ → ℕ) (here : List Slot) (slot : Slot) → ((p : ℕ) → p < length counts → now p ≡ ran p + slots_of p here) → fault_of counts threads now here slot ≡ fault_of counts threads ran here slot
-fault_of-so_far counts threads ran now here slot so_far =
-    fault_of-same counts threads now ran here slot (λ known apart.
+pub fault_here-so_far : (counts : List ℕ) (threads : ℕ) (ran now : ℕ → ℕ) (here : List Slot) (slot : Slot) → ((p : ℕ) → p < length counts → now p ≡ ran p + slots_of p here) → fault_here counts threads now here slot ≡ fault_here counts threads ran here slot
+fault_here-so_far counts threads ran now here slot so_far =
+    fault_here-same counts threads now ran here slot (λ known apart.
     omega (arith, so_far slot.partition (known_parts counts slot known).0, none_of_partition slot here apart))
 
 pub slots_of-more : (p : ℕ) (round : List Slot) (i : ℕ) (d : Slot) → i < length round → slots_of p (take (i + 1) round) ≡ slots_of p (take i round) + cond (eqb (get_or round i d).partition p) 1 0
@@ -137,27 +137,27 @@ ran_more ran xs round i d within known p so_far =
 
 module _ (counts : List ℕ) (threads : ℕ) (ran now : ℕ → ℕ) (round : List Slot) (i : ℕ) (d : Slot) (within : i < length round) (so_far : (p : ℕ) → p < length counts → now p ≡ ran p + slots_of p (take i round)) where
   -- a slot at fault is the round's first fault
-  pub round_fault : (f : PlanFault) → Some f ≡ fault_of counts threads now (take i round) (get_or round i d) → fault_in_round counts threads ran (take i round) (drop i round) ≡ fault_in_round counts threads ran [] round → fault_in_round counts threads ran [] round ≡ Some f
+  pub round_fault : (f : PlanFault) → Some f ≡ fault_here counts threads now (take i round) (get_or round i d) → fault_in_round counts threads ran (take i round) (drop i round) ≡ fault_in_round counts threads ran [] round → fault_in_round counts threads ran [] round ≡ Some f
   round_fault f judged all =
-      let here : fault_of counts threads ran (take i round) (get_or round i d) ≡ Some f =
-      sym (fault_of-so_far counts threads ran now (take i round) (get_or round i d) so_far) ∙ sym judged in
+      let here : fault_here counts threads ran (take i round) (get_or round i d) ≡ Some f =
+      sym (fault_here-so_far counts threads ran now (take i round) (get_or round i d) so_far) ∙ sym judged in
       sym all ∙ round_step counts threads ran round i d within
-      ∙ ap (λ (o : Option PlanFault). or_else o (fault_in_round counts threads ran (take (i + 1) round) (drop (i + 1) round))) here
+      ∙ ap (λ (o : Option PlanFault). first_of_two o (fault_in_round counts threads ran (take (i + 1) round) (drop (i + 1) round))) here
 
   -- a slot that is not leaves the rest to be judged
-  pub round_more : None ≡ fault_of counts threads now (take i round) (get_or round i d) → fault_in_round counts threads ran (take i round) (drop i round) ≡ fault_in_round counts threads ran [] round → fault_in_round counts threads ran (take (i + 1) round) (drop (i + 1) round) ≡ fault_in_round counts threads ran [] round
+  pub round_more : None ≡ fault_here counts threads now (take i round) (get_or round i d) → fault_in_round counts threads ran (take i round) (drop i round) ≡ fault_in_round counts threads ran [] round → fault_in_round counts threads ran (take (i + 1) round) (drop (i + 1) round) ≡ fault_in_round counts threads ran [] round
   round_more judged all =
-      let here : fault_of counts threads ran (take i round) (get_or round i d) ≡ None =
-      sym (fault_of-so_far counts threads ran now (take i round) (get_or round i d) so_far) ∙ sym judged in
-      sym (ap (λ (o : Option PlanFault). or_else o (fault_in_round counts threads ran (take (i + 1) round) (drop (i + 1) round))) here)
+      let here : fault_here counts threads ran (take i round) (get_or round i d) ≡ None =
+      sym (fault_here-so_far counts threads ran now (take i round) (get_or round i d) so_far) ∙ sym judged in
+      sym (ap (λ (o : Option PlanFault). first_of_two o (fault_in_round counts threads ran (take (i + 1) round) (drop (i + 1) round))) here)
       ∙ sym (round_step counts threads ran round i d within) ∙ all
 
 -- ---- the loop over the rounds
 
-pub rounds_step : (counts : List ℕ) (threads : ℕ) (rounds : List (List Slot)) (i : ℕ) → i < length rounds → fault_after counts threads (take i rounds) (drop i rounds) ≡ or_else (fault_in_round counts threads (λ p. slots_in_all p (take i rounds)) [] (get_or rounds i [])) (fault_after counts threads (take (i + 1) rounds) (drop (i + 1) rounds))
+pub rounds_step : (counts : List ℕ) (threads : ℕ) (rounds : List (List Slot)) (i : ℕ) → i < length rounds → fault_after counts threads (take i rounds) (drop i rounds) ≡ first_of_two (fault_in_round counts threads (λ p. slots_in_all p (take i rounds)) [] (get_or rounds i [])) (fault_after counts threads (take (i + 1) rounds) (drop (i + 1) rounds))
 rounds_step counts threads rounds i within =
     at_drop_more (fault_after counts threads (take i rounds)) rounds i [] within
-    ∙ ap (λ (before : List (List Slot)). or_else (fault_in_round counts threads (λ p. slots_in_all p (take i rounds)) [] (get_or rounds i [])) (fault_after counts threads before (drop (i + 1) rounds))) (sym (take_more rounds i [] within))
+    ∙ ap (λ (before : List (List Slot)). first_of_two (fault_in_round counts threads (λ p. slots_in_all p (take i rounds)) [] (get_or rounds i [])) (fault_after counts threads before (drop (i + 1) rounds))) (sym (take_more rounds i [] within))
 
 module _ (counts : List ℕ) (threads : ℕ) (now : ℕ → ℕ) (rounds : List (List Slot)) (i : ℕ) (so_far : (p : ℕ) → p < length counts → now p ≡ slots_in_all p (take i rounds)) where
   judged_now : (round : List Slot) → fault_in_round counts threads now [] round ≡ fault_in_round counts threads (λ p. slots_in_all p (take i rounds)) [] round
@@ -166,12 +166,12 @@ module _ (counts : List ℕ) (threads : ℕ) (now : ℕ → ℕ) (rounds : List 
   pub plan_fault : (f : PlanFault) → i < length rounds → Some f ≡ fault_in_round counts threads now [] (get_or rounds i []) → fault_after counts threads (take i rounds) (drop i rounds) ≡ found_fault counts threads rounds → found_fault counts threads rounds ≡ Some f
   plan_fault f within judged all =
       let here : fault_in_round counts threads (λ p. slots_in_all p (take i rounds)) [] (get_or rounds i []) ≡ Some f = sym (judged_now (get_or rounds i [])) ∙ sym judged in
-      sym all ∙ rounds_step counts threads rounds i within ∙ ap (λ (o : Option PlanFault). or_else o (fault_after counts threads (take (i + 1) rounds) (drop (i + 1) rounds))) here
+      sym all ∙ rounds_step counts threads rounds i within ∙ ap (λ (o : Option PlanFault). first_of_two o (fault_after counts threads (take (i + 1) rounds) (drop (i + 1) rounds))) here
 
   pub plan_more : i < length rounds → None ≡ fault_in_round counts threads now [] (get_or rounds i []) → fault_after counts threads (take i rounds) (drop i rounds) ≡ found_fault counts threads rounds → fault_after counts threads (take (i + 1) rounds) (drop (i + 1) rounds) ≡ found_fault counts threads rounds
   plan_more within judged all =
       let here : fault_in_round counts threads (λ p. slots_in_all p (take i rounds)) [] (get_or rounds i []) ≡ None = sym (judged_now (get_or rounds i [])) ∙ sym judged in
-      sym (ap (λ (o : Option PlanFault). or_else o (fault_after counts threads (take (i + 1) rounds) (drop (i + 1) rounds))) here) ∙ sym (rounds_step counts threads rounds i within) ∙ all
+      sym (ap (λ (o : Option PlanFault). first_of_two o (fault_after counts threads (take (i + 1) rounds) (drop (i + 1) rounds))) here) ∙ sym (rounds_step counts threads rounds i within) ∙ all
 
   pub plan_end : length rounds ≤ i → fault_after counts threads (take i rounds) (drop i rounds) ≡ found_fault counts threads rounds → missing_fault counts now ≡ found_fault counts threads rounds
   plan_end past all =

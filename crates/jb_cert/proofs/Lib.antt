@@ -1,11 +1,14 @@
+pub mod Numbers
 pub mod LowerBound
 pub mod Rounds
 pub mod EndToEnd
 pub mod Sets
 pub mod Planned
+pub mod Lanes
 pub mod Certified
 pub mod Judged
 pub mod FirstFault
+pub mod Meant
 pub mod NoFault
 pub mod Faultless
 pub mod Rows

@@ -1,6 +1,6 @@
 -- The faults of a plan of slots, in the order in which they are looked for (own choice).
-use Rattle.std.specs.Prelude.{ℕ, Bool, not, ◌&&◌, ◌||◌, nat_lt, ◌==◌, List, [], ◌∷◌, ◌++◌, length, take, slice_index, slice_index_or, count_by, sum_by, filter_map, Option, Some, None, if◌then◌else◌}
-use Rattle.std.specs.List.{list_any, list_all, range_with_len, flat_map, cons_option}
+use Rattle.std.specs.Prelude.{ℕ, Bool, not, ◌&&◌, ◌||◌, nat_lt, ◌==◌, List, [], ◌∷◌, ◌++◌, length, slice_get, slice_index, count_by, sum_by, filter_map, Option, Some, None, if◌then◌else◌}
+use Rattle.std.specs.List.{list_any, list_all, range_with_len, cons_option}
 use Rattle.jb_cert.specs.declared.plans.Slot.{Slot}
 use Rattle.jb_cert.specs.declared.plans.PlanFault.{PlanFault}
 use Rattle.jb_cert.specs.declared.plans.PlanFault.TheVariants.{LaneRange, TwiceInRound, OutOfOrder, Missing, Stranger}
@@ -11,6 +11,14 @@ slots_of p slots = count_by (λ slot. slot.partition == p) slots
 
 abbrev pub slots_in_all : ℕ → List (List Slot) → ℕ
 slots_in_all p rounds = sum_by (slots_of p) rounds
+
+-- A slot in its place of a plan.
+pub record PlacedSlot : Type 0 where
+  pub slot : Slot
+  -- how many slots of its partition stand in the rounds before its own
+  pub ran : ℕ
+  -- the slots before it in its own round
+  pub before : List Slot
 
 -- there is such a lane
 abbrev pub has_lane : ℕ → Slot → Bool
@@ -24,48 +32,39 @@ is_known counts slot = nat_lt slot.partition (length counts) && nat_lt slot.chun
 abbrev pub collides : Slot → Slot → Bool
 collides slot other = other.lane == slot.lane || other.partition == slot.partition
 
--- What is wrong with a slot, where so many slots of each partition stand in the earlier rounds, and these slots
--- before it in its own round: no such lane, no such chunk, a lane or a partition for the second time, or another
--- chunk than its partition's next one.
-abbrev pub fault_of : List ℕ → ℕ → (ℕ → ℕ) → List Slot → Slot → Option PlanFault
-fault_of counts threads ran here slot =
-    if not (has_lane threads slot) then Some LaneRange
-    else (if not (is_known counts slot) then Some Stranger
-    else (if list_any (collides slot) here then Some TwiceInRound
-    else (if slot.chunk == ran slot.partition then None else Some OutOfOrder)))
+-- What is wrong with a slot in its place: no such lane, no such chunk, a lane or a partition for the second time in the
+-- round, or another chunk than its partition's next one.
+abbrev pub slot_fault : List ℕ → ℕ → PlacedSlot → Option PlanFault
+slot_fault counts threads placed =
+    if not (has_lane threads placed.slot) then Some LaneRange
+    else (if not (is_known counts placed.slot) then Some Stranger
+    else (if list_any (collides placed.slot) placed.before then Some TwiceInRound
+    else (if placed.slot.chunk == placed.ran then None else Some OutOfOrder)))
 
--- what stands past the end of a round
-abbrev pub no_slot : Slot
-no_slot = record { lane = 0; partition = 0; chunk = 0 }
+-- the slots of the rest of a round in their places, behind these slots of it, where so many slots of each partition stand
+-- in the rounds before it
+abbrev pub placed_in_round : (ℕ → ℕ) → List Slot → List Slot → List PlacedSlot
+placed_in_round ran before [] = []
+placed_in_round ran before (slot ∷ rest) =
+    record { slot = slot; ran = ran slot.partition; before = before } ∷ placed_in_round ran (before ++ slot ∷ []) rest
 
--- what is wrong with slot i of a round
-abbrev pub fault_at : List ℕ → ℕ → (ℕ → ℕ) → List Slot → ℕ → Option PlanFault
-fault_at counts threads ran round i = fault_of counts threads ran (take i round) (slice_index_or round i no_slot)
-
--- the faults of a round's slots, in their order
-abbrev pub faults_in_round : List ℕ → ℕ → (ℕ → ℕ) → List Slot → List PlanFault
-faults_in_round counts threads ran round = filter_map (fault_at counts threads ran round) (range_with_len 0 (length round))
-
--- those of round r of a plan
-abbrev pub faults_of_round : List ℕ → ℕ → List (List Slot) → ℕ → List PlanFault
-faults_of_round counts threads rounds r =
-    faults_in_round counts threads (λ p. slots_in_all p (take r rounds)) (slice_index_or rounds r [])
+-- the slots of the rest of a plan in their places, behind these rounds of it
+abbrev pub placed_in_plan : List (List Slot) → List (List Slot) → List PlacedSlot
+placed_in_plan before [] = []
+placed_in_plan before (round ∷ rest) =
+    placed_in_round (λ p. slots_in_all p before) [] round ++ placed_in_plan (before ++ round ∷ []) rest
 
 -- where each slot is good, what is wrong with the whole: a partition with other than so many slots as it has chunks
 abbrev pub missing_fault : List ℕ → (ℕ → ℕ) → Option PlanFault
 missing_fault counts ran =
     if list_all (λ p. ran p == slice_index counts p) (range_with_len 0 (length counts)) then None else Some Missing
 
--- the faults of all slots, round after round, and then that of the whole
-abbrev pub faults_of : List ℕ → ℕ → List (List Slot) → List PlanFault
-faults_of counts threads rounds =
-    flat_map (faults_of_round counts threads rounds) (range_with_len 0 (length rounds))
+-- the faults of all slots, in their order, and then that of the whole
+abbrev pub plan_faults : List ℕ → ℕ → List (List Slot) → List PlanFault
+plan_faults counts threads rounds =
+    filter_map (slot_fault counts threads) (placed_in_plan [] rounds)
     ++ cons_option (missing_fault counts (λ p. slots_in_all p rounds)) []
 
-abbrev pub first_of : List PlanFault → Option PlanFault
-first_of [] = None
-first_of (fault ∷ later) = Some fault
-
 -- the first fault of a plan, if it has one
-abbrev pub first_fault : List ℕ → ℕ → List (List Slot) → Option PlanFault
-first_fault counts threads rounds = first_of (faults_of counts threads rounds)
+abbrev pub first_plan_fault : List ℕ → ℕ → List (List Slot) → Option PlanFault
+first_plan_fault counts threads rounds = slice_get (plan_faults counts threads rounds) 0

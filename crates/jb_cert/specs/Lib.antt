@@ -4,5 +4,6 @@ pub mod Certificates
 pub mod WrapAround
 pub mod Plans
 pub mod Faults
-pub mod Walk
+pub mod Laws
 pub mod Texts
+pub mod inside

@@ -2,19 +2,33 @@
 use Rattle.std.specs.Prelude.{ℕ, ◌≤◌, max, List, [], ◌∷◌, length, sum}
 use Rattle.std.specs.Int.{div_ceil}
 
--- the limits that every call with a load asks for (own choice)
+pub record Load : Type 0 where
+  pub counts : List ℕ
+  pub threads : ℕ
+
+-- the largest loads that are planned and checked (own choice)
+abbrev pub max_partitions : ℕ
+max_partitions = 4096
+
+abbrev pub max_chunks : ℕ
+max_chunks = 10000000
+
+abbrev pub max_threads : ℕ
+max_threads = 64
+
+-- the limits that every call with a load asks for
 pub record IsWithinLimits (counts : List ℕ) (threads : ℕ) : Type 0 where
-  pub few_counts : length counts ≤ 4096
-  pub few_chunks : sum counts ≤ 10000000
+  pub few_counts : length counts ≤ max_partitions
+  pub few_chunks : sum counts ≤ max_chunks
   pub some_thread : 1 ≤ threads
-  pub few_threads : threads ≤ 64
+  pub few_threads : threads ≤ max_threads
 
 -- the largest count, 0 where there is none
-abbrev pub longest : List ℕ → ℕ
-longest [] = 0
-longest (n ∷ ns) = max n (longest ns)
+abbrev pub longest_count : List ℕ → ℕ
+longest_count [] = 0
+longest_count (n ∷ ns) = max n (longest_count ns)
 
 -- McNaughton's bound of 1959, in whole rounds: as many as the longest partition has chunks, or as many as the chunks
 -- take when they are dealt evenly to the threads, whichever is more
 abbrev pub mcnaughton : List ℕ → ℕ → ℕ
-mcnaughton counts threads = max (longest counts) (div_ceil (sum counts) threads)
+mcnaughton counts threads = max (longest_count counts) (div_ceil (sum counts) threads)

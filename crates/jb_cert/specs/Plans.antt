@@ -8,12 +8,13 @@ use Rattle.jb_cert.specs.Lawful.{Pair, IsLawful, NoneIsShorter}
 abbrev pub rounds_of : Plan → List (List Slot)
 rounds_of plan = map (λ round. round.items) plan.rounds.items
 
-abbrev pub pair_of : Slot → Pair
-pair_of slot = (slot.partition, slot.chunk)
+-- the slot without its lane
+abbrev pub slot_pair : Slot → Pair
+slot_pair slot = (slot.partition, slot.chunk)
 
 -- the sets of pairs, without the lanes
 abbrev pub sets_of : List (List Slot) → List (List Pair)
-sets_of rounds = map (map pair_of) rounds
+sets_of rounds = map (map slot_pair) rounds
 
 -- its lanes are below the number of threads, none comes twice in a round, and its sets are lawful
 pub record StandsForLawful (counts : List ℕ) (threads : ℕ) (rounds : List (List Slot)) : Type 0 where

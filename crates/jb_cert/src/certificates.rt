@@ -1,10 +1,10 @@
 //! Reasons why no lawful plan has fewer rounds.
-ghost use Rattle.std.specs.Prelude.{◌↔◌, IsTrue};
+ghost use Rattle.std.specs.Prelude.{◌≡◌, ◌↔◌, IsTrue};
 ghost use Rattle.jb_cert.specs.Load.{IsWithinLimits};
-ghost use Rattle.jb_cert.specs.Lawful.{NoneIsShorter};
-ghost use Rattle.jb_cert.specs.Certificates.{Holds};
+ghost use Rattle.jb_cert.specs.Lawful.{IsLeastNumber, NoneIsShorter};
+ghost use Rattle.jb_cert.specs.Certificates.{Holds, is_least_plan};
 
-use crate::load::total_of;
+use crate::load::{least_rounds, total_of};
 use std::fmt;
 
 /// A reason why no lawful plan has fewer rounds. It is one of the two bounds that McNaughton's formula is made of.
@@ -54,4 +54,15 @@ pub fn check_certificate(
                 && u128::from(rounds - 1) * u128::from(threads) < u128::from(total_of(counts))
         }
     }
+}
+
+/// Whether that is the fewest rounds of any lawful plan, and the certificate holds for it.
+#[tactic(auto, using(crate::proofs::Meant::least_plan_is))]
+pub fn is_least_plan(counts: &[u64], threads: u32, rounds: u64, certificate: Certificate) -> bool
+    requires { IsWithinLimits counts.now threads }
+    ensures value { result ≡ is_least_plan counts.now threads rounds certificate }
+    ensures least { IsTrue result ↔ (IsLeastNumber counts.now threads rounds × Holds counts.now threads rounds certificate) }
+{
+    rounds == least_rounds(counts, threads)
+        && check_certificate(counts, threads, rounds, certificate)
 }

@@ -3,8 +3,8 @@ ghost use Rattle.std.specs.Prelude.{◌≡◌, ℕ, ◌+◌, ◌<◌, ◌≤◌,
 ghost use Rattle.std.specs.List.{list_any};
 ghost use Rattle.jb_cert.specs.Load.{IsWithinLimits};
 ghost use Rattle.jb_cert.specs.Plans.{StandsForLawful, rounds_of};
-ghost use Rattle.jb_cert.specs.Faults.{collides, fault_of, first_fault, missing_fault, slots_of};
-ghost use Rattle.jb_cert.specs.Walk.{fault_in_round, found_fault};
+ghost use Rattle.jb_cert.specs.Faults.{collides, first_plan_fault, missing_fault, slots_of};
+ghost use Rattle.jb_cert.specs.inside.Walk.{fault_here, fault_in_round, found_fault};
 
 use crate::plans::{Plan, PlanFault, Slot};
 use std::alloc::Global;
@@ -20,7 +20,7 @@ pub fn check_plan(alloc: Global, counts: &[u64], threads: u32, plan: &Plan) -> R
     ensures unlawful { IfErr result (λ fault. (fault ≡ PlanFault.Memory)
         ⊎ (StandsForLawful counts.now threads (rounds_of plan.now) → ⊥)) }
     ensures first { IfErr result (λ fault. (fault ≡ PlanFault.Memory)
-        ⊎ (first_fault counts.now threads (rounds_of plan.now) ≡ Some fault)) }
+        ⊎ (first_plan_fault counts.now threads (rounds_of plan.now) ≡ Some fault)) }
 {
     let Ok(mut ran) = vec![in alloc; 0u64; counts.len()] else {
         return Err(PlanFault::Memory);
@@ -69,7 +69,7 @@ fn slot_fault(
     slot: Slot,
 ) -> Option<PlanFault>
     requires { length ran.now ≡ length counts.now }
-    ensures fault { result ≡ fault_of counts.now threads (λ p. slice_index ran.now p) here.now slot }
+    ensures fault { result ≡ fault_here counts.now threads (λ p. slice_index ran.now p) here.now slot }
     ensures next { IfNone result ((slot.partition < length counts.now) × (slice_index ran.now slot.partition < slice_index counts.now slot.partition)) }
 {
     if slot.lane >= threads {

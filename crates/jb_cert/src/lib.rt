@@ -8,14 +8,19 @@
 //! - `certificates`: short reasons why no plan has fewer rounds, and their test.
 //! - `plans`: plans of slots, and the ways in which one fails to be lawful.
 //! - `checker`: the test of a whole plan, whoever made it.
+//! - `laws`: what holds of every load.
 #![tactic(auto)]
 
 mod certificates;
 mod checker;
+mod laws;
 mod load;
 mod plans;
 
-pub use certificates::{Certificate, check_certificate};
+pub use certificates::{Certificate, check_certificate, is_least_plan};
 pub use checker::check_plan;
-pub use load::{fits, least_rounds};
+pub use laws::{
+    bound_is_least, lanes_are_found, places_lie_round, tests_are_exact, wrap_around_is_least,
+};
+pub use load::{MAX_CHUNKS, MAX_PARTITIONS, MAX_THREADS, fits, least_rounds};
 pub use plans::{Plan, PlanFault, Slot};

@@ -1,27 +1,30 @@
 //! The limits of a load, and the least number of rounds for it.
-ghost use Rattle.std.specs.Prelude.{◌≡◌, ◌≤◌, ◌↔◌, IsTrue, sum};
-ghost use Rattle.jb_cert.specs.Load.{IsWithinLimits, longest, mcnaughton};
+ghost use Rattle.std.specs.Prelude.{◌≡◌, ◌*◌, ◌≤◌, ◌↔◌, IsTrue, sum};
+ghost use Rattle.jb_cert.specs.Load.{IsWithinLimits, longest_count, max_chunks, mcnaughton};
 ghost use Rattle.jb_cert.specs.Lawful.{IsLeastNumber};
 
-const COUNT_LIMIT: usize = 4_096;
+/// The most partitions of a load (this project's own choice).
+pub const MAX_PARTITIONS: usize = 4_096;
 
-const CHUNK_LIMIT: u64 = 10_000_000;
+/// The most chunks of a load, all partitions together (this project's own choice).
+pub const MAX_CHUNKS: u64 = 10_000_000;
 
-const THREAD_LIMIT: u32 = 64;
+/// The most threads (this project's own choice).
+pub const MAX_THREADS: u32 = 64;
 
 /// Whether the counts of chunks, one for each partition, and the number of threads are within the limits: at most
 /// 4,096 counts, at most 10,000,000 chunks in all, and 1 to 64 threads.
 ///
-/// Every other call with counts and threads asks for this. The limits are this project's own choice.
+/// Every other call with counts and threads asks for this.
 pub fn fits(counts: &[u64], threads: u32) -> bool
     ensures { IsTrue result ↔ IsWithinLimits counts.now threads }
 {
-    if counts.len() > COUNT_LIMIT || threads < 1 || threads > THREAD_LIMIT {
+    if counts.len() > MAX_PARTITIONS || threads < 1 || threads > MAX_THREADS {
         return false;
     }
     let mut total = 0;
     for count in counts {
-        if *count > CHUNK_LIMIT - total {
+        if *count > MAX_CHUNKS - total {
             return false;
         }
         total += *count;
@@ -31,7 +34,7 @@ pub fn fits(counts: &[u64], threads: u32) -> bool
 
 /// The sum of the counts.
 pub(crate) fn total_of(counts: &[u64]) -> u64
-    requires { sum counts.now ≤ 10000000 }
+    requires { sum counts.now ≤ max_chunks }
     ensures { result ≡ sum counts.now }
 {
     counts.iter().sum()
@@ -39,7 +42,7 @@ pub(crate) fn total_of(counts: &[u64]) -> u64
 
 /// The largest count, 0 where there is none.
 fn longest_of(counts: &[u64]) -> u64
-    ensures { result ≡ longest counts.now }
+    ensures { result ≡ longest_count counts.now }
 {
     let mut longest: u64 = 0;
     for count in counts {
@@ -53,6 +56,8 @@ fn longest_of(counts: &[u64]) -> u64
 pub fn least_rounds(counts: &[u64], threads: u32) -> u64
     requires { IsWithinLimits counts.now threads }
     ensures bound { result ≡ mcnaughton counts.now threads }
+    ensures few { result ≤ sum counts.now }
+    ensures room { sum counts.now ≤ result * threads }
     ensures least { IsLeastNumber counts.now threads result }
 {
     longest_of(counts).max(total_of(counts).div_ceil(u64::from(threads)))

@@ -3,7 +3,7 @@ use Rattle.std.proofs.Common.{◌≡◌, ℕ, zero, suc, ◌+◌, ◌-◌, ◌�
 use Rattle.std.specs.Prelude.{find, count_by}
 use Rattle.std.specs.List.{filter_map, range_with_len, cons_option}
 use Rattle.std.proofs.lemmas.List.Sums.{sum_by-cons}
-use Rattle.jb_job.specs.declared.rules.Rules.{Rules}
+use Rattle.jb_job.specs.Records.{RulesRecord}
 use Rattle.jb_rules.specs.declared.row.Row.{Row}
 use Rattle.jb_artifacts.specs.Faults.{Plans, live}
 use Rattle.jb_artifacts.specs.Reader.{record_at}
@@ -11,7 +11,7 @@ use Rattle.jb_artifacts.specs.Writer.{Numbered, texts_of, failing}
 use Rattle.jb_artifacts.specs.Meaning.{Workplace}
 use Rattle.jb_chunk.specs.Block.{entry, entry_by, answer_entry, results, count_of, settles, settling, stops, skips_before}
 use Rattle.jb_chunk.specs.Entries.{fault_in, is_read_fault, is_process_fault, is_filtered, text_in, numbered}
-use Rattle.jb_chunk.specs.Plain.{answers, IsCalm}
+use Rattle.jb_chunk.specs.Plain.{plain_answers, IsCalm}
 
 -- the answer for a record
 abbrev pub answer_at : Workplace → ℕ → Option (List ℕ)
@@ -57,7 +57,7 @@ sound-fault : (a : Option (List ℕ)) → fault_in (answer_entry a) ≡ None
 sound-fault None = refl
 sound-fault (Some x) = refl
 
-sound-settles : (rules : Rules) (row : Row) (w : Workplace) (k : ℕ) → IsSound w k → settles rules row w k ≡ false
+sound-settles : (rules : RulesRecord) (row : Row) (w : Workplace) (k : ℕ) → IsSound w k → settles rules row w k ≡ false
 unfolding settles
 sound-settles rules row w k e = ap (λ o. stops rules row o (skips_before row w k)) (ap fault_in e ∙ sound-fault (answer_at w k))
 
@@ -100,15 +100,15 @@ filtered-calm w (suc n) lo sound =
 pub calm-sound : (w : Workplace) (lo hi : ℕ) → lo ≤ hi → IsCalm w lo hi → (k : ℕ) → lo ≤ k → k < lo + (hi - lo) → IsSound w k
 calm-sound w lo hi le calm k from to = calm-entry w lo hi k calm from (omega (arith, le, to))
 
-pub calm-texts : (w : Workplace) (lo hi : ℕ) → lo ≤ hi → IsCalm w lo hi → texts_of (results w lo hi) ≡ answers w lo hi
-unfolding results answers
+pub calm-texts : (w : Workplace) (lo hi : ℕ) → lo ≤ hi → IsCalm w lo hi → texts_of (results w lo hi) ≡ plain_answers w lo hi
+unfolding results plain_answers
 calm-texts w lo hi le calm = texts-calm w (hi - lo) lo (calm-sound w lo hi le calm)
 
 pub calm-failing : (w : Workplace) (lo hi : ℕ) → lo ≤ hi → IsCalm w lo hi → failing w.writer.faults (results w lo hi) ≡ None
 unfolding results
 calm-failing w lo hi le calm = faultless w (hi - lo) lo (calm-sound w lo hi le calm) (λ k from to. calm.writes k from (omega (arith, le, to)))
 
-pub calm-settling : (rules : Rules) (row : Row) (w : Workplace) (hi : ℕ) → row.at ≤ hi → IsCalm w row.at hi → settling rules row w hi ≡ None
+pub calm-settling : (rules : RulesRecord) (row : Row) (w : Workplace) (hi : ℕ) → row.at ≤ hi → IsCalm w row.at hi → settling rules row w hi ≡ None
 unfolding settling
 calm-settling rules row w hi le calm = find-idle (settles rules row w) (hi - row.at) row.at (λ k from to. sound-settles rules row w k (calm-sound w row.at hi le calm k from to))
 
@@ -120,6 +120,6 @@ pub calm-processes : (w : Workplace) (lo hi : ℕ) → lo ≤ hi → IsCalm w lo
 unfolding count_of
 calm-processes w lo hi le calm = count-idle (λ k. is_process_fault (entry w k)) (hi - lo) lo (λ k from to. ap is_process_fault (calm-sound w lo hi le calm k from to) ∙ sound-process (answer_at w k))
 
-pub calm-filtered : (w : Workplace) (lo hi : ℕ) → lo ≤ hi → IsCalm w lo hi → count_of is_filtered w lo hi + length (answers w lo hi) ≡ hi - lo
-unfolding count_of answers
+pub calm-filtered : (w : Workplace) (lo hi : ℕ) → lo ≤ hi → IsCalm w lo hi → count_of is_filtered w lo hi + length (plain_answers w lo hi) ≡ hi - lo
+unfolding count_of plain_answers
 calm-filtered w lo hi le calm = filtered-calm w (hi - lo) lo (calm-sound w lo hi le calm)

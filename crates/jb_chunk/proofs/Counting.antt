@@ -10,7 +10,7 @@ use Rattle.jb_chunk.specs.declared.entry.Entry.TheVariants.{ReadFault, ProcessFa
 use Rattle.jb_chunk.specs.declared.tally.Tally.{Tally}
 use Rattle.jb_chunk.specs.Block.{entry, results, count_of, passed}
 use Rattle.jb_chunk.specs.Entries.{text_in, numbered, one_if, is_read_fault, is_process_fault, is_filtered}
-use Rattle.jb_chunk.specs.Gathering.{IsTally, IsCountedUp}
+use Rattle.jb_chunk.specs.inside.Gathering.{IsTally, IsCountedUp}
 use Rattle.jb_chunk.proofs.Passing.{entry-passed}
 
 -- the numbers from a on, and one more

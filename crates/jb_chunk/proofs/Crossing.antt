@@ -38,11 +38,12 @@ module _ (R P W C : RattleType) (gr : object.Ghosts R.Denot) (gp : object.Ghosts
       (dyn_box_send R gr readers r, (dyn_box_send P gp processors p, (dyn_box_send W gw writers w, (dyn_box_send C gc collectors c, tt))))
       in recorded_send (Artifacts.the_field R P W C gr gp gw gc).row _ _ (Artifacts.the_type R P W C gr gp gw gc).to_one fields
 
-  pub task_send : IsSend (Task.the_row R P W C gr gp gw gc)
-  task_send =
-      let fields : IsSend (Task.the_field R P W C gr gp gw gc).row = struct_send (shape (Task.the_type R P W C gr gp gw gc))
-      (search sendable, (row_send, (search sendable depth 20, (search sendable, (dyn_box_send R gr readers r, (dyn_box_send P gp processors p, (dyn_box_send W gw writers w, (dyn_box_send C gc collectors c, tt))))))))
-      in recorded_send (Task.the_field R P W C gr gp gw gc).row _ _ (Task.the_type R P W C gr gp gw gc).to_one fields
+-- a task, with what it works with
+pub task_send : (A : RattleType) → IsSend A → IsSend (Task.the_row A)
+task_send A a =
+    let fields : IsSend (Task.the_field A).row = struct_send (shape (Task.the_type A))
+    (search sendable, (row_send, (search sendable depth 20, (search sendable, (a, tt)))))
+    in recorded_send (Task.the_field A).row _ _ (Task.the_type A).to_one fields
 
 -- the same of the boxes that a function makes and hands to a thread: its generated modules name their slots, their tables,
 -- the laws of these, and that what they hold may go to another thread
@@ -52,6 +53,6 @@ module _ {F G H K : Type 0 → Type 1} (sr sp sw sc : Dict → Slots) (tr : Tabl
   artifacts_cross i layout = param_send _ _ (arg_send _ no _ (artifacts_send (Vt sr tr) (Vt sp tp) (Vt sw tw) (Vt sc tc) (ghosts_of sr tr lr) (ghosts_of sp tp lp) (ghosts_of sw tw lw) (ghosts_of sc tc lc)
       readers processors writers collectors (search sendable) (search sendable) (search sendable) (search sendable)))
 
-  pub task_crosses : (i : ℕ) (layout : Ty) → IsSend (param i (arg layout no (Task.the_row (Vt sr tr) (Vt sp tp) (Vt sw tw) (Vt sc tc) (ghosts_of sr tr lr) (ghosts_of sp tp lp) (ghosts_of sw tw lw) (ghosts_of sc tc lc))))
-  task_crosses i layout = param_send _ _ (arg_send _ no _ (task_send (Vt sr tr) (Vt sp tp) (Vt sw tw) (Vt sc tc) (ghosts_of sr tr lr) (ghosts_of sp tp lp) (ghosts_of sw tw lw) (ghosts_of sc tc lc)
-      readers processors writers collectors (search sendable) (search sendable) (search sendable) (search sendable)))
+  pub task_crosses : (i : ℕ) (layout : Ty) → IsSend (param i (arg layout no (Task.the_row (Artifacts.the_row (Vt sr tr) (Vt sp tp) (Vt sw tw) (Vt sc tc) (ghosts_of sr tr lr) (ghosts_of sp tp lp) (ghosts_of sw tw lw) (ghosts_of sc tc lc)))))
+  task_crosses i layout = param_send _ _ (arg_send _ no _ (task_send _ (artifacts_send (Vt sr tr) (Vt sp tp) (Vt sw tw) (Vt sc tc) (ghosts_of sr tr lr) (ghosts_of sp tp lp) (ghosts_of sw tw lw) (ghosts_of sc tc lc)
+      readers processors writers collectors (search sendable) (search sendable) (search sendable) (search sendable))))

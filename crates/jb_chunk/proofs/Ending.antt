@@ -11,10 +11,11 @@ use Rattle.jb_artifacts.specs.Reader.{opened}
 use Rattle.jb_artifacts.specs.Writer.{Texts, Numbered, Writer, texts_of, failing, fault_of, write_fault, after_write}
 use Rattle.jb_artifacts.specs.Meaning.{Workplace}
 use Rattle.jb_chunk.specs.declared.end.End.TheVariants.{Written}
-use Rattle.jb_chunk.specs.Attempt.{Trial, settled_at, found_in, end_of, end_after, end_at, end_by, delta_by, work_by, work_with, kept_by}
+use Rattle.jb_chunk.specs.Attempt.{Trial, settled_at, found_in, end_of, end_after, end_at, end_by, work_with}
+use Rattle.jb_chunk.specs.inside.Ends.{delta_by, work_by, kept_by}
 use Rattle.jb_chunk.specs.Block.{entry, choice_at, skips_before, is_skip, passed}
 use Rattle.jb_chunk.specs.Entries.{fault_in}
-use Rattle.jb_chunk.specs.Tried.{writer_by}
+use Rattle.jb_chunk.specs.inside.Tried.{writer_by}
 
 unskipped-delta : (t : Trial) (choice : Choice) (class : ClassId) → is_skip choice ≡ false → no_counts ≡ delta_by t (end_by choice class)
 unskipped-delta t Skip class e = cc

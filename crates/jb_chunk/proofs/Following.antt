@@ -1,79 +1,32 @@
 -- A task none of whose calls fails: running alone does what the Plain run does.
-use Rattle.std.proofs.Common.{◌≡◌, ℕ, ◌+◌, ◌-◌, ◌/◌, ◌≤◌, ◌<◌, Bool, true, false, cond, List, [], ◌∷◌, ◌++◌, length, None, refl, ap, sym, ◌∙◌, subst, arith, length-append, append-nil, append_assoc}
-use Rattle.std.specs.Prelude.{max, min, nat_lt, nat_le, ◌==◌}
+use Rattle.std.proofs.Common.{◌≡◌, ℕ, suc, ◌+◌, ◌-◌, ◌≤◌, ◌<◌, Bool, true, false, cond, List, [], ◌∷◌, ◌++◌, length, None, refl, ap, sym, ◌∙◌, subst, arith, length-append, append-nil, append_assoc}
+use Rattle.std.specs.Prelude.{◌==◌}
 use Rattle.std.specs.List.{filter_map, range_with_len}
 use Rattle.std.proofs.lemmas.List.Elements.{filter_map-append}
 use Rattle.std.proofs.lemmas.Bool.Decides.{nat_tests}
-use Rattle.std.proofs.Math.Nat.{div-eq_of_lt, add-div_right}
 use Rattle.jb_rules.specs.declared.row.Row.{Row}
 use Rattle.jb_rules.specs.declared.row.RowState.TheVariants as state
-use Rattle.jb_job.specs.declared.job.Range.{Range}
-use Rattle.jb_plan.proofs.BlockLists.{left_is}
-use Rattle.jb_plan.specs.Blocks.{left, blocks_left}
-use Rattle.jb_chunk.specs.Alone.{IsRunOf, IsAlone, has_ended}
+use Rattle.jb_plan.specs.Blocks.{left, ChunksFollow}
+use Rattle.jb_chunk.specs.Alone.{IsRunOf, IsAlone}
+use Rattle.jb_rules.specs.States.{has_ended}
 use Rattle.jb_rules.specs.Rows.{committed_row, state_at}
 use Rattle.jb_rules.specs.Counts.{no_counts}
 use Rattle.jb_artifacts.specs.Faults.{Plans, live}
 use Rattle.jb_artifacts.specs.Writer.{fault_of, used_for}
 use Rattle.jb_artifacts.specs.Meaning.{Workplace}
 use Rattle.jb_chunk.specs.declared.end.End.TheVariants.{Written}
-use Rattle.jb_chunk.specs.Attempt.{Trial, trial_of, block_of, end_of, end_after, end_at, found_in, work_with, after_end, delta_by, Ending, attempt_of}
+use Rattle.jb_chunk.specs.Attempt.{Trial, trial_of, block_of, end_of, end_after, end_at, found_in, work_with, Ending, ending_by, attempt_of}
+use Rattle.jb_chunk.specs.inside.Ends.{delta_by}
 use Rattle.jb_chunk.specs.Block.{count_of, skips_before}
 use Rattle.jb_chunk.specs.Entries.{is_read_fault, is_filtered}
-use Rattle.jb_chunk.specs.Plain.{answers, plain_delta, plain_row, plain_outputs, IsCalm, IsPlain}
+use Rattle.jb_chunk.specs.Plain.{plain_answers, plain_delta, plain_row, plain_outputs, IsCalm, IsPlain}
 use Rattle.jb_chunk.specs.Standing.{TaskState, HasItemCount, IsReady}
 use Rattle.jb_rules.specs.declared.row.RowState.{RowState}
 use Rattle.jb_chunk.proofs.Passing.{between-outside}
 use Rattle.jb_chunk.proofs.Settling.{numbers-split}
 use Rattle.jb_chunk.proofs.Leaving.{length-texts}
 use Rattle.jb_chunk.proofs.Calm.{answer_at, calm-texts, calm-failing, calm-settling, calm-reads, calm-processes, calm-filtered}
-use Rattle.jb_chunk.proofs.Running.{block-in, block-is, block_by, finished-at, waiting-at, left-waiting}
-
--- the number of blocks falls by one with each
-ceil-more : (fits : Bool) (at hi count : ℕ) → nat_le (at + count) hi ≡ fits → at < hi → 1 ≤ count → ((hi - at) + (count - 1)) / count ≡ 1 + ((hi - min hi (at + count)) + (count - 1)) / count
-ceil-more true at hi count e lt one =
-    let le : at + count ≤ hi = grind (arith, nat_tests) in
-    let rest = (hi - min hi (at + count)) + (count - 1) in
-    let same : (hi - at) + (count - 1) ≡ rest + count = omega (arith, le, lt, one) in
-    let more = add-div_right rest {k = count} one in
-    let swap : rest / count + 1 ≡ 1 + rest / count = omega arith in
-    ap (λ n. n / count) same ∙ more ∙ swap
-ceil-more false at hi count e lt one =
-    let gt : hi < at + count = grind (arith, nat_tests) in
-    let same : (hi - at) + (count - 1) ≡ (hi - at - 1) + count = omega (arith, gt, lt, one) in
-    let few : hi - at - 1 < count = omega (arith, gt, lt) in
-    let last : (hi - min hi (at + count)) + (count - 1) < count = omega (arith, gt, one) in
-    let none = div-eq_of_lt few in
-    let end = div-eq_of_lt last in
-    let more = add-div_right (hi - at - 1) {k = count} one in
-    ap (λ n. n / count) same ∙ more ∙ omega (arith, none, end)
-
-blocks-by : (single : Bool) (at redo hi count : ℕ) → nat_lt at redo ≡ single → at < hi → redo ≤ hi → 1 ≤ count → blocks_left at redo hi count ≡ 1 + blocks_left (block_by false single at hi count).hi redo hi count
-blocks-by true at redo hi count e lt le one =
-    let below : at < redo = grind (arith, nat_tests) in
-    let same : max at redo ≡ max (at + 1) redo = omega (arith, below) in
-    ap (λ m. (redo - at) + ((hi - m) + (count - 1)) / count) same ∙ omega (arith, below)
-blocks-by false at redo hi count e lt le one =
-    let past : redo ≤ at = grind (arith, nat_tests) in
-    let mid = min hi (at + count) in
-    let here : max at redo ≡ at = omega (arith, past) in
-    let there : max mid redo ≡ mid = omega (arith, past, lt, le) in
-    let more = ceil-more (nat_le (at + count) hi) at hi count refl lt one in
-    let left : redo - at ≡ 0 = omega (arith, past) in
-    let none : redo - mid ≡ 0 = omega (arith, past, lt, le) in
-    ap (λ m. (redo - at) + ((hi - m) + (count - 1)) / count) here
-    ∙ omega (arith, left, none, more)
-    ∙ ap (λ m. 1 + ((redo - mid) + ((hi - m) + (count - 1)) / count)) (sym there)
-
-blocks-whole : (last : Bool) (at redo hi count : ℕ) → (at == hi) ≡ last → at < hi → redo ≤ hi → 1 ≤ count → blocks_left at redo hi count ≡ 1 + blocks_left (block_by last (nat_lt at redo) at hi count).hi redo hi count
-blocks-whole true at redo hi count e lt le one = let same : at ≡ hi = grind (arith, nat_tests) in let never : 1 ≤ 0 = omega (arith, same, lt) in omega (arith, never)
-blocks-whole false at redo hi count e lt le one = blocks-by (nat_lt at redo) at redo hi count refl lt le one
-
-pub blocks-none : (at redo hi count : ℕ) → at ≡ hi → redo ≤ hi → 1 ≤ count → blocks_left at redo hi count ≡ 0
-blocks-none at redo hi count e le one =
-    let few : (hi - max at redo) + (count - 1) < count = omega (arith, e, le, one) in
-    let none = div-eq_of_lt few in
-    omega (arith, none, e, le)
+use Rattle.jb_chunk.proofs.Running.{block-in, finished-at, waiting-at, left-waiting}
 
 -- two chunks are as one, but for the commits
 merged : (row : Row) (mid hi r1 w1 r2 w2 c2 r w c : ℕ) → r1 + r2 ≡ r → w1 + w2 ≡ w → 1 + c2 ≡ c → w1 ≤ r1 → w2 ≤ r2 → committed_row (committed_row row mid (plain_delta r1 w1 1)) hi (plain_delta r2 w2 c2) ≡ committed_row row hi (plain_delta r w c)
@@ -131,8 +84,8 @@ none-done row r w c at stands er ew ec =
       state = last i;
     }
 
-answers-append : (w : Workplace) (lo mid hi : ℕ) → lo ≤ mid → mid ≤ hi → answers w lo hi ≡ answers w lo mid ++ answers w mid hi
-unfolding answers
+answers-append : (w : Workplace) (lo mid hi : ℕ) → lo ≤ mid → mid ≤ hi → plain_answers w lo hi ≡ plain_answers w lo mid ++ plain_answers w mid hi
+unfolding plain_answers
 answers-append w lo mid hi a b =
     let len : hi - lo ≡ (mid - lo) + (hi - mid) = omega (arith, a, b) in
     let start : lo + (mid - lo) ≡ mid = omega (arith, a) in
@@ -141,8 +94,8 @@ answers-append w lo mid hi a b =
     ∙ filter_map-append (answer_at w) (range_with_len lo (mid - lo)) (range_with_len (lo + (mid - lo)) (hi - mid))
     ∙ ap (λ m. filter_map (answer_at w) (range_with_len lo (mid - lo)) ++ filter_map (answer_at w) (range_with_len m (hi - mid))) start
 
-answers-none : (w : Workplace) (lo hi : ℕ) → lo ≡ hi → answers w lo hi ≡ []
-unfolding answers
+answers-none : (w : Workplace) (lo hi : ℕ) → lo ≡ hi → plain_answers w lo hi ≡ []
+unfolding plain_answers
 answers-none w lo hi e =
     let none : hi - lo ≡ 0 = omega (arith, e) in
     ap (λ n. filter_map (answer_at w) (range_with_len lo n)) none
@@ -154,17 +107,17 @@ end-calm u le calm =
     ap (end_after u) (calm-settling u.rules u.row u.work u.hi le calm)
     ∙ ap (λ r. end_at u.rules u.row (fault_of u.work.writer.faults r) (skips_before u.row u.work u.hi)) (calm-failing u.work u.row.at u.hi le calm)
 
-found-calm : (u : Trial) → u.row.at ≤ u.hi → IsCalm u.work u.row.at u.hi → length (found_in u) ≡ length (answers u.work u.row.at u.hi)
+found-calm : (u : Trial) → u.row.at ≤ u.hi → IsCalm u.work u.row.at u.hi → length (found_in u) ≡ length (plain_answers u.work u.row.at u.hi)
 found-calm u le calm = sym (length-texts (found_in u)) ∙ ap length (calm-texts u.work u.row.at u.hi le calm)
 
-delta-calm : (u : Trial) → u.row.at ≤ u.hi → IsCalm u.work u.row.at u.hi → delta_by u Written ≡ plain_delta (u.hi - u.row.at) (length (answers u.work u.row.at u.hi)) 1
+delta-calm : (u : Trial) → u.row.at ≤ u.hi → IsCalm u.work u.row.at u.hi → delta_by u Written ≡ plain_delta (u.hi - u.row.at) (length (plain_answers u.work u.row.at u.hi)) 1
 delta-calm u le calm =
     let read_skips = calm-reads u.work u.row.at u.hi le calm in
     let process_skips = calm-processes u.work u.row.at u.hi le calm in
     let both = calm-filtered u.work u.row.at u.hi le calm in
     let found = found-calm u le calm in
     let read : (u.hi - u.row.at) - count_of is_read_fault u.work u.row.at u.hi ≡ u.hi - u.row.at = omega (arith, read_skips) in
-    let filtered : count_of is_filtered u.work u.row.at u.hi ≡ (u.hi - u.row.at) - length (answers u.work u.row.at u.hi) = omega (arith, both) in
+    let filtered : count_of is_filtered u.work u.row.at u.hi ≡ (u.hi - u.row.at) - length (plain_answers u.work u.row.at u.hi) = omega (arith, both) in
     λ i. record no_counts {
       read = read i;
       write = found i;
@@ -175,13 +128,13 @@ delta-calm u le calm =
     }
 
 abbrev calm_work : Trial → Workplace
-calm_work u = work_with u None u.hi (u.work.writer.written ++ answers u.work u.row.at u.hi)
+calm_work u = work_with u None u.hi (u.work.writer.written ++ plain_answers u.work u.row.at u.hi)
 
 abbrev calm_next : TaskState → TaskState
 calm_next t =
     let u = trial_of t in
     record t {
-      row = committed_row t.row u.hi (plain_delta (u.hi - t.row.at) (length (answers t.work t.row.at u.hi)) 1);
+      row = committed_row t.row u.hi (plain_delta (u.hi - t.row.at) (length (plain_answers t.work t.row.at u.hi)) 1);
       work = calm_work u;
     }
 
@@ -191,7 +144,7 @@ attempted-calm t le calm =
     let delta = delta-calm u le calm in
     let settled = calm-settling t.rules t.row t.work u.hi le calm in
     let texts = calm-texts t.work t.row.at u.hi le calm in
-    ap (after_end t) (end-calm u le calm)
+    ap (λ e. (ending_by t e).task) (end-calm u le calm)
     ∙ (λ i. record t {
       row = committed_row t.row u.hi (delta i);
       work = work_with u (settled i) u.hi (t.work.writer.written ++ texts i);
@@ -213,30 +166,31 @@ calm-rest u hi le to calm =
       writes = λ k a b. ap (λ (p : Plans). live (p k)) plans ∙ calm.writes k (omega (arith, le, a)) b;
     }
 
-calm-answers : (u : Trial) (lo hi : ℕ) → answers (calm_work u) lo hi ≡ answers u.work lo hi
-unfolding work_with answers
+calm-answers : (u : Trial) (lo hi : ℕ) → plain_answers (calm_work u) lo hi ≡ plain_answers u.work lo hi
+unfolding work_with plain_answers
 calm-answers u lo hi = refl
 
-calm-written : (u : Trial) → (calm_work u).writer.written ≡ u.work.writer.written ++ answers u.work u.row.at u.hi
+calm-written : (u : Trial) → (calm_work u).writer.written ≡ u.work.writer.written ++ plain_answers u.work u.row.at u.hi
 unfolding work_with
 calm-written u = refl
 
-calm-few : (w : Workplace) (lo hi : ℕ) → lo ≤ hi → IsCalm w lo hi → length (answers w lo hi) ≤ hi - lo
+calm-few : (w : Workplace) (lo hi : ℕ) → lo ≤ hi → IsCalm w lo hi → length (plain_answers w lo hi) ≤ hi - lo
 calm-few w lo hi le calm = let both = calm-filtered w lo hi le calm in omega (arith, both)
 
-blocks-by-all : (t : TaskState) → t.row.at < t.row.hi → t.row.redo ≤ t.row.hi → HasItemCount t.item_count → left t.row.at t.row.redo t.row.hi t.item_count ≡ 1 + left (block_of t).hi t.row.redo t.row.hi t.item_count
-blocks-by-all t lt redo count =
-    let at = t.row.at in
-    let hi = t.row.hi in
-    left_is at t.row.redo hi t.item_count count.some
-    ∙ blocks-whole (at == hi) at t.row.redo hi t.item_count refl lt redo count.some
-    ∙ ap (λ (r : Range). 1 + blocks_left r.hi t.row.redo hi t.item_count) (sym (block-is t (omega (arith, lt)) redo))
-    ∙ ap (λ n. 1 + n) (sym (left_is (block_of t).hi t.row.redo hi t.item_count count.some))
+-- the number of chunks that are left falls by one with each
+left-more : ChunksFollow → (t : TaskState) → t.row.at < t.row.hi → t.row.redo ≤ t.row.hi → HasItemCount t.item_count → left t.row.at t.row.redo t.row.hi t.item_count ≡ 1 + left (block_of t).hi t.row.redo t.row.hi t.item_count
+left-more law t lt redo count =
+    let others = ap length (law.next t.row.at t.row.redo t.row.hi t.item_count lt redo count.some).others in
+    let one : suc (left (block_of t).hi t.row.redo t.row.hi t.item_count) ≡ 1 + left (block_of t).hi t.row.redo t.row.hi t.item_count = omega arith in
+    others ∙ one
 
-next-row : (t : TaskState) → t.row.at < t.row.hi → t.row.redo ≤ t.row.hi → HasItemCount t.item_count → IsCalm t.work t.row.at t.row.hi → plain_row (calm_next t) ≡ plain_row t
-next-row t lt redo count calm =
+left-none : ChunksFollow → (at redo hi count : ℕ) → at ≡ hi → redo ≤ hi → left at redo hi count ≡ 0
+left-none law at redo hi count e le = ap (λ a. left a redo hi count) e ∙ ap length (law.none redo hi count le)
+
+next-row : ChunksFollow → (t : TaskState) → t.row.at < t.row.hi → t.row.redo ≤ t.row.hi → HasItemCount t.item_count → IsCalm t.work t.row.at t.row.hi → plain_row (calm_next t) ≡ plain_row t
+next-row law t lt redo count calm =
     let u = trial_of t in
-    let b = block-in t lt redo count in
+    let b = block-in law t lt redo count in
     let from : t.row.at < u.hi = b.0 in
     let to : u.hi ≤ t.row.hi = b.1 in
     let le : t.row.at ≤ u.hi = omega (arith, from) in
@@ -250,29 +204,29 @@ next-row t lt redo count calm =
       processes = λ k p q. calm.processes k (omega (arith, le, p)) q;
       writes = λ k p q. calm.writes k (omega (arith, le, p)) q;
     } in
-    let whole = ap length (answers-append t.work t.row.at u.hi t.row.hi le to) ∙ length-append (answers t.work t.row.at u.hi) (answers t.work u.hi t.row.hi) in
+    let whole = ap length (answers-append t.work t.row.at u.hi t.row.hi le to) ∙ length-append (plain_answers t.work t.row.at u.hi) (plain_answers t.work u.hi t.row.hi) in
     let same = ap length (calm-answers u u.hi t.row.hi) in
     let records : (u.hi - t.row.at) + (t.row.hi - u.hi) ≡ t.row.hi - t.row.at = omega (arith, le, to) in
-    let found : length (answers t.work t.row.at u.hi) + length (answers (calm_work u) u.hi t.row.hi) ≡ length (answers t.work t.row.at t.row.hi) = omega (arith, whole, same) in
+    let found : length (plain_answers t.work t.row.at u.hi) + length (plain_answers (calm_work u) u.hi t.row.hi) ≡ length (plain_answers t.work t.row.at t.row.hi) = omega (arith, whole, same) in
     let few = calm-few t.work u.hi t.row.hi to second in
-    merged t.row u.hi t.row.hi _ _ _ _ _ _ _ _ records found (sym (blocks-by-all t lt redo count)) (calm-few t.work t.row.at u.hi le first) (omega (arith, few, same))
+    merged t.row u.hi t.row.hi _ _ _ _ _ _ _ _ records found (sym (left-more law t lt redo count)) (calm-few t.work t.row.at u.hi le first) (omega (arith, few, same))
 
-next-outputs : (t : TaskState) → t.row.at < t.row.hi → t.row.redo ≤ t.row.hi → HasItemCount t.item_count → plain_outputs (calm_next t) ≡ plain_outputs t
-next-outputs t lt redo count =
+next-outputs : ChunksFollow → (t : TaskState) → t.row.at < t.row.hi → t.row.redo ≤ t.row.hi → HasItemCount t.item_count → plain_outputs (calm_next t) ≡ plain_outputs t
+next-outputs law t lt redo count =
     let u = trial_of t in
-    let b = block-in t lt redo count in
+    let b = block-in law t lt redo count in
     let from : t.row.at < u.hi = b.0 in
-    ap (λ xs. xs ++ answers (calm_work u) u.hi t.row.hi) (calm-written u)
-    ∙ ap (λ xs. (t.work.writer.written ++ answers t.work t.row.at u.hi) ++ xs) (calm-answers u u.hi t.row.hi)
-    ∙ append_assoc t.work.writer.written (answers t.work t.row.at u.hi) (answers t.work u.hi t.row.hi)
+    ap (λ xs. xs ++ plain_answers (calm_work u) u.hi t.row.hi) (calm-written u)
+    ∙ ap (λ xs. (t.work.writer.written ++ plain_answers t.work t.row.at u.hi) ++ xs) (calm-answers u u.hi t.row.hi)
+    ∙ append_assoc t.work.writer.written (plain_answers t.work t.row.at u.hi) (plain_answers t.work u.hi t.row.hi)
     ∙ ap (λ xs. t.work.writer.written ++ xs) (sym (answers-append t.work t.row.at u.hi t.row.hi (omega (arith, from)) b.1))
 
 -- nothing is left to be done
-plain-none : (t : TaskState) → t.row.at ≡ t.row.hi → t.row.redo ≤ t.row.hi → t.row.state ≡ state_at t.row.at t.row.hi → HasItemCount t.item_count → IsPlain t t
-plain-none t at redo stands count =
+plain-none : ChunksFollow → (t : TaskState) → t.row.at ≡ t.row.hi → t.row.redo ≤ t.row.hi → t.row.state ≡ state_at t.row.at t.row.hi → HasItemCount t.item_count → IsPlain t t
+plain-none law t at redo stands count =
     let records : t.row.hi - t.row.at ≡ 0 = omega (arith, at) in
     let none = answers-none t.work t.row.at t.row.hi at in (
-      none-done t.row _ _ _ at stands records (ap length none) (left_is t.row.at t.row.redo t.row.hi t.item_count count.some ∙ blocks-none t.row.at t.row.redo t.row.hi t.item_count at redo count.some),
+      none-done t.row _ _ _ at stands records (ap length none) (left-none law t.row.at t.row.redo t.row.hi t.item_count at redo),
       sym (append-nil t.work.writer.written) ∙ ap (λ xs. t.work.writer.written ++ xs) (sym none),
     )
 
@@ -292,33 +246,33 @@ calm-first t hi le calm = record {
 }
 
 -- where no call in the range fails, attempts that end the task leave what the Plain run leaves
-pub plain-run : (t : TaskState) (es : List Ending) (s : TaskState) → IsRunOf t es s → has_ended s.row.state ≡ true → t.row.at ≤ t.row.hi → t.row.redo ≤ t.row.hi → t.row.state ≡ state_at t.row.at t.row.hi → HasItemCount t.item_count → IsCalm t.work t.row.at t.row.hi → IsPlain t s
-plain-run t [] s run ended le redo stands count calm =
+pub plain-run : ChunksFollow → (t : TaskState) (es : List Ending) (s : TaskState) → IsRunOf t es s → has_ended s.row.state ≡ true → t.row.at ≤ t.row.hi → t.row.redo ≤ t.row.hi → t.row.state ≡ state_at t.row.at t.row.hi → HasItemCount t.item_count → IsCalm t.work t.row.at t.row.hi → IsPlain t s
+plain-run law t [] s run ended le redo stands count calm =
     let here : has_ended (state_at t.row.at t.row.hi) ≡ true = ap has_ended (sym stands) ∙ ap (λ (v : TaskState). has_ended v.row.state) (sym run) ∙ ended in
     let P : TaskState → Type 0 = λ v. IsPlain t v in
-    subst P (sym run) (plain-none t (ended-at (t.row.at == t.row.hi) t.row.at t.row.hi refl here) redo stands count)
-plain-run t (e ∷ es) s run ended le redo stands count calm =
+    subst P (sym run) (plain-none law t (ended-at (t.row.at == t.row.hi) t.row.at t.row.hi refl here) redo stands count)
+plain-run law t (e ∷ es) s run ended le redo stands count calm =
     let lt = below-at (t.row.at == t.row.hi) t.row.at t.row.hi refl le (sym stands ∙ run.0) in
-    let b = block-in t lt redo count in
+    let b = block-in law t lt redo count in
     let from = b.0 in
     let to = b.1 in
     let next : e.task ≡ calm_next t = ap (λ (x : Ending). x.task) run.1 ∙ attempted-calm t (omega (arith, from)) (calm-first t (block_of t).hi to calm) in
     let P : TaskState → Type 0 = λ v. IsRunOf v es s in
-    let then = plain-run (calm_next t) es s (subst P next run.2) ended to redo refl count (calm-rest (trial_of t) t.row.hi (omega (arith, from)) to calm) in
-    (then.0 ∙ next-row t lt redo count calm, then.1 ∙ next-outputs t lt redo count)
+    let then = plain-run law (calm_next t) es s (subst P next run.2) ended to redo refl count (calm-rest (trial_of t) t.row.hi (omega (arith, from)) to calm) in
+    (then.0 ∙ next-row law t lt redo count calm, then.1 ∙ next-outputs law t lt redo count)
 
 -- where no call in the range fails, a task that waits and runs alone does what its Plain run does
-pub plain-alone : (t s : TaskState) → IsReady t → t.row.state ≡ state.Waiting → IsAlone t s → IsCalm t.work t.row.at t.row.hi → IsPlain t s
-plain-alone t s ready waiting alone calm =
+pub plain-alone : ChunksFollow → (t s : TaskState) → IsReady t → t.row.state ≡ state.Waiting → IsAlone t s → IsCalm t.work t.row.at t.row.hi → IsPlain t s
+plain-alone law t s ready waiting alone calm =
     let sound = ready.sound in
     let lt = left-waiting t.row sound waiting in
-    plain-run t alone.attempts s alone.run alone.ended sound.placed.at_to sound.placed.redo_to (waiting ∙ sym (waiting-at t.row.at t.row.hi lt)) ready.item_counted calm
+    plain-run law t alone.attempts s alone.run alone.ended sound.placed.at_to sound.placed.redo_to (waiting ∙ sym (waiting-at t.row.at t.row.hi lt)) ready.item_counted calm
 
 unlike-failed : (s : RowState) → s ≡ state.Failed → s ≡ state.Finished → ⊥
 unlike-failed s f e = cc
 
 -- and it doesn't fail
-pub never-fails : (t s : TaskState) → IsReady t → t.row.state ≡ state.Waiting → IsAlone t s → s.row.state ≡ state.Failed → IsCalm t.work t.row.at t.row.hi → ⊥
-never-fails t s ready waiting alone failed calm =
-    let plain = plain-alone t s ready waiting alone calm in
+pub never-fails : ChunksFollow → (t s : TaskState) → IsReady t → t.row.state ≡ state.Waiting → IsAlone t s → s.row.state ≡ state.Failed → IsCalm t.work t.row.at t.row.hi → ⊥
+never-fails law t s ready waiting alone failed calm =
+    let plain = plain-alone law t s ready waiting alone calm in
     unlike-failed s.row.state failed (ap (λ (r : Row). r.state) plain.0 ∙ finished-at t.row.hi t.row.hi refl)

@@ -9,10 +9,11 @@ use Rattle.jb_artifacts.specs.Meaning.{Workplace}
 use Rattle.jb_chunk.specs.declared.end.End.{End}
 use Rattle.jb_chunk.specs.declared.end.End.TheVariants.{Written, Unwritten, Rolled, Failed}
 use Rattle.jb_chunk.specs.declared.tried.Tried.{Tried}
-use Rattle.jb_chunk.specs.Attempt.{Trial, found_in, work_by, work_with, row_by, kept_by, trial_of, after_end, values_by, settled_at, read_end, write_plans, IsRestored, outcome_by, ending_of, ending_by, attempt_of}
+use Rattle.jb_chunk.specs.Attempt.{Trial, found_in, work_with, trial_of, settled_at, read_end, write_plans, IsRestored, ending_of, ending_by, attempt_of}
+use Rattle.jb_chunk.specs.inside.Ends.{work_by, row_by, kept_by, after_end, values_by, outcome_by}
 use Rattle.jb_chunk.specs.Block.{passed, MayBeUsed}
 use Rattle.jb_chunk.specs.Standing.{TaskState, IsReady}
-use Rattle.jb_chunk.specs.Tried.{IsTried}
+use Rattle.jb_chunk.specs.inside.Tried.{IsTried}
 use Rattle.jb_chunk.proofs.Wearing.{worn-passed}
 use Rattle.std.proofs.lemmas.Grind.{common_steps}
 
@@ -29,6 +30,7 @@ unfolding work_with
 ready-by t Written sound r = record {
   sound = sound;
   item_counted = r.item_counted;
+  retried = r.retried;
   fits = record { from = r.fits.from; to = r.fits.to; count = omega (arith, grown t r) };
   place = refl;
   count = grown t r;
@@ -36,6 +38,7 @@ ready-by t Written sound r = record {
 ready-by t Unwritten sound r = record {
   sound = sound;
   item_counted = r.item_counted;
+  retried = r.retried;
   fits = record { from = r.fits.from; to = r.fits.to; count = omega (arith, r.count) };
   place = refl;
   count = omega (arith, r.count);
@@ -43,6 +46,7 @@ ready-by t Unwritten sound r = record {
 ready-by t (Rolled class) sound r = record {
   sound = sound;
   item_counted = r.item_counted;
+  retried = r.retried;
   fits = record { from = r.fits.from; to = r.fits.to; count = omega (arith, r.count) };
   place = refl;
   count = r.count;
@@ -50,16 +54,24 @@ ready-by t (Rolled class) sound r = record {
 ready-by t (Failed class) sound r = record {
   sound = sound;
   item_counted = r.item_counted;
+  retried = r.retried;
   fits = record { from = r.fits.from; to = r.fits.to; count = omega (arith, r.count) };
   place = refl;
   count = r.count;
 }
 
+-- an end leaves the parts that the functions give
+pub parts-of : (t : TaskState) (e : End) → ending_by t e ≡ ending_of (after_end t e) (outcome_by (trial_of t) e) (values_by t e)
+parts-of t Written = refl
+parts-of t Unwritten = refl
+parts-of t (Rolled class) = refl
+parts-of t (Failed class) = refl
+
 -- a block that was tried to its end is an attempt
 pub tried-attempt : (t : TaskState) (tried : Tried) (values : List (List ℕ)) (after : TaskState) → IsTried (trial_of t) tried after.work → after ≡ record t { row = after.row; work = after.work } → after.row ≡ row_by (trial_of t) tried.end → values ≡ values_by t tried.end → ending_of after (outcome_by (trial_of t) tried.end) values ≡ attempt_of t
 tried-attempt t tried values after done same row collected =
     let left : after ≡ after_end t tried.end = same ∙ (λ i. record t { row = row i; work = done.left i }) in
-    (λ i. ending_of (left i) (outcome_by (trial_of t) tried.end) (collected i)) ∙ ap (ending_by t) done.ended
+    (λ i. ending_of (left i) (outcome_by (trial_of t) tried.end) (collected i)) ∙ sym (parts-of t tried.end) ∙ ap (ending_by t) done.ended
 
 either : (b : Bool) (p : FaultPlan) → (cond b (used p) p ≡ p) ⊎ (cond b (used p) p ≡ used p)
 either true p = inr refl

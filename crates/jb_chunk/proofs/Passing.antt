@@ -6,7 +6,7 @@ use Rattle.jb_artifacts.specs.Faults.{Plans, live, used_at, is_live}
 use Rattle.jb_artifacts.specs.Reader.{record_at}
 use Rattle.jb_artifacts.specs.Meaning.{Workplace}
 use Rattle.jb_chunk.specs.Block.{used_between, passed, entry, entry_by}
-use Rattle.jb_chunk.specs.Gathering.{processed_at, passed_one}
+use Rattle.jb_chunk.specs.inside.Gathering.{processed_at, passed_one}
 
 fun_ext : {A B : Type 0} {f g : A → B} → ((x : A) → f x ≡ g x) → f ≡ g
 fun_ext h = λ i x. h x i

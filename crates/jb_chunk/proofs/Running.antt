@@ -1,27 +1,29 @@
 -- A task that runs alone.
 use Rattle.std.proofs.Common.{◌≡◌, ℕ, ◌+◌, ◌≤◌, ◌<◌, Bool, true, false, cond, List, [], ◌∷◌, ◌++◌, length, length-append, Option, Some, None, refl, ap, sym, ◌∙◌, subst, arith}
-use Rattle.std.specs.Prelude.{◌&&◌, nat_lt, min, unwrap_or, ◌==◌}
+use Rattle.std.specs.Prelude.{◌&&◌, nat_lt, ◌==◌}
 use Rattle.std.proofs.lemmas.Bool.Decides.{nat_tests}
 use Rattle.jb_job.specs.declared.class.ClassId.{ClassId}
-use Rattle.jb_job.specs.declared.job.Range.{Range}
-use Rattle.jb_job.specs.declared.rules.Rules.{Rules}
-use Rattle.jb_plan.proofs.BlockLists.{first_is}
+use Rattle.jb_job.specs.Records.{RulesRecord}
+use Rattle.jb_plan.specs.Blocks.{ChunksFollow}
 use Rattle.jb_rules.specs.declared.counts.Counts.{Counts}
 use Rattle.jb_rules.specs.declared.row.Row.{Row}
 use Rattle.jb_rules.specs.declared.row.RowState.{RowState}
 use Rattle.jb_rules.specs.declared.row.RowState.TheVariants as state
 use Rattle.jb_rules.specs.declared.choice.Choice.{Choice}
 use Rattle.jb_rules.specs.declared.choice.Choice.TheVariants.{Skip, Retry, Fail}
-use Rattle.jb_rules.specs.Decide.{choice_by, is_in}
+use Rattle.jb_rules.specs.Decide.{choice_by, has_class}
+use Rattle.jb_rules.specs.States.{has_ended}
 use Rattle.jb_rules.specs.Rows.{state_at}
 use Rattle.jb_rules.specs.Sound.{IsSoundRow}
 use Rattle.jb_chunk.specs.declared.end.End.{End}
 use Rattle.jb_chunk.specs.declared.end.End.TheVariants.{Written, Unwritten, Rolled, Failed}
 use Rattle.jb_chunk.specs.declared.outcome.Outcome.{Outcome}
 use Rattle.jb_chunk.specs.declared.outcome.Outcome.TheVariants as outcome
-use Rattle.jb_chunk.specs.Alone.{IsRunOf, IsAlone, IsBroken, has_ended, retries_left, attempts_left}
-use Rattle.jb_chunk.specs.Attempt.{Trial, Ending, trial_of, block_of, after_end, end_of, end_after, end_at, end_by, settled_at, outcome_by, attempt_of, ending_of, IsUnfinished}
+use Rattle.jb_chunk.specs.Alone.{IsRunOf, IsAlone, IsBroken, retries_left, attempts_left}
+use Rattle.jb_chunk.specs.Attempt.{Trial, Ending, trial_of, block_of, end_of, end_after, end_at, end_by, settled_at, attempt_of, ending_of, IsUnfinished}
+use Rattle.jb_chunk.specs.inside.Ends.{after_end, outcome_by}
 use Rattle.jb_chunk.specs.Block.{choice_at}
+use Rattle.jb_chunk.proofs.Leaving.{parts-of}
 use Rattle.jb_chunk.specs.Standing.{TaskState, IsReady, HasItemCount}
 
 -- a retry is chosen only where one is left
@@ -41,9 +43,9 @@ end-retry Skip k class e = cc
 end-retry Retry k class e = refl
 end-retry Fail k class e = cc
 
-end-below : (rules : Rules) (row : Row) (fault : Option ClassId) (skips : ℕ) (class : ClassId) → end_at rules row fault skips ≡ Rolled class → row.retries < rules.retry_limit
+end-below : (rules : RulesRecord) (row : Row) (fault : Option ClassId) (skips : ℕ) (class : ClassId) → end_at rules row fault skips ≡ Rolled class → row.retries < rules.retry_limit
 end-below rules row None skips class e = cc
-end-below rules row (Some k) skips class e = open-below (is_in rules.retryable k) row.retries rules.retry_limit (choice-retry _ _ _ (end-retry (choice_at rules row k skips) k class e))
+end-below rules row (Some k) skips class e = open-below (has_class rules.retryable k) row.retries rules.retry_limit (choice-retry _ _ _ (end-retry (choice_at rules row k skips) k class e))
 
 after-below : (t : Trial) (settled : Option ℕ) (class : ClassId) → end_after t settled ≡ Rolled class → t.row.retries < t.rules.retry_limit
 after-below t None class e = end-below t.rules t.row _ _ class e
@@ -54,22 +56,8 @@ unfolding end_of
 rolled-below t class e = after-below t (settled_at t) class e
 
 -- a block has a record, and none beyond the range
-abbrev pub block_by : (last single : Bool) (at hi count : ℕ) → Range
-block_by last single at hi count = unwrap_or {T = Range} (cond last None (cond single (Some (record { lo = at; hi = at + 1 })) (Some (record { lo = at; hi = min hi (at + count) })))) (record { lo = at; hi = hi })
-
-block-by : (last single : Bool) (at redo hi count : ℕ) → at < hi → 1 ≤ count → (at < (block_by last single at hi count).hi) × ((block_by last single at hi count).hi ≤ hi)
-block-by true single at redo hi count lt c = (lt, omega arith)
-block-by false true at redo hi count lt c = (omega arith, omega arith)
-block-by false false at redo hi count lt c = (omega arith, omega arith)
-
--- the next block, by the formula of the first of the chunks that are left
-pub block-is : (t : TaskState) → t.row.at ≤ t.row.hi → t.row.redo ≤ t.row.hi → block_of t ≡ block_by (t.row.at == t.row.hi) (nat_lt t.row.at t.row.redo) t.row.at t.row.hi t.item_count
-block-is t le redo = ap (λ o. unwrap_or {T = Range} o (record { lo = t.row.at; hi = t.row.hi })) (first_is t.row.at t.row.redo t.row.hi t.item_count le redo)
-
-pub block-in : (t : TaskState) → t.row.at < t.row.hi → t.row.redo ≤ t.row.hi → HasItemCount t.item_count → (t.row.at < (block_of t).hi) × ((block_of t).hi ≤ t.row.hi)
-block-in t lt redo c =
-    let P : Range → Type 0 = λ r. (t.row.at < r.hi) × (r.hi ≤ t.row.hi) in
-    subst P (sym (block-is t (omega (arith, lt)) redo)) (block-by (t.row.at == t.row.hi) (nat_lt t.row.at t.row.redo) t.row.at t.row.redo t.row.hi t.item_count lt c.some)
+pub block-in : ChunksFollow → (t : TaskState) → t.row.at < t.row.hi → t.row.redo ≤ t.row.hi → HasItemCount t.item_count → (t.row.at < (block_of t).hi) × ((block_of t).hi ≤ t.row.hi)
+block-in law t lt redo c = let next = law.next t.row.at t.row.redo t.row.hi t.item_count lt redo c.some in (next.some, next.within)
 
 -- there is a number for each rollback to come
 abbrev pub HasRoom : TaskState → Type 0
@@ -95,7 +83,7 @@ roll-by t Written class h w o = cc
 roll-by t Unwritten class h w o = cc
 roll-by t (Rolled k) class h w o =
     let below = rolled-below (trial_of t) k (sym h) in
-    (record { fewer = omega (arith, below); room = omega (arith, below) }, w)
+    (record { fewer = omega (arith, below); room = omega (arith, below) }, refl)
 roll-by t (Failed k) class h w o = cc
 
 fail-by : (t : TaskState) (e : End) (class : ClassId) → outcome.Failed class ≡ outcome_by (trial_of t) e → (after_end t e).row.state ≡ state.Failed
@@ -123,15 +111,15 @@ left-waiting row sound waiting = below-by (row.at == row.hi) row refl sound.plac
 
 -- what an attempt with this outcome leaves
 left-by : (t after : TaskState) (out : Outcome) (values : List (List ℕ)) → ending_of after out values ≡ attempt_of t → after ≡ after_end t (end_of (trial_of t))
-left-by t after out values done = ap (λ (e : Ending). e.task) done
+left-by t after out values done = ap (λ (e : Ending). e.task) (done ∙ parts-of t (end_of (trial_of t)))
 
 ended-by : (t after : TaskState) (out : Outcome) (values : List (List ℕ)) → ending_of after out values ≡ attempt_of t → out ≡ outcome_by (trial_of t) (end_of (trial_of t))
-ended-by t after out values done = ap (λ (e : Ending). e.outcome) done
+ended-by t after out values done = ap (λ (e : Ending). e.outcome) (done ∙ parts-of t (end_of (trial_of t)))
 
-commit-left : (before after : TaskState) (d : Counts) (values : List (List ℕ)) → IsReady before → before.row.state ≡ state.Waiting → ending_of after (outcome.Committed d) values ≡ attempt_of before → IsCommit before after
-commit-left before after d values ready waiting done =
+commit-left : ChunksFollow → (before after : TaskState) (d : Counts) (values : List (List ℕ)) → IsReady before → before.row.state ≡ state.Waiting → ending_of after (outcome.Committed d) values ≡ attempt_of before → IsCommit before after
+commit-left law before after d values ready waiting done =
     let P : TaskState → Type 0 = λ u. IsCommit before u in
-    let block = block-in before (left-waiting before.row ready.sound waiting) ready.sound.placed.redo_to ready.item_counted in
+    let block = block-in law before (left-waiting before.row ready.sound waiting) ready.sound.placed.redo_to ready.item_counted in
     subst P (sym (left-by before after _ values done)) (commit-by before (end_of (trial_of before)) d block (ended-by before after _ values done))
 
 roll-left : (before after : TaskState) (class : ClassId) (values : List (List ℕ)) → before.row.state ≡ state.Waiting → ending_of after (outcome.Rolled class) values ≡ attempt_of before → IsFurther before after × (after.row.state ≡ state.Waiting)
@@ -145,8 +133,8 @@ fail-left before after class values done =
     subst P (sym (left-by before after _ values done)) (fail-by before (end_of (trial_of before)) class (ended-by before after _ values done))
 
 -- no more is retried than the limit of a step's retries
-pub has-room : (t : TaskState) → t.row.counts.rollback ≤ 999000000000 → HasRoom t
-has-room t few = let most = t.rules.retry_limit_most in omega (arith, few, most)
+pub has-room : (t : TaskState) → IsReady t → t.row.counts.rollback ≤ 999000000000 → HasRoom t
+has-room t ready few = let most = ready.retried in omega (arith, few, most)
 
 -- some attempts were made, and there may be as many more as are left now
 pub record IsUnderWay (start now : TaskState) : Type 0 where
@@ -189,9 +177,9 @@ pub waiting-at : (at hi : ℕ) → at < hi → state_at at hi ≡ state.Waiting
 waiting-at at hi lt = let other : (at == hi) ≡ false = grind (arith, nat_tests) in ap (λ b. cond b state.Finished state.Waiting) other
 
 -- a chunk that was committed ends the task where no record is left
-pub commit-ends : (start now after : TaskState) (d : Counts) (values : List (List ℕ)) → IsReady now → now.row.state ≡ state.Waiting → IsUnderWay start now → ending_of after (outcome.Committed d) values ≡ attempt_of now → after.row.at ≡ after.row.hi → IsAlone start after × (after.row.state ≡ state.Finished)
-commit-ends start now after d values ready waiting way done at =
-    let commit = commit-left now after d values ready waiting done in
+pub commit-ends : ChunksFollow → (start now after : TaskState) (d : Counts) (values : List (List ℕ)) → IsReady now → now.row.state ≡ state.Waiting → IsUnderWay start now → ending_of after (outcome.Committed d) values ≡ attempt_of now → after.row.at ≡ after.row.hi → IsAlone start after × (after.row.state ≡ state.Finished)
+commit-ends law start now after d values ready waiting way done at =
+    let commit = commit-left law now after d values ready waiting done in
     let ended = commit.stands ∙ finished-at after.row.at after.row.hi at in
     (last-alone start now (ending_of after (outcome.Committed d) values) way ready waiting done (ap has_ended ended), ended)
 
@@ -212,9 +200,9 @@ next-of start now e waiting room way last further again =
       fewer = further.fewer;
     }
 
-pub commit-next : (start now after : TaskState) (d : Counts) (values : List (List ℕ)) → IsReady now → now.row.state ≡ state.Waiting → HasRoom now → IsUnderWay start now → ending_of after (outcome.Committed d) values ≡ attempt_of now → after.row.at < after.row.hi → IsNext start now after
-commit-next start now after d values ready waiting room way done lt =
-    let commit = commit-left now after d values ready waiting done in
+pub commit-next : ChunksFollow → (start now after : TaskState) (d : Counts) (values : List (List ℕ)) → IsReady now → now.row.state ≡ state.Waiting → HasRoom now → IsUnderWay start now → ending_of after (outcome.Committed d) values ≡ attempt_of now → after.row.at < after.row.hi → IsNext start now after
+commit-next law start now after d values ready waiting room way done lt =
+    let commit = commit-left law now after d values ready waiting done in
     next-of start now (ending_of after (outcome.Committed d) values) waiting room way done commit.further (commit.stands ∙ waiting-at after.row.at after.row.hi lt)
 
 pub roll-next : (start now after : TaskState) (class : ClassId) (values : List (List ℕ)) → now.row.state ≡ state.Waiting → HasRoom now → IsUnderWay start now → ending_of after (outcome.Rolled class) values ≡ attempt_of now → IsNext start now after

@@ -5,24 +5,24 @@ use Rattle.std.specs.Option.{option_or}
 use Rattle.std.proofs.lemmas.List.Folds.{find-append}
 use Rattle.jb_job.specs.declared.class.ClassId.{ClassId}
 use Rattle.jb_rules.specs.declared.choice.Choice.{Choice}
-use Rattle.jb_job.specs.declared.rules.Rules.{Rules}
+use Rattle.jb_job.specs.Records.{RulesRecord}
 use Rattle.jb_rules.specs.declared.row.Row.{Row}
 use Rattle.jb_rules.specs.Rows.{skips_of}
 use Rattle.jb_artifacts.specs.Meaning.{Workplace}
 use Rattle.jb_chunk.specs.declared.tally.Tally.{Tally}
 use Rattle.jb_chunk.specs.Block.{entry, settles, settling, stops, is_skip, choice_at, skips_before, count_of, passed}
 use Rattle.jb_chunk.specs.Entries.{fault_in, is_process_fault}
-use Rattle.jb_chunk.specs.Gathering.{IsTally, IsStep}
+use Rattle.jb_chunk.specs.inside.Gathering.{IsTally, IsStep}
 use Rattle.jb_chunk.proofs.Passing.{entry-passed}
 use Rattle.jb_chunk.proofs.Counting.{numbers-to}
 
-pub settling-none : (rules : Rules) (row : Row) (w : Workplace) → settling rules row w row.at ≡ None
+pub settling-none : (rules : RulesRecord) (row : Row) (w : Workplace) → settling rules row w row.at ≡ None
 unfolding settling
 settling-none rules row w =
     let none : row.at - row.at ≡ 0 = omega arith in
     ap (λ n. find (settles rules row w) (range_with_len row.at n)) none
 
-pub settling-idle : (rules : Rules) (row : Row) (w : Workplace) (n : ℕ) → row.at ≤ n → settling rules row w n ≡ None → settles rules row w n ≡ false → settling rules row w (n + 1) ≡ None
+pub settling-idle : (rules : RulesRecord) (row : Row) (w : Workplace) (n : ℕ) → row.at ≤ n → settling rules row w n ≡ None → settles rules row w n ≡ false → settling rules row w (n + 1) ≡ None
 unfolding settling
 settling-idle rules row w n le none idle =
     let p = settles rules row w in
@@ -43,7 +43,7 @@ numbers-split lo (suc n) m =
     ∙ ap (λ xs. lo ∷ xs) (numbers-split (lo + 1) n m)
     ∙ ap (λ a. lo ∷ range_with_len (lo + 1) n ++ range_with_len a m) start
 
-pub settling-found : (rules : Rules) (row : Row) (w : Workplace) (n hi : ℕ) → row.at ≤ n → n < hi → settling rules row w n ≡ None → settles rules row w n ≡ true → settling rules row w hi ≡ Some n
+pub settling-found : (rules : RulesRecord) (row : Row) (w : Workplace) (n hi : ℕ) → row.at ≤ n → n < hi → settling rules row w n ≡ None → settles rules row w n ≡ true → settling rules row w hi ≡ Some n
 unfolding settling
 settling-found rules row w n hi le lt none found =
     let p = settles rules row w in
@@ -64,12 +64,12 @@ skips-tally row w n t tally =
     ∙ ap (λ m. skips_of row + t.read_skips + m) (sym tally.process_skips)
 
 -- a record settles the block by its fault and the skips before it
-settles-by : (rules : Rules) (row : Row) (w : Workplace) (n skips : ℕ) (fault : Option ClassId) (b : Bool) → fault_in (entry w n) ≡ fault → skips_before row w n ≡ skips → stops rules row fault skips ≡ b → settles rules row w n ≡ b
+settles-by : (rules : RulesRecord) (row : Row) (w : Workplace) (n skips : ℕ) (fault : Option ClassId) (b : Bool) → fault_in (entry w n) ≡ fault → skips_before row w n ≡ skips → stops rules row fault skips ≡ b → settles rules row w n ≡ b
 unfolding settles
 settles-by rules row w n skips fault b e f h =
     ap (λ o. stops rules row o (skips_before row w n)) e ∙ ap (stops rules row fault) f ∙ h
 
-pub step-some : (rules : Rules) (row : Row) (w now : Workplace) (n hi : ℕ) (t new : Tally) (class : ClassId) (choice : Choice) → row.at ≤ n → n < hi → now ≡ passed w row.at n → IsTally w row.at n t → settling rules row w n ≡ None → IsStep rules row (entry now n) n t (Some (class, choice)) new → (settling rules row w hi ≡ Some n) × (fault_in (entry w n) ≡ Some class) × (choice ≡ choice_at rules row class (skips_before row w n)) × (is_skip choice ≡ false)
+pub step-some : (rules : RulesRecord) (row : Row) (w now : Workplace) (n hi : ℕ) (t new : Tally) (class : ClassId) (choice : Choice) → row.at ≤ n → n < hi → now ≡ passed w row.at n → IsTally w row.at n t → settling rules row w n ≡ None → IsStep rules row (entry now n) n t (Some (class, choice)) new → (settling rules row w hi ≡ Some n) × (fault_in (entry w n) ≡ Some class) × (choice ≡ choice_at rules row class (skips_before row w n)) × (is_skip choice ≡ false)
 step-some rules row w now n hi t new class choice le lt at tally none step =
     let same : entry now n ≡ entry w n = ap (λ v. entry v n) at ∙ entry-passed w row.at n in
     let fault : fault_in (entry w n) ≡ Some class = ap fault_in (sym same) ∙ step.0 in
@@ -77,7 +77,7 @@ step-some rules row w now n hi t new class choice le lt at tally none step =
     let found = settles-by rules row w n _ _ true fault skips (ap not step.2) in
     (settling-found rules row w n hi le lt none found, fault, step.1 ∙ ap (choice_at rules row class) (sym skips), ap is_skip step.1 ∙ step.2)
 
-pub step-none : (rules : Rules) (row : Row) (w now : Workplace) (n : ℕ) (t new : Tally) → row.at ≤ n → now ≡ passed w row.at n → IsTally w row.at n t → settling rules row w n ≡ None → IsStep rules row (entry now n) n t None new → settling rules row w (n + 1) ≡ None
+pub step-none : (rules : RulesRecord) (row : Row) (w now : Workplace) (n : ℕ) (t new : Tally) → row.at ≤ n → now ≡ passed w row.at n → IsTally w row.at n t → settling rules row w n ≡ None → IsStep rules row (entry now n) n t None new → settling rules row w (n + 1) ≡ None
 step-none rules row w now n t new le at tally none step =
     let same : entry now n ≡ entry w n = ap (λ v. entry v n) at ∙ entry-passed w row.at n in
     let idle = settles-by rules row w n _ _ false (ap fault_in (sym same)) (skips-tally row w n t tally) step.0 in

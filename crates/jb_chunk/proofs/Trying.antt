@@ -6,15 +6,16 @@ use Rattle.jb_rules.specs.declared.choice.Choice.{Choice}
 use Rattle.jb_rules.specs.Rows.{skips_of}
 use Rattle.jb_rules.specs.Counts.{no_counts}
 use Rattle.jb_artifacts.specs.Reader.{opened}
-use Rattle.jb_artifacts.specs.Writer.{Writer, Numbered, texts_of, write_fault, torn}
+use Rattle.jb_artifacts.specs.Writer.{Writer, Numbered, texts_of, write_fault, torn_write}
 use Rattle.jb_artifacts.specs.Meaning.{Workplace}
 use Rattle.jb_chunk.specs.declared.tally.Tally.{Tally}
 use Rattle.jb_chunk.specs.declared.tried.Tried.{Tried}
-use Rattle.jb_chunk.specs.Attempt.{Trial, settled_at, found_in, end_at, end_by, delta_by, counts_by, place_by, kept_by, work_by, work_with}
+use Rattle.jb_chunk.specs.Attempt.{Trial, settled_at, found_in, end_at, end_by, work_with}
+use Rattle.jb_chunk.specs.inside.Ends.{delta_by, counts_by, place_by, kept_by, work_by}
 use Rattle.jb_chunk.specs.Block.{entry, choice_at, skips_before, is_skip, passed}
 use Rattle.jb_chunk.specs.Entries.{fault_in}
-use Rattle.jb_chunk.specs.Gathering.{IsTally, IsWornTo}
-use Rattle.jb_chunk.specs.Tried.{IsTried, IsFinish, IsTorn, writer_by}
+use Rattle.jb_chunk.specs.inside.Gathering.{IsTally, IsWornTo}
+use Rattle.jb_chunk.specs.inside.Tried.{IsTried, IsFinish, IsTorn, writer_by}
 use Rattle.jb_chunk.proofs.Counting.{all-counted}
 use Rattle.jb_chunk.proofs.Settling.{skips-tally}
 use Rattle.jb_chunk.proofs.Ending.{settled-end, settled-work, settled-delta, write-end}
@@ -46,7 +47,13 @@ whole-tried t tally whole now tried at counted passes finish = record {
       ∙ write-end t _ at refl;
   delta =
       finish.delta
-      ∙ (λ i. counts_by tried.end (t.hi - t.row.at) (counted.read_skips i) (counted.process_skips i) (counted.filtered i) (length (counted.found i)));
+      ∙ (λ i. counts_by tried.end (record {
+        records = t.hi - t.row.at;
+        read_skips = counted.read_skips i;
+        process_skips = counted.process_skips i;
+        filtered = counted.filtered i;
+        found = length (counted.found i);
+      }));
   left =
       finish.left
       ∙ ap (λ (v : Workplace). record v { reader = opened v.reader (place_by tried.end t.row.at t.hi); writer = writer_by tried.end v.writer tally.found.items }) passes
@@ -79,10 +86,10 @@ torn-worn w now worn =
     }
 
 -- a block that found no memory in its write
-pub torn-written : (w whole now : Workplace) (lo hi count : ℕ) (found : Numbered) → whole ≡ passed w lo hi → now ≡ record whole { writer = torn whole.writer found count } → IsTorn w now
+pub torn-written : (w whole now : Workplace) (lo hi count : ℕ) (found : Numbered) → whole ≡ passed w lo hi → now ≡ record whole { writer = torn_write whole.writer found count } → IsTorn w now
 torn-written w whole now lo hi count found passes e =
     let P : Workplace → Type 0 = λ v. IsTorn w v in
-    let at = e ∙ ap (λ (v : Workplace). record v { writer = torn v.writer found count }) passes in
+    let at = e ∙ ap (λ (v : Workplace). record v { writer = torn_write v.writer found count }) passes in
     let worn = worn-passed w (passed w lo hi) lo hi refl in
     let more = texts_of (take (count - length w.writer.written) found) in
     subst P (sym at) (record {

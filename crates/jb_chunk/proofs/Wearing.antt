@@ -5,7 +5,7 @@ use Rattle.jb_artifacts.specs.declared.faults.FaultPlan.{FaultPlan}
 use Rattle.jb_artifacts.specs.Faults.{Plans, used, is_live, used_at}
 use Rattle.jb_artifacts.specs.Meaning.{Workplace}
 use Rattle.jb_chunk.specs.Block.{used_between, passed, MayBeUsed}
-use Rattle.jb_chunk.specs.Gathering.{passed_one, IsWorn, IsWornTo}
+use Rattle.jb_chunk.specs.inside.Gathering.{passed_one, IsWorn, IsWornTo}
 use Rattle.jb_chunk.proofs.Passing.{between-called, passed-more}
 
 either : (b : Bool) (p q : FaultPlan) → (cond b q p ≡ p) ⊎ (cond b q p ≡ q)

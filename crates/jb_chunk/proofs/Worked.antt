@@ -1,23 +1,18 @@
 -- The worked rows, computed.
-use Rattle.std.proofs.Common.{◌≡◌, ℕ, zero, suc, Bool, true, false, cond, List, [], ◌∷◌, refl, lit≤}
+use Rattle.std.proofs.Common.{◌≡◌, ℕ, zero, suc, Bool, true, false, cond, List, [], ◌∷◌, refl, lit≤, length, ◌≤◌}
 use Rattle.std.specs.Prelude.{codes}
 use Rattle.std.specs.Fmt.{digits}
 use Rattle.jb_plan.specs.Blocks.{blocks}
 use Rattle.jb_rules.specs.declared.row.RowState.{RowState}
 use Rattle.jb_rules.specs.declared.row.RowState.TheVariants.{Waiting, Running, Finished, Failed}
 use Rattle.jb_artifacts.specs.Faults.{used_at}
-use Rattle.jb_chunk.specs.Alone.{IsRunOf}
+use Rattle.jb_rules.specs.States.{is_waiting, has_ended}
+use Rattle.jb_chunk.specs.Alone.{IsRunOf, attempts_left}
 use Rattle.jb_chunk.specs.Attempt.{Ending, attempt_of, end_of, work_with}
 use Rattle.jb_chunk.specs.Block.{entry, results, count_of, settles, settling, used_between}
-use Rattle.jb_chunk.specs.Plain.{answers}
+use Rattle.jb_chunk.specs.Plain.{plain_answers}
 use Rattle.jb_chunk.specs.Standing.{TaskState}
-use Rattle.jb_chunk.specs.Worked.{FirstRun, EverythingFiltered, NoRecord, RetryToSingles, SkipInRedo, OneFailed, TornWrite, RetryLimit, ReadSkip, RolledBackSkip, PlainRuns, RunsTo, filtering, first_task, second_task, recordless, retried, skipped, failed, beside_failed, torn, retried_out, read_skipped, rolled_back}
-
-abbrev is_waiting : RowState → Bool
-is_waiting Waiting = true
-is_waiting (Running lane) = false
-is_waiting Finished = false
-is_waiting Failed = false
+use Rattle.jb_chunk.specs.Worked.{FirstRun, EverythingFiltered, NoRecord, RetryToSingles, SkipInRedo, OneFailed, TornWrite, RetryLimit, ReadSkip, RolledBackSkip, PlainRuns, RunsTo, numbers, texts_in, filtered_task, first_task, second_task, recordless_task, retried_task, skipped_task, failed_task, beside_failed_task, torn_task, retried_out_task, read_skipped_task, rolled_back_task}
 
 -- the first `n` attempts, while the task waits, and where they lead
 unfoldable attempts : ℕ → TaskState → List Ending
@@ -44,144 +39,72 @@ unfolding attempts place
 run-of zero t = refl
 run-of (suc n) t = one-more (is_waiting t.row.state) n t refl (run-of n (attempt_of t).task)
 
+-- a task whose first `n` attempts end it
+runs_to : (t : TaskState) (n : ℕ) {row : List ℕ} {end : RowState} {written collected : List (List ℕ)} → has_ended (place n t).row.state ≡ true → length (attempts n t) ≤ attempts_left t
+    → numbers (place n t).row ≡ row → (place n t).row.state ≡ end → (place n t).work.writer.written ≡ written → texts_in (attempts n t) ≡ collected → RunsTo t row end written collected
+runs_to t n ended few row state outputs texts = record {
+  last = place n t;
+  alone = record { attempts = attempts n t; run = run-of n t; ended = ended; few = few };
+  row = row;
+  state = state;
+  outputs = outputs;
+  texts = texts;
+}
+
 first_runs : RunsTo first_task (2 ∷ 0 ∷ 0 ∷ 2 ∷ 2 ∷ 2 ∷ 1 ∷ 0 ∷ 0 ∷ 0 ∷ 0 ∷ 0 ∷ []) Finished (codes "xa" ∷ codes "xb" ∷ []) (codes "0:2:2" ∷ codes "0:2:2:end" ∷ [])
 unfolding attempts place end_of settling settles entry results count_of work_with used_between used_at digits blocks
-first_runs = record {
-  last = place 1 first_task;
-  alone = record { attempts = attempts 1 first_task; run = run-of 1 first_task; ended = refl; few = lit≤ tt };
-  row = refl;
-  state = refl;
-  outputs = refl;
-  texts = refl;
-}
+first_runs = runs_to first_task 1 refl (lit≤ tt) refl refl refl refl
 
 second_runs : RunsTo second_task (3 ∷ 2 ∷ 0 ∷ 1 ∷ 1 ∷ 1 ∷ 1 ∷ 0 ∷ 0 ∷ 0 ∷ 0 ∷ 0 ∷ []) Finished (codes "xc" ∷ []) (codes "1:3:1" ∷ codes "1:3:1:end" ∷ [])
 unfolding attempts place end_of settling settles entry results count_of work_with used_between used_at digits blocks
-second_runs = record {
-  last = place 1 second_task;
-  alone = record { attempts = attempts 1 second_task; run = run-of 1 second_task; ended = refl; few = lit≤ tt };
-  row = refl;
-  state = refl;
-  outputs = refl;
-  texts = refl;
-}
+second_runs = runs_to second_task 1 refl (lit≤ tt) refl refl refl refl
 
 pub first_run : FirstRun
 first_run = record { first = first_runs; second = second_runs }
 
 pub everything_filtered : EverythingFiltered
 unfolding attempts place end_of settling settles entry results count_of work_with used_between used_at digits blocks
-everything_filtered = record {
-  last = place 1 filtering;
-  alone = record { attempts = attempts 1 filtering; run = run-of 1 filtering; ended = refl; few = lit≤ tt };
-  row = refl;
-  state = refl;
-  outputs = refl;
-  texts = refl;
-}
+everything_filtered = runs_to filtered_task 1 refl (lit≤ tt) refl refl refl refl
 
 pub no_record : NoRecord
 unfolding attempts place end_of settling settles entry results count_of work_with used_between used_at digits blocks
-no_record = record {
-  last = place 0 recordless;
-  alone = record { attempts = attempts 0 recordless; run = run-of 0 recordless; ended = refl; few = lit≤ tt };
-  row = refl;
-  state = refl;
-  outputs = refl;
-  texts = refl;
-}
+no_record = runs_to recordless_task 0 refl (lit≤ tt) refl refl refl refl
 
 pub retry_to_singles : RetryToSingles
 unfolding attempts place end_of settling settles entry results count_of work_with used_between used_at digits blocks
-retry_to_singles = record {
-  last = place 5 retried;
-  alone = record { attempts = attempts 5 retried; run = run-of 5 retried; ended = refl; few = lit≤ tt };
-  row = refl;
-  state = refl;
-  outputs = refl;
-  texts = refl;
-}
+retry_to_singles = runs_to retried_task 5 refl (lit≤ tt) refl refl refl refl
 
 pub skip_in_redo : SkipInRedo
 unfolding attempts place end_of settling settles entry results count_of work_with used_between used_at digits blocks
-skip_in_redo = record {
-  last = place 4 skipped;
-  alone = record { attempts = attempts 4 skipped; run = run-of 4 skipped; ended = refl; few = lit≤ tt };
-  row = refl;
-  state = refl;
-  outputs = refl;
-  texts = refl;
-}
+skip_in_redo = runs_to skipped_task 4 refl (lit≤ tt) refl refl refl refl
 
 pub torn_write : TornWrite
 unfolding attempts place end_of settling settles entry results count_of work_with used_between used_at digits blocks
-torn_write = record {
-  last = place 1 torn;
-  alone = record { attempts = attempts 1 torn; run = run-of 1 torn; ended = refl; few = lit≤ tt };
-  row = refl;
-  state = refl;
-  outputs = refl;
-  texts = refl;
-}
+torn_write = runs_to torn_task 1 refl (lit≤ tt) refl refl refl refl
 
 pub retry_limit : RetryLimit
 unfolding attempts place end_of settling settles entry results count_of work_with used_between used_at digits blocks
-retry_limit = record {
-  last = place 3 retried_out;
-  alone = record { attempts = attempts 3 retried_out; run = run-of 3 retried_out; ended = refl; few = lit≤ tt };
-  row = refl;
-  state = refl;
-  outputs = refl;
-  texts = refl;
-}
+retry_limit = runs_to retried_out_task 3 refl (lit≤ tt) refl refl refl refl
 
 pub read_skip : ReadSkip
 unfolding attempts place end_of settling settles entry results count_of work_with used_between used_at digits blocks
-read_skip = record {
-  last = place 2 read_skipped;
-  alone = record { attempts = attempts 2 read_skipped; run = run-of 2 read_skipped; ended = refl; few = lit≤ tt };
-  row = refl;
-  state = refl;
-  outputs = refl;
-  texts = refl;
-}
+read_skip = runs_to read_skipped_task 2 refl (lit≤ tt) refl refl refl refl
 
 pub rolled_back_skip : RolledBackSkip
 unfolding attempts place end_of settling settles entry results count_of work_with used_between used_at digits blocks
-rolled_back_skip = record {
-  last = place 4 rolled_back;
-  alone = record { attempts = attempts 4 rolled_back; run = run-of 4 rolled_back; ended = refl; few = lit≤ tt };
-  row = refl;
-  state = refl;
-  outputs = refl;
-  texts = refl;
-}
+rolled_back_skip = runs_to rolled_back_task 4 refl (lit≤ tt) refl refl refl refl
 
-fails : RunsTo failed (2 ∷ 0 ∷ 0 ∷ 1 ∷ 2 ∷ 1 ∷ 1 ∷ 1 ∷ 0 ∷ 1 ∷ 0 ∷ 0 ∷ []) Failed (codes "xb" ∷ []) (codes "0:2:1" ∷ [])
+fails : RunsTo failed_task (2 ∷ 0 ∷ 0 ∷ 1 ∷ 2 ∷ 1 ∷ 1 ∷ 1 ∷ 0 ∷ 1 ∷ 0 ∷ 0 ∷ []) Failed (codes "xb" ∷ []) (codes "0:2:1" ∷ [])
 unfolding attempts place end_of settling settles entry results count_of work_with used_between used_at digits blocks
-fails = record {
-  last = place 2 failed;
-  alone = record { attempts = attempts 2 failed; run = run-of 2 failed; ended = refl; few = lit≤ tt };
-  row = refl;
-  state = refl;
-  outputs = refl;
-  texts = refl;
-}
+fails = runs_to failed_task 2 refl (lit≤ tt) refl refl refl refl
 
-goes_on : RunsTo beside_failed (6 ∷ 4 ∷ 0 ∷ 2 ∷ 2 ∷ 2 ∷ 1 ∷ 0 ∷ 0 ∷ 0 ∷ 0 ∷ 0 ∷ []) Finished (codes "xe" ∷ codes "xf" ∷ []) (codes "1:6:2" ∷ codes "1:6:2:end" ∷ [])
+goes_on : RunsTo beside_failed_task (6 ∷ 4 ∷ 0 ∷ 2 ∷ 2 ∷ 2 ∷ 1 ∷ 0 ∷ 0 ∷ 0 ∷ 0 ∷ 0 ∷ []) Finished (codes "xe" ∷ codes "xf" ∷ []) (codes "1:6:2" ∷ codes "1:6:2:end" ∷ [])
 unfolding attempts place end_of settling settles entry results count_of work_with used_between used_at digits blocks
-goes_on = record {
-  last = place 1 beside_failed;
-  alone = record { attempts = attempts 1 beside_failed; run = run-of 1 beside_failed; ended = refl; few = lit≤ tt };
-  row = refl;
-  state = refl;
-  outputs = refl;
-  texts = refl;
-}
+goes_on = runs_to beside_failed_task 1 refl (lit≤ tt) refl refl refl refl
 
 pub one_failed : OneFailed
 one_failed = record { failed = fails; finished = goes_on }
 
 pub plain_runs : PlainRuns
-unfolding answers blocks
+unfolding plain_answers blocks
 plain_runs = record { counts = refl; outputs = refl; filtered = refl; nothing = refl }

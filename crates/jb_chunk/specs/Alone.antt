@@ -1,6 +1,6 @@
 -- Run alone: a partition's attempts, by itself, to its end.
-use Rattle.std.specs.Prelude.{ℕ, ◌≡◌, ◌≤◌, ◌<◌, ◌+◌, ◌-◌, Bool, true, false, List, [], ◌∷◌, length, ⊤}
-use Rattle.jb_rules.specs.declared.row.RowState.{RowState}
+use Rattle.std.specs.Prelude.{ℕ, ◌≡◌, ◌≤◌, ◌<◌, ◌+◌, ◌-◌, true, List, [], ◌∷◌, length, ⊤}
+use Rattle.jb_rules.specs.States.{has_ended}
 use Rattle.jb_rules.specs.declared.row.RowState.TheVariants as state
 use Rattle.jb_chunk.specs.declared.alone.AloneEnd.{AloneEnd}
 use Rattle.jb_chunk.specs.declared.alone.AloneEnd.TheVariants.{Finished, Failed, NoMemory}
@@ -13,12 +13,6 @@ use Rattle.jb_chunk.specs.Standing.{TaskState}
 abbrev pub IsRunOf : TaskState → List Ending → TaskState → Type 0
 IsRunOf t [] s = s ≡ t
 IsRunOf t (e ∷ es) s = (t.row.state ≡ state.Waiting) × (e ≡ attempt_of t) × IsRunOf e.task es s
-
-abbrev pub has_ended : RowState → Bool
-has_ended state.Waiting = false
-has_ended (state.Running lane) = false
-has_ended state.Finished = true
-has_ended state.Failed = true
 
 -- how often a chunk of the task may still be retried
 abbrev pub retries_left : TaskState → ℕ

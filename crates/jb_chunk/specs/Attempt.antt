@@ -1,15 +1,14 @@
 -- Attempt: what one try at the task's next chunk does to row, outputs, fault plans and values.
-use Rattle.std.specs.Prelude.{ℕ, ◌≡◌, ◌+◌, ◌-◌, ◌++◌, ◌==◌, Bool, true, false, if◌then◌else◌, List, [], ◌∷◌, length, Option, Some, None, unwrap_or, slice_get}
+use Rattle.std.specs.Prelude.{ℕ, ◌≡◌, ◌+◌, ◌-◌, ◌++◌, ◌==◌, Bool, true, false, if◌then◌else◌, List, [], ◌∷◌, length, Option, Some, None}
 use Rattle.jb_job.specs.declared.class.ClassId.{ClassId}
 use Rattle.jb_job.specs.declared.job.Range.{Range}
-use Rattle.jb_job.specs.declared.rules.Rules.{Rules}
-use Rattle.jb_plan.specs.Blocks.{blocks}
+use Rattle.jb_job.specs.Records.{RulesRecord}
 use Rattle.jb_rules.specs.declared.counts.Counts.{Counts}
 use Rattle.jb_rules.specs.declared.row.Row.{Row}
 use Rattle.jb_rules.specs.declared.choice.Choice.{Choice}
 use Rattle.jb_rules.specs.declared.choice.Choice.TheVariants.{Skip, Retry, Fail}
 use Rattle.jb_rules.specs.Counts.{no_counts}
-use Rattle.jb_rules.specs.Rows.{committed_row, rolled_row, failed_row}
+use Rattle.jb_rules.specs.Rows.{row_block, committed_row, rolled_row, failed_row}
 use Rattle.jb_artifacts.specs.declared.view.RowView.{RowView}
 use Rattle.jb_artifacts.specs.Faults.{Plans}
 use Rattle.jb_artifacts.specs.Reader.{opened}
@@ -28,11 +27,11 @@ use Rattle.jb_chunk.specs.Standing.{TaskState}
 
 -- the task's next block: the first of the chunks that are left
 abbrev pub block_of : TaskState → Range
-block_of t = unwrap_or (slice_get (blocks t.row.at t.row.redo t.row.hi t.item_count) 0) (record { lo = t.row.at; hi = t.row.hi })
+block_of t = row_block t.item_count t.row
 
 -- a block to be tried: the records from the row's checkpoint to `hi - 1`
 pub record Trial : Type 0 where
-  pub rules : Rules
+  pub rules : RulesRecord
   pub row : Row
   pub hi : ℕ
   pub work : Workplace
@@ -56,7 +55,7 @@ end_by Retry class = Rolled class
 end_by Fail class = Failed class
 
 -- the block ends by this fault after so many skips, and without one as written
-abbrev pub end_at : Rules → Row → (fault : Option ClassId) → (skips : ℕ) → End
+abbrev pub end_at : RulesRecord → Row → (fault : Option ClassId) → (skips : ℕ) → End
 end_at rules row None skips = Written
 end_at rules row (Some class) skips = end_by (choice_at rules row class skips) class
 
@@ -68,48 +67,41 @@ end_after t None = end_at t.rules t.row (write_fault t.work.writer (found_in t))
 unfoldable pub end_of : Trial → End
 end_of t = end_after t (settled_at t)
 
--- THE ROW
+-- WHAT IT ADDS TO THE COUNTS
 
--- What a block that ended so adds to the counts where it is committed (Jakarta Batch 2.1, "Metric"; that READ counts the
--- reads that succeeded and a skipped write call counts one is this project's choice), by the numbers of its records and
--- of their entries. The counts of a block that is rolled back or fails are dropped.
-abbrev pub counts_by : End → (records read_skips process_skips filtered found : ℕ) → Counts
-counts_by Written records read_skips process_skips filtered found = record no_counts {
-  read = records - read_skips;
-  write = found;
-  commit = 1;
-  read_skip = read_skips;
-  process_skip = process_skips;
-  filter = filtered;
+-- what the records of a block came to, by their numbers
+pub record BlockTally : Type 0 where
+  pub records : ℕ
+  pub read_skips : ℕ
+  pub process_skips : ℕ
+  pub filtered : ℕ
+  pub found : ℕ
+
+abbrev pub tally_of : Trial → BlockTally
+tally_of t = record {
+  records = t.hi - t.row.at;
+  read_skips = count_of is_read_fault t.work t.row.at t.hi;
+  process_skips = count_of is_process_fault t.work t.row.at t.hi;
+  filtered = count_of is_filtered t.work t.row.at t.hi;
+  found = length (found_in t);
 }
-counts_by Unwritten records read_skips process_skips filtered found = record no_counts {
-  read = records - read_skips;
+
+-- What a block adds that is committed (Jakarta Batch 2.1, "Metric"; that READ counts the reads that succeeded, and a
+-- skipped write call counts one, is this project's choice). The counts of a block that is rolled back or fails are dropped.
+abbrev pub counts_written : BlockTally → Counts
+counts_written b = record no_counts {
+  read = b.records - b.read_skips;
+  write = b.found;
   commit = 1;
-  read_skip = read_skips;
-  process_skip = process_skips;
-  filter = filtered;
-  write_skip = 1;
+  read_skip = b.read_skips;
+  process_skip = b.process_skips;
+  filter = b.filtered;
 }
-counts_by (Rolled class) records read_skips process_skips filtered found = no_counts
-counts_by (Failed class) records read_skips process_skips filtered found = no_counts
 
-abbrev pub delta_by : Trial → End → Counts
-delta_by t end =
-    counts_by end (t.hi - t.row.at)
-    (count_of is_read_fault t.work t.row.at t.hi) (count_of is_process_fault t.work t.row.at t.hi)
-    (count_of is_filtered t.work t.row.at t.hi) (length (found_in t))
+abbrev pub counts_unwritten : BlockTally → Counts
+counts_unwritten b = record (counts_written b) { write = 0; write_skip = 1 }
 
--- the row after its block, up to `hi`, ended so
-abbrev pub row_with : Row → (hi : ℕ) → End → Counts → Row
-row_with row hi Written delta = committed_row row hi delta
-row_with row hi Unwritten delta = committed_row row hi delta
-row_with row hi (Rolled class) delta = rolled_row row hi
-row_with row hi (Failed class) delta = failed_row row
-
-abbrev pub row_by : Trial → End → Row
-row_by t end = row_with t.row t.hi end (delta_by t end)
-
--- THE ARTIFACTS
+-- WHAT IT USES OF THE ARTIFACTS
 
 -- how far the records are read: past the one that settles the block, else to the block's end
 abbrev pub read_end : Trial → (settled : Option ℕ) → ℕ
@@ -134,32 +126,6 @@ work_with t settled place written =
 abbrev pub work_at : Trial → (place : ℕ) → (written : Texts) → Workplace
 work_at t place written = work_with t (settled_at t) place written
 
--- Where the reader stands after the block ended so: where it isn't committed, at the last checkpoint again (Jakarta Batch
--- 2.1, "Default Retry Behavior - Rollback").
-abbrev pub place_by : End → (at hi : ℕ) → ℕ
-place_by Written at hi = hi
-place_by Unwritten at hi = hi
-place_by (Rolled class) at hi = at
-place_by (Failed class) at hi = at
-
--- What is written after the block ended so. A write call that fails may have written some results: they are kept only
--- where the call succeeded (this project's choice).
-abbrev pub kept_by : End → (old found : Texts) → Texts
-kept_by Written old found = old ++ found
-kept_by Unwritten old found = old
-kept_by (Rolled class) old found = old
-kept_by (Failed class) old found = old
-
--- the artifacts after the block ended so
-abbrev pub work_by : Trial → End → Workplace
-work_by t end = work_at t (place_by end t.row.at t.hi) (kept_by end t.work.writer.written (texts_of (found_in t)))
-
--- the task after its block ended so
-abbrev pub after_end : TaskState → End → TaskState
-after_end t end = record t { row = row_by (trial_of t) end; work = work_by (trial_of t) end }
-
--- THE COLLECTOR'S TEXTS
-
 -- what the collector sees of a row
 abbrev pub view_of : (partition : ℕ) → Row → (last : Bool) → RowView
 view_of partition row last = record { partition = partition; lo = row.lo; hi = row.hi; at = row.at; counts = row.counts; last = last }
@@ -171,17 +137,7 @@ values_of collector partition row =
     collector (view_of partition row false)
     ∷ (if row.at == row.hi then collector (view_of partition row true) ∷ [] else [])
 
--- the collector's texts for a block that ended so and left this row
-abbrev pub values_with : (RowView → List ℕ) → (partition : ℕ) → Row → End → List (List ℕ)
-values_with collector partition row Written = values_of collector partition row
-values_with collector partition row Unwritten = values_of collector partition row
-values_with collector partition row (Rolled class) = []
-values_with collector partition row (Failed class) = []
-
-abbrev pub values_by : TaskState → End → List (List ℕ)
-values_by t end = values_with t.work.collector t.partition (row_by (trial_of t) end) end
-
--- THE ATTEMPT
+-- WHAT EACH END LEAVES
 
 -- how an attempt ended: the task that it left, its outcome, and the collector's texts
 pub record Ending : Type 0 where
@@ -192,18 +148,41 @@ pub record Ending : Type 0 where
 abbrev pub ending_of : TaskState → Outcome → List (List ℕ) → Ending
 ending_of task out values = record { task = task; outcome = out; values = values }
 
--- the outcome of a block that ended so
-abbrev pub outcome_with : End → Counts → Outcome
-outcome_with Written delta = outcome.Committed delta
-outcome_with Unwritten delta = outcome.Committed delta
-outcome_with (Rolled class) delta = outcome.Rolled class
-outcome_with (Failed class) delta = outcome.Failed class
-
-abbrev pub outcome_by : Trial → End → Outcome
-outcome_by t end = outcome_with end (delta_by t end)
-
+-- What each end of the block leaves: the row; the artifacts, with the reader's place and the list written; and the
+-- collector's texts. Where the block isn't committed, the reader stands at the last checkpoint again (Jakarta Batch 2.1,
+-- "Default Retry Behavior - Rollback"). A write call that fails may have written some results: they are kept only where the
+-- call succeeded (this project's choice).
 abbrev pub ending_by : TaskState → End → Ending
-ending_by t end = record { task = after_end t end; outcome = outcome_by (trial_of t) end; values = values_by t end }
+ending_by t Written =
+    let b = trial_of t in
+    let row = committed_row t.row b.hi (counts_written (tally_of b)) in
+    record {
+      task = record t { row = row; work = work_at b b.hi (t.work.writer.written ++ texts_of (found_in b)) };
+      outcome = outcome.Committed (counts_written (tally_of b));
+      values = values_of t.work.collector t.partition row;
+    }
+ending_by t Unwritten =
+    let b = trial_of t in
+    let row = committed_row t.row b.hi (counts_unwritten (tally_of b)) in
+    record {
+      task = record t { row = row; work = work_at b b.hi t.work.writer.written };
+      outcome = outcome.Committed (counts_unwritten (tally_of b));
+      values = values_of t.work.collector t.partition row;
+    }
+ending_by t (Rolled class) =
+    let b = trial_of t in
+    record {
+      task = record t { row = rolled_row t.row b.hi; work = work_at b t.row.at t.work.writer.written };
+      outcome = outcome.Rolled class;
+      values = [];
+    }
+ending_by t (Failed class) =
+    let b = trial_of t in
+    record {
+      task = record t { row = failed_row t.row; work = work_at b t.row.at t.work.writer.written };
+      outcome = outcome.Failed class;
+      values = [];
+    }
 
 -- the attempt at the task's next block, where it finds its memory
 abbrev pub attempt_of : TaskState → Ending

@@ -2,7 +2,7 @@
 use Rattle.std.specs.Prelude.{ℕ, ◌+◌, ◌-◌, Bool, true, false, not, ◌&&◌, nat_lt, nat_le, if◌then◌else◌, List, Option, Some, None, find, count_by, ◌≡◌, ◌⊎◌}
 use Rattle.std.specs.List.{filter_map, range_with_len}
 use Rattle.jb_job.specs.declared.class.ClassId.{ClassId}
-use Rattle.jb_job.specs.declared.rules.Rules.{Rules}
+use Rattle.jb_job.specs.Records.{RulesRecord}
 use Rattle.jb_rules.specs.declared.row.Row.{Row}
 use Rattle.jb_rules.specs.declared.choice.Choice.{Choice}
 use Rattle.jb_rules.specs.declared.choice.Choice.TheVariants.{Skip, Retry, Fail}
@@ -49,7 +49,7 @@ abbrev pub skips_before : Row → Workplace → ℕ → ℕ
 skips_before row w k = skips_of row + count_of is_read_fault w row.at k + count_of is_process_fault w row.at k
 
 -- what becomes of a fault of this class after so many skips; below `redo` a rolled-back block is done again
-abbrev pub choice_at : Rules → Row → ClassId → (skips : ℕ) → Choice
+abbrev pub choice_at : RulesRecord → Row → ClassId → (skips : ℕ) → Choice
 choice_at rules row class skips = choice_of rules class (nat_lt row.at row.redo) skips row.retries
 
 abbrev pub is_skip : Choice → Bool
@@ -58,16 +58,16 @@ is_skip Retry = false
 is_skip Fail = false
 
 -- there is a fault, and it isn't skipped
-abbrev pub stops : Rules → Row → Option ClassId → (skips : ℕ) → Bool
+abbrev pub stops : RulesRecord → Row → Option ClassId → (skips : ℕ) → Bool
 stops rules row None skips = false
 stops rules row (Some class) skips = not (is_skip (choice_at rules row class skips))
 
 -- record `k` has a fault that isn't skipped
-unfoldable pub settles : Rules → Row → Workplace → ℕ → Bool
+unfoldable pub settles : RulesRecord → Row → Workplace → ℕ → Bool
 settles rules row w k = stops rules row (fault_in (entry w k)) (skips_before row w k)
 
 -- the settling record: the first of the block up to `hi` whose fault isn't skipped
-unfoldable pub settling : Rules → Row → Workplace → (hi : ℕ) → Option ℕ
+unfoldable pub settling : RulesRecord → Row → Workplace → (hi : ℕ) → Option ℕ
 settling rules row w hi = find (settles rules row w) (range_with_len row.at (hi - row.at))
 
 -- the plans after a call for each record from `lo` to `hi - 1` at which `called` holds

@@ -2,8 +2,7 @@ pub mod Alone
 pub mod Attempt
 pub mod Block
 pub mod Entries
-pub mod Gathering
 pub mod Plain
 pub mod Standing
-pub mod Tried
 pub mod Worked
+pub mod inside

@@ -12,8 +12,8 @@ use Rattle.jb_artifacts.specs.Meaning.{Workplace}
 use Rattle.jb_chunk.specs.Standing.{TaskState}
 
 -- the processor's answers on the records `lo` to `hi - 1`, in order, without the filtered ones
-unfoldable pub answers : Workplace → (lo hi : ℕ) → List (List ℕ)
-answers w lo hi = filter_map (λ k. w.processor.answer k (record_at w.reader k)) (range_with_len lo (hi - lo))
+unfoldable pub plain_answers : Workplace → (lo hi : ℕ) → List (List ℕ)
+plain_answers w lo hi = filter_map (λ k. w.processor.answer k (record_at w.reader k)) (range_with_len lo (hi - lo))
 
 -- so many records were read, so many results of them written in so many chunks, and the other records filtered
 abbrev pub plain_delta : (records found chunks : ℕ) → Counts
@@ -23,11 +23,11 @@ plain_delta records found chunks = record no_counts { read = records; write = fo
 abbrev pub plain_row : TaskState → Row
 plain_row t =
     committed_row t.row t.row.hi
-    (plain_delta (t.row.hi - t.row.at) (length (answers t.work t.row.at t.row.hi)) (left t.row.at t.row.redo t.row.hi t.item_count))
+    (plain_delta (t.row.hi - t.row.at) (length (plain_answers t.work t.row.at t.row.hi)) (left t.row.at t.row.redo t.row.hi t.item_count))
 
 -- what was written, and the answers behind it
 abbrev pub plain_outputs : TaskState → List (List ℕ)
-plain_outputs t = t.work.writer.written ++ answers t.work t.row.at t.row.hi
+plain_outputs t = t.work.writer.written ++ plain_answers t.work t.row.at t.row.hi
 
 -- no call for the records `lo` to `hi - 1` fails
 pub record IsCalm (w : Workplace) (lo hi : ℕ) : Type 0 where

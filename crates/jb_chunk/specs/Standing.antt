@@ -1,6 +1,7 @@
 -- Where a task stands, and what is asked of it between two chunks.
 use Rattle.std.specs.Prelude.{ℕ, ◌≡◌, ◌≤◌, length, take}
-use Rattle.jb_job.specs.declared.rules.Rules.{Rules}
+use Rattle.jb_job.specs.Limits.{max_retry_limit}
+use Rattle.jb_job.specs.Records.{RulesRecord}
 use Rattle.jb_plan.specs.declared.limits.TheConstants.{MAX_ITEM_COUNT}
 use Rattle.jb_rules.specs.declared.row.Row.{Row}
 use Rattle.jb_rules.specs.Sound.{IsSoundRow}
@@ -11,7 +12,7 @@ use Rattle.jb_artifacts.specs.Meaning.{Workplace, Fits}
 pub record TaskState : Type 0 where
   pub partition : ℕ
   pub row : Row
-  pub rules : Rules
+  pub rules : RulesRecord
   pub item_count : ℕ
   pub work : Workplace
 
@@ -26,6 +27,7 @@ pub record HasItemCount (item_count : ℕ) : Type 0 where
 pub record IsReady (t : TaskState) : Type 0 where
   pub sound : IsSoundRow t.row
   pub item_counted : HasItemCount t.item_count
+  pub retried : t.rules.retry_limit ≤ max_retry_limit
   pub fits : Fits t.work t.row
   pub place : t.work.reader.place ≡ t.row.at
   pub count : length t.work.writer.written ≡ t.row.written
@@ -38,7 +40,7 @@ at_checkpoint row w = record w {
 }
 
 -- the task of a partition that is begun, or taken up again, from its row
-abbrev pub started : (partition : ℕ) → Row → Rules → (item_count : ℕ) → Workplace → TaskState
+abbrev pub started : (partition : ℕ) → Row → RulesRecord → (item_count : ℕ) → Workplace → TaskState
 started partition row rules item_count w = record {
   partition = partition;
   row = row;

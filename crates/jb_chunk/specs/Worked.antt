@@ -1,9 +1,9 @@
 -- Worked rows: what the definitions give for whole partitions, computed apart from the code. Records are the letters a, b,
 -- c, .., the processor puts an x before each, and faults are of the class E, whose number is 0, or F, whose number is 1.
-use Rattle.std.specs.Prelude.{◌≡◌, ℕ, ◌≤◌, ◌==◌, if◌then◌else◌, List, [], ◌∷◌, ◌++◌, codes, Option, Some, None}
-use Rattle.std.proofs.Common.{lit<, lit≤, subst}
+use Rattle.std.specs.Prelude.{◌≡◌, ℕ, ◌==◌, if◌then◌else◌, List, [], ◌∷◌, ◌++◌, codes, Some, None}
+use Rattle.std.proofs.Common.{lit<}
 use Rattle.jb_job.specs.declared.class.ClassId.{ClassId}
-use Rattle.jb_job.specs.declared.rules.Rules.{Rules}
+use Rattle.jb_job.specs.Records.{RulesRecord}
 use Rattle.jb_rules.specs.declared.row.Row.{Row}
 use Rattle.jb_rules.specs.declared.row.RowState.{RowState}
 use Rattle.jb_rules.specs.declared.row.RowState.TheVariants.{Finished, Failed}
@@ -38,35 +38,21 @@ only n plan = λ k. if k == n then plan else Sound
 abbrev pub letters : List (List ℕ)
 letters = codes "a" ∷ codes "b" ∷ codes "c" ∷ codes "d" ∷ codes "e" ∷ codes "f" ∷ codes "g" ∷ []
 
-abbrev pub IsLimit : Option ℕ → Type 0
-IsLimit None = Unit {0}
-IsLimit (Some limit) = limit ≤ 10000000
-
-pub limit_most : (skip_limit : Option ℕ) → IsLimit skip_limit → (limit : ℕ) → skip_limit ≡ Some limit → limit ≤ 10000000
-limit_most skip_limit most limit same = subst IsLimit same most
-
 -- no class is skipped or retried
-abbrev pub no_rules : Rules
-no_rules = record {
-  skippable = 0;
-  retryable = 0;
-  skip_limit = None;
-  retry_limit = 1000;
-  skip_limit_most = limit_most None tt;
-  retry_limit_most = lit≤ tt;
-}
+abbrev pub strict : RulesRecord
+strict = record { skippable = 0; retryable = 0; skip_limit = None; retry_limit = 1000 }
 
 -- skippable classes and retryable classes, by their bits, and no limit that is met
-abbrev pub rules_of : (skippable retryable : ℕ) → Rules
-rules_of skippable retryable = record no_rules { skippable = skippable; retryable = retryable }
+abbrev pub rules_of : (skippable retryable : ℕ) → RulesRecord
+rules_of skippable retryable = record strict { skippable = skippable; retryable = retryable }
 
 -- the same with skip limit 1
-abbrev pub one_skip : (skippable retryable : ℕ) → Rules
-one_skip skippable retryable = record (rules_of skippable retryable) { skip_limit = Some 1; skip_limit_most = limit_most (Some 1) (lit≤ tt) }
+abbrev pub one_skip : (skippable retryable : ℕ) → RulesRecord
+one_skip skippable retryable = record (rules_of skippable retryable) { skip_limit = Some 1 }
 
 -- the same with retry limit 2
-abbrev pub two_retries : (skippable retryable : ℕ) → Rules
-two_retries skippable retryable = record (rules_of skippable retryable) { retry_limit = 2; retry_limit_most = lit≤ tt }
+abbrev pub two_retries : (skippable retryable : ℕ) → RulesRecord
+two_retries skippable retryable = record (rules_of skippable retryable) { retry_limit = 2 }
 
 -- the artifacts of a partition that begins at record `lo`
 abbrev pub works : (lo : ℕ) → (reads processes writes : Plans) → Workplace
@@ -78,7 +64,7 @@ works lo reads processes writes = record {
 }
 
 -- a partition of the records `lo` to `hi - 1` that has not begun
-abbrev pub task : (partition lo hi item_count : ℕ) → Rules → (reads processes writes : Plans) → TaskState
+abbrev pub task : (partition lo hi item_count : ℕ) → RulesRecord → (reads processes writes : Plans) → TaskState
 task partition lo hi item_count rules reads processes writes = record {
   partition = partition;
   row = fresh_row (record { lo = lo; hi = hi });
@@ -92,37 +78,37 @@ abbrev pub two_bad : Plans
 two_bad = λ k. if k == 0 then Bad class_e else (if k == 3 then Bad class_e else Sound)
 
 abbrev pub first_task : TaskState
-first_task = task 0 0 2 2 no_rules sound sound sound
+first_task = task 0 0 2 2 strict sound sound sound
 
 abbrev pub second_task : TaskState
-second_task = task 1 2 3 2 no_rules sound sound sound
+second_task = task 1 2 3 2 strict sound sound sound
 
-abbrev pub recordless : TaskState
-recordless = task 0 0 0 10 no_rules sound sound sound
+abbrev pub recordless_task : TaskState
+recordless_task = task 0 0 0 10 strict sound sound sound
 
-abbrev pub retried : TaskState
-retried = task 0 0 4 4 (rules_of 0 1) sound (only 2 (Shaky (class_e ∷ []))) sound
+abbrev pub retried_task : TaskState
+retried_task = task 0 0 4 4 (rules_of 0 1) sound (only 2 (Shaky (class_e ∷ []))) sound
 
-abbrev pub skipped : TaskState
-skipped = task 0 0 4 2 (one_skip 1 1) sound (only 1 (Bad class_e)) sound
+abbrev pub skipped_task : TaskState
+skipped_task = task 0 0 4 2 (one_skip 1 1) sound (only 1 (Bad class_e)) sound
 
-abbrev pub failed : TaskState
-failed = task 0 0 4 2 (one_skip 1 0) sound two_bad sound
+abbrev pub failed_task : TaskState
+failed_task = task 0 0 4 2 (one_skip 1 0) sound two_bad sound
 
-abbrev pub beside_failed : TaskState
-beside_failed = task 1 4 6 2 (one_skip 1 0) sound two_bad sound
+abbrev pub beside_failed_task : TaskState
+beside_failed_task = task 1 4 6 2 (one_skip 1 0) sound two_bad sound
 
-abbrev pub torn : TaskState
-torn = task 0 0 3 3 (rules_of 1 0) sound sound (only 1 (Bad class_e))
+abbrev pub torn_task : TaskState
+torn_task = task 0 0 3 3 (rules_of 1 0) sound sound (only 1 (Bad class_e))
 
-abbrev pub retried_out : TaskState
-retried_out = task 0 0 1 1 (two_retries 0 1) sound (only 0 (Bad class_e)) sound
+abbrev pub retried_out_task : TaskState
+retried_out_task = task 0 0 1 1 (two_retries 0 1) sound (only 0 (Bad class_e)) sound
 
-abbrev pub read_skipped : TaskState
-read_skipped = task 0 0 3 2 (rules_of 1 0) (only 0 (Bad class_e)) sound sound
+abbrev pub read_skipped_task : TaskState
+read_skipped_task = task 0 0 3 2 (rules_of 1 0) (only 0 (Bad class_e)) sound sound
 
-abbrev pub rolled_back : TaskState
-rolled_back = task 0 0 3 2 (one_skip 1 2) (only 0 (Bad class_e)) (only 1 (Shaky (class_f ∷ []))) sound
+abbrev pub rolled_back_task : TaskState
+rolled_back_task = task 0 0 3 2 (one_skip 1 2) (only 0 (Bad class_e)) (only 1 (Shaky (class_f ∷ []))) sound
 
 -- WHERE THEY LEAD
 
@@ -161,8 +147,8 @@ pub record FirstRun : Type 0 where
       (codes "xc" ∷ []) (codes "1:3:1" ∷ codes "1:3:1:end" ∷ [])
 
 -- everything filtered: four records that begin with z, which the processor filters, in one chunk
-abbrev pub filtering : TaskState
-filtering = record (task 0 0 4 4 no_rules sound sound sound) {
+abbrev pub filtered_task : TaskState
+filtered_task = record (task 0 0 4 4 strict sound sound sound) {
   work = record (works 0 sound sound sound) {
     reader = record { first = 0; records = codes "za" ∷ codes "zb" ∷ codes "zc" ∷ codes "zd" ∷ []; place = 0; faults = sound };
     processor = record { answer = λ _ item. prefixed (codes "x") (Some (codes "z")) item; faults = sound };
@@ -171,20 +157,20 @@ filtering = record (task 0 0 4 4 no_rules sound sound sound) {
 
 abbrev pub EverythingFiltered : Type 0
 EverythingFiltered =
-    RunsTo filtering
+    RunsTo filtered_task
     (4 ∷ 0 ∷ 0 ∷ 0 ∷ 4 ∷ 0 ∷ 1 ∷ 0 ∷ 0 ∷ 0 ∷ 4 ∷ 0 ∷ []) Finished
     [] (codes "0:4:0" ∷ codes "0:4:0:end" ∷ [])
 
 -- no record at all: no attempt is made
 abbrev pub NoRecord : Type 0
 NoRecord =
-    RunsTo recordless
+    RunsTo recordless_task
     (0 ∷ 0 ∷ 0 ∷ 0 ∷ 0 ∷ 0 ∷ 0 ∷ 0 ∷ 0 ∷ 0 ∷ 0 ∷ 0 ∷ []) Finished [] []
 
 -- a retry rolls back to single records: item count 4, record 2 fails once and is retryable
 abbrev pub RetryToSingles : Type 0
 RetryToSingles =
-    RunsTo retried
+    RunsTo retried_task
     (4 ∷ 4 ∷ 1 ∷ 4 ∷ 4 ∷ 4 ∷ 4 ∷ 1 ∷ 0 ∷ 0 ∷ 0 ∷ 0 ∷ []) Finished
     (codes "xa" ∷ codes "xb" ∷ codes "xc" ∷ codes "xd" ∷ [])
     (codes "0:1:1" ∷ codes "0:2:2" ∷ codes "0:3:3" ∷ codes "0:4:4" ∷ codes "0:4:4:end" ∷ [])
@@ -192,7 +178,7 @@ RetryToSingles =
 -- a skip in the single-record redo: item count 2, record 1 always fails, is retryable and skippable, skip limit 1
 abbrev pub SkipInRedo : Type 0
 SkipInRedo =
-    RunsTo skipped
+    RunsTo skipped_task
     (4 ∷ 2 ∷ 1 ∷ 3 ∷ 4 ∷ 3 ∷ 3 ∷ 1 ∷ 0 ∷ 1 ∷ 0 ∷ 0 ∷ []) Finished
     (codes "xa" ∷ codes "xc" ∷ codes "xd" ∷ [])
     (codes "0:1:1" ∷ codes "0:2:1" ∷ codes "0:4:3" ∷ codes "0:4:3:end" ∷ [])
@@ -201,44 +187,44 @@ SkipInRedo =
 -- has skips of its own.
 pub record OneFailed : Type 0 where
   pub failed :
-      RunsTo failed
+      RunsTo failed_task
       (2 ∷ 0 ∷ 0 ∷ 1 ∷ 2 ∷ 1 ∷ 1 ∷ 1 ∷ 0 ∷ 1 ∷ 0 ∷ 0 ∷ []) Failed
       (codes "xb" ∷ []) (codes "0:2:1" ∷ [])
   pub finished :
-      RunsTo beside_failed
+      RunsTo beside_failed_task
       (6 ∷ 4 ∷ 0 ∷ 2 ∷ 2 ∷ 2 ∷ 1 ∷ 0 ∷ 0 ∷ 0 ∷ 0 ∷ 0 ∷ []) Finished
       (codes "xe" ∷ codes "xf" ∷ []) (codes "1:6:2" ∷ codes "1:6:2:end" ∷ [])
 
 -- a torn write that is skipped: item count 3, the writer always fails at record 1. No output is left of it.
 abbrev pub TornWrite : Type 0
 TornWrite =
-    RunsTo torn
+    RunsTo torn_task
     (3 ∷ 0 ∷ 0 ∷ 0 ∷ 3 ∷ 0 ∷ 1 ∷ 0 ∷ 0 ∷ 0 ∷ 0 ∷ 1 ∷ []) Finished
     [] (codes "0:3:0" ∷ codes "0:3:0:end" ∷ [])
 
 -- the retry limit reached: one record that always fails, retryable, retry limit 2
 abbrev pub RetryLimit : Type 0
 RetryLimit =
-    RunsTo retried_out
+    RunsTo retried_out_task
     (0 ∷ 1 ∷ 2 ∷ 0 ∷ 0 ∷ 0 ∷ 0 ∷ 3 ∷ 0 ∷ 0 ∷ 0 ∷ 0 ∷ []) Failed [] []
 
 -- a read that is skipped: item count 2, the read of record 0 always fails and is skippable
 abbrev pub ReadSkip : Type 0
 ReadSkip =
-    RunsTo read_skipped
+    RunsTo read_skipped_task
     (3 ∷ 0 ∷ 0 ∷ 2 ∷ 2 ∷ 2 ∷ 2 ∷ 0 ∷ 1 ∷ 0 ∷ 0 ∷ 0 ∷ []) Finished
     (codes "xb" ∷ codes "xc" ∷ []) (codes "0:2:1" ∷ codes "0:3:2" ∷ codes "0:3:2:end" ∷ [])
 
 -- a rolled-back skip isn't counted: the same with skip limit 1, and record 1 fails once with F, which is retryable alone
 abbrev pub RolledBackSkip : Type 0
 RolledBackSkip =
-    RunsTo rolled_back
+    RunsTo rolled_back_task
     (3 ∷ 2 ∷ 1 ∷ 2 ∷ 2 ∷ 2 ∷ 3 ∷ 1 ∷ 1 ∷ 0 ∷ 0 ∷ 0 ∷ []) Finished
     (codes "xb" ∷ codes "xc" ∷ []) (codes "0:1:0" ∷ codes "0:2:1" ∷ codes "0:3:2" ∷ codes "0:3:2:end" ∷ [])
 
 -- the Plain runs of seven records' first partition, item count 2, and of everything filtered
 pub record PlainRuns : Type 0 where
-  pub counts : numbers (plain_row (task 0 0 3 2 no_rules sound sound sound)) ≡ 3 ∷ 0 ∷ 0 ∷ 3 ∷ 3 ∷ 3 ∷ 2 ∷ 0 ∷ 0 ∷ 0 ∷ 0 ∷ 0 ∷ []
-  pub outputs : plain_outputs (task 0 0 3 2 no_rules sound sound sound) ≡ codes "xa" ∷ codes "xb" ∷ codes "xc" ∷ []
-  pub filtered : numbers (plain_row filtering) ≡ 4 ∷ 0 ∷ 0 ∷ 0 ∷ 4 ∷ 0 ∷ 1 ∷ 0 ∷ 0 ∷ 0 ∷ 4 ∷ 0 ∷ []
-  pub nothing : plain_outputs filtering ≡ []
+  pub counts : numbers (plain_row (task 0 0 3 2 strict sound sound sound)) ≡ 3 ∷ 0 ∷ 0 ∷ 3 ∷ 3 ∷ 3 ∷ 2 ∷ 0 ∷ 0 ∷ 0 ∷ 0 ∷ 0 ∷ []
+  pub outputs : plain_outputs (task 0 0 3 2 strict sound sound sound) ≡ codes "xa" ∷ codes "xb" ∷ codes "xc" ∷ []
+  pub filtered : numbers (plain_row filtered_task) ≡ 4 ∷ 0 ∷ 0 ∷ 0 ∷ 4 ∷ 0 ∷ 1 ∷ 0 ∷ 0 ∷ 0 ∷ 4 ∷ 0 ∷ []
+  pub nothing : plain_outputs filtered_task ≡ []

@@ -8,6 +8,7 @@ ghost use Rattle.jb_chunk.specs.Standing.{IsReady};
 use crate::outcome::{Done, Outcome};
 use crate::partition_task::PartitionTask;
 use crate::task::Task;
+use jb_plan::chunks_follow_one_another;
 use std::alloc::Global;
 
 /// How a task that ran alone ended.
@@ -40,6 +41,7 @@ pub fn run_alone<T: PartitionTask>(alloc: Global, task: T) -> Alone<T>
     ensures plain { KeepsPlain (T.standing task) result.end (T.standing result.task) }
     ensures ready { IsReady (T.standing result.task) }
 {
+    chunks_follow_one_another();
     let mut task = task;
     loop {
         let Done {

@@ -4,11 +4,11 @@ ghost use Rattle.std.specs.Prelude.{◌≡◌, ◌+◌, ◌<◌, ◌≤◌, IfOk
 ghost use Rattle.jb_artifacts.specs.Reader.{reader_end};
 ghost use Rattle.jb_rules.specs.Sound.{IsSoundRow};
 ghost use Rattle.jb_chunk.specs.Block.{entry};
-ghost use Rattle.jb_chunk.specs.Gathering.{passed_one, IsWorn, IsGathered, IsWornTo, IsStep, IsSmallTally};
+ghost use Rattle.jb_chunk.specs.inside.Gathering.{passed_one, IsWorn, IsGathered, IsWornTo, IsStep, IsSmallTally};
 
 use crate::entry::Entry;
+use crate::partition_artifacts::PartitionArtifacts;
 use crate::tally::Tally;
-use jb_artifacts::{Artifacts, Meaning};
 use jb_job::{ArtifactError, ClassId, Rules};
 use jb_rules::{Choice, Row, decide};
 use std::alloc::{AllocError, Global};
@@ -24,22 +24,24 @@ pub enum Gathered {
 
 /// Reads the record at the reader's place and processes it.
 #[tactic(auto, unfolding(crate::specs::Block::entry))]
-fn entry_at(artifacts: &mut Artifacts, number: u64) -> Result<Entry, AllocError>
-    requires place { (⟦<Artifacts as Meaning>⟧.workplace artifacts.old).reader.place ≡ number }
-    requires to { number < reader_end (⟦<Artifacts as Meaning>⟧.workplace artifacts.old).reader }
-    ensures entry { IfOk result (λ found. found ≡ entry (⟦<Artifacts as Meaning>⟧.workplace artifacts.old) number) }
-    ensures ok { let w = ⟦<Artifacts as Meaning>⟧.workplace artifacts.old in
-        OnOk result (⟦<Artifacts as Meaning>⟧.workplace artifacts.new ≡ passed_one w number) }
-    ensures err { let w = ⟦<Artifacts as Meaning>⟧.workplace artifacts.old in
-        OnErr result (IsWorn w number (⟦<Artifacts as Meaning>⟧.workplace artifacts.new)) }
+fn read_and_process<A: PartitionArtifacts>(
+    artifacts: &mut A,
+    number: u64,
+) -> Result<Entry, AllocError>
+    requires place { (A.workplace artifacts.old).reader.place ≡ number }
+    requires to { number < reader_end (A.workplace artifacts.old).reader }
+    ensures entry { IfOk result (λ found. found ≡ entry (A.workplace artifacts.old) number) }
+    ensures ok { let w = A.workplace artifacts.old in
+        OnOk result (A.workplace artifacts.new ≡ passed_one w number) }
+    ensures err { let w = A.workplace artifacts.old in
+        OnErr result (IsWorn w number (A.workplace artifacts.new)) }
 {
-    let record = match artifacts.reader.read_item() {
-        Ok(Some(record)) => record,
-        Ok(None) => unreachable!(),
+    let record = match artifacts.read_item() {
+        Ok(record) => record,
         Err(ArtifactError::Fault(class)) => return Ok(Entry::ReadFault(class)),
         Err(ArtifactError::Memory) => return Err(AllocError),
     };
-    match artifacts.processor.process_item(number, record.as_slice()) {
+    match artifacts.process_item(number, record.as_slice()) {
         Ok(Some(text)) => Ok(Entry::Found(text)),
         Ok(None) => Ok(Entry::Filtered),
         Err(ArtifactError::Fault(class)) => Ok(Entry::ProcessFault(class)),
@@ -48,8 +50,8 @@ fn entry_at(artifacts: &mut Artifacts, number: u64) -> Result<Entry, AllocError>
 }
 
 /// Reads and processes one record, and counts it, unless its fault isn't skipped.
-fn step(
-    artifacts: &mut Artifacts,
+fn settle_record<A: PartitionArtifacts>(
+    artifacts: &mut A,
     rules: &Rules,
     row: &Row,
     number: u64,
@@ -57,16 +59,16 @@ fn step(
 ) -> Result<Option<(ClassId, Choice)>, AllocError>
     requires sound { IsSoundRow row.now }
     requires few { IsSmallTally tally.old }
-    requires place { (⟦<Artifacts as Meaning>⟧.workplace artifacts.old).reader.place ≡ number }
-    requires to { number < reader_end (⟦<Artifacts as Meaning>⟧.workplace artifacts.old).reader }
-    ensures ok { let w = ⟦<Artifacts as Meaning>⟧.workplace artifacts.old in
-        OnOk result (⟦<Artifacts as Meaning>⟧.workplace artifacts.new ≡ passed_one w number) }
-    ensures stepped { let w = ⟦<Artifacts as Meaning>⟧.workplace artifacts.old in
+    requires place { (A.workplace artifacts.old).reader.place ≡ number }
+    requires to { number < reader_end (A.workplace artifacts.old).reader }
+    ensures ok { let w = A.workplace artifacts.old in
+        OnOk result (A.workplace artifacts.new ≡ passed_one w number) }
+    ensures stepped { let w = A.workplace artifacts.old in
         IfOk result (λ settled. IsStep rules.now row.now (entry w number) number tally.old settled tally.new) }
-    ensures err { let w = ⟦<Artifacts as Meaning>⟧.workplace artifacts.old in
-        OnErr result (IsWorn w number (⟦<Artifacts as Meaning>⟧.workplace artifacts.new) ⊎ (⟦<Artifacts as Meaning>⟧.workplace artifacts.new ≡ passed_one w number)) }
+    ensures err { let w = A.workplace artifacts.old in
+        OnErr result (IsWorn w number (A.workplace artifacts.new) ⊎ (A.workplace artifacts.new ≡ passed_one w number)) }
 {
-    let entry = entry_at(artifacts, number)?;
+    let entry = read_and_process(artifacts, number)?;
     if let Some(class) = entry.fault() {
         let skips = row.skips() + tally.read_skips + tally.process_skips;
         let choice = decide(rules, class, row.at < row.redo, skips, row.retries);
@@ -79,9 +81,9 @@ fn step(
 }
 
 /// Reads and processes the records from the row's checkpoint up to `hi`, until one has a fault that isn't skipped.
-pub fn gather(
+pub fn gather<A: PartitionArtifacts>(
     alloc: Global,
-    artifacts: &mut Artifacts,
+    artifacts: &mut A,
     rules: &Rules,
     row: &Row,
     hi: u64,
@@ -89,16 +91,16 @@ pub fn gather(
     requires sound { IsSoundRow row.now }
     requires order { row.now.at ≤ hi }
     requires within { hi ≤ row.now.hi }
-    requires place { (⟦<Artifacts as Meaning>⟧.workplace artifacts.old).reader.place ≡ row.now.at }
-    requires to { hi ≤ reader_end (⟦<Artifacts as Meaning>⟧.workplace artifacts.old).reader }
-    ensures ok { let w = ⟦<Artifacts as Meaning>⟧.workplace artifacts.old in
-        let now = ⟦<Artifacts as Meaning>⟧.workplace artifacts.new in
+    requires place { (A.workplace artifacts.old).reader.place ≡ row.now.at }
+    requires to { hi ≤ reader_end (A.workplace artifacts.old).reader }
+    ensures ok { let w = A.workplace artifacts.old in
+        let now = A.workplace artifacts.new in
         IfOk result (λ gathered. IsGathered rules.now row.now w hi gathered now) }
-    ensures err { OnErr result (IsWornTo (⟦<Artifacts as Meaning>⟧.workplace artifacts.old) (⟦<Artifacts as Meaning>⟧.workplace artifacts.new)) }
+    ensures err { OnErr result (IsWornTo (A.workplace artifacts.old) (A.workplace artifacts.new)) }
 {
     let mut tally = Tally::new(alloc);
     for number in row.at..hi {
-        match step(artifacts, rules, row, number, &mut tally) {
+        match settle_record(artifacts, rules, row, number, &mut tally) {
             Ok(None) => {}
             Ok(Some((class, choice))) => return Ok(Gathered::Settled(number, class, choice)),
             Err(error) => return Err(error),

@@ -1,7 +1,7 @@
 //! One attempt at the next chunk of a partition, and a partition's attempts run alone.
 //!
 //! - `partition_task`: what a partition's task is to the crates above.
-//! - `task`: a task with boxed artifacts.
+//! - `task`: a row with its rules and artifacts, `partition_artifacts`.
 //! - `outcome`: how an attempt ends.
 //! - `alone`: a task's attempts, one after another.
 //! - `block`: one block tried to its end, `end`, with what it adds to the counts, `tried`.
@@ -16,6 +16,7 @@ mod end;
 mod entry;
 mod gather;
 mod outcome;
+mod partition_artifacts;
 mod partition_task;
 mod tally;
 mod task;
@@ -23,8 +24,6 @@ mod tried;
 
 pub use alone::{Alone, AloneEnd, run_alone};
 pub use outcome::{Done, Outcome};
+pub use partition_artifacts::PartitionArtifacts;
 pub use partition_task::PartitionTask;
 pub use task::Task;
-
-#[cfg(test)]
-mod tests;

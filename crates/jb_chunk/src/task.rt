@@ -1,11 +1,12 @@
-//! A task with boxed artifacts.
+//! A partition's row with its rules and artifacts.
 
 ghost use Rattle.std.specs.Prelude.{◌≡◌, ◌≤◌, ◌<◌, ◌-◌, IfOk, [], length};
 ghost use Rattle.jb_rules.specs.Counts.{IsDelta};
 ghost use Rattle.jb_rules.specs.Sound.{IsSoundRow};
 ghost use Rattle.jb_rules.specs.declared.row.TheConstants.{MAX_ROLLBACKS};
-ghost use Rattle.jb_chunk.specs.Attempt.{outcome_with, values_of, values_with, row_with};
-ghost use Rattle.jb_chunk.specs.Tried.{IsCommitted};
+ghost use Rattle.jb_chunk.specs.Attempt.{values_of};
+ghost use Rattle.jb_chunk.specs.inside.Ends.{outcome_with, values_with, row_with};
+ghost use Rattle.jb_chunk.specs.inside.Tried.{IsCommitted};
 ghost use Rattle.jb_chunk.specs.declared.outcome.Outcome.TheVariants.{NoMemory};
 ghost use Rattle.jb_artifacts.specs.Reader.{reader_end};
 ghost use Rattle.jb_chunk.specs.Standing.{at_checkpoint};
@@ -14,59 +15,50 @@ use crate::block::try_block;
 use crate::checkpoint::open_at_checkpoint;
 use crate::end::End;
 use crate::outcome::{Done, Outcome};
+use crate::partition_artifacts::PartitionArtifacts;
 use crate::partition_task::PartitionTask;
 use crate::tried::Tried;
-use jb_artifacts::{
-    Artifacts, Collector, Item, ItemProcessor, ItemReader, ItemWriter, Meaning, RowView,
-};
+use jb_artifacts::{Artifacts, Item, RowView};
 use jb_job::Rules;
-use jb_plan::{MAX_ITEM_COUNT, next_chunk};
+use jb_plan::MAX_ITEM_COUNT;
 use jb_rules::Row;
 use std::alloc::{AllocError, Global};
 
 /// A partition's row, rules and artifacts, between two chunks.
 #[derive(Drop)]
-pub struct Task {
+pub struct Task<A = Artifacts> {
     partition: u32,
     row: Row,
     rules: Rules,
     item_count: u64,
-    reader: Box<dyn ItemReader + Send + Drop>,
-    processor: Box<dyn ItemProcessor + Send + Drop>,
-    writer: Box<dyn ItemWriter + Send + Drop>,
-    collector: Box<dyn Collector + Send + Drop>,
+    artifacts: A,
 }
 
-impl PartitionTask for Task {
-    type Artifacts = Artifacts;
+impl<A: PartitionArtifacts + Send> PartitionTask for Task<A> {
+    type Artifacts = A;
 
     ghost standing = { λ t. record {
       partition = t.partition;
       row = t.row;
       rules = t.rules;
       item_count = t.item_count;
-      work = record {
-        reader = (ItemReader-box t.reader).reader t.reader.value;
-        processor = (ItemProcessor-box t.processor).processor t.processor.value;
-        writer = (ItemWriter-box t.writer).writer t.writer.value;
-        collector = (Collector-box t.collector).collected t.collector.value;
-      };
+      work = A.Meaning.workplace t.artifacts;
     } };
 
-    fn fits(artifacts: &Artifacts, row: &Row) -> bool {
-        artifacts.fit(row)
+    fn fits(artifacts: &A, row: &Row) -> bool {
+        artifacts.serves(row)
     }
 
-    fn start(
-        partition: u32,
-        row: Row,
-        rules: Rules,
-        item_count: u64,
-        artifacts: Artifacts,
-    ) -> Task {
+    fn start(partition: u32, row: Row, rules: Rules, item_count: u64, artifacts: A) -> Task<A> {
         let mut artifacts = artifacts;
         open_at_checkpoint(&mut artifacts, &row);
-        task_of(partition, row, rules, item_count, artifacts)
+        Task {
+            partition,
+            row,
+            rules,
+            item_count,
+            artifacts,
+        }
     }
 
     fn partition(&self) -> u32 {
@@ -78,34 +70,39 @@ impl PartitionTask for Task {
     }
 
     fn is_ready(&self) -> bool {
+        // Reading the limit tells the proof how high it may be.
+        let _limit = self.rules.retry_limit;
         self.row.sound()
             && 1 <= self.item_count
             && self.item_count <= MAX_ITEM_COUNT
-            && self.reader.first() <= self.row.lo
-            && self.row.hi <= self.reader.end()
-            && self.reader.place() == self.row.at
-            && self.writer.count() == self.row.written
+            && self.artifacts.serves(&self.row)
+            && self.artifacts.place() == self.row.at
+            && self.artifacts.count() == self.row.written
     }
 
-    fn attempt(self, alloc: Global) -> Done<Task> {
-        let (partition, row, rules, item_count) = (
-            self.partition,
-            self.row,
-            self.rules,
-            self.item_count,
-        );
-        let mut artifacts = self.into_artifacts();
-        let Some(block) = next_chunk(row.at, row.redo, row.hi, item_count) else {
-            unreachable!();
-        };
+    fn attempt(self, alloc: Global) -> Done<Task<A>> {
+        let Task {
+            partition,
+            row,
+            rules,
+            item_count,
+            mut artifacts,
+        } = self;
+        let block = row.block(item_count);
         match try_block(alloc, &mut artifacts, &rules, &row, block.hi) {
             Err(_) => unfinished(alloc, partition, row, rules, item_count, artifacts),
             Ok(tried) => {
-                let after = row_after(&row, block.hi, &tried);
+                let after = ended_row(&row, block.hi, &tried);
                 match values_after(alloc, &artifacts, partition, &after, tried.end) {
                     Err(_) => unfinished(alloc, partition, row, rules, item_count, artifacts),
                     Ok(values) => Done {
-                        task: task_of(partition, after, rules, item_count, artifacts),
+                        task: Task {
+                            partition,
+                            row: after,
+                            rules,
+                            item_count,
+                            artifacts,
+                        },
                         outcome: outcome_of(&tried),
                         values,
                     },
@@ -114,28 +111,13 @@ impl PartitionTask for Task {
         }
     }
 
-    fn into_artifacts(self) -> Artifacts {
-        let Task {
-            partition: _,
-            row: _,
-            rules: _,
-            item_count: _,
-            reader,
-            processor,
-            writer,
-            collector,
-        } = self;
-        Artifacts {
-            reader,
-            processor,
-            writer,
-            collector,
-        }
+    fn into_artifacts(self) -> A {
+        self.artifacts
     }
 }
 
 /// The row after its block, up to `hi`, was tried.
-fn row_after(row: &Row, hi: u64, tried: &Tried) -> Row
+fn ended_row(row: &Row, hi: u64, tried: &Tried) -> Row
     requires sound { IsSoundRow row.now }
     requires from { row.now.at < hi }
     requires to { hi ≤ row.now.hi }
@@ -165,14 +147,14 @@ fn outcome_of(tried: &Tried) -> Outcome
 }
 
 /// The collector's texts for a block that ended so and left this row.
-fn values_after(
+fn values_after<A: PartitionArtifacts>(
     alloc: Global,
-    artifacts: &Artifacts,
+    artifacts: &A,
     partition: u32,
     row: &Row,
     end: End,
 ) -> Result<Vec<Item>, AllocError>
-    ensures { IfOk result (λ values. values.items ≡ values_with (⟦<Artifacts as Meaning>⟧.workplace artifacts.now).collector partition row.now end) }
+    ensures { IfOk result (λ values. values.items ≡ values_with (A.workplace artifacts.now).collector partition row.now end) }
 {
     match end {
         End::Written => collect_values(alloc, artifacts, partition, row),
@@ -181,42 +163,14 @@ fn values_after(
     }
 }
 
-/// The task of these parts.
-fn task_of(partition: u32, row: Row, rules: Rules, item_count: u64, artifacts: Artifacts) -> Task
-    ensures { ⟦<Task as PartitionTask>⟧.standing result ≡ record {
-      partition = partition;
-      row = row;
-      rules = rules;
-      item_count = item_count;
-      work = ⟦<Artifacts as Meaning>⟧.workplace artifacts;
-    } }
-{
-    let Artifacts {
-        reader,
-        processor,
-        writer,
-        collector,
-    } = artifacts;
-    Task {
-        partition,
-        row,
-        rules,
-        item_count,
-        reader,
-        processor,
-        writer,
-        collector,
-    }
-}
-
 /// The collector's texts for a committed chunk that left this row.
-fn collect_values(
+fn collect_values<A: PartitionArtifacts>(
     alloc: Global,
-    artifacts: &Artifacts,
+    artifacts: &A,
     partition: u32,
     row: &Row,
 ) -> Result<Vec<Item>, AllocError>
-    ensures { IfOk result (λ values. values.items ≡ values_of (⟦<Artifacts as Meaning>⟧.workplace artifacts.now).collector partition row.now) }
+    ensures { IfOk result (λ values. values.items ≡ values_of (A.workplace artifacts.now).collector partition row.now) }
 {
     let view = RowView {
         partition,
@@ -227,40 +181,44 @@ fn collect_values(
         last: false,
     };
     let mut values = Vec::new(alloc);
-    values.push(artifacts.collector.collect(&view)?)?;
+    values.push(artifacts.collect(&view)?)?;
     if row.at == row.hi {
         let last = RowView { last: true, ..view };
-        values.push(artifacts.collector.collect(&last)?)?;
+        values.push(artifacts.collect(&last)?)?;
     }
     Ok(values)
 }
 
 /// Reader and writer stand at the checkpoint again, and the row is as it was.
-fn unfinished(
+fn unfinished<A: PartitionArtifacts>(
     alloc: Global,
     partition: u32,
     row: Row,
     rules: Rules,
     item_count: u64,
-    artifacts: Artifacts,
-) -> Done
-    requires from { (⟦<Artifacts as Meaning>⟧.workplace artifacts).reader.first ≤ row.at }
-    requires to { row.at ≤ reader_end (⟦<Artifacts as Meaning>⟧.workplace artifacts).reader }
-    requires count { row.written ≤ length (⟦<Artifacts as Meaning>⟧.workplace artifacts).writer.written }
+    artifacts: A,
+) -> Done<Task<A>>
+    requires from { (A.workplace artifacts).reader.first ≤ row.at }
+    requires to { row.at ≤ reader_end (A.workplace artifacts).reader }
+    requires count { row.written ≤ length (A.workplace artifacts).writer.written }
     ensures outcome { result.outcome ≡ NoMemory }
     ensures values { result.values.items ≡ [] }
-    ensures task { ⟦<Task as PartitionTask>⟧.standing result.task ≡ record {
-      partition = partition;
-      row = row;
-      rules = rules;
-      item_count = item_count;
-      work = at_checkpoint row (⟦<Artifacts as Meaning>⟧.workplace artifacts);
-    } }
+    ensures partition { result.task.partition ≡ partition }
+    ensures row { result.task.row ≡ row }
+    ensures rules { result.task.rules ≡ rules }
+    ensures item_count { result.task.item_count ≡ item_count }
+    ensures work { A.workplace result.task.artifacts ≡ at_checkpoint row (A.workplace artifacts) }
 {
     let mut artifacts = artifacts;
     open_at_checkpoint(&mut artifacts, &row);
     Done {
-        task: task_of(partition, row, rules, item_count, artifacts),
+        task: Task {
+            partition,
+            row,
+            rules,
+            item_count,
+            artifacts,
+        },
         outcome: Outcome::NoMemory,
         values: Vec::new(alloc),
     }

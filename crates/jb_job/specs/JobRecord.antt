@@ -4,17 +4,18 @@
 -- The keys are those of the job specification language of Jakarta Batch 2.1 ("Chunk", "Skipping Exceptions", "Retrying
 -- Exceptions", "Partition Plan"). Own choices: the form (JSON, and the order of faults), the keys `exception-classes`,
 -- `ranges` and `override`, and every limit.
-use Rattle.std.specs.Prelude.{ℕ, ◌&&◌, Bool, true, false, not, position, codes, is_some, nat_le, bit_and, bit_or, ◌^◌, ◌-◌, List, [], ◌∷◌, ◌++◌, Option, Some, None, Ok, Err, if◌then◌else◌, bytes_eq}
+use Rattle.std.specs.Prelude.{ℕ, ◌&&◌, Bool, true, false, not, position, fold, codes, is_some, nat_le, bit_and, bit_or, ◌^◌, ◌-◌, List, [], ◌∷◌, ◌++◌, Option, Some, None, Ok, Err, if◌then◌else◌, bytes_eq}
 use Rattle.std.specs.List.{list_any}
 use Rattle.std.specs.Int.{w64, bit_not}
-use Rattle.serde_json.specs.Data.{Data, Items, no_items, item}
-use Rattle.serde_json.specs.Find.{get, as_array, as_str}
+use Rattle.serde_json.specs.Data.{Data}
+use Rattle.serde_json.specs.Find.{get, as_str}
 use Rattle.jb_job.specs.declared.field.Field.{Field}
 use Rattle.jb_job.specs.declared.field.Field.TheVariants as field
 use Rattle.jb_job.specs.declared.job.Range.{Range}
 use Rattle.jb_job.specs.declared.job.Job.{Job}
+use Rattle.jb_job.specs.Limits.{max_steps, max_name, max_classes, max_class_names, max_item_count, max_skip_limit, max_retry_limit, max_partitions_asked, max_threads_asked, max_ranges, max_records}
 use Rattle.jb_job.specs.Names.{name_of}
-use Rattle.jb_job.specs.Reading.{wrong_shape, unknown_class, Read, ◌>>=◌, shaped, ranged, whole_number, object_at, text_at, number_at, flag_at, list_at, required, optional}
+use Rattle.jb_job.specs.Reading.{wrong_shape, unknown_class, Read, ◌>>=◌, shaped, ranged, whole_number, object_at, text_at, number_at, flag_at, list_at, each_at, pair_at, required, optional}
 use Rattle.jb_job.specs.Records.{RulesRecord, SpecRecord, StepRecord}
 
 -- ---- exception-classes: the fault classes that the job declares, each once, in first-seen order (own)
@@ -25,20 +26,23 @@ every_class = codes "*"
 
 unfoldable pub class_name_at : Field → Data → Read (List ℕ)
 class_name_at f d = do
-  name ← text_at 1 64 f d
+  name ← text_at 1 max_name f d
   ranged f (not (bytes_eq name every_class)) name
 
 -- A name that was there before keeps its first place.
 abbrev pub with_name : List (List ℕ) → List ℕ → List (List ℕ)
 with_name names name = if list_any (bytes_eq name) names then names else names ++ name ∷ []
 
-abbrev pub classes_from : List (List ℕ) → Items → Read (List (List ℕ))
-classes_from done no_items = Ok done
-classes_from done (item d ds) = class_name_at field.ExceptionClasses d >>= λ name. classes_from (with_name done name) ds
+-- the names, each once, in first-seen order
+abbrev pub distinct : List (List ℕ) → List (List ℕ)
+distinct = fold with_name []
 
 -- The limit counts the texts, before repeated ones drop.
 unfoldable pub classes_at : Field → Data → Read (List (List ℕ))
-classes_at f d = list_at 0 64 f d >>= classes_from []
+classes_at f d = do
+  items ← list_at 0 max_classes f d
+  names ← each_at (λ _. class_name_at f) items
+  Ok (distinct names)
 
 -- ---- sets of classes: the bit 2 ^ n for the class whose place among the declared names is n (own)
 
@@ -52,12 +56,12 @@ bits_at star classes f d = do
   name ← shaped f (as_str d)
   if star && bytes_eq name every_class then Ok (2 ^ 64 - 1) else declared (position (bytes_eq name) classes)
 
-abbrev pub bits_from : (Data → Read ℕ) → ℕ → Items → Read ℕ
-bits_from kind done no_items = Ok done
-bits_from kind done (item d ds) = kind d >>= λ bits. bits_from kind (bit_or done bits) ds
-
+-- the bits of all names
 unfoldable pub names_at : Bool → List (List ℕ) → Field → Data → Read ℕ
-names_at star classes f d = list_at 0 128 f d >>= bits_from (bits_at star classes f) 0
+names_at star classes f d = do
+  items ← list_at 0 max_class_names f d
+  bits ← each_at (λ _. bits_at star classes f) items
+  Ok (fold bit_or 0 bits)
 
 -- The included classes without the excluded ones (Jakarta Batch 2.1, "Skipping Exceptions" and "Retrying Exceptions").
 unfoldable pub set_at : List (List ℕ) → Field → Data → Read ℕ
@@ -67,30 +71,20 @@ set_at classes f d = do
   excluded ← optional (names_at false classes) 0 field.Exclude set
   Ok (bit_and included (bit_not w64 excluded))
 
--- ---- ranges: pairs [lo, hi] of record numbers up to 10,000,000 (own)
-
-abbrev pub pair_of : Items → Option (Data × Data)
-pair_of (item lo (item hi no_items)) = Some (lo, hi)
-pair_of _ = None
+-- ---- ranges: pairs [lo, hi] of record numbers (own)
 
 -- The form of a pair comes before the range of its numbers.
-unfoldable pub range_at : Data → Read Range
-range_at d = do
-  items ← shaped field.Ranges (as_array d)
-  pair ← shaped field.Ranges (pair_of items)
+unfoldable pub range_pair_at : Data → Read Range
+range_pair_at d = do
+  pair ← pair_at field.Ranges d
   lo ← shaped field.Ranges (whole_number pair.0)
   hi ← shaped field.Ranges (whole_number pair.1)
-  ranged field.Ranges (nat_le lo 10000000 && nat_le hi 10000000) (record { lo = lo; hi = hi })
-
--- each member after those before it, which are done
-abbrev pub ranges_from : List Range → Items → Read (List Range)
-ranges_from done no_items = Ok done
-ranges_from done (item d ds) = range_at d >>= λ range. ranges_from (done ++ range ∷ []) ds
+  ranged field.Ranges (nat_le lo max_records && nat_le hi max_records) (record { lo = lo; hi = hi })
 
 abbrev pub ranges_at : Field → Data → Read (Option (List Range))
 ranges_at f d = do
-  items ← list_at 0 4096 f d
-  ranges ← ranges_from [] items
+  items ← list_at 0 max_ranges f d
+  ranges ← each_at (λ _. range_pair_at) items
   Ok (Some ranges)
 
 -- ---- plan and partition (Jakarta Batch 2.1, "Partition Plan"; 0 threads stand for the number of partitions)
@@ -102,8 +96,8 @@ own_ranges_at counted f d = if counted then Err (wrong_shape f) else ranges_at f
 unfoldable pub plan_at : Field → Data → Read SpecRecord
 plan_at f d = do
   plan ← object_at f (field.Partitions ∷ field.Threads ∷ field.Override ∷ field.Ranges ∷ []) d
-  partitions ← optional (number_at 1 4096) 1 field.Partitions plan
-  threads ← optional (number_at 0 4096) 0 field.Threads plan
+  partitions ← optional (number_at 1 max_partitions_asked) 1 field.Partitions plan
+  threads ← optional (number_at 0 max_threads_asked) 0 field.Threads plan
   replace ← optional flag_at false field.Override plan
   ranges ← optional (own_ranges_at (is_some (get (name_of field.Partitions) plan))) None field.Ranges plan
   Ok (record { partitions = partitions; threads = threads; replace = replace; ranges = ranges })
@@ -126,9 +120,9 @@ limit_at high f d = number_at 0 high f d >>= λ n. Ok (Some n)
 unfoldable pub chunk_at : List (List ℕ) → Field → Data → Read (ℕ × RulesRecord)
 chunk_at classes f d = do
   chunk ← object_at f (field.ItemCount ∷ field.SkipLimit ∷ field.RetryLimit ∷ field.SkippableExceptionClasses ∷ field.RetryableExceptionClasses ∷ []) d
-  item_count ← optional (number_at 1 1000000) 10 field.ItemCount chunk
-  skip_limit ← optional (limit_at 10000000) None field.SkipLimit chunk
-  retry_limit ← optional (number_at 0 100000) 1000 field.RetryLimit chunk
+  item_count ← optional (number_at 1 max_item_count) 10 field.ItemCount chunk
+  skip_limit ← optional (limit_at max_skip_limit) None field.SkipLimit chunk
+  retry_limit ← optional (number_at 0 max_retry_limit) 1000 field.RetryLimit chunk
   skippable ← optional (set_at classes) 0 field.SkippableExceptionClasses chunk
   retryable ← optional (set_at classes) 0 field.RetryableExceptionClasses chunk
   Ok (item_count, record { skippable = skippable; retryable = retryable; skip_limit = skip_limit; retry_limit = retry_limit })
@@ -138,7 +132,7 @@ chunk_at classes f d = do
 -- an id that no earlier step has
 unfoldable pub new_id_at : List StepRecord → Field → Data → Read (List ℕ)
 new_id_at earlier f d = do
-  id ← text_at 1 64 f d
+  id ← text_at 1 max_name f d
   if list_any (λ s. bytes_eq s.id id) earlier then Err (wrong_shape f) else Ok id
 
 unfoldable pub step_at : List (List ℕ) → List StepRecord → Data → Read StepRecord
@@ -149,20 +143,15 @@ step_at classes earlier d = do
   spec ← optional partition_at one_partition field.Partition step
   Ok (record { id = id; item_count = chunk.0; rules = chunk.1; spec = spec })
 
--- each step after those before it, which are done
-abbrev pub steps_from : List (List ℕ) → List StepRecord → Items → Read (List StepRecord)
-steps_from classes done no_items = Ok done
-steps_from classes done (item d ds) = step_at classes done d >>= λ step. steps_from classes (done ++ step ∷ []) ds
-
 unfoldable pub steps_at : List (List ℕ) → Field → Data → Read (List StepRecord)
-steps_at classes f d = list_at 1 16 f d >>= steps_from classes []
+steps_at classes f d = list_at 1 max_steps f d >>= each_at (step_at classes)
 
 -- ---- job
 
 unfoldable pub job_at : Data → Read Job
 job_at d = do
   job ← object_at field.Job (field.Id ∷ field.ExceptionClasses ∷ field.Step ∷ []) d
-  id ← required (text_at 1 64) field.Id job
+  id ← required (text_at 1 max_name) field.Id job
   classes ← optional classes_at [] field.ExceptionClasses job
   steps ← required (steps_at classes) field.Step job
   Ok (record { id = id; classes = classes; steps = steps })

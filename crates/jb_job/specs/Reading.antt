@@ -4,10 +4,10 @@
 -- the table. A field that is missing where it is required, or of the wrong kind, is of the wrong shape; then a value may
 -- be out of its range, and a list may have too many members. `null` is of the wrong kind for every field. Of a key that
 -- the text repeats, the tree has the last value.
-use Rattle.std.specs.Prelude.{◌≡◌, ℕ, ◌&&◌, Bool, List, [], ◌∷◌, length, Option, Some, None, option_and_then, Result, Ok, Err, IsErrAnd, ◌⊎◌, nat_le, bytes_eq, if◌then◌else◌}
+use Rattle.std.specs.Prelude.{◌≡◌, ℕ, ◌&&◌, Bool, List, [], ◌∷◌, ◌++◌, length, Option, Some, None, option_and_then, Result, Ok, Err, IsErrAnd, ◌⊎◌, nat_le, bytes_eq, if◌then◌else◌}
 use Rattle.std.specs.List.{list_all, list_any}
 use Rattle.std.specs.Str.{is_utf8}
-use Rattle.serde_json.specs.Data.{Data, Items, Members, no_members, member}
+use Rattle.serde_json.specs.Data.{Data, Items, no_items, item, Members, no_members, member}
 use Rattle.serde_json.specs.Events.{items_len}
 use Rattle.serde_json.specs.Find.{get, as_bool, as_number, as_str, as_array, as_object, as_u64}
 use Rattle.serde_json.specs.Read.{read}
@@ -70,12 +70,12 @@ member_names (member k d ms) = k ∷ member_names ms
 abbrev pub is_named : List Field → List ℕ → Bool
 is_named table name = list_any (λ f. bytes_eq (name_of f) name) table
 
-abbrev pub known : List Field → Data → Members → Read Data
-known table d ms = if list_all (is_named table) (member_names ms) then Ok d else Err (wrong_shape field.Unknown)
+abbrev pub with_keys_of : List Field → Data → Members → Read Data
+with_keys_of table d ms = if list_all (is_named table) (member_names ms) then Ok d else Err (wrong_shape field.Unknown)
 
 -- an object that has no key besides the table's
 unfoldable pub object_at : Field → List Field → Data → Read Data
-object_at f table d = shaped f (as_object d) >>= known table d
+object_at f table d = shaped f (as_object d) >>= with_keys_of table d
 
 -- a text of low to high bytes
 unfoldable pub text_at : ℕ → ℕ → Field → Data → Read (List ℕ)
@@ -102,6 +102,37 @@ unfoldable pub list_at : ℕ → ℕ → Field → Data → Read Items
 list_at low high f d = do
   items ← shaped f (as_array d)
   if nat_le (items_len items) high then ranged f (nat_le low (items_len items)) items else Err (too_many f)
+
+-- ---- members of a list
+
+abbrev pub pair_of : Items → Option (Data × Data)
+pair_of (item a (item b no_items)) = Some (a, b)
+pair_of _ = None
+
+-- a list of two members
+unfoldable pub pair_at : Field → Data → Read (Data × Data)
+pair_at f d = do
+  items ← shaped f (as_array d)
+  shaped f (pair_of items)
+
+abbrev pub triple_of : Items → Option (Data × Data × Data)
+triple_of (item a (item b (item c no_items))) = Some (a, b, c)
+triple_of _ = None
+
+-- a list of three members
+unfoldable pub triple_at : Field → Data → Read (Data × Data × Data)
+triple_at f d = do
+  items ← shaped f (as_array d)
+  shaped f (triple_of items)
+
+-- the members that are done, and then the others
+abbrev pub each_after : {A : Type 0} → (List A → Data → Read A) → List A → Items → Read (List A)
+each_after kind done no_items = Ok done
+each_after kind done (item d ds) = kind done d >>= λ one. each_after kind (done ++ one ∷ []) ds
+
+-- All members in order, each by those before it. The first fault ends them.
+abbrev pub each_at : {A : Type 0} → (List A → Data → Read A) → Items → Read (List A)
+each_at kind = each_after kind []
 
 -- a field that has to be there
 unfoldable pub required : {A : Type 0} → (Field → Data → Read A) → Field → Data → Read A

@@ -1,17 +1,12 @@
 -- What contracts see of the parts of a job: plain records, whose ranges the types keep.
 use Rattle.std.specs.Prelude.{ℕ, Bool, List, Option}
 use Rattle.jb_job.specs.declared.job.Range.{Range}
-use Rattle.jb_job.specs.declared.rules.Rules.{Rules}
 
 pub record RulesRecord : Type 0 where
   pub skippable : ℕ
   pub retryable : ℕ
   pub skip_limit : Option ℕ
   pub retry_limit : ℕ
-
--- the rules as a plain record
-abbrev pub rules_record : Rules → RulesRecord
-rules_record r = record { skippable = r.skippable; retryable = r.retryable; skip_limit = r.skip_limit; retry_limit = r.retry_limit }
 
 pub record SpecRecord : Type 0 where
   pub partitions : ℕ

@@ -4,7 +4,7 @@ ghost use Rattle.std.specs.Prelude.{◌≡◌, ◌≤◌, IfOk, None};
 ghost use Rattle.std.specs.Option.{ForSome};
 ghost use Rattle.serde_json.specs.View.{view};
 ghost use Rattle.jb_job.specs.Reading.{Gives, number_at, optional};
-ghost use Rattle.jb_job.specs.Records.{rules_record};
+ghost use Rattle.jb_job.specs.Limits.{max_item_count, max_skip_limit, max_retry_limit};
 ghost use Rattle.jb_job.specs.JobRecord.{limit_at, chunk_at};
 ghost use Rattle.jb_job.specs.declared.field.Field.TheVariants as field;
 
@@ -15,6 +15,7 @@ use crate::field::Field;
 use crate::kinds::{number, object};
 use crate::rules::Rules;
 use serde_json::Value;
+use std::alloc::Global;
 
 const DEFAULT_ITEM_COUNT: u64 = 10;
 
@@ -28,7 +29,7 @@ const MAX_RETRY_LIMIT: u64 = 100_000;
 
 #[tactic(auto, unfolding(crate::specs::Reading::optional))]
 fn item_count(chunk: &Value) -> Result<u64, JobError>
-    ensures exact { Gives (λ n. n) result (optional (number_at 1 1000000) 10 field.ItemCount (view chunk.now)) }
+    ensures exact { Gives (λ n. n) result (optional (number_at 1 max_item_count) 10 field.ItemCount (view chunk.now)) }
     ensures least { IfOk result (λ n. 1 ≤ n) }
     ensures most { IfOk result (λ n. n ≤ 1000000) }
 {
@@ -40,7 +41,7 @@ fn item_count(chunk: &Value) -> Result<u64, JobError>
 
 #[tactic(auto, unfolding(crate::specs::JobRecord::limit_at, crate::specs::Reading::optional))]
 fn skip_limit(chunk: &Value) -> Result<Option<u64>, JobError>
-    ensures exact { Gives (λ n. n) result (optional (limit_at 10000000) None field.SkipLimit (view chunk.now)) }
+    ensures exact { Gives (λ n. n) result (optional (limit_at max_skip_limit) None field.SkipLimit (view chunk.now)) }
     ensures most { IfOk result (λ limit. ForSome limit (λ n. n ≤ 10000000)) }
 {
     match chunk.get(Field::SkipLimit.name()) {
@@ -51,7 +52,7 @@ fn skip_limit(chunk: &Value) -> Result<Option<u64>, JobError>
 
 #[tactic(auto, unfolding(crate::specs::Reading::optional))]
 fn retry_limit(chunk: &Value) -> Result<u64, JobError>
-    ensures exact { Gives (λ n. n) result (optional (number_at 0 100000) 1000 field.RetryLimit (view chunk.now)) }
+    ensures exact { Gives (λ n. n) result (optional (number_at 0 max_retry_limit) 1000 field.RetryLimit (view chunk.now)) }
     ensures most { IfOk result (λ n. n ≤ 100000) }
 {
     match chunk.get(Field::RetryLimit.name()) {
@@ -62,8 +63,8 @@ fn retry_limit(chunk: &Value) -> Result<u64, JobError>
 
 /// The item count and the rules of a step.
 #[tactic(auto, unfolding(crate::specs::JobRecord::chunk_at))]
-pub fn chunk_parts(classes: &Classes, tree: &Value) -> Result<(u64, Rules), JobError>
-    ensures exact { Gives (λ c. (c.0, rules_record c.1)) result (chunk_at classes.now field.Chunk (view tree.now)) }
+pub fn chunk_parts(alloc: Global, classes: &Classes, tree: &Value) -> Result<(u64, Rules), JobError>
+    ensures exact { Gives (λ c. c) result (chunk_at classes.now field.Chunk (view tree.now)) }
     ensures least { IfOk result (λ c. 1 ≤ c.0) }
     ensures most { IfOk result (λ c. c.0 ≤ 1000000) }
 {
@@ -81,8 +82,8 @@ pub fn chunk_parts(classes: &Classes, tree: &Value) -> Result<(u64, Rules), JobE
     let item_count = item_count(chunk)?;
     let skip_limit = skip_limit(chunk)?;
     let retry_limit = retry_limit(chunk)?;
-    let skippable = class_field(classes, Field::SkippableExceptionClasses, chunk)?;
-    let retryable = class_field(classes, Field::RetryableExceptionClasses, chunk)?;
+    let skippable = class_field(alloc, classes, Field::SkippableExceptionClasses, chunk)?;
+    let retryable = class_field(alloc, classes, Field::RetryableExceptionClasses, chunk)?;
     let rules = Rules {
         skippable,
         retryable,

@@ -3,15 +3,17 @@
 ghost use Rattle.std.specs.Prelude.{◌≡◌};
 ghost use Rattle.serde_json.specs.View.{view, items_view};
 ghost use Rattle.jb_job.specs.Reading.{Gives, optional};
-ghost use Rattle.jb_job.specs.JobRecord.{bits_at, bits_from, names_at, set_at};
+ghost use Rattle.jb_job.specs.JobRecord.{bits_at, names_at, set_at};
 ghost use Rattle.jb_job.specs.declared.field.Field.TheVariants as field;
 
 use crate::class_list::EVERY_CLASS;
 use crate::classes::Classes;
 use crate::error::JobError;
 use crate::field::Field;
-use crate::kinds::{list, object};
+use crate::kinds::{each, list, object};
 use serde_json::Value;
+use std::alloc::Global;
+use std::marker::Brand;
 
 const MAX_NAMES: usize = 128;
 
@@ -30,53 +32,53 @@ fn class_bits(star: bool, classes: &Classes, field: Field, tree: &Value) -> Resu
     }
 }
 
-fn all_bits(
+/// The bits of all names of a list.
+#[tactic(auto, unfolding(crate::specs::JobRecord::names_at))]
+fn names(
+    alloc: Global,
     star: bool,
     classes: &Classes,
     field: Field,
-    items: &Vec<Value>,
+    tree: &Value,
 ) -> Result<u64, JobError>
-    ensures { Gives (λ n. n) result (bits_from (bits_at star classes.now field) 0 (items_view items.now.items)) }
-{
-    let mut bits = 0;
-    for item in items {
-        bits |= class_bits(star, classes, field, item)?;
-    }
-    Ok(bits)
-}
-
-#[tactic(auto, unfolding(crate::specs::JobRecord::names_at))]
-fn names(star: bool, classes: &Classes, field: Field, tree: &Value) -> Result<u64, JobError>
     ensures { Gives (λ n. n) result (names_at star classes.now field (view tree.now)) }
 {
     let items = list(0, MAX_NAMES, field, tree)?;
-    all_bits(star, classes, field, items)
+    let bits = each::<Brand, u64, _>(alloc, items, |_, tree| {
+        class_bits(star, classes, field, tree)
+    })?;
+    Ok(bits.iter().fold(0, |all, one| all | one))
 }
 
 /// The classes included without those excluded.
 #[tactic(auto, unfolding(crate::specs::JobRecord::set_at, crate::specs::Reading::optional))]
-fn class_set(classes: &Classes, field: Field, tree: &Value) -> Result<u64, JobError>
+fn class_set(alloc: Global, classes: &Classes, field: Field, tree: &Value) -> Result<u64, JobError>
     ensures { Gives (λ n. n) result (set_at classes.now field (view tree.now)) }
 {
     let set = object(field, &[Field::Include, Field::Exclude], tree)?;
     let included = match set.get(Field::Include.name()) {
         None => 0,
-        Some(included) => names(true, classes, Field::Include, included)?,
+        Some(included) => names(alloc, true, classes, Field::Include, included)?,
     };
     let excluded = match set.get(Field::Exclude.name()) {
         None => 0,
-        Some(excluded) => names(false, classes, Field::Exclude, excluded)?,
+        Some(excluded) => names(alloc, false, classes, Field::Exclude, excluded)?,
     };
     Ok(included & !excluded)
 }
 
 /// A field with a set of classes, which is empty where the field is absent.
 #[tactic(auto, unfolding(crate::specs::Reading::optional))]
-pub fn class_field(classes: &Classes, field: Field, chunk: &Value) -> Result<u64, JobError>
+pub fn class_field(
+    alloc: Global,
+    classes: &Classes,
+    field: Field,
+    chunk: &Value,
+) -> Result<u64, JobError>
     ensures { Gives (λ n. n) result (optional (set_at classes.now) 0 field (view chunk.now)) }
 {
     match chunk.get(field.name()) {
         None => Ok(0),
-        Some(set) => class_set(classes, field, set),
+        Some(set) => class_set(alloc, classes, field, set),
     }
 }

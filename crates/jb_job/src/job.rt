@@ -110,24 +110,23 @@ pub struct Step {
 
 impl Model for Step {
     ghost use Rattle.std.specs.Prelude.{◌≤◌};
-    ghost use Rattle.jb_job.specs.Records.{StepRecord, rules_record};
+    ghost use Rattle.jb_job.specs.Records.{StepRecord};
 
     ghost Value = { StepRecord };
 
-    ghost view = { λ s. record { id = s.id; item_count = s.item_count; rules = rules_record s.rules; spec = s.spec } };
+    ghost view = { λ s. record { id = s.id; item_count = s.item_count; rules = s.rules; spec = s.spec } };
 
     ghost invariant = { λ s. (1 ≤ s.item_count) × (s.item_count ≤ 1000000) };
 }
 
 impl Step {
     ghost use Rattle.std.specs.Prelude.{◌≡◌, ◌≤◌};
-    ghost use Rattle.jb_job.specs.Records.{rules_record};
 
     /// A step of an item count of 1 to 1,000,000.
     pub fn new(id: Text, item_count: u64, rules: Rules, spec: Spec) -> Step
         requires some { 1 ≤ item_count }
         requires few { item_count ≤ 1000000 }
-        ensures { result ≡ record { id = id; item_count = item_count; rules = rules_record rules; spec = spec } }
+        ensures { result ≡ record { id = id; item_count = item_count; rules = rules; spec = spec } }
     {
         Step {
             id,
@@ -155,7 +154,7 @@ impl Step {
 
     /// What is skipped and what is retried.
     pub fn rules(&self) -> Rules
-        ensures { rules_record result ≡ self.now.rules }
+        ensures { result ≡ self.now.rules }
     {
         self.rules
     }

@@ -1,16 +1,21 @@
 //! The kinds of fields: what a JSON tree gives as a field of each kind, or its first fault.
 
-ghost use Rattle.std.specs.Prelude.{◌≡◌, ◌≤◌, length, string_bytes, IfOk};
+ghost use Rattle.std.specs.Prelude.{◌≡◌, ◌≤◌, List, [], length, map, string_bytes, Result, Ok, IfOk};
+ghost use Rattle.serde_json.specs.Data.{Data};
+ghost use Rattle.jb_job.specs.declared.error.JobError.{JobError};
+ghost use Rattle.serde_json.specs.declared.value.Value.{Value};
 ghost use Rattle.std.specs.List.{list_all, list_any};
 ghost use Rattle.std.specs.BTreeMap.{keys};
 ghost use Rattle.serde_json.specs.Find.{get};
 ghost use Rattle.serde_json.specs.View.{view, items_view};
 ghost use Rattle.jb_job.specs.Names.{name_of};
-ghost use Rattle.jb_job.specs.Reading.{Gives, shaped, is_named, object_at, text_at, number_at, list_at, flag_at};
+ghost use Rattle.jb_job.specs.Reading.{Read, Gives, each_at, pair_at, triple_at, whole_number, shaped, is_named, object_at, text_at, number_at, list_at, flag_at};
 
 use crate::error::JobError;
 use crate::field::Field;
 use serde_json::{Map, Value};
+use std::alloc::Global;
+use std::marker::Brand;
 
 /// The most bytes of a name: of a job, a step or a fault class.
 pub const MAX_NAME: usize = 64;
@@ -62,7 +67,7 @@ pub fn number(low: u64, high: u64, field: Field, tree: &Value) -> Result<u64, Jo
     ensures least { IfOk result (λ n. low ≤ n) }
     ensures most { IfOk result (λ n. n ≤ high) }
 {
-    let number = tree.as_u64().ok_or(JobError::WrongShape(field))?;
+    let number = whole(field, tree)?;
     if low <= number && number <= high {
         Ok(number)
     } else {
@@ -99,4 +104,94 @@ pub fn flag(field: Field, tree: &Value) -> Result<bool, JobError>
     ensures { Gives (λ b. b) result (flag_at field (view tree.now)) }
 {
     tree.as_bool().ok_or(JobError::WrongShape(field))
+}
+
+/// A list of two members: another kind or another number of members is WrongShape.
+#[tactic(auto, using(crate::proofs::Trees::tree_steps), unfolding(crate::specs::Reading::pair_at))]
+pub fn pair(field: Field, tree: &Value) -> Result<(&Value, &Value), JobError>
+    ensures { Gives (λ p. (view p.0.now, view p.1.now)) result (pair_at field (view tree.now)) }
+{
+    let items = tree.as_array().ok_or(JobError::WrongShape(field))?;
+    match items.as_slice() {
+        [first, second] => Ok((first, second)),
+        _ => Err(JobError::WrongShape(field)),
+    }
+}
+
+/// A list of three members: another kind or another number of members is WrongShape.
+#[tactic(auto, using(crate::proofs::Trees::tree_steps), unfolding(crate::specs::Reading::triple_at))]
+pub fn triple(field: Field, tree: &Value) -> Result<(&Value, &Value, &Value), JobError>
+    ensures { Gives (λ t. (view t.0.now, view t.1.now, view t.2.now)) result (triple_at field (view tree.now)) }
+{
+    let items = tree.as_array().ok_or(JobError::WrongShape(field))?;
+    match items.as_slice() {
+        [first, second, third] => Ok((first, second, third)),
+        _ => Err(JobError::WrongShape(field)),
+    }
+}
+
+/// A number of any size: another kind is WrongShape.
+pub fn whole(field: Field, tree: &Value) -> Result<u64, JobError>
+    ensures { Gives (λ n. n) result (shaped field (whole_number (view tree.now))) }
+{
+    tree.as_u64().ok_or(JobError::WrongShape(field))
+}
+
+/// What the members of a list are read as. It stands in proofs alone: a call of `each` names `Brand`, and its proof
+/// picks what `each` promises.
+pub trait Member<T> {
+    /// What contracts see of a member.
+    ghost Shown: { Type 0 };
+
+    ghost shown: { T → Shown };
+
+    /// What a tree gives after the members before it.
+    ghost kind: { List Shown → Data → Read Shown };
+}
+
+impl<T> Member<T> for Brand {
+    ghost Shown = { Unit {0} };
+
+    ghost shown = { λ _. tt };
+
+    ghost kind = { λ _ _. Ok tt };
+}
+
+/// All members of a list in order, each read by those before it. The first fault ends them. Only the list's growth
+/// takes memory.
+pub fn each<M: Member<T>, T: Drop, F: Fn(&[T], &Value) -> Result<T, JobError>>(
+    alloc: Global,
+    items: &Vec<Value>,
+    read: F,
+) -> Result<Vec<T>, JobError>
+    requires callable { F.IsAlwaysCallable read }
+    requires exact { (done : _) (tree : _) (one : Result T JobError) → F.post read done tree one → Gives M.shown one (M.kind (map M.shown done.now) (view tree.now)) }
+    ensures exact { Gives (λ v. map M.shown v.items) result (each_at M.kind (items_view items.now.items)) }
+    ensures long { IfOk result (λ v. length v.items ≡ length items.now.items) }
+{
+    let mut done = Vec::with_capacity(alloc, items.len())?;
+    for item in items {
+        let one = read(&done, item)?;
+        done.push(one)?;
+    }
+    Ok(done)
+}
+
+/// As `each`, of a list whose members may be taken apart.
+pub fn each_by_value<M: Member<T>, T: Drop, F: Fn(&[T], Value) -> Result<T, JobError>>(
+    alloc: Global,
+    items: Vec<Value>,
+    read: F,
+) -> Result<Vec<T>, JobError>
+    requires callable { F.IsAlwaysCallable read }
+    requires exact { (done : _) (tree : _) (one : Result T JobError) → F.post read done tree one → Gives M.shown one (M.kind (map M.shown done.now) (view tree)) }
+    ensures exact { Gives (λ v. map M.shown v.items) result (each_at M.kind (items_view items.items)) }
+    ensures long { IfOk result (λ v. length v.items ≡ length items.items) }
+{
+    let mut done = Vec::with_capacity(alloc, items.len())?;
+    for member in items {
+        let one = read(&done, member)?;
+        done.push(one)?;
+    }
+    Ok(done)
 }

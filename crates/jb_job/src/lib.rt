@@ -33,6 +33,3 @@ pub use reading::{job_of, read_job};
 pub use rules::Rules;
 pub use text::Text;
 pub use tree::read_tree;
-
-#[cfg(test)]
-mod tests;

@@ -4,17 +4,18 @@ ghost use Rattle.std.specs.Prelude.{◌≡◌, [], Some, None, is_some};
 ghost use Rattle.serde_json.specs.Find.{get};
 ghost use Rattle.serde_json.specs.View.{view, items_view};
 ghost use Rattle.jb_job.specs.Names.{name_of};
-ghost use Rattle.jb_job.specs.Reading.{Gives};
-ghost use Rattle.jb_job.specs.JobRecord.{range_at, ranges_from, own_ranges_at, plan_at, partition_at};
+ghost use Rattle.jb_job.specs.Reading.{Gives, each_at};
+ghost use Rattle.jb_job.specs.JobRecord.{range_pair_at, own_ranges_at, plan_at, partition_at};
 ghost use Rattle.jb_job.specs.declared.field.Field.TheVariants as field;
 
 use crate::error::JobError;
 use crate::field::Field;
 use crate::job::{Range, Spec};
-use crate::kinds::{flag, list, number, object, required};
+use crate::kinds::{each, flag, list, number, object, pair, required, whole};
 use crate::lists::Ranges;
 use serde_json::Value;
 use std::alloc::Global;
+use std::marker::Brand;
 
 const MAX_PARTITIONS: u64 = 4_096;
 
@@ -24,16 +25,13 @@ const MAX_RANGES: usize = 4_096;
 
 const MAX_RECORDS: u64 = 10_000_000;
 
-#[tactic(auto, using(crate::proofs::Trees::tree_steps), unfolding(crate::specs::JobRecord::range_at))]
+#[tactic(auto, unfolding(crate::specs::JobRecord::range_pair_at))]
 fn range(tree: &Value) -> Result<Range, JobError>
-    ensures { Gives (λ r. r) result (range_at (view tree.now)) }
+    ensures { Gives (λ r. r) result (range_pair_at (view tree.now)) }
 {
-    let pair = tree.as_array().ok_or(JobError::WrongShape(Field::Ranges))?;
-    let [lo, hi] = pair.as_slice() else {
-        return Err(JobError::WrongShape(Field::Ranges));
-    };
-    let lo = lo.as_u64().ok_or(JobError::WrongShape(Field::Ranges))?;
-    let hi = hi.as_u64().ok_or(JobError::WrongShape(Field::Ranges))?;
+    let (lo, hi) = pair(Field::Ranges, tree)?;
+    let lo = whole(Field::Ranges, lo)?;
+    let hi = whole(Field::Ranges, hi)?;
     if lo <= MAX_RECORDS && hi <= MAX_RECORDS {
         Ok(Range { lo, hi })
     } else {
@@ -42,13 +40,9 @@ fn range(tree: &Value) -> Result<Range, JobError>
 }
 
 fn ranges(alloc: Global, items: &Vec<Value>) -> Result<Ranges, JobError>
-    ensures { Gives (λ r. r) result (ranges_from [] (items_view items.now.items)) }
+    ensures { Gives (λ r. r) result (each_at (λ _. range_pair_at) (items_view items.now.items)) }
 {
-    let mut ranges = Vec::new(alloc);
-    for item in items {
-        let next = range(item)?;
-        ranges.push(next)?;
-    }
+    let ranges = each::<Brand, Range, _>(alloc, items, |_, tree| range(tree))?;
     Ok(Ranges::new(ranges))
 }
 

@@ -3,8 +3,8 @@
 ghost use Rattle.std.specs.Prelude.{◌≡◌, [], bytes_eq};
 ghost use Rattle.std.specs.List.{list_any};
 ghost use Rattle.serde_json.specs.View.{view, items_view};
-ghost use Rattle.jb_job.specs.Reading.{Gives, GivesOfText, tree_of};
-ghost use Rattle.jb_job.specs.JobRecord.{new_id_at, step_at, steps_from, job_at};
+ghost use Rattle.jb_job.specs.Reading.{Gives, GivesOfText, each_at, tree_of};
+ghost use Rattle.jb_job.specs.JobRecord.{new_id_at, step_at, job_at};
 ghost use Rattle.jb_job.specs.declared.field.Field.TheVariants as field;
 
 use crate::chunk::chunk_parts;
@@ -13,7 +13,7 @@ use crate::classes::Classes;
 use crate::error::JobError;
 use crate::field::Field;
 use crate::job::{Job, Spec, Step};
-use crate::kinds::{MAX_NAME, list, object, required, text};
+use crate::kinds::{MAX_NAME, each, list, object, required, text};
 use crate::lists::Steps;
 use crate::partition::partition_spec;
 use crate::text::Text;
@@ -21,6 +21,7 @@ use crate::tree::read_tree;
 use indexmap::IndexSet;
 use serde_json::Value;
 use std::alloc::Global;
+use std::marker::Brand;
 
 const MAX_STEPS: usize = 16;
 
@@ -54,7 +55,7 @@ fn step(alloc: Global, classes: &Classes, earlier: &[Step], tree: &Value) -> Res
         tree,
     )?;
     let id = new_id(earlier, required(Field::Id, step)?)?;
-    let (item_count, rules) = chunk_parts(classes, required(Field::Chunk, step)?)?;
+    let (item_count, rules) = chunk_parts(alloc, classes, required(Field::Chunk, step)?)?;
     let spec = match step.get(Field::Partition.name()) {
         None => Spec::new(1, 0, false, None),
         Some(given) => partition_spec(alloc, given)?,
@@ -64,13 +65,11 @@ fn step(alloc: Global, classes: &Classes, earlier: &[Step], tree: &Value) -> Res
 }
 
 fn steps(alloc: Global, classes: &Classes, items: &Vec<Value>) -> Result<Steps, JobError>
-    ensures { Gives (λ s. s) result (steps_from classes.now [] (items_view items.now.items)) }
+    ensures { Gives (λ s. s) result (each_at (step_at classes.now) (items_view items.now.items)) }
 {
-    let mut steps = Vec::new(alloc);
-    for item in items {
-        let next = step(alloc, classes, &steps, item)?;
-        steps.push(next)?;
-    }
+    let steps = each::<Brand, Step, _>(alloc, items, |earlier, tree| {
+        step(alloc, classes, earlier, tree)
+    })?;
     Ok(Steps::new(steps))
 }
 

@@ -1,12 +1,11 @@
 //! What is skipped and what is retried.
 
-ghost use Rattle.std.specs.Prelude.{◌≤◌};
-ghost use Rattle.std.specs.Option.{ForSome};
+use std::marker::Model;
 
 /// Which fault classes of a chunk step are skipped and which are retried, and how often.
 ///
 /// A set of classes has one bit for each class, `ClassId::bit`. Both limits hold for each partition
-/// by itself (own choice).
+/// by itself (own choice). Contracts see the record of the four values.
 #[derive(Clone, Copy, Debug, PartialEq, Eq)]
 pub struct Rules {
     /// The classes of Jakarta's `skippable-exception-classes`.
@@ -17,6 +16,18 @@ pub struct Rules {
     pub skip_limit: Option<u64>,
     /// How many times a chunk is retried, at most 100,000.
     pub retry_limit: u64,
-    pub ghost skip_limit_most: { ForSome skip_limit (λ limit. limit ≤ 10000000) },
-    pub ghost retry_limit_most: { retry_limit ≤ 100000 },
+}
+
+impl Model for Rules {
+    ghost use Rattle.std.specs.Prelude.{◌≤◌};
+    ghost use Rattle.std.specs.Option.{ForSome};
+    ghost use Rattle.jb_job.specs.Records.{RulesRecord};
+
+    ghost Value = { RulesRecord };
+
+    ghost view = { λ r. record { skippable = r.skippable; retryable = r.retryable; skip_limit = r.skip_limit; retry_limit = r.retry_limit } };
+
+    ghost invariant = { λ r. ForSome r.skip_limit (λ limit. limit ≤ 10000000) × (r.retry_limit ≤ 100000) };
+
+    ghost inverse = { λ r. record { skippable = r.skippable; retryable = r.retryable; skip_limit = r.skip_limit; retry_limit = r.retry_limit } };
 }

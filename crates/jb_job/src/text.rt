@@ -32,4 +32,12 @@ impl Text {
     {
         self.text.as_str()
     }
+
+    /// The string, given back. Takes no memory.
+    pub fn into_string(self) -> String
+        ensures { string_bytes result ≡ self }
+    {
+        let Text { text } = self;
+        text
+    }
 }

@@ -1,12 +1,13 @@
 -- Even ranges cover the records.
 use Rattle.std.proofs.Common.{◌≡◌, ℕ, zero, suc, ◌+◌, ◌-◌, ◌*◌, ◌/◌, ◌%◌, ◌<◌, ◌≤◌, Bool, true, false, length, get_or, refl, sym, arith, subst}
 use Rattle.std.proofs.Math.Nat.{mul-le-mul_right, div-add-mod, mod-lt, suc-mul, zero-mul}
-use Rattle.std.specs.Prelude.{min, nat_lt, if◌then◌else◌, All, AllPairs}
+use Rattle.std.specs.Prelude.{min, nat_lt, if◌then◌else◌, All}
 use Rattle.std.proofs.lemmas.List.FromFn.{get_or-map-range_with_len, length-map-range_with_len}
 use Rattle.std.proofs.lemmas.Bool.{ltb-true, ltb-false}
 use Rattle.jb_job.specs.declared.job.Range.{Range}
-use Rattle.jb_plan.specs.Plans.{IsWithin, AreDisjoint}
-use Rattle.jb_mapper.specs.EvenCover.{bound, even_range, even_ranges, range_at, StandsIn, IsEvenCover}
+use Rattle.jb_plan.specs.Plans.{IsWithin}
+use Rattle.jb_plan.specs.Ranges.{HaveNoneInCommon, AreDisjoint}
+use Rattle.jb_mapper.specs.EvenCover.{bound, even_range, even_ranges, ith_range, HasRecord, IsEvenCover}
 
 -- no range goes past the records
 pub bound_below : (records parts i : ℕ) → 1 ≤ parts → i ≤ parts → i * (records / parts) + min i (records % parts) ≤ records
@@ -60,7 +61,7 @@ between records parts zero x below = let none = bound-none records parts in absu
 between records parts (suc n) x below = between_by (nat_lt x (bound records parts n)) records parts n x refl below (λ lt. between records parts n x lt)
 
 -- the i-th of the even ranges
-place : (records parts i : ℕ) → i < parts → range_at (even_ranges records parts) i ≡ even_range records parts i
+place : (records parts i : ℕ) → i < parts → ith_range (even_ranges records parts) i ≡ even_range records parts i
 unfolding even_ranges
 place records parts i lt = get_or-map-range_with_len (even_range records parts) 0 parts i i _ lt (omega arith)
 
@@ -68,7 +69,7 @@ pub number : (records parts : ℕ) → length (even_ranges records parts) ≡ pa
 unfolding even_ranges
 number records parts = length-map-range_with_len (even_range records parts) 0 parts
 
-stands : (records parts x : ℕ) → IsBetween records parts parts x → (i : ℕ) × StandsIn (even_ranges records parts) i x
+stands : (records parts x : ℕ) → IsBetween records parts parts x → (i : ℕ) × HasRecord (even_ranges records parts) i x
 stands records parts x b =
     let e = place records parts b.place b.within in
     (b.place, ((let n = number records parts in let lt = b.within in omega (arith, n, lt)), rw e b.from, rw e b.to))
@@ -84,7 +85,7 @@ same_by true after records parts i j x e f from to from' to' = absurd (not_befor
 same_by false true records parts i j x e f from to from' to' = absurd (not_before records parts j i x to' from (ltb-true j i f))
 same_by false false records parts i j x e f from to from' to' = let le = ltb-false i j e in let ge = ltb-false j i f in omega (arith, le, ge)
 
-once_at : (records parts i j x : ℕ) → i < parts → j < parts → StandsIn (even_ranges records parts) i x → StandsIn (even_ranges records parts) j x → i ≡ j
+once_at : (records parts i j x : ℕ) → i < parts → j < parts → HasRecord (even_ranges records parts) i x → HasRecord (even_ranges records parts) j x → i ≡ j
 once_at records parts i j x lt lt' a b =
     let from : bound records parts i ≤ x = subst (λ (r : Range). r.lo ≤ x) (place records parts i lt) a.1 in
     let to : x < bound records parts (i + 1) = subst (λ (r : Range). x < r.hi) (place records parts i lt) a.2 in
@@ -92,7 +93,7 @@ once_at records parts i j x lt lt' a b =
     let to' : x < bound records parts (j + 1) = subst (λ (r : Range). x < r.hi) (place records parts j lt') b.2 in
     same_by (nat_lt i j) (nat_lt j i) records parts i j x refl refl from to from' to'
 
-once : (records parts i j x : ℕ) → StandsIn (even_ranges records parts) i x → StandsIn (even_ranges records parts) j x → i ≡ j
+once : (records parts i j x : ℕ) → HasRecord (even_ranges records parts) i x → HasRecord (even_ranges records parts) j x → i ≡ j
 once records parts i j x a b =
     let n = number records parts in
     let lt : i < parts = subst (λ (m : ℕ). i < m) n a.0 in
@@ -115,7 +116,7 @@ within_at : (records parts i : ℕ) → 1 ≤ parts → i < parts → IsWithin r
 within_at records parts i some lt =
     (bound-rises records parts i (i + 1) (omega arith), bound_below records parts (i + 1) some (omega (arith, lt)))
 
-apart_at : (records parts i j : ℕ) → i < j → AreDisjoint (even_range records parts i) (even_range records parts j)
+apart_at : (records parts i j : ℕ) → i < j → HaveNoneInCommon (even_range records parts i) (even_range records parts j)
 apart_at records parts i j lt x from to from' to' = not_before records parts i j x to from' lt
 
 -- the k-th of the list of even ranges, whatever stands past its end
@@ -130,10 +131,10 @@ even_within records parts some k d below =
     let lt : k < parts = omega (arith, count, below) in
     subst (IsWithin records) (sym (listed records parts k d lt)) (within_at records parts k some lt)
 
-pub even_apart : (records parts : ℕ) → AllPairs AreDisjoint (even_ranges records parts)
+pub even_apart : (records parts : ℕ) → AreDisjoint (even_ranges records parts)
 even_apart records parts i j d before below =
     let count = number records parts in
     let lt : j < parts = omega (arith, count, below) in
     let first : i < parts = omega (arith, before, lt) in
-    subst (λ r. AreDisjoint r (get_or (even_ranges records parts) j d)) (sym (listed records parts i d first))
-    (subst (AreDisjoint (even_range records parts i)) (sym (listed records parts j d lt)) (apart_at records parts i j before))
+    subst (λ r. HaveNoneInCommon r (get_or (even_ranges records parts) j d)) (sym (listed records parts i d first))
+    (subst (HaveNoneInCommon (even_range records parts i)) (sym (listed records parts j d lt)) (apart_at records parts i j before))

@@ -15,21 +15,21 @@ unfoldable pub even_ranges : (records parts : ℕ) → List Range
 even_ranges records parts = map (even_range records parts) (range_with_len 0 parts)
 
 -- the i-th of these ranges, of those that are there
-abbrev pub range_at : List Range → (i : ℕ) → Range
-range_at ranges i = slice_index_or ranges i (record { lo = 0; hi = 0 })
+abbrev pub ith_range : List Range → (i : ℕ) → Range
+ith_range ranges i = slice_index_or ranges i (record { lo = 0; hi = 0 })
 
--- record x stands in the i-th of these ranges
-abbrev pub StandsIn : List Range → (i x : ℕ) → Type 0
-StandsIn ranges i x = (i < length ranges) × ((range_at ranges i).lo ≤ x) × (x < (range_at ranges i).hi)
+-- record x is one of the i-th of these ranges
+abbrev pub HasRecord : List Range → (i x : ℕ) → Type 0
+HasRecord ranges i x = (i < length ranges) × ((ith_range ranges i).lo ≤ x) × (x < (ith_range ranges i).hi)
 
 -- The even cover of so many records by so many partitions (this project's choice; Jakarta Batch 2.1 leaves it to the
 -- mapper): consecutive ranges from 0 to the number of records, of which the first `records % parts` are one longer than
 -- the rest, so that each record stands in exactly one.
 pub record IsEvenCover (records parts : ℕ) (ranges : List Range) : Type 0 where
   pub number : length ranges ≡ parts
-  pub first : (range_at ranges 0).lo ≡ 0
-  pub next : (i : ℕ) → i + 1 < parts → (range_at ranges (i + 1)).lo ≡ (range_at ranges i).hi
-  pub last : (range_at ranges (parts - 1)).hi ≡ records
-  pub size : (i : ℕ) → i < parts → (range_at ranges i).hi ≡ (range_at ranges i).lo + (records / parts + (if nat_lt i (records % parts) then 1 else 0))
-  pub somewhere : (x : ℕ) → x < records → (i : ℕ) × StandsIn ranges i x
-  pub once : (i j x : ℕ) → StandsIn ranges i x → StandsIn ranges j x → i ≡ j
+  pub first : (ith_range ranges 0).lo ≡ 0
+  pub next : (i : ℕ) → i + 1 < parts → (ith_range ranges (i + 1)).lo ≡ (ith_range ranges i).hi
+  pub last : (ith_range ranges (parts - 1)).hi ≡ records
+  pub size : (i : ℕ) → i < parts → (ith_range ranges i).hi ≡ (ith_range ranges i).lo + (records / parts + (if nat_lt i (records % parts) then 1 else 0))
+  pub somewhere : (x : ℕ) → x < records → (i : ℕ) × HasRecord ranges i x
+  pub once : (i j x : ℕ) → HasRecord ranges i x → HasRecord ranges j x → i ≡ j

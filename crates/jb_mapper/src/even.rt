@@ -1,7 +1,7 @@
 //! A mapper that divides the records evenly.
 
 ghost use Rattle.std.specs.Prelude.{◌≡◌, ◌≤◌, ◌<◌, IfOk};
-ghost use Rattle.jb_plan.specs.Plans.{IsLawful};
+ghost use Rattle.jb_plan.specs.Plans.{IsRunnable};
 ghost use Rattle.jb_plan.specs.declared.limits.TheConstants.{MAX_PARTITIONS, MAX_THREADS_ASKED};
 ghost use Rattle.jb_mapper.specs.EvenCover.{bound, even_ranges, IsEvenCover};
 ghost use Rattle.jb_mapper.specs.Mapping.{even};
@@ -86,11 +86,11 @@ pub fn even_cover(records: u64, partitions: u32)
     ensures { IsEvenCover records partitions (even_ranges records partitions) }
 {}
 
-/// The law of even plans: with 1 to 256 partitions and at most 4,096 threads they are lawful, so `jb_plan::checked`
+/// The law of even plans: with 1 to 256 partitions and at most 4,096 threads they can be run, so `jb_plan::checked`
 /// accepts them for each number of records that it takes.
-pub fn even_plan_is_lawful(records: u64, partitions: u32, threads: u32, replace: bool)
+pub fn even_plan_is_runnable(records: u64, partitions: u32, threads: u32, replace: bool)
     requires some { 1 ≤ partitions }
     requires few { partitions ≤ MAX_PARTITIONS }
     requires threads { threads ≤ MAX_THREADS_ASKED }
-    ensures { IsLawful records (record { ranges = even_ranges records partitions; threads = threads; replace = replace }) }
+    ensures { IsRunnable records (record { ranges = even_ranges records partitions; threads = threads; replace = replace }) }
 {}

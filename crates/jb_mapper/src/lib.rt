@@ -8,9 +8,7 @@
 mod even;
 mod fixed;
 mod mapper;
-#[cfg(test)]
-mod tests;
 
-pub use even::{EvenMapper, MAX_PARTITIONS_ASKED, even_cover, even_plan_is_lawful};
+pub use even::{EvenMapper, MAX_PARTITIONS_ASKED, even_cover, even_plan_is_runnable};
 pub use fixed::FixedMapper;
 pub use mapper::PartitionMapper;

@@ -1,7 +1,8 @@
 //! The interface of a partition mapper.
 
-ghost use Rattle.std.specs.Prelude.{◌≡◌};
-ghost use Rattle.jb_mapper.specs.Mapping.{Mapping, Answers};
+ghost use Rattle.std.specs.Prelude.{◌≡◌, Ok, Err, IfOk};
+ghost use Rattle.jb_job.specs.declared.class.ClassId.{ClassId};
+ghost use Rattle.jb_mapper.specs.Mapping.{Mapping};
 
 use jb_job::ArtifactError;
 use jb_plan::PartitionPlan;
@@ -19,6 +20,7 @@ pub trait PartitionMapper {
     /// The mapper's fault for that number, or `Memory` where there is none for the plan. No call changes what the
     /// mapper means.
     fn map(&mut self, records: u64) -> Result<PartitionPlan, ArtifactError>
-        ensures answer { Answers result (mapping self.old records) }
+        ensures plan { IfOk result (λ plan. mapping self.old records ≡ Ok plan) }
+        ensures fault { (class : ClassId) → result ≡ Err (ArtifactError.Fault class) → mapping self.old records ≡ Err class }
         ensures same { mapping self.new ≡ mapping self.old };
 }

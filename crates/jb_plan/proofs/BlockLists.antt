@@ -20,7 +20,7 @@ length-below p k same a zero = omega arith
 length-below p k same a (suc n) = below_step p k a n (nat_lt a k) refl (same a) (length-below p k same (a + 1) n)
 
 -- block j begins below the end exactly where j is below the number of blocks
-begins_by : (here : Bool) (s hi count j : ℕ) → 1 ≤ count → nat_lt (s + j * count) hi ≡ here → nat_lt j ((hi - s + (count - 1)) / count) ≡ here
+pub begins_by : (here : Bool) (s hi count j : ℕ) → 1 ≤ count → nat_lt (s + j * count) hi ≡ here → nat_lt j ((hi - s + (count - 1)) / count) ≡ here
 begins_by true s hi count j one e =
     let lt = ltb-true (s + j * count) hi e in
     let product : suc j * count ≡ j * count + count = suc-mul j count in
@@ -33,7 +33,7 @@ begins_by false s hi count j one e =
     le-ltb j _ (omega (arith, above))
 
 -- no more blocks than records
-few_blocks : (n count : ℕ) → 1 ≤ count → (n + (count - 1)) / count ≤ n
+pub few_blocks : (n count : ℕ) → 1 ≤ count → (n + (count - 1)) / count ≤ n
 few_blocks n count one =
     let product : suc n * count ≡ n * count + count = suc-mul n count in
     let wide : n ≤ n * count = le-mul_of_pos_right n one in

@@ -1,2 +1,3 @@
 pub mod BlockLists
-mod NoFaults
+pub mod Following
+pub mod NoFaults

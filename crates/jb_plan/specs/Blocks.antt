@@ -1,5 +1,5 @@
 -- The chunks that are left of a range of records.
-use Rattle.std.specs.Prelude.{ℕ, ◌+◌, ◌-◌, ◌*◌, ◌/◌, if◌then◌else◌, nat_lt, ◌==◌, min, max, Option, Some, None, List, ◌++◌, length, map, filter}
+use Rattle.std.specs.Prelude.{ℕ, ◌+◌, ◌-◌, ◌*◌, ◌/◌, if◌then◌else◌, nat_lt, ◌==◌, min, max, Option, Some, None, unwrap_or, slice_get, List, [], ◌∷◌, ◌++◌, length, map, filter, ◌≡◌, ◌≤◌, ◌<◌}
 use Rattle.std.specs.List.{range_with_len}
 use Rattle.jb_job.specs.declared.job.Range.{Range}
 
@@ -29,7 +29,26 @@ blocks at redo hi count = singles at redo ++ full_blocks (max at redo) hi count
 abbrev pub left : (at redo hi count : ℕ) → ℕ
 left at redo hi count = length (blocks at redo hi count)
 
--- THE SAME AS FORMULAS, for proofs
+-- the next chunk, which is the first of them; where nothing is left, no record from `at` on
+abbrev pub next_block : (at redo hi count : ℕ) → Range
+next_block at redo hi count = unwrap_or (slice_get (blocks at redo hi count) 0) (record { lo = at; hi = at })
+
+-- LAWS
+
+-- the block holds the next records, one at least, within the range, and the chunks that are left after it are the others
+pub record IsNext (at redo hi count : ℕ) (block : Range) : Type 0 where
+  pub from : block.lo ≡ at
+  pub some : at < block.hi
+  pub within : block.hi ≤ hi
+  pub others : blocks at redo hi count ≡ block ∷ blocks block.hi redo hi count
+
+-- the chunks that are left follow one another up to the range's end, and there are no more of them than records
+pub record ChunksFollow : Type 0 where
+  pub next : (at redo hi count : ℕ) → at < hi → redo ≤ hi → 1 ≤ count → IsNext at redo hi count (next_block at redo hi count)
+  pub none : (redo hi count : ℕ) → redo ≤ hi → blocks hi redo hi count ≡ []
+  pub few : (at redo hi count : ℕ) → at ≤ hi → redo ≤ hi → 1 ≤ count → left at redo hi count ≤ hi - at
+
+-- THE SAME AS FORMULAS
 
 -- the first of the blocks
 abbrev pub first_block : (at redo hi count : ℕ) → Option Range

@@ -1,3 +1,5 @@
 pub mod Blocks
 pub mod Faults
 pub mod Plans
+pub mod Ranges
+pub mod inside

@@ -1,24 +1,21 @@
 -- Partition plans that can be run.
-use Rattle.std.specs.Prelude.{ℕ, ◌≤◌, ◌<◌, ◌==◌, if◌then◌else◌, min, Bool, List, length, All, AllPairs}
+use Rattle.std.specs.Prelude.{ℕ, ◌≤◌, ◌==◌, if◌then◌else◌, min, Bool, List, length, All}
 use Rattle.jb_job.specs.declared.job.Range.{Range}
 use Rattle.jb_plan.specs.declared.plan.PartitionPlan.{PartitionPlan}
+use Rattle.jb_plan.specs.Ranges.{AreDisjoint}
 use Rattle.jb_plan.specs.declared.limits.TheConstants.{MAX_RECORDS, MAX_PARTITIONS, MAX_THREADS, MAX_THREADS_ASKED}
 
 -- a range of records below `records`; it may be empty
 abbrev pub IsWithin : (records : ℕ) → Range → Type 0
 IsWithin records r = (r.lo ≤ r.hi) × (r.hi ≤ records)
 
--- no record stands in both ranges
-abbrev pub AreDisjoint : Range → Range → Type 0
-AreDisjoint r s = (x : ℕ) → r.lo ≤ x → x < r.hi → s.lo ≤ x → x < s.hi → ⊥
-
--- What makes a plan lawful (Jakarta Batch 2.1, "Partition Mapper", leaves the meaning of a partition to the application; that partitions
+-- A plan that can be run by a step of so many records (Jakarta Batch 2.1, "Partition Mapper", leaves the meaning of a partition to the application; that partitions
 -- are ranges of records, and the limits, are this project's choice).
-pub record IsLawful (records : ℕ) (plan : PartitionPlan) : Type 0 where
+pub record IsRunnable (records : ℕ) (plan : PartitionPlan) : Type 0 where
   pub some : 1 ≤ length plan.ranges
   pub few : length plan.ranges ≤ MAX_PARTITIONS
   pub within : All (IsWithin records) plan.ranges
-  pub disjoint : AllPairs AreDisjoint plan.ranges
+  pub disjoint : AreDisjoint plan.ranges
   pub threads : plan.threads ≤ MAX_THREADS_ASKED
 
 -- as many threads as were asked for, or as there are ranges where 0 was; at most 64
@@ -35,10 +32,10 @@ abbrev pub checked_plan : PartitionPlan → CheckedPlan
 checked_plan plan = record { ranges = plan.ranges; threads = threads_of plan; replace = plan.replace }
 
 -- what each checked plan keeps
-pub record IsChecked (plan : CheckedPlan) : Type 0 where
+pub record IsCheckedPlan (plan : CheckedPlan) : Type 0 where
   pub some : 1 ≤ length plan.ranges
   pub few : length plan.ranges ≤ MAX_PARTITIONS
   pub within : All (IsWithin MAX_RECORDS) plan.ranges
-  pub disjoint : AllPairs AreDisjoint plan.ranges
+  pub disjoint : AreDisjoint plan.ranges
   pub some_threads : 1 ≤ plan.threads
   pub few_threads : plan.threads ≤ MAX_THREADS

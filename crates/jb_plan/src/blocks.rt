@@ -1,7 +1,7 @@
 //! The chunks that are left of a range of records.
 
-ghost use Rattle.std.specs.Prelude.{◌≡◌, ◌≤◌, ◌-◌, List, slice_get};
-ghost use Rattle.jb_plan.specs.Blocks.{blocks, left, first_block, blocks_left};
+ghost use Rattle.std.specs.Prelude.{◌≡◌, ◌≤◌, ◌-◌, List, slice_get, IfSome};
+ghost use Rattle.jb_plan.specs.Blocks.{blocks, left, first_block, blocks_left, IsNext, ChunksFollow};
 
 use crate::limits::{MAX_ITEM_COUNT, MAX_RECORDS};
 use jb_job::Range;
@@ -19,6 +19,7 @@ pub fn next_chunk(at: u64, redo: u64, hi: u64, item_count: u64) -> Option<Range>
     requires count { item_count ≤ MAX_ITEM_COUNT }
     ensures first { result ≡ slice_get (blocks at redo hi item_count) 0 }
     ensures formula { result ≡ first_block at redo hi item_count }
+    ensures next { IfSome result (λ block. IsNext at redo hi item_count block) }
 {
     if at == hi {
         None
@@ -46,3 +47,9 @@ pub fn chunks_left(at: u64, redo: u64, hi: u64, item_count: u64) -> u64
 {
     redo.saturating_sub(at) + (hi - at.max(redo)).div_ceil(item_count)
 }
+
+/// The law of chunks: each is followed by the others that are left, up to the range's end, and there are no more of them
+/// than records.
+pub fn chunks_follow_one_another()
+    ensures { ChunksFollow }
+{}

@@ -1,8 +1,10 @@
 //! The check of a partition plan.
 
-ghost use Rattle.std.specs.Prelude.{◌≡◌, ◌≤◌, ◌<◌, ◌+◌, ◌↔◌, [], Some, length, drop, IsOk, IfOk, IfErr};
-ghost use Rattle.jb_plan.specs.Plans.{IsLawful, checked_plan};
-ghost use Rattle.jb_plan.specs.Faults.{first, do_overlap, bound_faults, overlaps_with, overlap_faults, faults_of, FirstOf, list_faults};
+ghost use Rattle.std.specs.Prelude.{◌≡◌, ◌≤◌, ◌<◌, ◌+◌, ◌↔◌, [], length, drop, IsTrue, IsOk, IfOk, IfErr};
+ghost use Rattle.jb_plan.specs.Plans.{IsRunnable, checked_plan};
+ghost use Rattle.jb_plan.specs.Faults.{bound_errors, overlaps_with, overlap_errors, range_errors, plan_errors, IsFirst};
+ghost use Rattle.jb_plan.specs.inside.Found.{FindsFirst};
+ghost use Rattle.jb_plan.specs.Ranges.{do_overlap, AreDisjoint};
 
 use crate::fault::PlanError;
 use crate::limits::{MAX_PARTITIONS, MAX_RECORDS, MAX_THREADS_ASKED};
@@ -18,7 +20,7 @@ fn do_overlap(left: Range, right: Range) -> bool
 
 /// Refuses the first range that is reversed or ends past the last record.
 fn check_bounds(ranges: &[Range], records: u64) -> Result<(), PlanError>
-    ensures { FirstOf (bound_faults records 0 ranges.now) result }
+    ensures { FindsFirst (bound_errors records 0 ranges.now) result }
 {
     for i in 0..ranges.len() {
         if ranges[i].hi < ranges[i].lo {
@@ -34,8 +36,8 @@ fn check_bounds(ranges: &[Range], records: u64) -> Result<(), PlanError>
 /// Refuses an empty list of ranges, and the first range that is reversed or ends past the last record. An empty range
 /// is neither. This is the part of `checked` that looks at each range by itself.
 pub fn ranges_in(ranges: &[Range], records: u64) -> Result<(), PlanError>
-    ensures ok { IsOk result ↔ (list_faults records ranges.now ≡ []) }
-    ensures err { IfErr result (λ fault. first (list_faults records ranges.now) ≡ Some fault) }
+    ensures ok { IsOk result ↔ (range_errors records ranges.now ≡ []) }
+    ensures err { IfErr result (λ error. IsFirst error (range_errors records ranges.now)) }
 {
     if ranges.is_empty() {
         return Err(PlanError::NoPartition);
@@ -46,7 +48,7 @@ pub fn ranges_in(ranges: &[Range], records: u64) -> Result<(), PlanError>
 /// Refuses the first range after the i-th that has a record of it.
 fn check_apart(i: usize, range: Range, ranges: &[Range]) -> Result<(), PlanError>
     requires { i < length ranges.now }
-    ensures { FirstOf (overlaps_with i range (i + 1) (drop (i + 1) ranges.now)) result }
+    ensures { FindsFirst (overlaps_with i range (i + 1) (drop (i + 1) ranges.now)) result }
 {
     for j in i + 1..ranges.len() {
         if do_overlap(range, ranges[j]) {
@@ -58,12 +60,19 @@ fn check_apart(i: usize, range: Range, ranges: &[Range]) -> Result<(), PlanError
 
 /// Refuses the first pair of ranges that have a record in common.
 fn check_all_apart(ranges: &[Range]) -> Result<(), PlanError>
-    ensures { FirstOf (overlap_faults 0 ranges.now) result }
+    ensures { FindsFirst (overlap_errors 0 ranges.now) result }
 {
     for i in 0..ranges.len() {
         check_apart(i, ranges[i], ranges)?;
     }
     Ok(())
+}
+
+/// Whether no record stands in two of the ranges. An empty range has none in common with any. No memory is taken.
+pub fn are_disjoint(ranges: &[Range]) -> bool
+    ensures { IsTrue result ↔ AreDisjoint ranges.now }
+{
+    check_all_apart(ranges).is_ok()
 }
 
 /// Checks a plan for a step of so many records.
@@ -73,9 +82,9 @@ fn check_all_apart(ranges: &[Range]) -> Result<(), PlanError>
 /// this order is answered, ranges and pairs of ranges by their places. No memory is taken.
 pub fn checked(plan: PartitionPlan, records: u64) -> Result<Checked, PlanError>
     requires { records ≤ MAX_RECORDS }
-    ensures ok { IsOk result ↔ IsLawful records plan }
+    ensures ok { IsOk result ↔ IsRunnable records plan }
     ensures value { IfOk result (λ plan_checked. plan_checked ≡ checked_plan plan) }
-    ensures err { IfErr result (λ fault. first (faults_of records plan) ≡ Some fault) }
+    ensures err { IfErr result (λ error. IsFirst error (plan_errors records plan)) }
 {
     let ranges = plan.ranges.as_slice();
     if ranges.len() > MAX_PARTITIONS {

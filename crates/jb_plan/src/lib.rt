@@ -13,11 +13,8 @@ mod fault;
 mod limits;
 mod plan;
 
-pub use blocks::{chunks_left, next_chunk};
-pub use checking::{checked, ranges_in};
+pub use blocks::{chunks_follow_one_another, chunks_left, next_chunk};
+pub use checking::{are_disjoint, checked, ranges_in};
 pub use fault::PlanError;
 pub use limits::{MAX_ITEM_COUNT, MAX_PARTITIONS, MAX_RECORDS, MAX_THREADS, MAX_THREADS_ASKED};
 pub use plan::{Checked, PartitionPlan};
-
-#[cfg(test)]
-mod tests;

@@ -1,7 +1,7 @@
 //! Partition plans, and plans that were checked.
 
 ghost use Rattle.std.specs.Prelude.{◌≡◌, ◌≤◌};
-ghost use Rattle.jb_plan.specs.Plans.{IsLawful, IsChecked, checked_plan, threads_of};
+ghost use Rattle.jb_plan.specs.Plans.{IsRunnable, IsCheckedPlan, checked_plan, threads_of};
 
 use crate::limits::{MAX_RECORDS, MAX_THREADS};
 use jb_job::{Range, Ranges};
@@ -27,19 +27,19 @@ pub struct Checked {
 }
 
 impl Model for Checked {
-    ghost use Rattle.jb_plan.specs.Plans.{CheckedPlan, IsChecked};
+    ghost use Rattle.jb_plan.specs.Plans.{CheckedPlan, IsCheckedPlan};
 
     ghost Value = { CheckedPlan };
 
     ghost view = { λ c. record { ranges = c.ranges; threads = c.threads; replace = c.replace } };
 
-    ghost invariant = { λ c. IsChecked (record { ranges = c.ranges; threads = c.threads; replace = c.replace }) };
+    ghost invariant = { λ c. IsCheckedPlan (record { ranges = c.ranges; threads = c.threads; replace = c.replace }) };
 }
 
 impl PartitionPlan {
     /// How many threads the plan gets.
     fn threads(&self, records: u64) -> u32
-        requires { IsLawful records self.now }
+        requires { IsRunnable records self.now }
         ensures { result ≡ threads_of self.now }
     {
         let asked = match self.threads {
@@ -51,9 +51,9 @@ impl PartitionPlan {
 }
 
 impl Checked {
-    /// A plan that is lawful for a step of so many records.
+    /// The checked plan of one that can be run by a step of so many records.
     pub(crate) fn of(plan: PartitionPlan, records: u64) -> Checked
-        requires lawful { IsLawful records plan }
+        requires runnable { IsRunnable records plan }
         requires records { records ≤ MAX_RECORDS }
         ensures { result ≡ checked_plan plan }
     {
@@ -68,7 +68,7 @@ impl Checked {
     /// The records of each partition.
     pub fn ranges(&self) -> &[Range]
         ensures ranges { result.now ≡ self.now.ranges }
-        ensures lawful { IsChecked self.now }
+        ensures checked { IsCheckedPlan self.now }
     {
         self.ranges.as_slice()
     }

@@ -1,23 +1,26 @@
--- In every accepted history: a lane runs a partition exactly where the partition's row says so, both are marked, and the rows are sound.
-use Rattle.std.proofs.Common.{◌≡◌, ◌≢◌, ℕ, zero, suc, ◌+◌, ◌<◌, ◌≤◌, Bool, true, false, cond, ◌||◌, ◌⊎◌, inl, inr, nat_eq, is_some, List, [], ◌∷◌, length, slice_get, Option, Some, None, refl, sym, ◌∙◌, ap, subst, eq-eqb, arith}
+-- In every accepted history a lane runs a partition exactly where the partition's row says so, and both are marked; and the
+-- rows are sound.
+use Rattle.std.proofs.Common.{◌≡◌, ◌≢◌, ℕ, zero, suc, ◌+◌, ◌<◌, Bool, true, false, cond, ◌||◌, ◌⊎◌, inl, inr, nat_eq, is_some, List, [], ◌∷◌, length, slice_get, Option, Some, None, refl, sym, ◌∙◌, ap, subst, eq-eqb, arith}
 use Rattle.std.proofs.lemmas.Bool.{ne_eqb, cases_eq}
+use Rattle.std.proofs.lemmas.Bool.Decides.{nat_tests}
 use Rattle.jb_rules.specs.declared.counts.Counts.{Counts}
 use Rattle.jb_rules.specs.declared.row.Row.{Row}
-use Rattle.jb_rules.specs.declared.row.RowState.{RowState}
-use Rattle.jb_rules.specs.declared.row.RowState.TheVariants.{Waiting, Running, Finished, Failed}
+use Rattle.jb_rules.specs.declared.row.RowState.TheVariants.{Waiting, Running, Finished}
 use Rattle.jb_cert.specs.declared.certificates.Certificate.{Certificate}
 use Rattle.jb_repo.specs.declared.events.Event.{Event}
 use Rattle.jb_repo.specs.declared.events.Event.TheVariants.{Plan, Begin, Commit, Roll, Fail, Drop, Round, Stop}
 use Rattle.jb_rules.specs.Sound.{IsSoundRow}
-use Rattle.jb_repo.specs.States.{is_running, is_finished, is_over}
-use Rattle.jb_repo.specs.History.{own, owner, names_lane, begun_by, partition_of, running, is_lane_marked, is_partition_marked, is_round}
+use Rattle.jb_rules.specs.States.{is_running, has_ended}
+use Rattle.jb_repo.specs.History.{own, owner, names_lane, begun_by, partition_of, is_some_of, running, is_lane_marked, is_partition_marked, is_round}
 use Rattle.jb_rules.specs.Rows.{state_at}
-use Rattle.jb_repo.specs.Rows.{row_after}
+use Rattle.jb_repo.specs.Rows.{replayed_row}
 use Rattle.jb_repo.specs.Table.{Journal, refusal, AcceptedPast, is_good_commit, is_commit_of}
-use Rattle.jb_repo.specs.Ready.{IsReady}
-use Rattle.jb_repo.specs.Steps.{step, CanStep, IsCommit}
-use Rattle.jb_repo.proofs.RowLemmas.{own-yes, own-no, own-none, owner-yes, owner-no, row_after-step, plus_counts-zero}
-use Rattle.jb_repo.proofs.SoundSteps.{sound-step}
+use Rattle.jb_repo.specs.Openable.{IsOpenable}
+use Rattle.jb_repo.specs.inside.Below.{LawsBelow}
+use Rattle.jb_repo.specs.inside.Steps.{step, CanStep, IsCommit}
+use Rattle.jb_rules.specs.declared.row.TheConstants.{MAX_ROLLBACKS}
+use Rattle.jb_repo.proofs.RowLemmas.{own-yes, own-no, own-none, owner-yes, owner-no, replayed_row-step, plus_counts-zero}
+use Rattle.jb_repo.proofs.Stepping.{sound-step, waiting-before-end, running-before-end}
 use Rattle.jb_repo.proofs.Passing.{BeginPasses, begin_passes, commit_passes, roll_passes, fail_passes, drop_passes, round_passes, row_of-is, leb_false}
 
 -- the journal of the same repository at another history
@@ -33,10 +36,9 @@ pub record IsLane (j : Journal) (past : List Event) (l p : ℕ) : Type 0 where
 
 pub record Consistent (j : Journal) (past : List Event) : Type 0 where
   pub lanes : (l p : ℕ) → owner l past ≡ Some p → IsLane j past l p
-  pub states : (l p : ℕ) (r : Row) → owner l past ≡ Some p → slice_get j.opening p ≡ Some r → (row_after j.item_count r (own p past)).state ≡ Running l
-  pub owners : (l p : ℕ) (r : Row) → slice_get j.opening p ≡ Some r → (row_after j.item_count r (own p past)).state ≡ Running l → owner l past ≡ Some p
-  pub sound : (p : ℕ) (r : Row) → slice_get j.opening p ≡ Some r → IsSoundRow (row_after j.item_count r (own p past))
-  pub below : (p : ℕ) (r : Row) → slice_get j.opening p ≡ Some r → is_running (row_after j.item_count r (own p past)).state ≡ true → (row_after j.item_count r (own p past)).counts.rollback < 1000000000000
+  pub states : (l p : ℕ) (r : Row) → owner l past ≡ Some p → slice_get j.opening p ≡ Some r → (replayed_row j.item_count r (own p past)).state ≡ Running l
+  pub owners : (l p : ℕ) (r : Row) → slice_get j.opening p ≡ Some r → (replayed_row j.item_count r (own p past)).state ≡ Running l → owner l past ≡ Some p
+  pub below : (p : ℕ) (r : Row) → slice_get j.opening p ≡ Some r → is_running (replayed_row j.item_count r (own p past)).state ≡ true → (replayed_row j.item_count r (own p past)).counts.rollback < MAX_ROLLBACKS
 
 -- MARKS
 
@@ -61,15 +63,9 @@ none_owns (suc n) past l p none lt h =
       | inr ne ↦ none_owns n past l p (omega arith) (omega arith) h
     ]
 
-not_finished : (state : RowState) → is_over state ≡ false → is_finished state ≡ false
-not_finished Waiting h = refl
-not_finished (Running l) h = refl
-not_finished Finished h = h
-not_finished Failed h = refl
-
 -- EVENTS THAT NAME NO LANE
 
-module _ (j : Journal) (past : List Event) (some : 1 ≤ j.item_count) (old : Consistent j past) where
+module _ (j : Journal) (past : List Event) (old : Consistent j past) where
   no_lane : (e : Event) → ((k : ℕ) → names_lane k e ≡ false) → partition_of e past ≡ None → ((l p : ℕ) → owner l past ≡ Some p → IsLane j (e ∷ past) l p) → Consistent j (e ∷ past)
   no_lane e names part lane =
       record {
@@ -80,7 +76,6 @@ module _ (j : Journal) (past : List Event) (some : 1 ≤ j.item_count) (old : Co
         owners = λ l p r o s.
             let s' = rw (own-none p e past part) at s in
             owner-no l e past (names l) ∙ old.owners l p r o s';
-        sound = λ p r o. rw (own-none p e past part) (old.sound p r o);
         below = λ p r o s.
             let s' = rw (own-none p e past part) at s in
             rw (own-none p e past part) (old.below p r o s');
@@ -149,7 +144,7 @@ module _ (j : Journal) (past : List Event) (some : 1 ≤ j.item_count) (old : Co
           partition_marked = or_right _ _ o.partition_marked;
         }
 
-    begin_states : (k q : ℕ) (r : Row) → owner k (Begin l p ∷ past) ≡ Some q → slice_get j.opening q ≡ Some r → (l ≡ k) ⊎ (l ≢ k) → (row_after j.item_count r (own q (Begin l p ∷ past))).state ≡ Running k
+    begin_states : (k q : ℕ) (r : Row) → owner k (Begin l p ∷ past) ≡ Some q → slice_get j.opening q ≡ Some r → (l ≡ k) ⊎ (l ≢ k) → (replayed_row j.item_count r (own q (Begin l p ∷ past))).state ≡ Running k
     begin_states k q r h o (inl e) =
         let s = begin_owner_same in
         let q' : p ≡ q = cc in
@@ -159,7 +154,7 @@ module _ (j : Journal) (past : List Event) (some : 1 ≤ j.item_count) (old : Co
         let not_p : p ≢ q = λ e. partition_free k (rw (← e) at h') in
         rw (begin_own_other q not_p) (old.states k q r h' o)
 
-    begin_owners : (k q : ℕ) (r : Row) → slice_get j.opening q ≡ Some r → (row_after j.item_count r (own q (Begin l p ∷ past))).state ≡ Running k → (p ≡ q) ⊎ (p ≢ q) → owner k (Begin l p ∷ past) ≡ Some q
+    begin_owners : (k q : ℕ) (r : Row) → slice_get j.opening q ≡ Some r → (replayed_row j.item_count r (own q (Begin l p ∷ past))).state ≡ Running k → (p ≡ q) ⊎ (p ≢ q) → owner k (Begin l p ∷ past) ≡ Some q
     begin_owners k q r o s (inl e) =
         let s' = rw (own-yes q (Begin l p) past (ap Some e)) at s in
         let same : l ≡ k = cc in
@@ -171,28 +166,16 @@ module _ (j : Journal) (past : List Event) (some : 1 ≤ j.item_count) (old : Co
         begin_owner_other k not_l ∙ h
 
     -- the partition's row before the Begin
-    begin_open : (r : Row) → slice_get j.opening p ≡ Some r → is_over (row_after j.item_count r (own p past)).state ≡ false
+    begin_open : (r : Row) → slice_get j.opening p ≡ Some r → has_ended (replayed_row j.item_count r (own p past)).state ≡ false
     begin_open r o = rw (row_of-is (at_past j past) p r o) at ok.not_over
 
-    begin_below : (r : Row) → slice_get j.opening p ≡ Some r → (row_after j.item_count r (own p past)).counts.rollback < 1000000000000
+    begin_below : (r : Row) → slice_get j.opening p ≡ Some r → (replayed_row j.item_count r (own p past)).counts.rollback < MAX_ROLLBACKS
     begin_below r o = let h = rw (row_of-is (at_past j past) p r o) at ok.below_limit in leb_false _ _ h
 
-    begin_sound : (q : ℕ) (r : Row) → slice_get j.opening q ≡ Some r → (p ≡ q) ⊎ (p ≢ q) → IsSoundRow (row_after j.item_count r (own q (Begin l p ∷ past)))
-    begin_sound q r o (inl e) =
-        let o' : slice_get j.opening p ≡ Some r = rw e o in
-        rw (own-yes q (Begin l p) past (ap Some e), row_after-step j.item_count r (Begin l p) (own q past), ← e)
-        (sound-step j.item_count (row_after j.item_count r (own p past)) some (Begin l p) (record {
-          sound = old.sound p r o';
-          unfinished = not_finished _ (begin_open r o');
-          below_limit = λ h. absurd h;
-          commit = tt;
-        }))
-    begin_sound q r o (inr ne) = rw (begin_own_other q ne) (old.sound q r o)
-
-    begin_below_all : (q : ℕ) (r : Row) → slice_get j.opening q ≡ Some r → is_running (row_after j.item_count r (own q (Begin l p ∷ past))).state ≡ true → (p ≡ q) ⊎ (p ≢ q) → (row_after j.item_count r (own q (Begin l p ∷ past))).counts.rollback < 1000000000000
+    begin_below_all : (q : ℕ) (r : Row) → slice_get j.opening q ≡ Some r → is_running (replayed_row j.item_count r (own q (Begin l p ∷ past))).state ≡ true → (p ≡ q) ⊎ (p ≢ q) → (replayed_row j.item_count r (own q (Begin l p ∷ past))).counts.rollback < MAX_ROLLBACKS
     begin_below_all q r o s (inl e) =
         let o' : slice_get j.opening p ≡ Some r = rw e o in
-        let b = subst (λ (x : ℕ). (row_after j.item_count r (own x past)).counts.rollback < 1000000000000) e (begin_below r o') in
+        let b = subst (λ (x : ℕ). (replayed_row j.item_count r (own x past)).counts.rollback < MAX_ROLLBACKS) e (begin_below r o') in
         rw (own-yes q (Begin l p) past (ap Some e)) (omega (arith, b))
     begin_below_all q r o s (inr ne) =
         let s' = rw (begin_own_other q ne) at s in
@@ -204,13 +187,12 @@ module _ (j : Journal) (past : List Event) (some : 1 ≤ j.item_count) (old : Co
           lanes = λ k q h. begin_lanes k q h (cases_eq l k);
           states = λ k q r h o. begin_states k q r h o (cases_eq l k);
           owners = λ k q r o s. begin_owners k q r o s (cases_eq p q);
-          sound = λ q r o. begin_sound q r o (cases_eq p q);
           below = λ q r o s. begin_below_all q r o s (cases_eq p q);
         }
 
   -- AN OUTCOME
 
-  module _ (e : Event) (l p : ℕ) (names : (k : ℕ) → names_lane k e ≡ nat_eq l k) (begins : begun_by e ≡ None) (part : partition_of e past ≡ Some p) (no_round : is_round e ≡ false) (idle : (row : Row) → is_running (step j.item_count row e).state ≡ false) (owned : owner l past ≡ Some p) (can : (r : Row) → slice_get j.opening p ≡ Some r → CanStep j.item_count (row_after j.item_count r (own p past)) e) where
+  module _ (e : Event) (l p : ℕ) (names : (k : ℕ) → names_lane k e ≡ nat_eq l k) (begins : begun_by e ≡ None) (part : partition_of e past ≡ Some p) (no_round : is_round e ≡ false) (idle : (row : Row) → is_running (step j.item_count row e).state ≡ false) (owned : owner l past ≡ Some p) where
     outcome_owner_same : (k : ℕ) → l ≡ k → owner k (e ∷ past) ≡ None
     outcome_owner_same k same = owner-yes k e past (names k ∙ eq-eqb l k same) ∙ begins
 
@@ -220,8 +202,8 @@ module _ (j : Journal) (past : List Event) (some : 1 ≤ j.item_count) (old : Co
     outcome_own_other : (q : ℕ) → p ≢ q → own q (e ∷ past) ≡ own q past
     outcome_own_other q ne = own-no p q e past part ne
 
-    outcome_row : (q : ℕ) (r : Row) → p ≡ q → row_after j.item_count r (own q (e ∷ past)) ≡ step j.item_count (row_after j.item_count r (own p past)) e
-    outcome_row q r same = rw (own-yes q e past (part ∙ ap Some same), same) (row_after-step j.item_count r e (own q past))
+    outcome_row : (q : ℕ) (r : Row) → p ≡ q → replayed_row j.item_count r (own q (e ∷ past)) ≡ step j.item_count (replayed_row j.item_count r (own p past)) e
+    outcome_row q r same = rw (own-yes q e past (part ∙ ap Some same), same) (replayed_row-step j.item_count r e (own q past))
 
     outcome_lanes : (k q : ℕ) → owner k (e ∷ past) ≡ Some q → (l ≡ k) ⊎ (l ≢ k) → IsLane j (e ∷ past) k q
     outcome_lanes k q h (inl same) = let n = outcome_owner_same k same in absurd cc
@@ -236,19 +218,19 @@ module _ (j : Journal) (past : List Event) (some : 1 ≤ j.item_count) (old : Co
         let eq : l ≡ k = cc in
         ne eq
 
-    outcome_states : (k q : ℕ) (r : Row) → owner k (e ∷ past) ≡ Some q → slice_get j.opening q ≡ Some r → (l ≡ k) ⊎ (l ≢ k) → (row_after j.item_count r (own q (e ∷ past))).state ≡ Running k
+    outcome_states : (k q : ℕ) (r : Row) → owner k (e ∷ past) ≡ Some q → slice_get j.opening q ≡ Some r → (l ≡ k) ⊎ (l ≢ k) → (replayed_row j.item_count r (own q (e ∷ past))).state ≡ Running k
     outcome_states k q r h o (inl same) = let n = outcome_owner_same k same in absurd cc
     outcome_states k q r h o (inr ne) =
         let h' = sym (outcome_owner_other k ne) ∙ h in
         rw (outcome_own_other q (outcome_apart k q r ne h' o)) (old.states k q r h' o)
 
-    outcome_idle : (q : ℕ) (r : Row) → p ≡ q → is_running (row_after j.item_count r (own q (e ∷ past))).state ≡ false
-    outcome_idle q r same = ap (λ (row : Row). is_running row.state) (outcome_row q r same) ∙ idle (row_after j.item_count r (own p past))
+    outcome_idle : (q : ℕ) (r : Row) → p ≡ q → is_running (replayed_row j.item_count r (own q (e ∷ past))).state ≡ false
+    outcome_idle q r same = ap (λ (row : Row). is_running row.state) (outcome_row q r same) ∙ idle (replayed_row j.item_count r (own p past))
 
-    outcome_owners : (k q : ℕ) (r : Row) → slice_get j.opening q ≡ Some r → (row_after j.item_count r (own q (e ∷ past))).state ≡ Running k → (p ≡ q) ⊎ (p ≢ q) → owner k (e ∷ past) ≡ Some q
+    outcome_owners : (k q : ℕ) (r : Row) → slice_get j.opening q ≡ Some r → (replayed_row j.item_count r (own q (e ∷ past))).state ≡ Running k → (p ≡ q) ⊎ (p ≢ q) → owner k (e ∷ past) ≡ Some q
     outcome_owners k q r o s (inl same) =
         let i = outcome_idle q r same in
-        let t : is_running (row_after j.item_count r (own q (e ∷ past))).state ≡ true = rw s refl in
+        let t : is_running (replayed_row j.item_count r (own q (e ∷ past))).state ≡ true = rw s refl in
         absurd cc
     outcome_owners k q r o s (inr ne) =
         let s' = rw (outcome_own_other q ne) at s in
@@ -256,13 +238,7 @@ module _ (j : Journal) (past : List Event) (some : 1 ≤ j.item_count) (old : Co
         let not_l : l ≢ k = λ same. let h' : owner l past ≡ Some q = rw same h in ne cc in
         outcome_owner_other k not_l ∙ h
 
-    outcome_sound : (q : ℕ) (r : Row) → slice_get j.opening q ≡ Some r → (p ≡ q) ⊎ (p ≢ q) → IsSoundRow (row_after j.item_count r (own q (e ∷ past)))
-    outcome_sound q r o (inl same) =
-        let o' : slice_get j.opening p ≡ Some r = rw same o in
-        rw (outcome_row q r same) (sound-step j.item_count (row_after j.item_count r (own p past)) some e (can r o'))
-    outcome_sound q r o (inr ne) = rw (outcome_own_other q ne) (old.sound q r o)
-
-    outcome_below : (q : ℕ) (r : Row) → slice_get j.opening q ≡ Some r → is_running (row_after j.item_count r (own q (e ∷ past))).state ≡ true → (p ≡ q) ⊎ (p ≢ q) → (row_after j.item_count r (own q (e ∷ past))).counts.rollback < 1000000000000
+    outcome_below : (q : ℕ) (r : Row) → slice_get j.opening q ≡ Some r → is_running (replayed_row j.item_count r (own q (e ∷ past))).state ≡ true → (p ≡ q) ⊎ (p ≢ q) → (replayed_row j.item_count r (own q (e ∷ past))).counts.rollback < MAX_ROLLBACKS
     outcome_below q r o s (inl same) = let i = outcome_idle q r same in absurd cc
     outcome_below q r o s (inr ne) =
         let s' = rw (outcome_own_other q ne) at s in
@@ -274,7 +250,6 @@ module _ (j : Journal) (past : List Event) (some : 1 ≤ j.item_count) (old : Co
           lanes = λ k q h. outcome_lanes k q h (cases_eq l k);
           states = λ k q r h o. outcome_states k q r h o (cases_eq l k);
           owners = λ k q r o s. outcome_owners k q r o s (cases_eq p q);
-          sound = λ q r o. outcome_sound q r o (cases_eq p q);
           below = λ q r o s. outcome_below q r o s (cases_eq p q);
         }
 
@@ -284,57 +259,36 @@ state_at_idle : (at hi : ℕ) → is_running (state_at at hi) ≡ false
 state_at_idle at hi =
     elim (nat_eq at hi) as (λ b. is_running (cond b Finished Waiting) ≡ false) [ true ↦ refl | false ↦ refl ]
 
-running_unfinished : (l : ℕ) (state : RowState) → state ≡ Running l → is_finished state ≡ false
-running_unfinished l state h = rw h refl
-
--- a row that runs may take each outcome but a Commit that isn't its block's
-module _ (j : Journal) (past : List Event) (old : Consistent j past) (l p : ℕ) (owned : owner l past ≡ Some p) where
-  running_can : (e : Event) → ((r : Row) → slice_get j.opening p ≡ Some r → IsCommit j.item_count (row_after j.item_count r (own p past)) e) → (r : Row) → slice_get j.opening p ≡ Some r → CanStep j.item_count (row_after j.item_count r (own p past)) e
-  running_can e commit r o =
-      let s = old.states l p r owned o in
-      let t : is_running (row_after j.item_count r (own p past)).state ≡ true = rw s refl in
-      record {
-        sound = old.sound p r o;
-        unfinished = running_unfinished l _ s;
-        below_limit = λ _. old.below p r o t;
-        commit = commit r o;
-      }
-
-pub commit_of_row : (j : Journal) (p : ℕ) (r : Row) (o : Option ℕ) (d : Counts) (w : ℕ) → o ≡ Some p → slice_get j.opening p ≡ Some r → is_good_commit j o d w ≡ true → is_commit_of j.item_count (row_after j.item_count r (own p j.past)) d w ≡ true
+pub commit_of_row : (j : Journal) (p : ℕ) (r : Row) (o : Option ℕ) (d : Counts) (w : ℕ) → o ≡ Some p → slice_get j.opening p ≡ Some r → is_good_commit j o d w ≡ true → is_commit_of j.item_count (replayed_row j.item_count r (own p j.past)) d w ≡ true
 commit_of_row j p r o d w is got h =
     let h' = rw (is, row_of-is j p r got) at h in h'
 
-step_keeps : (j : Journal) (past : List Event) → 1 ≤ j.item_count → (e : Event) → refusal (at_past j past) e ≡ None → Consistent j past → Consistent j (e ∷ past)
-step_keeps j past some (Plan n k) ok old = plan_keeps j past some old n k
-step_keeps j past some (Begin l p) ok old = begin_keeps j past some old l p (begin_passes (at_past j past) l p ok)
-step_keeps j past some (Commit l d w) ok old =
-    let k = commit_passes (at_past j past) l d w ok in
-    let q = k.0 in
-    outcome_keeps j past some old (Commit l d w) l q.partition (λ _. refl) refl q.owned refl (λ row. state_at_idle _ _) q.owned
-    (running_can j past old l q.partition q.owned (Commit l d w) (λ r o. commit_of_row (at_past j past) q.partition r (owner l past) d w q.owned o k.1))
-step_keeps j past some (Roll l k) ok old =
+step_keeps : (j : Journal) (past : List Event) → (e : Event) → refusal (at_past j past) e ≡ None → Consistent j past → Consistent j (e ∷ past)
+step_keeps j past (Plan n k) ok old = plan_keeps j past old n k
+step_keeps j past (Begin l p) ok old = begin_keeps j past old l p (begin_passes (at_past j past) l p ok)
+step_keeps j past (Commit l d w) ok old =
+    let q = (commit_passes (at_past j past) l d w ok).0 in
+    outcome_keeps j past old (Commit l d w) l q.partition (λ _. refl) refl q.owned refl (λ row. state_at_idle _ _) q.owned
+step_keeps j past (Roll l k) ok old =
     let q = roll_passes (at_past j past) l k ok in
-    outcome_keeps j past some old (Roll l k) l q.partition (λ _. refl) refl q.owned refl (λ row. refl) q.owned
-    (running_can j past old l q.partition q.owned (Roll l k) (λ r o. tt))
-step_keeps j past some (Fail l k) ok old =
+    outcome_keeps j past old (Roll l k) l q.partition (λ _. refl) refl q.owned refl (λ row. refl) q.owned
+step_keeps j past (Fail l k) ok old =
     let q = fail_passes (at_past j past) l k ok in
-    outcome_keeps j past some old (Fail l k) l q.partition (λ _. refl) refl q.owned refl (λ row. refl) q.owned
-    (running_can j past old l q.partition q.owned (Fail l k) (λ r o. tt))
-step_keeps j past some (Drop l) ok old =
+    outcome_keeps j past old (Fail l k) l q.partition (λ _. refl) refl q.owned refl (λ row. refl) q.owned
+step_keeps j past (Drop l) ok old =
     let q = drop_passes (at_past j past) l ok in
-    outcome_keeps j past some old (Drop l) l q.partition (λ _. refl) refl q.owned refl (λ row. refl) q.owned
-    (running_can j past old l q.partition q.owned (Drop l) (λ r o. tt))
-step_keeps j past some Round ok old = round_keeps j past some old (round_passes (at_past j past) ok).none_runs
-step_keeps j past some Stop ok old = stop_keeps j past some old
+    outcome_keeps j past old (Drop l) l q.partition (λ _. refl) refl q.owned refl (λ row. refl) q.owned
+step_keeps j past Round ok old = round_keeps j past old (round_passes (at_past j past) ok).none_runs
+step_keeps j past Stop ok old = stop_keeps j past old
 
-pub row_eq_opening : (c : ℕ) (r : Row) → row_after c r [] ≡ r
+pub row_eq_opening : (c : ℕ) (r : Row) → replayed_row c r [] ≡ r
 row_eq_opening c r =
     let a : r.at + 0 ≡ r.at = omega arith in
     let b : r.retries + 0 ≡ r.retries = omega arith in
     let d = plus_counts-zero r.counts in
     rw (a, b, d) refl
 
-pub opening_consistent : (j : Journal) → IsReady j → Consistent j []
+pub opening_consistent : (j : Journal) → IsOpenable j → Consistent j []
 opening_consistent j ready =
     record {
       lanes = λ l p h. absurd cc;
@@ -343,48 +297,80 @@ opening_consistent j ready =
           let i = (ready.idle p r o).1 in
           let t : is_running r.state ≡ true = rw s refl in
           absurd cc;
-      sound = λ p r o. rw (row_eq_opening j.item_count r) (ready.idle p r o).0;
       below = λ p r o s. let i = (ready.idle p r o).1 in absurd cc;
     }
 
-pub consistent : (j : Journal) → IsReady j → (past : List Event) → AcceptedPast j past → Consistent j past
+pub consistent : (j : Journal) → IsOpenable j → (past : List Event) → AcceptedPast j past → Consistent j past
 consistent j ready [] ok = opening_consistent j ready
-consistent j ready (e ∷ past) ok = step_keeps j past ready.some_items e ok.0 (consistent j ready past ok.1)
+consistent j ready (e ∷ past) ok = step_keeps j past e ok.0 (consistent j ready past ok.1)
 
--- the partition that an accepted event is about is there, and its row can take the step
-pub record IsStep (j : Journal) (past : List Event) (e : Event) (p : ℕ) : Type 0 where
-  pub partition : p < length j.opening
-  pub can : (r : Row) → slice_get j.opening p ≡ Some r → CanStep j.item_count (row_after j.item_count r (own p past)) e
+-- THE PARTITION THAT AN ACCEPTED EVENT IS ABOUT
 
 some_same : (o : Option ℕ) (p q : ℕ) → o ≡ Some p → o ≡ Some q → p ≡ q
 some_same o p q h k = cc
 
 module _ (j : Journal) (past : List Event) (old : Consistent j past) where
-  outcome_step : (e : Event) (l p q : ℕ) → owner l past ≡ Some p → owner l past ≡ Some q → ((r : Row) → slice_get j.opening p ≡ Some r → IsCommit j.item_count (row_after j.item_count r (own p past)) e) → IsStep j past e q
-  outcome_step e l p q owned part commit =
-      subst (λ (x : ℕ). IsStep j past e x) (some_same _ p q owned part)
-      (record { partition = (old.lanes l p owned).partition; can = running_can j past old l p owned e commit })
+  outcome_partition : (l p q : ℕ) → owner l past ≡ Some p → owner l past ≡ Some q → q < length j.opening
+  outcome_partition l p q owned part = let e = some_same _ p q owned part in let lt = (old.lanes l p owned).partition in omega (arith, e, lt)
 
-  pub is_step : (e : Event) (p : ℕ) → refusal (at_past j past) e ≡ None → partition_of e past ≡ Some p → IsStep j past e p
-  is_step (Plan n k) p ok part = absurd cc
-  is_step (Begin l q) p ok part =
+  -- it is there
+  pub about : (e : Event) (p : ℕ) → refusal (at_past j past) e ≡ None → partition_of e past ≡ Some p → p < length j.opening
+  about (Plan n k) p ok part = absurd cc
+  about (Begin l q) p ok part =
+      let b = (begin_passes (at_past j past) l q ok).partition in
+      let e : q ≡ p = cc in
+      omega (arith, b, e)
+  about (Commit l d w) p ok part = let q = (commit_passes (at_past j past) l d w ok).0 in outcome_partition l q.partition p q.owned part
+  about (Roll l k) p ok part = let q = roll_passes (at_past j past) l k ok in outcome_partition l q.partition p q.owned part
+  about (Fail l k) p ok part = let q = fail_passes (at_past j past) l k ok in outcome_partition l q.partition p q.owned part
+  about (Drop l) p ok part = let q = drop_passes (at_past j past) l ok in outcome_partition l q.partition p q.owned part
+  about Round p ok part = absurd cc
+  about Stop p ok part = absurd cc
+
+-- and where its row is sound, it can take the step
+module _ (j : Journal) (past : List Event) (old : Consistent j past) (p : ℕ) (r : Row) (opens : slice_get j.opening p ≡ Some r) (sound : IsSoundRow (replayed_row j.item_count r (own p past))) where
+  outcome_can : (e : Event) (l : ℕ) → owner l past ≡ Some p → IsCommit j.item_count (replayed_row j.item_count r (own p past)) e → CanStep j.item_count (replayed_row j.item_count r (own p past)) e
+  outcome_can e l owned commit =
+      let runs = old.states l p r owned opens in
+      record {
+        sound = sound;
+        unfinished = running-before-end _ l sound runs;
+        below_limit = λ _. old.below p r opens (ap is_running runs);
+        commit = commit;
+      }
+
+  pub can : (e : Event) → refusal (at_past j past) e ≡ None → partition_of e past ≡ Some p → CanStep j.item_count (replayed_row j.item_count r (own p past)) e
+  can (Plan n k) ok part = absurd cc
+  can (Begin l q) ok part =
       let b = begin_passes (at_past j past) l q ok in
       let e : q ≡ p = cc in
-      subst (λ (x : ℕ). IsStep j past (Begin l q) x) e (record {
-        partition = b.partition;
-        can = λ r o.
-            let h : is_over (row_after j.item_count r (own q past)).state ≡ false = rw (row_of-is (at_past j past) q r o) at b.not_over in
-            record { sound = old.sound q r o; unfinished = not_finished _ h; below_limit = λ i. absurd i; commit = tt };
-      })
-  is_step (Commit l d w) p ok part =
-      let k = commit_passes (at_past j past) l d w ok in
-      let q = k.0 in
-      outcome_step (Commit l d w) l q.partition p q.owned part (λ r o. commit_of_row (at_past j past) q.partition r (owner l past) d w q.owned o k.1)
-  is_step (Roll l k) p ok part =
-      let q = roll_passes (at_past j past) l k ok in outcome_step (Roll l k) l q.partition p q.owned part (λ r o. tt)
-  is_step (Fail l k) p ok part =
-      let q = fail_passes (at_past j past) l k ok in outcome_step (Fail l k) l q.partition p q.owned part (λ r o. tt)
-  is_step (Drop l) p ok part =
-      let q = drop_passes (at_past j past) l ok in outcome_step (Drop l) l q.partition p q.owned part (λ r o. tt)
-  is_step Round p ok part = absurd cc
-  is_step Stop p ok part = absurd cc
+      let opens' : slice_get j.opening q ≡ Some r = rw e opens in
+      let h : has_ended (replayed_row j.item_count r (own q past)).state ≡ false = rw (row_of-is (at_past j past) q r opens') at b.not_over in
+      let h' : has_ended (replayed_row j.item_count r (own p past)).state ≡ false = subst (λ (x : ℕ). has_ended (replayed_row j.item_count r (own x past)).state ≡ false) e h in
+      record { sound = sound; unfinished = waiting-before-end _ sound h'; below_limit = λ i. absurd i; commit = tt }
+  can (Commit l d w) ok part =
+      outcome_can (Commit l d w) l part (commit_of_row (at_past j past) p r (owner l past) d w part opens (commit_passes (at_past j past) l d w ok).1)
+  can (Roll l k) ok part = outcome_can (Roll l k) l part tt
+  can (Fail l k) ok part = outcome_can (Fail l k) l part tt
+  can (Drop l) ok part = outcome_can (Drop l) l part tt
+  can Round ok part = absurd cc
+  can Stop ok part = absurd cc
+
+-- THE ROWS ARE SOUND
+
+pub some_of : (o : Option ℕ) (p : ℕ) → is_some_of o p ≡ true → o ≡ Some p
+some_of None p h = absurd cc
+some_of (Some q) p h = ap Some (grind (arith, nat_tests))
+
+module _ (laws : LawsBelow) (j : Journal) (ready : IsOpenable j) (p : ℕ) (r : Row) (opens : slice_get j.opening p ≡ Some r) where
+  sound_after : (e : Event) (past : List Event) (mine : Bool) → refusal (at_past j past) e ≡ None → AcceptedPast j past → is_some_of (partition_of e past) p ≡ mine → IsSoundRow (replayed_row j.item_count r (own p past))
+      → IsSoundRow (replayed_row j.item_count r (cond mine (e ∷ own p past) (own p past)))
+  sound_after e past false passes ok is sound = sound
+  sound_after e past true passes ok is sound =
+      subst IsSoundRow (sym (replayed_row-step j.item_count r e (own p past)))
+      (sound-step laws j.item_count (replayed_row j.item_count r (own p past)) ready.some_items e
+      (can j past (consistent j ready past ok) p r opens sound e passes (some_of _ p is)))
+
+  pub rows-sound : (past : List Event) → AcceptedPast j past → IsSoundRow (replayed_row j.item_count r (own p past))
+  rows-sound [] ok = rw (row_eq_opening j.item_count r) (ready.idle p r opens).0
+  rows-sound (e ∷ past) ok = sound_after e past (is_some_of (partition_of e past) p) ok.0 ok.1 refl (rows-sound past ok.1)

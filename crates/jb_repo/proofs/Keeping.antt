@@ -10,14 +10,14 @@ use Rattle.jb_repo.specs.History.{partition_of, running}
 use Rattle.jb_repo.specs.Rows.{rows_from}
 use Rattle.jb_repo.specs.Table.{Journal, Accepted, refusal, after, rows_of, reserved}
 use Rattle.jb_repo.specs.Answers.{places_of}
-use Rattle.jb_repo.specs.Ready.{IsReady, IsLawful, opened}
-use Rattle.jb_repo.specs.Steps.{stepped_rows}
+use Rattle.jb_repo.specs.Openable.{IsOpenable, IsReplayable, opened_journal}
+use Rattle.jb_repo.specs.inside.Steps.{stepped_rows}
 use Rattle.jb_repo.specs.Kept.{journal_of, IsKept}
 use Rattle.jb_repo.proofs.Consistent.{row_eq_opening}
 use Rattle.jb_repo.proofs.Tables.{table_after, places_enough}
 
--- what a repository is opened with doesn't change
-pub ready_after : (j : Journal) (e : Event) → IsReady j → IsReady (after j e)
+-- what a repository is opened_journal with doesn't change
+pub ready_after : (j : Journal) (e : Event) → IsOpenable j → IsOpenable (after j e)
 ready_after j e r = record {
   some_rows = r.some_rows;
   few_rows = r.few_rows;
@@ -40,11 +40,11 @@ running-opening : (n : ℕ) → running n [] ≡ 0
 running-opening zero = refl
 running-opening (suc n) = omega (arith, running-opening n)
 
-pub kept_opened : (a : Inside) → a.history.items ≡ [] → IsReady (opened a.opening.items a.threads a.item_count) → take (length a.opening.items) a.rows ≡ a.opening.items → IsKept a
+pub kept_opened : (a : Inside) → a.history.items ≡ [] → IsOpenable (opened_journal a.opening.items a.threads a.item_count) → take (length a.opening.items) a.rows ≡ a.opening.items → IsKept a
 kept_opened a empty ready table =
-    let e : journal_of a ≡ opened a.opening.items a.threads a.item_count = rw empty refl in
+    let e : journal_of a ≡ opened_journal a.opening.items a.threads a.item_count = rw empty refl in
     record {
-      ready = subst (λ (x : Journal). IsReady x) (sym e) ready;
+      ready = subst (λ (x : Journal). IsOpenable x) (sym e) ready;
       accepted = subst (λ (x : Journal). Accepted x) (sym e) tt;
       table = table ∙ sym (rows_from-opening a.item_count 0 a.opening.items) ∙ ap rows_of (sym e);
       room =
@@ -64,7 +64,7 @@ kept_after a b e d kept passes same_opening same_threads same_items items rows r
     let past : reverse b.history.items ≡ e ∷ reverse a.history.items = ap reverse items ∙ reverse-append a.history.items (e ∷ []) in
     let eq : journal_of b ≡ after j e = rw (same_opening, same_threads, same_items, past) refl in
     record {
-      ready = subst (λ (x : Journal). IsReady x) (sym eq) (ready_after j e kept.ready);
+      ready = subst (λ (x : Journal). IsOpenable x) (sym eq) (ready_after j e kept.ready);
       accepted = subst (λ (x : Journal). Accepted x) (sym eq) (passes, kept.accepted);
       table =
           ap (λ (x : List Row). take (length x) b.rows) same_opening
@@ -85,6 +85,6 @@ pub on_ok : {T E : Type 0} (r : Result T E) (P : Type 0) → is_err r ≡ false 
 on_ok (Ok x) P h p = p
 on_ok (Err e) P h p = absurd cc
 
--- callers learn that the journal is lawful
-pub lawful : (a : Inside) (j : Journal) → journal_of a ≡ j → IsKept a → IsLawful j
-lawful a j is kept = subst (λ (x : Journal). IsLawful x) is (record { ready = kept.ready; accepted = kept.accepted })
+-- callers learn that the journal can be replayed
+pub replayable : (a : Inside) (j : Journal) → journal_of a ≡ j → IsKept a → IsReplayable j
+replayable a j is kept = subst (λ (x : Journal). IsReplayable x) is (record { ready = kept.ready; accepted = kept.accepted })

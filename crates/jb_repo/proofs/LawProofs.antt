@@ -1,6 +1,6 @@
 -- The laws of accepted histories.
 use Rattle.std.proofs.Common.{◌≡◌, ℕ, suc, ◌+◌, ◌<◌, ◌≤◌, Bool, true, false, cond, not, ◌&&◌, ◌||◌, nat_eq, nat_lt, List, [], ◌∷◌, ◌++◌, map, slice_get, Option, Some, None, refl, sym, ◌∙◌, ap, subst, arith}
-use Rattle.std.proofs.lemmas.Bool.Decides.{nat_tests}
+use Rattle.std.proofs.lemmas.Bool.{ltb-true}
 use Rattle.jb_rules.specs.declared.counts.Counts.{Counts}
 use Rattle.jb_rules.specs.declared.row.Row.{Row}
 use Rattle.jb_rules.specs.declared.row.RowState.{RowState}
@@ -8,38 +8,40 @@ use Rattle.jb_rules.specs.declared.row.RowState.TheVariants.{Waiting, Running, F
 use Rattle.jb_cert.specs.declared.certificates.Certificate.{Certificate}
 use Rattle.jb_repo.specs.declared.events.Event.{Event}
 use Rattle.jb_repo.specs.declared.events.Event.TheVariants.{Plan, Begin, Commit, Roll, Fail, Drop, Round, Stop}
-use Rattle.jb_repo.specs.States.{is_running}
+use Rattle.jb_rules.specs.States.{is_running}
 use Rattle.jb_repo.specs.History.{owner, own, partition_of, is_some_of, some, number, since, is_plan, is_round, ends_plan, is_closed, planned_rounds}
 use Rattle.jb_rules.specs.Rows.{state_at}
-use Rattle.jb_repo.specs.Rows.{row_after, rows_from, at_after, advances, remaining}
-use Rattle.jb_repo.specs.Steps.{step}
-use Rattle.jb_repo.specs.Table.{Journal, refusal, AcceptedPast, row_of, rows_of, reserved, is_commit_of}
-use Rattle.jb_repo.specs.Ready.{IsLawful}
-use Rattle.jb_repo.specs.Laws.{with_past, RunsOn, OneLane, OnePartition, RowsShowLanes, RowsAreSound, committed, AreConsecutive, CommitsAreConsecutive, without_lane, OrderIsFree, PlansAreLeast, RoundsArePlanned, PlansAreRunWhole}
-use Rattle.jb_repo.proofs.Certified.{least_number, certified}
-use Rattle.jb_repo.proofs.RowLemmas.{row_after-step}
-use Rattle.jb_repo.proofs.SoundSteps.{and_parts, commit_facts, eqb_fact, ltb_fact}
+use Rattle.jb_repo.specs.Rows.{replayed_row, rows_from, at_after, advances, remaining}
+use Rattle.jb_repo.specs.inside.Below.{LawsBelow}
+use Rattle.jb_repo.specs.inside.Steps.{step, CanStep}
+use Rattle.jb_cert.specs.Laws.{LeastPlanMeans}
+use Rattle.jb_rules.specs.Rows.{row_block}
+use Rattle.jb_repo.specs.Table.{Journal, refusal, after, AcceptedPast, row_of, rows_of, reserved}
+use Rattle.jb_repo.specs.Openable.{IsOpenable, IsReplayable}
+use Rattle.jb_repo.specs.Laws.{with_past, RunsOn, OneLane, OnePartition, RowsShowLanes, RowsAreSound, next_row, RowsLiveOn, committed_blocks, AreConsecutive, CommitsAreConsecutive, without_lane, OrderIsFree, PlansAreLeast, RoundsArePlanned, PlansAreRunWhole}
+use Rattle.jb_repo.proofs.RowLemmas.{replayed_row-step}
+use Rattle.jb_repo.proofs.Stepping.{and_parts, commit_facts, passed-block, commit-is, running-before-end}
 use Rattle.jb_repo.proofs.Passing.{row_of-is, commit_passes, plan_passes, round_passes, or_false, ltb_false}
-use Rattle.jb_repo.proofs.Consistent.{Consistent, consistent, at_past, none_owns, commit_of_row}
-use Rattle.jb_repo.proofs.Tables.{at_some, inside, row_sound, has_opening}
+use Rattle.jb_repo.proofs.Consistent.{Consistent, consistent, at_past, none_owns, commit_of_row, rows-sound, some_of}
+use Rattle.jb_repo.proofs.Tables.{at_some, inside, row_sound, has_opening, can_step}
 
 -- LANES
 
-known : (j : Journal) → IsLawful j → Consistent j j.past
+known : (j : Journal) → IsReplayable j → Consistent j j.past
 known j law = consistent j law.ready j.past law.accepted
 
 runs_on : (j : Journal) (p l : ℕ) (o : Option Row) → row_of j p ≡ o → RunsOn o l → (row : Row) × (row_of j p ≡ Some row) × (row.state ≡ Running l)
 runs_on j p l None is h = absurd h
 runs_on j p l (Some row) is h = (row, is, h)
 
-owner_from_row : (j : Journal) → IsLawful j → (l p : ℕ) → RunsOn (row_of j p) l → owner l j.past ≡ Some p
+owner_from_row : (j : Journal) → IsReplayable j → (l p : ℕ) → RunsOn (row_of j p) l → owner l j.past ≡ Some p
 owner_from_row j law l p h =
     let w = runs_on j p l (row_of j p) refl h in
     let o = has_opening j p w.0 w.1 in
-    let s : (row_after j.item_count o.opening (own p j.past)).state ≡ Running l = sym (ap (λ (x : Row). x.state) o.becomes) ∙ w.2 in
+    let s : (replayed_row j.item_count o.opening (own p j.past)).state ≡ Running l = sym (ap (λ (x : Row). x.state) o.becomes) ∙ w.2 in
     (known j law).owners l p o.opening o.opens s
 
-row_from_owner : (j : Journal) → IsLawful j → (l p : ℕ) → owner l j.past ≡ Some p → RunsOn (row_of j p) l
+row_from_owner : (j : Journal) → IsReplayable j → (l p : ℕ) → owner l j.past ≡ Some p → RunsOn (row_of j p) l
 row_from_owner j law l p h =
     let k = known j law in
     let r = at_some j.opening p (k.lanes l p h).partition in
@@ -62,8 +64,8 @@ one_partition j law l p q a b =
 pub rows_show_lanes : RowsShowLanes
 rows_show_lanes j law l p = (row_from_owner j law l p, owner_from_row j law l p)
 
-pub rows_are_sound : RowsAreSound
-rows_are_sound j law p row is = row_sound j law.ready law.accepted p row is
+pub rows_are_sound : LawsBelow → RowsAreSound
+rows_are_sound laws j law p row is = row_sound laws j law.ready law.accepted p row is
 
 -- BLOCKS
 
@@ -71,47 +73,79 @@ still : (r : Row) (own : List Event) → r.at + (advances own + 0) ≡ r.at + ad
 still r own = omega arith
 
 module _ (j : Journal) (p : ℕ) (r : Row) where
-  -- a step of the partition's own events keeps them consecutive
-  joins : (e : Event) (own : List Event) → ((l : ℕ) (d : Counts) (w : ℕ) → e ≡ Commit l d w → is_commit_of j.item_count (row_after j.item_count r own) d w ≡ true) → AreConsecutive r.at (committed j.item_count r own) (at_after r own) → AreConsecutive r.at (committed j.item_count r (e ∷ own)) (at_after r (e ∷ own))
+  -- one more of the partition's own events keeps them consecutive
+  joins : (e : Event) (own : List Event) → ((l : ℕ) (d : Counts) (w : ℕ) → e ≡ Commit l d w → (replayed_row j.item_count r own).at + (d.read + d.read_skip) ≡ (row_block j.item_count (replayed_row j.item_count r own)).hi)
+      → AreConsecutive r.at (committed_blocks j.item_count r own) (at_after r own) → AreConsecutive r.at (committed_blocks j.item_count r (e ∷ own)) (at_after r (e ∷ own))
   joins (Plan n k) own good h = rw (still r own) h
   joins (Begin l q) own good h = rw (still r own) h
-  joins (Commit l d w) own good h =
-      let f = commit_facts j.item_count (row_after j.item_count r own) d w (good l d w refl) in
-      (omega (arith, f.passed), h)
+  joins (Commit l d w) own good h = let passed = good l d w refl in (omega (arith, passed), h)
   joins (Roll l k) own good h = rw (still r own) h
   joins (Fail l k) own good h = rw (still r own) h
   joins (Drop l) own good h = rw (still r own) h
   joins Round own good h = rw (still r own) h
   joins Stop own good h = rw (still r own) h
 
-abbrev joined : Journal → ℕ → Row → List Event → Type 0
-joined j p r own = AreConsecutive r.at (committed j.item_count r own) (at_after r own)
+abbrev pub joined : Journal → ℕ → Row → List Event → Type 0
+joined j p r own = AreConsecutive r.at (committed_blocks j.item_count r own) (at_after r own)
 
-some_of : (o : Option ℕ) (p : ℕ) → is_some_of o p ≡ true → o ≡ Some p
-some_of None p h = absurd cc
-some_of (Some q) p h = ap Some (grind (arith, nat_tests))
+module _ (laws : LawsBelow) (j : Journal) (ready : IsOpenable j) (p : ℕ) (r : Row) (opens : slice_get j.opening p ≡ Some r) where
+  -- an accepted Commit passes the partition's next block
+  passed : (past : List Event) → AcceptedPast j past → (l : ℕ) (d : Counts) (w : ℕ) → refusal (at_past j past) (Commit l d w) ≡ None → owner l past ≡ Some p
+      → (replayed_row j.item_count r (own p past)).at + (d.read + d.read_skip) ≡ (row_block j.item_count (replayed_row j.item_count r (own p past))).hi
+  passed past ok l d w passes owned =
+      let sound = rows-sound laws j ready p r opens past ok in
+      let runs = (consistent j ready past ok).states l p r owned opens in
+      let good = commit_of_row (at_past j past) p r (owner l past) d w owned opens (commit_passes (at_past j past) l d w passes).1 in
+      passed-block laws j.item_count (replayed_row j.item_count r (own p past)) ready.some_items sound (running-before-end _ l sound runs) d w
+      (commit_facts laws j.item_count (replayed_row j.item_count r (own p past)) d w good)
 
-good_commit : (j : Journal) (p : ℕ) (r : Row) (past : List Event) → slice_get j.opening p ≡ Some r → (l : ℕ) (d : Counts) (w : ℕ) → refusal (at_past j past) (Commit l d w) ≡ None → owner l past ≡ Some p → is_commit_of j.item_count (row_after j.item_count r (own p past)) d w ≡ true
-good_commit j p r past opens l d w passes owned =
-    commit_of_row (at_past j past) p r (owner l past) d w owned opens (commit_passes (at_past j past) l d w passes).1
+  consecutive_at : (e : Event) (past : List Event) → refusal (at_past j past) e ≡ None → AcceptedPast j past → (mine : Bool) → is_some_of (partition_of e past) p ≡ mine → joined j p r (own p past) → joined j p r (cond mine (e ∷ own p past) (own p past))
+  consecutive_at e past passes ok false is h = h
+  consecutive_at e past passes ok true is h =
+      joins j p r e (own p past)
+      (λ l d w same.
+      let passes' : refusal (at_past j past) (Commit l d w) ≡ None = subst (λ (x : Event). refusal (at_past j past) x ≡ None) same passes in
+      let owned : partition_of (Commit l d w) past ≡ Some p = subst (λ (x : Event). partition_of x past ≡ Some p) same (some_of _ p is) in
+      passed past ok l d w passes' owned)
+      h
 
-consecutive_at : (j : Journal) (p : ℕ) (r : Row) → slice_get j.opening p ≡ Some r → (e : Event) (past : List Event) → refusal (at_past j past) e ≡ None → (b : Bool) → is_some_of (partition_of e past) p ≡ b → joined j p r (own p past) → joined j p r (cond b (e ∷ own p past) (own p past))
-consecutive_at j p r opens e past passes false is h = h
-consecutive_at j p r opens e past passes true is h =
-    joins j p r e (own p past)
-    (λ l d w same.
-    let passes' : refusal (at_past j past) (Commit l d w) ≡ None = subst (λ (x : Event). refusal (at_past j past) x ≡ None) same passes in
-    let owned : partition_of (Commit l d w) past ≡ Some p = subst (λ (x : Event). partition_of x past ≡ Some p) same (some_of _ p is) in
-    good_commit j p r past opens l d w passes' owned)
-    h
+  consecutive : (past : List Event) → AcceptedPast j past → joined j p r (own p past)
+  consecutive [] ok = omega arith
+  consecutive (e ∷ past) ok =
+      consecutive_at e past ok.0 ok.1 (is_some_of (partition_of e past) p) refl (consecutive past ok.1)
 
-consecutive : (j : Journal) (p : ℕ) (r : Row) → slice_get j.opening p ≡ Some r → (past : List Event) → AcceptedPast j past → joined j p r (own p past)
-consecutive j p r opens [] ok = omega arith
-consecutive j p r opens (e ∷ past) ok =
-    consecutive_at j p r opens e past ok.0 (is_some_of (partition_of e past) p) refl (consecutive j p r opens past ok.1)
+pub commits_are_consecutive : LawsBelow → CommitsAreConsecutive
+commits_are_consecutive laws j law p opening opens = consecutive laws j law.ready p opening opens j.past law.accepted
 
-pub commits_are_consecutive : CommitsAreConsecutive
-commits_are_consecutive j law p opening opens = consecutive j p opening opens j.past law.accepted
+-- THE LIFE OF A ROW
+
+next-is : (laws : LawsBelow) (c : ℕ) (row : Row) (e : Event) → 1 ≤ c → CanStep c row e → step c row e ≡ next_row c row e
+next-is laws c row (Plan n k) some can = refl
+next-is laws c row (Begin l p) some can = refl
+next-is laws c row (Commit l d w) some can =
+    commit-is laws c row some can.sound can.unfinished l d w (commit_facts laws c row d w can.commit)
+next-is laws c row (Roll l k) some can = refl
+next-is laws c row (Fail l k) some can = refl
+next-is laws c row (Drop l) some can = refl
+next-is laws c row Round some can = refl
+next-is laws c row Stop some can = refl
+
+module _ (laws : LawsBelow) (j : Journal) (law : IsReplayable j) (e : Event) (passes : refusal j e ≡ None) (p : ℕ) (row : Row) (is : row_of j p ≡ Some row) where
+  changed : (r : Row) (mine : Bool) → row ≡ replayed_row j.item_count r (own p j.past) → is_some_of (partition_of e j.past) p ≡ mine
+      → replayed_row j.item_count r (cond mine (e ∷ own p j.past) (own p j.past)) ≡ cond mine (next_row j.item_count row e) row
+  changed r true becomes about =
+      replayed_row-step j.item_count r e (own p j.past)
+      ∙ ap (λ (x : Row). step j.item_count x e) (sym becomes)
+      ∙ next-is laws j.item_count row e law.ready.some_items (can_step j law.ready law.accepted e passes laws p row (some_of _ p about) is)
+  changed r false becomes about = sym becomes
+
+  lives_on : row_of (after j e) p ≡ Some (cond (is_some_of (partition_of e j.past) p) (next_row j.item_count row e) row)
+  lives_on =
+      let o = has_opening j p row is in
+      row_of-is (after j e) p o.opening o.opens ∙ ap Some (changed o.opening (is_some_of (partition_of e j.past) p) o.becomes refl)
+
+pub rows_live_on : LawsBelow → RowsLiveOn
+rows_live_on laws j law e passes p row is = lives_on laws j law e passes p row is
 
 -- ORDER
 
@@ -147,13 +181,13 @@ step-forgets c row (Drop l) = refl
 step-forgets c row Round = refl
 step-forgets c row Stop = refl
 
-row_after-forgets : (c : ℕ) (r : Row) → is_running r.state ≡ false → (own : List Event) → row_after c r (map without_lane own) ≡ forget_row (row_after c r own)
-row_after-forgets c r idle [] = sym (idle_row (row_after c r []) idle)
-row_after-forgets c r idle (e ∷ own) =
-    row_after-step c r (without_lane e) (map without_lane own)
-    ∙ ap (λ (x : Row). step c x (without_lane e)) (row_after-forgets c r idle own)
-    ∙ step-forgets c (row_after c r own) e
-    ∙ ap forget_row (sym (row_after-step c r e own))
+replayed_row-forgets : (c : ℕ) (r : Row) → is_running r.state ≡ false → (own : List Event) → replayed_row c r (map without_lane own) ≡ forget_row (replayed_row c r own)
+replayed_row-forgets c r idle [] = sym (idle_row (replayed_row c r []) idle)
+replayed_row-forgets c r idle (e ∷ own) =
+    replayed_row-step c r (without_lane e) (map without_lane own)
+    ∙ ap (λ (x : Row). step c x (without_lane e)) (replayed_row-forgets c r idle own)
+    ∙ step-forgets c (replayed_row c r own) e
+    ∙ ap forget_row (sym (replayed_row-step c r e own))
 
 not_running : (state : RowState) → ((l : ℕ) → state ≡ Running l → ⊥) → is_running state ≡ false
 not_running Waiting h = refl
@@ -162,37 +196,37 @@ not_running Finished h = refl
 not_running Failed h = refl
 
 -- where no lane runs, no row runs
-none_runs : (j : Journal) → IsLawful j → reserved j ≡ 0 → (p : ℕ) (r : Row) → slice_get j.opening p ≡ Some r → is_running (row_after j.item_count r (own p j.past)).state ≡ false
+none_runs : (j : Journal) → IsReplayable j → reserved j ≡ 0 → (p : ℕ) (r : Row) → slice_get j.opening p ≡ Some r → is_running (replayed_row j.item_count r (own p j.past)).state ≡ false
 none_runs j law none p r opens =
     let k = known j law in
     not_running _ (λ l s. let h = k.owners l p r opens s in none_owns j.threads j.past l p none (k.lanes l p h).lane h)
 
-same_row : (j : Journal) (one other : List Event) → IsLawful (with_past j one) → IsLawful (with_past j other) → reserved (with_past j one) ≡ 0 → reserved (with_past j other) ≡ 0 → (p : ℕ) (r : Row) → slice_get j.opening p ≡ Some r → map without_lane (own p one) ≡ map without_lane (own p other) → row_after j.item_count r (own p one) ≡ row_after j.item_count r (own p other)
+same_row : (j : Journal) (one other : List Event) → IsReplayable (with_past j one) → IsReplayable (with_past j other) → reserved (with_past j one) ≡ 0 → reserved (with_past j other) ≡ 0 → (p : ℕ) (r : Row) → slice_get j.opening p ≡ Some r → map without_lane (own p one) ≡ map without_lane (own p other) → replayed_row j.item_count r (own p one) ≡ replayed_row j.item_count r (own p other)
 same_row j one other a b still quiet p r opens same =
     let idle = (a.ready.idle p r opens).1 in
     let x = none_runs (with_past j one) a still p r opens in
     let y = none_runs (with_past j other) b quiet p r opens in
-    sym (idle_row (row_after j.item_count r (own p one)) x)
-    ∙ sym (row_after-forgets j.item_count r idle (own p one))
-    ∙ ap (row_after j.item_count r) same
-    ∙ row_after-forgets j.item_count r idle (own p other)
-    ∙ idle_row (row_after j.item_count r (own p other)) y
+    sym (idle_row (replayed_row j.item_count r (own p one)) x)
+    ∙ sym (replayed_row-forgets j.item_count r idle (own p one))
+    ∙ ap (replayed_row j.item_count r) same
+    ∙ replayed_row-forgets j.item_count r idle (own p other)
+    ∙ idle_row (replayed_row j.item_count r (own p other)) y
 
-rows_from-same : (c : ℕ) (one other : List Event) (first : ℕ) (rows : List Row) → ((i : ℕ) (r : Row) → slice_get rows i ≡ Some r → row_after c r (own (first + i) one) ≡ row_after c r (own (first + i) other)) → rows_from c one first rows ≡ rows_from c other first rows
+rows_from-same : (c : ℕ) (one other : List Event) (first : ℕ) (rows : List Row) → ((i : ℕ) (r : Row) → slice_get rows i ≡ Some r → replayed_row c r (own (first + i) one) ≡ replayed_row c r (own (first + i) other)) → rows_from c one first rows ≡ rows_from c other first rows
 rows_from-same c one other first [] same = refl
 rows_from-same c one other first (r ∷ rows) same =
     let z : first + 0 ≡ first = omega arith in
-    let head : row_after c r (own first one) ≡ row_after c r (own first other) = subst (λ (x : ℕ). row_after c r (own x one) ≡ row_after c r (own x other)) z (same 0 r refl) in
+    let head : replayed_row c r (own first one) ≡ replayed_row c r (own first other) = subst (λ (x : ℕ). replayed_row c r (own x one) ≡ replayed_row c r (own x other)) z (same 0 r refl) in
     let tail = rows_from-same c one other (first + 1) rows (λ i s o.
     let e : first + suc i ≡ first + 1 + i = omega arith in
-    subst (λ (x : ℕ). row_after c s (own x one) ≡ row_after c s (own x other)) e (same (suc i) s o)) in
-    ap (λ (x : Row). x ∷ rows_from c one (first + 1) rows) head ∙ ap (λ (xs : List Row). row_after c r (own first other) ∷ xs) tail
+    subst (λ (x : ℕ). replayed_row c s (own x one) ≡ replayed_row c s (own x other)) e (same (suc i) s o)) in
+    ap (λ (x : Row). x ∷ rows_from c one (first + 1) rows) head ∙ ap (λ (xs : List Row). replayed_row c r (own first other) ∷ xs) tail
 
 pub order_is_free : OrderIsFree
 order_is_free j one other a b still quiet same =
     rows_from-same j.item_count one other 0 j.opening (λ i r o.
     let z : i ≡ 0 + i = omega arith in
-    subst (λ (x : ℕ). row_after j.item_count r (own x one) ≡ row_after j.item_count r (own x other)) z
+    subst (λ (x : ℕ). replayed_row j.item_count r (own x one) ≡ replayed_row j.item_count r (own x other)) z
     (same_row j one other a b still quiet i r o (same i (inside j.opening i r o))))
 
 -- PLANS
@@ -201,13 +235,11 @@ accepted_before : (j : Journal) (later past : List Event) → AcceptedPast j (la
 accepted_before j [] past ok = ok
 accepted_before j (e ∷ later) past ok = accepted_before j later past ok.1
 
-pub plans_are_least : PlansAreLeast
-plans_are_least j law later past n k is =
+pub plans_are_least : LeastPlanMeans → PlansAreLeast
+plans_are_least means j law later past n k is =
     let ok = accepted_before j later (Plan n k ∷ past) (subst (λ (x : List Event). AcceptedPast j x) is law.accepted) in
     let q = plan_passes (at_past j past) n k ok.0 in
-    let t = and_parts _ _ q.good in
-    let counts = remaining j.item_count (rows_of (with_past j past)) in
-    (least_number counts j.threads n (eqb_fact _ _ t.0) law.ready.some_threads, certified k counts j.threads n t.1)
+    (means (remaining j.item_count (rows_of (with_past j past))) j.threads n k law.ready.some_threads).0 q.good
 
 since-plan : (later past : List Event) (n : ℕ) (k : Certificate) → some is_plan later ≡ false → (since is_plan (later ++ Plan n k ∷ past) ≡ later) × (planned_rounds (later ++ Plan n k ∷ past) ≡ n)
 since-plan [] past n k none = (refl, refl)
@@ -228,7 +260,7 @@ one_more j Round later past n k ok none h =
     let o = (round_passes (at_past j (later ++ Plan n k ∷ past)) ok).open_plan in
     let t = and_parts _ _ o in
     let s = since-plan later past n k none in
-    let lt : number is_round (since is_plan (later ++ Plan n k ∷ past)) < planned_rounds (later ++ Plan n k ∷ past) = ltb_fact _ _ t.0 in
+    let lt : number is_round (since is_plan (later ++ Plan n k ∷ past)) < planned_rounds (later ++ Plan n k ∷ past) = ltb-true _ _ t.0 in
     let a = ap (number is_round) s.0 in
     let b = s.1 in
     omega (arith, lt, a, b)

@@ -1,14 +1,12 @@
 pub mod Consistent
 pub mod Keeping
 pub mod LawProofs
+pub mod Openings
 pub mod Passing
 pub mod Ranges
-pub mod Openings
-pub mod RowFacts
 pub mod RowLemmas
-pub mod Certified
 pub mod Runs
-pub mod SoundSteps
+pub mod Stepping
 pub mod Tables
 pub mod Totals
 pub mod Worked

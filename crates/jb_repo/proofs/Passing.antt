@@ -6,9 +6,10 @@ use Rattle.jb_rules.specs.declared.row.Row.{Row}
 use Rattle.jb_cert.specs.declared.certificates.Certificate.{Certificate}
 use Rattle.jb_job.specs.declared.class.ClassId.{ClassId}
 use Rattle.jb_repo.specs.declared.events.Event.TheVariants.{Plan, Begin, Commit, Roll, Fail, Drop, Round, Stop}
+use Rattle.jb_repo.specs.declared.events.TheConstants.{MAX_EVENTS}
 use Rattle.jb_repo.specs.History.{own, owner, is_lane_marked, is_partition_marked, is_plan_open, is_stopping}
-use Rattle.jb_repo.specs.Rows.{row_after}
-use Rattle.jb_repo.specs.Table.{Journal, Condition, conditions, first_refusal, refusal, row_of, reserved, is_full, is_good_plan, is_good_commit, is_over_row, is_at_limit}
+use Rattle.jb_repo.specs.Rows.{replayed_row}
+use Rattle.jb_repo.specs.Table.{Journal, Condition, conditions, first_refusal, refusal, row_of, reserved, is_full, is_good_plan, is_good_commit, is_ended, is_at_limit}
 use Rattle.jb_repo.proofs.RowLemmas.{slice_get-rows_from}
 
 -- each condition of the list fails
@@ -39,7 +40,7 @@ leb_false a b h = grind (arith, nat_tests)
 pub ltb_false : (a b : ℕ) → nat_lt a b ≡ false → b ≤ a
 ltb_false a b h = grind (arith, nat_tests)
 
-pub full_false : (j : Journal) (n : ℕ) → is_full j n ≡ false → length j.past + reserved j + n ≤ 1000000000
+pub full_false : (j : Journal) (n : ℕ) → is_full j n ≡ false → length j.past + reserved j + n ≤ MAX_EVENTS
 full_false j n h = ltb_false _ _ h
 
 pub record BeginPasses (j : Journal) (l p : ℕ) : Type 0 where
@@ -48,9 +49,9 @@ pub record BeginPasses (j : Journal) (l p : ℕ) : Type 0 where
   pub lane : l < j.threads
   pub lane_unmarked : is_lane_marked l j.past ≡ false
   pub partition_unmarked : is_partition_marked p j.past ≡ false
-  pub not_over : is_over_row (row_of j p) ≡ false
+  pub not_over : is_ended (row_of j p) ≡ false
   pub open_plan : is_plan_open j.past ≡ true
-  pub room : length j.past + reserved j + 2 ≤ 1000000000
+  pub room : length j.past + reserved j + 2 ≤ MAX_EVENTS
   pub below_limit : is_at_limit (row_of j p) ≡ false
 
 pub begin_passes : (j : Journal) (l p : ℕ) → refusal j (Begin l p) ≡ None → BeginPasses j l p
@@ -81,7 +82,7 @@ pub record PlanPasses (j : Journal) (n : ℕ) (k : Certificate) : Type 0 where
   pub none_runs : reserved j ≡ 0
   pub no_plan : is_plan_open j.past ≡ false
   pub good : is_good_plan j n k ≡ true
-  pub room : length j.past + reserved j + 1 ≤ 1000000000
+  pub room : length j.past + reserved j + 1 ≤ MAX_EVENTS
 
 none_below : (n : ℕ) → nat_lt 0 n ≡ false → n ≡ 0
 none_below n h = grind (arith, nat_tests)
@@ -132,7 +133,7 @@ drop_passes j l h =
 pub record RoundPasses (j : Journal) : Type 0 where
   pub none_runs : reserved j ≡ 0
   pub open_plan : is_plan_open j.past ≡ true
-  pub room : length j.past + reserved j + 1 ≤ 1000000000
+  pub room : length j.past + reserved j + 1 ≤ MAX_EVENTS
 
 pub round_passes : (j : Journal) → refusal j Round ≡ None → RoundPasses j
 round_passes j h =
@@ -141,11 +142,11 @@ round_passes j h =
     let c = b.1 in
     record { none_runs = none_below _ a.0; open_plan = not_false _ b.0; room = full_false j 1 c.0 }
 
-pub stop_passes : (j : Journal) → refusal j Stop ≡ None → length j.past + reserved j + 1 ≤ 1000000000
+pub stop_passes : (j : Journal) → refusal j Stop ≡ None → length j.past + reserved j + 1 ≤ MAX_EVENTS
 stop_passes j h = full_false j 1 (passes (conditions j Stop) h).0
 
 -- the row of a partition, from its opening row
-pub row_of-is : (j : Journal) (p : ℕ) (r : Row) → slice_get j.opening p ≡ Some r → row_of j p ≡ Some (row_after j.item_count r (own p j.past))
+pub row_of-is : (j : Journal) (p : ℕ) (r : Row) → slice_get j.opening p ≡ Some r → row_of j p ≡ Some (replayed_row j.item_count r (own p j.past))
 row_of-is j p r h =
     let e : 0 + p ≡ p = omega arith in
     slice_get-rows_from j.item_count j.past 0 j.opening p ∙ rw (h, e) refl

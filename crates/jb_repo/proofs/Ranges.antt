@@ -5,17 +5,33 @@ use Rattle.jb_rules.specs.declared.row.RowState.{RowState}
 use Rattle.jb_rules.specs.declared.row.RowState.TheVariants.{Waiting, Running, Finished, Failed}
 use Rattle.jb_repo.specs.declared.events.Event.{Event}
 use Rattle.jb_rules.specs.Sound.{IsSoundRow}
-use Rattle.jb_plan.specs.Blocks.{left}
-use Rattle.std.specs.Prelude.{sum}
-use Rattle.jb_plan.proofs.BlockLists.{left_is, left-few}
+use Rattle.std.specs.Prelude.{sum, map}
+use Rattle.jb_job.specs.declared.job.Range.{Range}
+use Rattle.std.proofs.Common.{get_or, ap, length}
+use Rattle.std.proofs.lemmas.List.{length-map}
+use Rattle.std.proofs.lemmas.Option.{slice_get_within}
 use Rattle.std.proofs.lemmas.List.Sums.{sum_by-cons}
-use Rattle.jb_repo.proofs.RowFacts.{facts}
+use Rattle.jb_repo.specs.inside.Below.{LawsBelow}
+use Rattle.jb_plan.specs.declared.limits.TheConstants.{MAX_RECORDS}
+use Rattle.jb_plan.specs.Ranges.{HaveNoneInCommon, AreDisjoint}
+use Rattle.jb_rules.specs.Rows.{range_of}
 use Rattle.jb_repo.specs.History.{own}
-use Rattle.jb_repo.specs.Rows.{row_after, rows_from, remaining, remaining_of}
-use Rattle.jb_repo.specs.Ready.{HaveNoneInCommon}
+use Rattle.jb_repo.specs.Rows.{replayed_row, rows_from, remaining, remaining_of}
 
 abbrev pub Apart : List Row → Type 0
-Apart rows = (i k : ℕ) (r s : Row) → i < k → slice_get rows i ≡ Some r → slice_get rows k ≡ Some s → HaveNoneInCommon r s
+Apart rows = (i k : ℕ) (r s : Row) → i < k → slice_get rows i ≡ Some r → slice_get rows k ≡ Some s → HaveNoneInCommon (range_of r) (range_of s)
+
+range_at : (rows : List Row) (i : ℕ) (r : Row) (d : Range) → slice_get rows i ≡ Some r → get_or (map range_of rows) i d ≡ range_of r
+range_at [] i r d is = absurd cc
+range_at (x ∷ rows) zero r d is = let e : x ≡ r = cc in ap range_of e
+range_at (x ∷ rows) (suc i) r d is = range_at rows i r d is
+
+apart : (rows : List Row) → AreDisjoint (map range_of rows) → Apart rows
+apart rows disjoint i k r s lt a b =
+    let within : k < length (map range_of rows) = let n = length-map rows range_of in let h = slice_get_within rows k s b in omega (arith, n, h) in
+    let both = disjoint i k (range_of r) lt within in
+    let half = subst (λ (x : Range). HaveNoneInCommon x (get_or (map range_of rows) k (range_of r))) (range_at rows i r (range_of r) a) both in
+    subst (λ (x : Range). HaveNoneInCommon (range_of r) x) (range_at rows k s (range_of r) b) half
 
 apart_tail : (r : Row) (rows : List Row) → Apart (r ∷ rows) → Apart rows
 apart_tail r rows apart i k a b lt x y = apart (suc i) (suc k) a b (omega arith) x y
@@ -78,34 +94,32 @@ all_below-le (suc n) rows apart = omega (arith, all_below-more n rows, one_stand
 
 -- BLOCKS
 
-left-le : (c at redo hi : ℕ) → 1 ≤ c → at ≤ hi → redo ≤ hi → left at redo hi c ≤ hi - at
-left-le c at redo hi some le re = rw (left_is at redo hi c some) (left-few at redo hi c le re some)
+remaining_of-le : LawsBelow → (c : ℕ) (row : Row) (state : RowState) → 1 ≤ c → IsSoundRow row → remaining_of c row state ≤ row.hi - row.lo
+remaining_of-le laws c row Waiting some s =
+    let few = laws.chunks.few row.at row.redo row.hi c s.placed.at_to s.placed.redo_to some in omega (arith, few, s.placed.at_from)
+remaining_of-le laws c row (Running l) some s = omega arith
+remaining_of-le laws c row Finished some s = omega arith
+remaining_of-le laws c row Failed some s = omega arith
 
-remaining_of-le : (c : ℕ) (row : Row) (state : RowState) → 1 ≤ c → IsSoundRow row → remaining_of c row state ≤ row.hi - row.lo
-remaining_of-le c row Waiting some s = let f = facts row s in omega (arith, left-le c row.at row.redo row.hi some f.to_hi f.redo_to, f.from_lo)
-remaining_of-le c row (Running l) some s = omega arith
-remaining_of-le c row Finished some s = omega arith
-remaining_of-le c row Failed some s = omega arith
-
-below-all : (r : Row) → r.hi ≤ 10000000 → r.hi - r.lo ≤ below 10000000 r
+below-all : (r : Row) → r.hi ≤ MAX_RECORDS → r.hi - r.lo ≤ below MAX_RECORDS r
 unfolding below
 below-all r small = omega arith
 
-remaining-below : (c : ℕ) (past : List Event) (first : ℕ) (rows : List Row) → 1 ≤ c → ((i : ℕ) (r : Row) → slice_get rows i ≡ Some r → IsSoundRow (row_after c r (own (first + i) past))) → sum (remaining c (rows_from c past first rows)) ≤ all_below 10000000 rows
-remaining-below c past first [] some sound = omega arith
-remaining-below c past first (r ∷ rows) some sound =
+remaining-below : LawsBelow → (c : ℕ) (past : List Event) (first : ℕ) (rows : List Row) → 1 ≤ c → ((i : ℕ) (r : Row) → slice_get rows i ≡ Some r → IsSoundRow (replayed_row c r (own (first + i) past))) → sum (remaining c (rows_from c past first rows)) ≤ all_below MAX_RECORDS rows
+remaining-below laws c past first [] some sound = omega arith
+remaining-below laws c past first (r ∷ rows) some sound =
     let z : first + 0 ≡ first = omega arith in
-    let s : IsSoundRow (row_after c r (own first past)) = subst (λ (x : ℕ). IsSoundRow (row_after c r (own x past))) z (sound 0 r refl) in
-    let head = remaining_of-le c (row_after c r (own first past)) (row_after c r (own first past)).state some s in
-    let here : r.hi - r.lo ≤ below 10000000 r = below-all r s.placed.records in
-    let tail = remaining-below c past (first + 1) rows some (λ i t o.
+    let s : IsSoundRow (replayed_row c r (own first past)) = subst (λ (x : ℕ). IsSoundRow (replayed_row c r (own x past))) z (sound 0 r refl) in
+    let head = remaining_of-le laws c (replayed_row c r (own first past)) (replayed_row c r (own first past)).state some s in
+    let here : r.hi - r.lo ≤ below MAX_RECORDS r = below-all r s.placed.records in
+    let tail = remaining-below laws c past (first + 1) rows some (λ i t o.
     let e : first + suc i ≡ first + 1 + i = omega arith in
-    subst (λ (x : ℕ). IsSoundRow (row_after c t (own x past))) e (sound (suc i) t o)) in
-    let one = sum_by-cons (λ (x : ℕ). x) (remaining_of c (row_after c r (own first past)) (row_after c r (own first past)).state) (remaining c (rows_from c past (first + 1) rows)) in
+    subst (λ (x : ℕ). IsSoundRow (replayed_row c t (own x past))) e (sound (suc i) t o)) in
+    let one = sum_by-cons (λ (x : ℕ). x) (remaining_of c (replayed_row c r (own first past)) (replayed_row c r (own first past)).state) (remaining c (rows_from c past (first + 1) rows)) in
     omega (arith, one, head, here, tail)
 
 -- no more blocks are left than records may stand in the ranges
-pub remaining-small : (c : ℕ) (past : List Event) (rows : List Row) → 1 ≤ c → Apart rows → ((i : ℕ) (r : Row) → slice_get rows i ≡ Some r → IsSoundRow (row_after c r (own i past))) → sum (remaining c (rows_from c past 0 rows)) ≤ 10000000
-remaining-small c past rows some apart sound =
-    let a = remaining-below c past 0 rows some (λ i r o. let z : i ≡ 0 + i = omega arith in subst (λ (x : ℕ). IsSoundRow (row_after c r (own x past))) z (sound i r o)) in
-    omega (arith, a, all_below-le 10000000 rows apart)
+pub remaining-small : LawsBelow → (c : ℕ) (past : List Event) (rows : List Row) → 1 ≤ c → AreDisjoint (map range_of rows) → ((i : ℕ) (r : Row) → slice_get rows i ≡ Some r → IsSoundRow (replayed_row c r (own i past))) → sum (remaining c (rows_from c past 0 rows)) ≤ MAX_RECORDS
+remaining-small laws c past rows some disjoint sound =
+    let a = remaining-below laws c past 0 rows some (λ i r o. let z : i ≡ 0 + i = omega arith in subst (λ (x : ℕ). IsSoundRow (replayed_row c r (own x past))) z (sound i r o)) in
+    omega (arith, a, all_below-le MAX_RECORDS rows (apart rows disjoint))

@@ -6,10 +6,10 @@ use Rattle.jb_rules.specs.declared.row.Row.{Row}
 use Rattle.jb_rules.specs.declared.row.RowState.{RowState}
 use Rattle.jb_repo.specs.declared.events.Event.{Event}
 use Rattle.jb_repo.specs.declared.events.Event.TheVariants.{Plan, Begin, Commit, Roll, Fail, Drop, Round, Stop}
-use Rattle.jb_rules.specs.Counts.{plus_counts, no_counts}
+use Rattle.jb_rules.specs.Counts.{plus_counts, no_counts, rolled_counts}
 use Rattle.jb_repo.specs.History.{own, owner, names_lane, begun_by, partition_of, is_some_of}
-use Rattle.jb_repo.specs.Rows.{row_after, rows_from, gains, advances, one_rollback}
-use Rattle.jb_repo.specs.Steps.{step}
+use Rattle.jb_repo.specs.Rows.{replayed_row, rows_from, gains, advances, one_rollback}
+use Rattle.jb_repo.specs.inside.Steps.{step}
 
 -- COUNTS
 
@@ -25,6 +25,10 @@ pub plus_counts-zero : (a : Counts) → plus_counts a no_counts ≡ a
 plus_counts-zero a =
     counts_eq _ _ _ _ _ _ _ _ _ _ _ _ _ _ _ _ (omega arith) (omega arith) (omega arith) (omega arith) (omega arith) (omega arith) (omega arith) (omega arith)
 
+pub plus_counts-rollback : (a b : Counts) → plus_counts a (plus_counts b one_rollback) ≡ rolled_counts (plus_counts a b)
+plus_counts-rollback a b =
+    counts_eq _ _ _ _ _ _ _ _ _ _ _ _ _ _ _ _ (omega arith) (omega arith) (omega arith) (omega arith) (omega arith) (omega arith) (omega arith) (omega arith)
+
 -- ONE MORE OWN EVENT
 
 row_eq : (lo hi at redo retries written at' redo' retries' written' : ℕ) (counts counts' : Counts) (state state' : RowState) → at ≡ at' → redo ≡ redo' → retries ≡ retries' → written ≡ written' → counts ≡ counts' → state ≡ state'
@@ -32,17 +36,17 @@ row_eq : (lo hi at redo retries written at' redo' retries' written' : ℕ) (coun
 row_eq lo hi at redo retries written at' redo' retries' written' counts counts' state state' e1 e2 e3 e4 e5 e6 = rw (e1, e2, e3, e4, e5, e6) refl
 
 module _ (c : ℕ) (r : Row) where
-  pub row_after-step : (e : Event) (own : List Event) → row_after c r (e ∷ own) ≡ step c (row_after c r own) e
-  row_after-step (Plan n k) own = row_eq _ _ _ _ _ _ _ _ _ _ _ _ _ _ (omega arith) refl (omega arith) refl (ap (plus_counts r.counts) (plus_counts-zero (gains own))) refl
-  row_after-step (Begin l p) own = row_eq _ _ _ _ _ _ _ _ _ _ _ _ _ _ (omega arith) refl (omega arith) refl (ap (plus_counts r.counts) (plus_counts-zero (gains own))) refl
-  row_after-step (Commit l d w) own =
+  pub replayed_row-step : (e : Event) (own : List Event) → replayed_row c r (e ∷ own) ≡ step c (replayed_row c r own) e
+  replayed_row-step (Plan n k) own = row_eq _ _ _ _ _ _ _ _ _ _ _ _ _ _ (omega arith) refl (omega arith) refl (ap (plus_counts r.counts) (plus_counts-zero (gains own))) refl
+  replayed_row-step (Begin l p) own = row_eq _ _ _ _ _ _ _ _ _ _ _ _ _ _ (omega arith) refl (omega arith) refl (ap (plus_counts r.counts) (plus_counts-zero (gains own))) refl
+  replayed_row-step (Commit l d w) own =
       let e : r.at + (advances own + (d.read + d.read_skip)) ≡ r.at + advances own + (d.read + d.read_skip) = omega arith in
       row_eq _ _ _ _ _ _ _ _ _ _ _ _ _ _ e refl (omega arith) refl (plus_counts_assoc r.counts (gains own) d) (rw e refl)
-  row_after-step (Roll l k) own = row_eq _ _ _ _ _ _ _ _ _ _ _ _ _ _ (omega arith) refl (omega arith) refl (plus_counts_assoc r.counts (gains own) one_rollback) refl
-  row_after-step (Fail l k) own = row_eq _ _ _ _ _ _ _ _ _ _ _ _ _ _ (omega arith) refl (omega arith) refl (plus_counts_assoc r.counts (gains own) one_rollback) refl
-  row_after-step (Drop l) own = row_eq _ _ _ _ _ _ _ _ _ _ _ _ _ _ (omega arith) refl (omega arith) refl (ap (plus_counts r.counts) (plus_counts-zero (gains own))) refl
-  row_after-step Round own = row_eq _ _ _ _ _ _ _ _ _ _ _ _ _ _ (omega arith) refl (omega arith) refl (ap (plus_counts r.counts) (plus_counts-zero (gains own))) refl
-  row_after-step Stop own = row_eq _ _ _ _ _ _ _ _ _ _ _ _ _ _ (omega arith) refl (omega arith) refl (ap (plus_counts r.counts) (plus_counts-zero (gains own))) refl
+  replayed_row-step (Roll l k) own = row_eq _ _ _ _ _ _ _ _ _ _ _ _ _ _ (omega arith) refl (omega arith) refl (plus_counts-rollback r.counts (gains own)) refl
+  replayed_row-step (Fail l k) own = row_eq _ _ _ _ _ _ _ _ _ _ _ _ _ _ (omega arith) refl (omega arith) refl (plus_counts-rollback r.counts (gains own)) refl
+  replayed_row-step (Drop l) own = row_eq _ _ _ _ _ _ _ _ _ _ _ _ _ _ (omega arith) refl (omega arith) refl (ap (plus_counts r.counts) (plus_counts-zero (gains own))) refl
+  replayed_row-step Round own = row_eq _ _ _ _ _ _ _ _ _ _ _ _ _ _ (omega arith) refl (omega arith) refl (ap (plus_counts r.counts) (plus_counts-zero (gains own))) refl
+  replayed_row-step Stop own = row_eq _ _ _ _ _ _ _ _ _ _ _ _ _ _ (omega arith) refl (omega arith) refl (ap (plus_counts r.counts) (plus_counts-zero (gains own))) refl
 
 -- OWN EVENTS AND OWNERS
 
@@ -73,7 +77,7 @@ pub length-rows_from : (c : ℕ) (past : List Event) (first : ℕ) (rs : List Ro
 length-rows_from c past first [] = refl
 length-rows_from c past first (r ∷ rs) = ap suc (length-rows_from c past (first + 1) rs)
 
-pub slice_get-rows_from : (c : ℕ) (past : List Event) (first : ℕ) (rs : List Row) (i : ℕ) → slice_get (rows_from c past first rs) i ≡ option_map (λ r. row_after c r (own (first + i) past)) (slice_get rs i)
+pub slice_get-rows_from : (c : ℕ) (past : List Event) (first : ℕ) (rs : List Row) (i : ℕ) → slice_get (rows_from c past first rs) i ≡ option_map (λ r. replayed_row c r (own (first + i) past)) (slice_get rs i)
 slice_get-rows_from c past first [] i = refl
 slice_get-rows_from c past first (r ∷ rs) zero =
     let e : first + 0 ≡ first = omega arith in
@@ -104,8 +108,8 @@ rows_from-some c e past p zero first (r ∷ rs) row h at got =
     let h' : partition_of e past ≡ Some first = cc in
     let t : own first (e ∷ past) ≡ e ∷ own first past = own-yes first e past h' in
     let u = rows_from-before c e past p (first + 1) rs h (omega arith) in
-    let s = row_after-step c r e (own first past) in
-    let g : row_after c r (own first past) ≡ row = cc in
+    let s = replayed_row-step c r e (own first past) in
+    let g : replayed_row c r (own first past) ≡ row = cc in
     rw (t, u, s, g) refl
 rows_from-some c e past p (suc i) first (r ∷ rs) row h at got =
     let t = own-no p first e past h (omega arith) in

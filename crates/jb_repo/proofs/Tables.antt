@@ -5,22 +5,27 @@ use Rattle.std.proofs.lemmas.Option.{slice_get-get_or, slice_get_past, get_or_fr
 use Rattle.std.proofs.lemmas.List.{get_or-take}
 use Rattle.std.proofs.Math.Seq.{take-set-lt}
 use Rattle.jb_rules.specs.declared.row.Row.{Row}
-use Rattle.jb_rules.specs.declared.row.RowState.TheVariants.{Waiting, Running}
+use Rattle.jb_rules.specs.declared.row.RowState.TheVariants.{Waiting}
 use Rattle.jb_repo.specs.declared.events.Event.{Event}
 use Rattle.jb_repo.specs.declared.events.Event.TheVariants.{Plan, Begin, Commit, Roll, Fail, Drop, Round, Stop}
 use Rattle.jb_rules.specs.Sound.{IsSoundRow}
-use Rattle.jb_repo.specs.States.{is_finished}
+use Rattle.jb_rules.specs.Rows.{range_of}
+use Rattle.jb_plan.specs.Ranges.{AreDisjoint}
+use Rattle.jb_plan.specs.declared.limits.TheConstants.{MAX_RECORDS, MAX_PARTITIONS}
 use Rattle.jb_rules.specs.Counts.{no_counts}
-use Rattle.std.specs.Prelude.{sum}
+use Rattle.std.specs.Prelude.{sum, map}
+use Rattle.jb_job.specs.declared.job.Range.{Range}
 use Rattle.jb_repo.specs.History.{own, owner, names_lane, begun_by, partition_of, running, runs}
-use Rattle.jb_repo.specs.Rows.{row_after, remaining, remaining_of, counts_of}
+use Rattle.jb_repo.specs.Rows.{replayed_row, rows_from, remaining, remaining_of, total_counts}
 use Rattle.jb_repo.specs.Table.{Journal, Accepted, refusal, after, rows_of, row_of, reserved}
 use Rattle.jb_repo.specs.Answers.{places_of}
-use Rattle.jb_repo.specs.Ready.{IsReady}
+use Rattle.jb_repo.specs.Openable.{IsOpenable}
 use Rattle.jb_repo.specs.Sound.{IsTable}
-use Rattle.jb_repo.specs.Steps.{step, stepped_rows, CanStep}
+use Rattle.jb_repo.specs.inside.Below.{LawsBelow}
+use Rattle.jb_repo.specs.inside.Steps.{step, stepped_rows, CanStep}
 use Rattle.jb_repo.proofs.RowLemmas.{length-rows_from, slice_get-rows_from, rows_from-none, rows_from-some, owner-yes, owner-no}
-use Rattle.jb_repo.proofs.Consistent.{consistent, IsStep, is_step}
+use Rattle.jb_repo.proofs.Consistent.{consistent, about, can, rows-sound}
+use Rattle.jb_repo.proofs.Stepping.{running-before-end}
 use Rattle.jb_repo.proofs.Passing.{row_of-is, begin_passes, OutcomePasses, commit_passes, roll_passes, fail_passes, drop_passes}
 use Rattle.jb_repo.proofs.Ranges.{remaining-small}
 
@@ -31,7 +36,7 @@ pub record HasOpening (j : Journal) (p : ℕ) (row : Row) : Type 0 where
   pub opening : Row
   pub partition : p < length j.opening
   pub opens : slice_get j.opening p ≡ Some opening
-  pub becomes : row ≡ row_after j.item_count opening (own p j.past)
+  pub becomes : row ≡ replayed_row j.item_count opening (own p j.past)
 
 pub inside : (rows : List Row) (p : ℕ) (r : Row) → slice_get rows p ≡ Some r → p < length rows
 inside [] p r h = absurd cc
@@ -46,32 +51,31 @@ at_some (x ∷ rows) (suc p) h = at_some rows p (omega arith)
 opening_of : (j : Journal) (p : ℕ) (row : Row) (o : Option Row) → slice_get j.opening p ≡ o → row_of j p ≡ Some row → HasOpening j p row
 opening_of j p row None h is =
     let e = slice_get-rows_from j.item_count j.past 0 j.opening p in
-    let f : option_map (λ (r : Row). row_after j.item_count r (own (0 + p) j.past)) (slice_get j.opening p) ≡ None = rw h refl in
+    let f : option_map (λ (r : Row). replayed_row j.item_count r (own (0 + p) j.past)) (slice_get j.opening p) ≡ None = rw h refl in
     absurd cc
 opening_of j p row (Some r) h is =
     let e = row_of-is j p r h in
-    let f : row ≡ row_after j.item_count r (own p j.past) = cc in
+    let f : row ≡ replayed_row j.item_count r (own p j.past) = cc in
     record { opening = r; partition = inside j.opening p r h; opens = h; becomes = f }
 
 pub has_opening : (j : Journal) (p : ℕ) (row : Row) → row_of j p ≡ Some row → HasOpening j p row
 has_opening j p row is = opening_of j p row (slice_get j.opening p) refl is
 
-pub row_sound : (j : Journal) → IsReady j → Accepted j → (p : ℕ) (row : Row) → row_of j p ≡ Some row → IsSoundRow row
-row_sound j ready ok p row is =
+pub row_sound : LawsBelow → (j : Journal) → IsOpenable j → Accepted j → (p : ℕ) (row : Row) → row_of j p ≡ Some row → IsSoundRow row
+row_sound laws j ready ok p row is =
     let o = has_opening j p row is in
-    subst (λ (x : Row). IsSoundRow x) (sym o.becomes) ((consistent j ready j.past ok).sound p o.opening o.opens)
+    subst (λ (x : Row). IsSoundRow x) (sym o.becomes) (rows-sound laws j ready p o.opening o.opens j.past ok)
 
--- the row of a partition that a lane runs is not finished
-pub row_unfinished : (j : Journal) → IsReady j → Accepted j → (l p : ℕ) (row : Row) → owner l j.past ≡ Some p → row_of j p ≡ Some row → is_finished row.state ≡ false
-row_unfinished j ready ok l p row owned is =
+-- the row of a partition that a lane runs has a record left
+pub row_unfinished : LawsBelow → (j : Journal) → IsOpenable j → Accepted j → (l p : ℕ) (row : Row) → owner l j.past ≡ Some p → row_of j p ≡ Some row → row.at < row.hi
+row_unfinished laws j ready ok l p row owned is =
     let o = has_opening j p row is in
     let s = (consistent j ready j.past ok).states l p o.opening owned o.opens in
-    let t : row.state ≡ Running l = ap (λ (x : Row). x.state) o.becomes ∙ s in
-    ap is_finished t
+    running-before-end row l (row_sound laws j ready ok p row is) (ap (λ (x : Row). x.state) o.becomes ∙ s)
 
-pub remaining_fits : (j : Journal) → IsReady j → Accepted j → sum (remaining j.item_count (rows_of j)) ≤ 10000000
-remaining_fits j ready ok =
-    remaining-small j.item_count j.past j.opening ready.some_items ready.disjoint (consistent j ready j.past ok).sound
+pub remaining_fits : LawsBelow → (j : Journal) → IsOpenable j → Accepted j → sum (remaining j.item_count (rows_of j)) ≤ MAX_RECORDS
+remaining_fits laws j ready ok =
+    remaining-small laws j.item_count j.past j.opening ready.some_items ready.disjoint (λ p r opens. rows-sound laws j ready p r opens j.past ok)
 
 -- THE KEPT TABLE
 
@@ -89,19 +93,20 @@ no_row j p le =
     let n = length-rows_from j.item_count j.past 0 j.opening in
     slice_get_past (rows_of j) p (omega (arith, n))
 
-module _ (j : Journal) (ready : IsReady j) (ok : Accepted j) (e : Event) (passes : refusal j e ≡ None) where
-  pub step_at : (p : ℕ) → partition_of e j.past ≡ Some p → IsStep j j.past e p
-  step_at p part = is_step j j.past (consistent j ready j.past ok) e p passes part
+module _ (j : Journal) (ready : IsOpenable j) (ok : Accepted j) (e : Event) (passes : refusal j e ≡ None) where
+  pub about_row : (p : ℕ) → partition_of e j.past ≡ Some p → p < length j.opening
+  about_row p part = about j j.past (consistent j ready j.past ok) e p passes part
 
-  pub can_step : (p : ℕ) (row : Row) → partition_of e j.past ≡ Some p → row_of j p ≡ Some row → CanStep j.item_count row e
-  can_step p row part is =
+  pub can_step : LawsBelow → (p : ℕ) (row : Row) → partition_of e j.past ≡ Some p → row_of j p ≡ Some row → CanStep j.item_count row e
+  can_step laws p row part is =
       let o = has_opening j p row is in
-      subst (λ (x : Row). CanStep j.item_count x e) (sym o.becomes) ((step_at p part).can o.opening o.opens)
+      subst (λ (x : Row). CanStep j.item_count x e) (sym o.becomes)
+      (can j j.past (consistent j ready j.past ok) p o.opening o.opens (rows-sound laws j ready p o.opening o.opens j.past ok) e passes part)
 
   pub table_after : (rows : List Row) (d : Row) (o : Option ℕ) → take (length j.opening) rows ≡ rows_of j → partition_of e j.past ≡ o → take (length j.opening) (stepped_rows j.item_count rows o e d) ≡ rows_of (after j e)
   table_after rows d None table part = table ∙ sym (rows_from-none j.item_count e j.past 0 j.opening part)
   table_after rows d (Some p) table part =
-      let lt : p < length j.opening = (step_at p part).partition in
+      let lt : p < length j.opening = about_row p part in
       let is = kept_row j rows p d table lt in
       let z : p ≡ 0 + p = omega arith in
       let r = rows_from-some j.item_count e j.past p p 0 j.opening (get_or rows p d) part z is in
@@ -153,7 +158,7 @@ module _ (l : ℕ) (e : Event) (past : List Event) (names : (k : ℕ) → names_
       ]
 
 -- the places that an accepted event asks for are enough for it and for the outcomes that are still to come
-module _ (j : Journal) (ready : IsReady j) (ok : Accepted j) where
+module _ (j : Journal) (ready : IsOpenable j) (ok : Accepted j) where
   outcome_places : (e : Event) (l : ℕ) → ((k : ℕ) → names_lane k e ≡ nat_eq l k) → begun_by e ≡ None → OutcomePasses j l → 1 + running j.threads (e ∷ j.past) ≤ running j.threads j.past
   outcome_places e l names begins q =
       let a = running-one l e j.past names j.threads q.lane in
@@ -191,32 +196,29 @@ remaining-push c (r ∷ rows) row = let t = remaining-push c rows row in rw t re
 pub kept_get : (j : Journal) (rows : List Row) (p : ℕ) (row : Row) → take (length j.opening) rows ≡ rows_of j → p < length j.opening → slice_get rows p ≡ Some row → row_of j p ≡ Some row
 kept_get j rows p row table lt h = kept_row j rows p row table lt ∙ ap Some (get_or_from_slice_get rows p row row h)
 
-module _ (j : Journal) (ready : IsReady j) (ok : Accepted j) (e : Event) (passes : refusal j e ≡ None) where
-  pub inside_all : (o : Option ℕ) → partition_of e j.past ≡ o → IfSome o (λ p. p < 256)
+module _ (j : Journal) (ready : IsOpenable j) (ok : Accepted j) (e : Event) (passes : refusal j e ≡ None) where
+  pub inside_all : (o : Option ℕ) → partition_of e j.past ≡ o → IfSome o (λ p. p < MAX_PARTITIONS)
   inside_all None part = tt
-  inside_all (Some p) part = omega (arith, (step_at j ready ok e passes p part).partition, ready.few_rows)
+  inside_all (Some p) part = omega (arith, about_row j ready ok e passes p part, ready.few_rows)
 
-  pub can_all : (rows : List Row) (o : Option ℕ) → take (length j.opening) rows ≡ rows_of j → partition_of e j.past ≡ o → IfSome o (λ p. (row : Row) → slice_get rows p ≡ Some row → CanStep j.item_count row e)
-  can_all rows None table part = tt
-  can_all rows (Some p) table part = λ row h.
-      can_step j ready ok e passes p row part (kept_get j rows p row table (step_at j ready ok e passes p part).partition h)
+  pub can_all : LawsBelow → (rows : List Row) (o : Option ℕ) → take (length j.opening) rows ≡ rows_of j → partition_of e j.past ≡ o → IfSome o (λ p. (row : Row) → slice_get rows p ≡ Some row → CanStep j.item_count row e)
+  can_all laws rows None table part = tt
+  can_all laws rows (Some p) table part = λ row h.
+      can_step j ready ok e passes laws p row part (kept_get j rows p row table (about_row j ready ok e passes p part) h)
 
--- the rows of a lawful journal are a table
-pub is_table : (j : Journal) → IsReady j → Accepted j → IsTable (rows_of j) (counts_of (rows_of j))
-is_table j ready ok =
+-- no event changes a range
+ranges-same : (c : ℕ) (past : List Event) (first : ℕ) (rows : List Row) → map range_of (rows_from c past first rows) ≡ map range_of rows
+ranges-same c past first [] = refl
+ranges-same c past first (r ∷ rows) = ap (λ (rs : List Range). range_of r ∷ rs) (ranges-same c past (first + 1) rows)
+
+-- the rows of a repository are a table
+pub is_table : LawsBelow → (j : Journal) → IsOpenable j → Accepted j → IsTable (rows_of j) (total_counts (rows_of j))
+is_table laws j ready ok =
     let n = length-rows_from j.item_count j.past 0 j.opening in
     record {
       some_rows = omega (arith, n, ready.some_rows);
       few_rows = omega (arith, n, ready.few_rows);
-      sound = row_sound j ready ok;
-      disjoint = λ i k r s lt a b.
-          let o = has_opening j i r a in
-          let p = has_opening j k s b in
-          let d = ready.disjoint i k o.opening p.opening lt o.opens p.opens in
-          let rl : r.lo ≡ o.opening.lo = ap (λ (x : Row). x.lo) o.becomes in
-          let rh : r.hi ≡ o.opening.hi = ap (λ (x : Row). x.hi) o.becomes in
-          let sl : s.lo ≡ p.opening.lo = ap (λ (x : Row). x.lo) p.becomes in
-          let sh : s.hi ≡ p.opening.hi = ap (λ (x : Row). x.hi) p.becomes in
-          λ x h1 h2 h3 h4. d x (omega arith) (omega arith) (omega arith) (omega arith);
+      sound = row_sound laws j ready ok;
+      disjoint = subst AreDisjoint (sym (ranges-same j.item_count j.past 0 j.opening)) ready.disjoint;
       sum = refl;
     }

@@ -3,9 +3,10 @@ use Rattle.std.proofs.Common.{◌≡◌, ℕ, suc, ◌*◌, ◌≤◌, List, [],
 use Rattle.jb_rules.specs.declared.counts.Counts.{Counts}
 use Rattle.jb_rules.specs.declared.row.Row.{Row}
 use Rattle.jb_rules.specs.Sound.{IsSoundRow}
-use Rattle.jb_repo.specs.Rows.{CountsFit}
-use Rattle.jb_repo.specs.Rows.{counts_of}
-use Rattle.jb_repo.proofs.RowFacts.{facts}
+use Rattle.jb_repo.specs.inside.Fit.{CountsFit}
+use Rattle.jb_repo.specs.Rows.{total_counts}
+use Rattle.jb_rules.specs.declared.row.TheConstants.{MAX_ROLLBACKS}
+use Rattle.jb_plan.specs.declared.limits.TheConstants.{MAX_PARTITIONS}
 
 -- each of the eight numbers is at most n
 record UpTo (c : Counts) (n : ℕ) : Type 0 where
@@ -18,19 +19,22 @@ record UpTo (c : Counts) (n : ℕ) : Type 0 where
   filter : c.filter ≤ n
   write_skip : c.write_skip ≤ n
 
-row_counts : (r : Row) → IsSoundRow r → UpTo r.counts 1000000000000
-row_counts r sound = let s = facts r sound in record {
-  read = omega (arith, s.reads, s.to_hi, s.small);
-  write = omega (arith, s.reads, s.to_hi, s.small, s.results);
-  commit = omega (arith, s.commits, s.to_hi, s.small);
-  rollback = s.rollbacks;
-  read_skip = omega (arith, s.reads, s.to_hi, s.small);
-  process_skip = omega (arith, s.reads, s.to_hi, s.small, s.results);
-  filter = omega (arith, s.reads, s.to_hi, s.small, s.results);
-  write_skip = omega (arith, s.skips, s.commits, s.to_hi, s.small);
-}
+row_counts : (r : Row) → IsSoundRow r → UpTo r.counts MAX_ROLLBACKS
+row_counts r sound =
+    let p = sound.placed in
+    let c = sound.counted in
+    record {
+      read = omega (arith, c.passed, p.at_to, p.records);
+      write = omega (arith, c.passed, p.at_to, p.records, c.settled);
+      commit = omega (arith, c.commits, p.at_to, p.records);
+      rollback = c.rolled;
+      read_skip = omega (arith, c.passed, p.at_to, p.records);
+      process_skip = omega (arith, c.passed, p.at_to, p.records, c.settled);
+      filter = omega (arith, c.passed, p.at_to, p.records, c.settled);
+      write_skip = omega (arith, c.write_skips, c.commits, p.at_to, p.records);
+    }
 
-counts_up_to : (rows : List Row) → ((i : ℕ) (r : Row) → slice_get rows i ≡ Some r → IsSoundRow r) → UpTo (counts_of rows) (1000000000000 * length rows)
+counts_up_to : (rows : List Row) → ((i : ℕ) (r : Row) → slice_get rows i ≡ Some r → IsSoundRow r) → UpTo (total_counts rows) (MAX_ROLLBACKS * length rows)
 counts_up_to [] sound = record {
   read = omega arith;
   write = omega arith;
@@ -55,7 +59,7 @@ counts_up_to (r ∷ rows) sound =
       write_skip = omega (arith, h.write_skip, t.write_skip);
     }
 
-pub totals_fit : (rows : List Row) → length rows ≤ 256 → ((i : ℕ) (r : Row) → slice_get rows i ≡ Some r → IsSoundRow r) → CountsFit (counts_of rows)
+pub totals_fit : (rows : List Row) → length rows ≤ MAX_PARTITIONS → ((i : ℕ) (r : Row) → slice_get rows i ≡ Some r → IsSoundRow r) → CountsFit (total_counts rows)
 totals_fit rows few sound =
     let u = counts_up_to rows sound in
     record {

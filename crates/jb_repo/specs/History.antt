@@ -10,66 +10,37 @@ is_some_of (Some m) n = nat_eq m n
 
 -- the lane that an event names
 abbrev pub lane_of : Event → Option ℕ
-lane_of (Plan n certificate) = None
 lane_of (Begin lane partition) = Some lane
 lane_of (Commit lane delta written) = Some lane
 lane_of (Roll lane class) = Some lane
 lane_of (Fail lane class) = Some lane
 lane_of (Drop lane) = Some lane
-lane_of Round = None
-lane_of Stop = None
+lane_of _ = None
 
 -- the partition that a Begin names
 abbrev pub begun_by : Event → Option ℕ
-begun_by (Plan n certificate) = None
 begun_by (Begin lane partition) = Some partition
-begun_by (Commit lane delta written) = None
-begun_by (Roll lane class) = None
-begun_by (Fail lane class) = None
-begun_by (Drop lane) = None
-begun_by Round = None
-begun_by Stop = None
+begun_by _ = None
 
 abbrev pub is_plan : Event → Bool
 is_plan (Plan n certificate) = true
-is_plan (Begin lane partition) = false
-is_plan (Commit lane delta written) = false
-is_plan (Roll lane class) = false
-is_plan (Fail lane class) = false
-is_plan (Drop lane) = false
-is_plan Round = false
-is_plan Stop = false
+is_plan _ = false
 
 abbrev pub is_round : Event → Bool
-is_round (Plan n certificate) = false
-is_round (Begin lane partition) = false
-is_round (Commit lane delta written) = false
-is_round (Roll lane class) = false
-is_round (Fail lane class) = false
-is_round (Drop lane) = false
 is_round Round = true
-is_round Stop = false
+is_round _ = false
 
 abbrev pub is_stop : Event → Bool
-is_stop (Plan n certificate) = false
-is_stop (Begin lane partition) = false
-is_stop (Commit lane delta written) = false
-is_stop (Roll lane class) = false
-is_stop (Fail lane class) = false
-is_stop (Drop lane) = false
-is_stop Round = false
 is_stop Stop = true
+is_stop _ = false
 
 -- the next Round after it closes the plan
 abbrev pub ends_plan : Event → Bool
-ends_plan (Plan n certificate) = false
-ends_plan (Begin lane partition) = false
-ends_plan (Commit lane delta written) = false
 ends_plan (Roll lane class) = true
 ends_plan (Fail lane class) = true
 ends_plan (Drop lane) = true
-ends_plan Round = false
 ends_plan Stop = true
+ends_plan _ = false
 
 -- some event passes the test
 abbrev pub some : (Event → Bool) → List Event → Bool
@@ -132,20 +103,14 @@ abbrev pub is_closed : List Event → Bool
 is_closed [] = false
 is_closed (e ∷ past) = (is_round e && some ends_plan past) || is_closed past
 
-abbrev pub planned : Option Event → ℕ
-planned None = 0
-planned (Some (Plan n certificate)) = n
-planned (Some (Begin lane partition)) = 0
-planned (Some (Commit lane delta written)) = 0
-planned (Some (Roll lane class)) = 0
-planned (Some (Fail lane class)) = 0
-planned (Some (Drop lane)) = 0
-planned (Some Round) = 0
-planned (Some Stop) = 0
+-- the rounds that the event plans
+abbrev pub rounds_in : Option Event → ℕ
+rounds_in (Some (Plan n certificate)) = n
+rounds_in _ = 0
 
 -- the rounds of the last plan
 abbrev pub planned_rounds : List Event → ℕ
-planned_rounds past = planned (last is_plan past)
+planned_rounds past = rounds_in (last is_plan past)
 
 -- A plan is open if after the last Plan stand fewer Rounds than it has, and no Round after a Roll, Fail, Drop or Stop
 abbrev pub is_plan_open : List Event → Bool
@@ -158,14 +123,12 @@ is_stopping past = some is_stop past
 
 -- the partition that an event is about, after past: the one that a Begin names, or the owner of an outcome
 abbrev pub partition_of : Event → List Event → Option ℕ
-partition_of (Plan n certificate) past = None
 partition_of (Begin lane partition) past = Some partition
 partition_of (Commit lane delta written) past = owner lane past
 partition_of (Roll lane class) past = owner lane past
 partition_of (Fail lane class) past = owner lane past
 partition_of (Drop lane) past = owner lane past
-partition_of Round past = None
-partition_of Stop past = None
+partition_of _ past = None
 
 -- a partition's own events: its Begins and the outcomes that it owns
 abbrev pub own : ℕ → List Event → List Event

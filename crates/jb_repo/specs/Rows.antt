@@ -1,31 +1,26 @@
 -- The row of a partition after a history, by sums over its own events (this project's own choice; the counts are the
 -- metrics of Jakarta Batch 2.1, "Metric").
-use Rattle.std.specs.Prelude.{ℕ, ◌+◌, ◌<◌, ◌^◌, max, Bool, true, false, if◌then◌else◌, List, [], ◌∷◌}
+use Rattle.std.specs.Prelude.{ℕ, ◌+◌, max, Bool, true, false, if◌then◌else◌, List, [], ◌∷◌}
 use Rattle.jb_rules.specs.declared.counts.Counts.{Counts}
 use Rattle.jb_rules.specs.declared.row.Row.{Row}
 use Rattle.jb_rules.specs.declared.row.RowState.{RowState}
-use Rattle.jb_rules.specs.declared.row.RowState.TheVariants.{Waiting, Running, Finished, Failed}
+use Rattle.jb_rules.specs.declared.row.RowState.TheVariants.{Waiting, Running, Failed}
 use Rattle.jb_repo.specs.declared.events.Event.{Event}
-use Rattle.jb_repo.specs.declared.events.Event.TheVariants.{Plan, Begin, Commit, Roll, Fail, Drop, Round, Stop}
+use Rattle.jb_repo.specs.declared.events.Event.TheVariants.{Begin, Commit, Roll, Fail, Drop}
 use Rattle.jb_rules.specs.Counts.{plus_counts, no_counts}
-use Rattle.jb_repo.specs.Blocks.{block_end}
-use Rattle.jb_plan.specs.Blocks.{left}
+use Rattle.jb_plan.specs.Blocks.{next_block, left}
 use Rattle.jb_rules.specs.Rows.{state_at}
 use Rattle.jb_repo.specs.History.{own, number}
 
 abbrev pub one_rollback : Counts
-one_rollback = record { read = 0; write = 0; commit = 0; rollback = 1; read_skip = 0; process_skip = 0; filter = 0; write_skip = 0 }
+one_rollback = record no_counts { rollback = 1 }
 
 -- what an own event adds to the counts: a Commit its delta, a Roll or a Fail one rollback
 abbrev pub gain : Event → Counts
-gain (Plan n certificate) = no_counts
-gain (Begin lane partition) = no_counts
 gain (Commit lane delta written) = delta
 gain (Roll lane class) = one_rollback
 gain (Fail lane class) = one_rollback
-gain (Drop lane) = no_counts
-gain Round = no_counts
-gain Stop = no_counts
+gain _ = no_counts
 
 abbrev pub gains : List Event → Counts
 gains [] = no_counts
@@ -33,28 +28,16 @@ gains (e ∷ events) = plus_counts (gains events) (gain e)
 
 -- how many records a Commit passes
 abbrev pub advance : Event → ℕ
-advance (Plan n certificate) = 0
-advance (Begin lane partition) = 0
 advance (Commit lane delta written) = delta.read + delta.read_skip
-advance (Roll lane class) = 0
-advance (Fail lane class) = 0
-advance (Drop lane) = 0
-advance Round = 0
-advance Stop = 0
+advance _ = 0
 
 abbrev pub advances : List Event → ℕ
 advances [] = 0
 advances (e ∷ events) = advances events + advance e
 
 abbrev pub is_roll : Event → Bool
-is_roll (Plan n certificate) = false
-is_roll (Begin lane partition) = false
-is_roll (Commit lane delta written) = false
 is_roll (Roll lane class) = true
-is_roll (Fail lane class) = false
-is_roll (Drop lane) = false
-is_roll Round = false
-is_roll Stop = false
+is_roll _ = false
 
 -- the opening `at` and what the Commits passed
 abbrev pub at_after : Row → List Event → ℕ
@@ -63,38 +46,29 @@ at_after opening events = opening.at + advances events
 -- the last Commit's number, else the opening one
 abbrev pub written_after : ℕ → List Event → ℕ
 written_after opening [] = opening
-written_after opening (Plan n certificate ∷ events) = written_after opening events
-written_after opening (Begin lane partition ∷ events) = written_after opening events
 written_after opening (Commit lane delta written ∷ events) = written
-written_after opening (Roll lane class ∷ events) = written_after opening events
-written_after opening (Fail lane class ∷ events) = written_after opening events
-written_after opening (Drop lane ∷ events) = written_after opening events
-written_after opening (Round ∷ events) = written_after opening events
-written_after opening (Stop ∷ events) = written_after opening events
+written_after opening (_ ∷ events) = written_after opening events
 
 -- the greatest of the opening `redo` and the ends of the blocks that were rolled back
 abbrev pub redo_after : ℕ → Row → List Event → ℕ
 redo_after item_count opening [] = opening.redo
 redo_after item_count opening (e ∷ events) =
-    if is_roll e
-    then max (redo_after item_count opening events) (block_end item_count (at_after opening events) (redo_after item_count opening events) opening.hi)
-    else redo_after item_count opening events
+    let before = redo_after item_count opening events in
+    if is_roll e then max before (next_block (at_after opening events) before opening.hi item_count).hi else before
 
 -- by the last own event
 abbrev pub state_after : Row → List Event → RowState
 state_after opening [] = opening.state
-state_after opening (Plan n certificate ∷ events) = state_after opening events
 state_after opening (Begin lane partition ∷ events) = Running lane
 state_after opening (Commit lane delta written ∷ events) = state_at (at_after opening (Commit lane delta written ∷ events)) opening.hi
 state_after opening (Roll lane class ∷ events) = Waiting
 state_after opening (Fail lane class ∷ events) = Failed
 state_after opening (Drop lane ∷ events) = Waiting
-state_after opening (Round ∷ events) = state_after opening events
-state_after opening (Stop ∷ events) = state_after opening events
+state_after opening (_ ∷ events) = state_after opening events
 
 -- the row after a partition's own events
-abbrev pub row_after : ℕ → Row → List Event → Row
-row_after item_count opening events = record {
+abbrev pub replayed_row : ℕ → Row → List Event → Row
+replayed_row item_count opening events = record {
   lo = opening.lo;
   hi = opening.hi;
   at = at_after opening events;
@@ -109,31 +83,18 @@ row_after item_count opening events = record {
 abbrev pub rows_from : ℕ → List Event → ℕ → List Row → List Row
 rows_from item_count past first [] = []
 rows_from item_count past first (opening ∷ others) =
-    row_after item_count opening (own first past) ∷ rows_from item_count past (first + 1) others
+    replayed_row item_count opening (own first past) ∷ rows_from item_count past (first + 1) others
 
 -- how many blocks a row has left: those of a waiting partition alone
 abbrev pub remaining_of : ℕ → Row → RowState → ℕ
 remaining_of item_count row Waiting = left row.at row.redo row.hi item_count
-remaining_of item_count row (Running lane) = 0
-remaining_of item_count row Finished = 0
-remaining_of item_count row Failed = 0
+remaining_of item_count row _ = 0
 
 abbrev pub remaining : ℕ → List Row → List ℕ
 remaining item_count [] = []
 remaining item_count (row ∷ rows) = remaining_of item_count row row.state ∷ remaining item_count rows
 
 -- the sums of the rows' counts
-abbrev pub counts_of : List Row → Counts
-counts_of [] = no_counts
-counts_of (row ∷ rows) = plus_counts row.counts (counts_of rows)
-
--- each of the eight numbers is a number of the program
-pub record CountsFit (c : Counts) : Type 0 where
-  pub read : c.read < 2 ^ 64
-  pub write : c.write < 2 ^ 64
-  pub commit : c.commit < 2 ^ 64
-  pub rollback : c.rollback < 2 ^ 64
-  pub read_skip : c.read_skip < 2 ^ 64
-  pub process_skip : c.process_skip < 2 ^ 64
-  pub filter : c.filter < 2 ^ 64
-  pub write_skip : c.write_skip < 2 ^ 64
+abbrev pub total_counts : List Row → Counts
+total_counts [] = no_counts
+total_counts (row ∷ rows) = plus_counts row.counts (total_counts rows)

@@ -1,5 +1,5 @@
 -- The table of the events: which are refused, and which histories are accepted (this project's own choice).
-use Rattle.std.specs.Prelude.{◌≡◌, ℕ, ◌+◌, nat_eq, nat_lt, nat_le, Bool, false, not, ◌&&◌, ◌||◌, if◌then◌else◌, List, [], ◌∷◌, length, slice_get, Option, Some, None, is_none}
+use Rattle.std.specs.Prelude.{◌≡◌, ℕ, ◌+◌, ◌-◌, nat_eq, nat_lt, nat_le, Bool, false, not, ◌&&◌, ◌||◌, if◌then◌else◌, List, [], ◌∷◌, length, slice_get, Option, Some, None, is_none}
 use Rattle.jb_rules.specs.declared.counts.Counts.{Counts}
 use Rattle.jb_rules.specs.declared.row.Row.{Row}
 use Rattle.jb_cert.specs.declared.certificates.Certificate.{Certificate}
@@ -7,15 +7,16 @@ use Rattle.jb_repo.specs.declared.events.Event.{Event}
 use Rattle.jb_repo.specs.declared.events.Event.TheVariants.{Plan, Begin, Commit, Roll, Fail, Drop, Round, Stop}
 use Rattle.jb_repo.specs.declared.refused.Refused.{Refused}
 use Rattle.jb_repo.specs.declared.refused.Refused.TheVariants.{Stopping, NoPartition, LaneRange, LaneBusy, NotIdle, NotRunning, BadDelta, StillRunning, PastPlan, BadPlan, Full}
-use Rattle.jb_repo.specs.States.{is_over}
-use Rattle.jb_repo.specs.Blocks.{block_end}
-use Rattle.jb_repo.specs.Certificates.{is_least_plan}
+use Rattle.jb_rules.specs.States.{has_ended}
+use Rattle.jb_rules.specs.Counts.{is_delta}
+use Rattle.jb_rules.specs.Rows.{row_block}
+use Rattle.jb_cert.specs.Certificates.{is_least_plan}
 use Rattle.jb_rules.specs.declared.row.TheConstants.{MAX_ROLLBACKS}
 use Rattle.jb_repo.specs.declared.events.TheConstants.{MAX_EVENTS}
 use Rattle.jb_repo.specs.History.{owner, running, is_lane_marked, is_partition_marked, is_plan_open, is_stopping}
 use Rattle.jb_repo.specs.Rows.{rows_from, remaining}
 
--- what a repository holds: what it was opened with, and its events, the newest first
+-- what a repository holds: what it was opened_journal with, and its events, the newest first
 pub record Journal : Type 0 where
   pub opening : List Row
   pub threads : ℕ
@@ -42,9 +43,9 @@ abbrev pub is_good_plan : Journal → ℕ → Certificate → Bool
 is_good_plan j n certificate =
     is_least_plan (remaining j.item_count (rows_of j)) j.threads n certificate
 
-abbrev pub is_over_row : Option Row → Bool
-is_over_row None = false
-is_over_row (Some row) = is_over row.state
+abbrev pub is_ended : Option Row → Bool
+is_ended None = false
+is_ended (Some row) = has_ended row.state
 
 abbrev pub is_at_limit : Option Row → Bool
 is_at_limit None = false
@@ -53,12 +54,7 @@ is_at_limit (Some row) = nat_le MAX_ROLLBACKS row.counts.rollback
 -- the delta and the number written are those of a commit of the row's next block
 abbrev pub is_commit_of : ℕ → Row → Counts → ℕ → Bool
 is_commit_of item_count row delta written =
-    nat_eq (row.at + (delta.read + delta.read_skip)) (block_end item_count row.at row.redo row.hi)
-    && nat_eq delta.commit 1
-    && nat_eq delta.rollback 0
-    && ((nat_eq delta.write_skip 0 && nat_eq delta.read (delta.process_skip + delta.filter + delta.write))
-    || (nat_eq delta.write_skip 1 && nat_eq delta.write 0 && nat_lt (delta.process_skip + delta.filter) delta.read))
-    && nat_eq written (row.written + delta.write)
+    is_delta ((row_block item_count row).hi - row.at) delta && nat_eq written (row.written + delta.write)
 
 abbrev pub is_commit_of_row : ℕ → Option Row → Counts → ℕ → Bool
 is_commit_of_row item_count None delta written = false
@@ -91,7 +87,7 @@ conditions j (Begin lane partition) =
     ∷ (nat_le (length j.opening) partition, NoPartition)
     ∷ (nat_le j.threads lane, LaneRange)
     ∷ (is_lane_marked lane j.past, LaneBusy)
-    ∷ (is_partition_marked partition j.past || is_over_row (row_of j partition), NotIdle)
+    ∷ (is_partition_marked partition j.past || is_ended (row_of j partition), NotIdle)
     ∷ (not (is_plan_open j.past), PastPlan)
     ∷ (is_full j 2 || is_at_limit (row_of j partition), Full)
     ∷ []

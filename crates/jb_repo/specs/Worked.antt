@@ -1,5 +1,5 @@
 -- Lists of events and their answers, on which the definitions are computed.
-use Rattle.std.specs.Prelude.{ℕ, List, [], ◌∷◌, ◌++◌, Option, Some, None}
+use Rattle.std.specs.Prelude.{ℕ, List, [], ◌∷◌, ◌++◌, Option, Some, None, is_none, if◌then◌else◌}
 use Rattle.jb_rules.specs.declared.counts.Counts.{Counts}
 use Rattle.jb_rules.specs.declared.row.Row.{Row}
 use Rattle.jb_rules.specs.declared.row.TheConstants.{MAX_ROLLBACKS}
@@ -11,7 +11,7 @@ use Rattle.jb_repo.specs.declared.events.Event.TheVariants.{Plan, Begin, Commit,
 use Rattle.jb_repo.specs.declared.refused.Refused.{Refused}
 use Rattle.jb_repo.specs.declared.refused.Refused.TheVariants.{Stopping, NoPartition, LaneRange, LaneBusy, NotIdle, NotRunning, BadDelta, StillRunning, PastPlan, BadPlan}
 use Rattle.jb_rules.specs.Counts.{no_counts}
-use Rattle.jb_repo.specs.Table.{Journal}
+use Rattle.jb_repo.specs.Table.{Journal, refusal, after}
 
 abbrev pub fresh : ℕ → ℕ → Row
 fresh lo hi = record { lo = lo; hi = hi; at = lo; redo = lo; retries = 0; written = 0; counts = no_counts; state = Waiting }
@@ -48,8 +48,8 @@ abbrev pub finished : ℕ → ℕ → Row
 finished lo hi = record { lo = lo; hi = hi; at = hi; redo = lo; retries = 0; written = 2; counts = two_records; state = Finished }
 
 -- one partition of four records, in one chunk
-abbrev pub one_partition : Journal
-one_partition = record { opening = fresh 0 4 ∷ []; threads = 1; item_count = 4; past = [] }
+abbrev pub four_records : Journal
+four_records = record { opening = fresh 0 4 ∷ []; threads = 1; item_count = 4; past = [] }
 
 -- a rollback ends the plan after its round, and the chunk is done again record by record
 abbrev pub rollback : ClassId → List Event
@@ -69,9 +69,18 @@ tries class =
     Plan 1 (Longest 0) ∷ Begin 0 0 ∷ Roll 0 class ∷ Round ∷ Plan 1 (Longest 0) ∷ Begin 0 0 ∷ Roll 0 class ∷ Round
     ∷ Plan 1 (Longest 0) ∷ Begin 0 0 ∷ Fail 0 class ∷ Round ∷ Begin 0 0 ∷ Plan 0 Nothing ∷ []
 
-abbrev pub failed : Row
-failed = record (fresh 0 1) { redo = 1; retries = 2; counts = record no_counts { rollback = 3 }; state = Failed }
+abbrev pub tried_out : Row
+tried_out = record (fresh 0 1) { redo = 1; retries = 2; counts = record no_counts { rollback = 3 }; state = Failed }
 
 -- a partition at its limit of rollbacks
 abbrev pub at_limit : Journal
 at_limit = record one_record { opening = record (fresh 0 1) { counts = record no_counts { rollback = MAX_ROLLBACKS } } ∷ [] }
+
+-- the table's answers where memory is ample
+abbrev pub table_answers : Journal → List Event → List (Option Refused)
+table_answers j [] = []
+table_answers j (e ∷ events) = refusal j e ∷ table_answers (if is_none (refusal j e) then after j e else j) events
+
+abbrev pub journal_after : Journal → List Event → Journal
+journal_after j [] = j
+journal_after j (e ∷ events) = journal_after (if is_none (refusal j e) then after j e else j) events

@@ -10,7 +10,7 @@ pub const MAX_EVENTS: usize = 1_000_000_000;
 /// An event of a step. Lanes and partitions are numbered from 0; a lane stands for a thread of the step.
 #[derive(Clone, Copy, Debug, PartialEq, Eq)]
 pub enum Event {
-    /// A plan of so many rounds is opened, with the certificate that no plan has fewer.
+    /// A plan of so many rounds is opened_journal, with the certificate that no plan has fewer.
     Plan(u64, Certificate),
     /// The lane begins the next chunk of the partition.
     Begin(u32, u32),
@@ -24,6 +24,6 @@ pub enum Event {
     Drop(u32),
     /// A round is over.
     Round,
-    /// No plan is opened and no chunk begun from now on.
+    /// No plan is opened_journal and no chunk begun from now on.
     Stop,
 }

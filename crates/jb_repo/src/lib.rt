@@ -4,7 +4,7 @@
 //! them. An event is accepted, or it is refused by the first reason of a fixed order and changes nothing.
 //!
 //! - `events`: what may happen, and `refused`: why an event is refused.
-//! - `repository`: the repository itself; `snapshot`: what it shows of itself; `opening`: what it may be opened with.
+//! - `repository`: the repository itself; `snapshot`: what it shows of itself; `opening`: what it may be opened_journal with.
 //! - `laws`: what holds of every list of events.
 //! - `run`: the answers to a whole list of events.
 //! - `walks`, `table`, `steps`: the questions about a history, the table of rows, and the change of a row.
@@ -24,12 +24,10 @@ mod walks;
 pub use events::{Event, MAX_EVENTS};
 pub use laws::{
     commits_are_consecutive, one_lane_each, order_is_free, plans_are_least, rows_are_sound,
+    rows_live_on,
 };
-pub use opening::is_ready;
+pub use opening::can_open;
 pub use refused::Refused;
 pub use repository::Repo;
 pub use run::run_events;
 pub use snapshot::Snapshot;
-
-#[cfg(test)]
-mod tests;

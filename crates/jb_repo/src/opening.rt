@@ -1,18 +1,21 @@
 //! What a repository may be opened with.
 
-ghost use Rattle.std.specs.Prelude.{◌≡◌, ◌↔◌, ◌<◌, IsTrue, false, length};
+ghost use Rattle.std.specs.Prelude.{◌≡◌, ◌↔◌, ◌≤◌, IsTrue, false, length, map, take};
+ghost use Rattle.jb_rules.specs.Rows.{range_of};
 ghost use Rattle.jb_rules.specs.Sound.{IsSoundRow};
-ghost use Rattle.jb_repo.specs.States.{is_running};
-ghost use Rattle.jb_repo.specs.Ready.{IsReady, HaveNoneInCommon, AreIdle, IsApart, AreApart, IsWithinLimits, opened};
+ghost use Rattle.jb_rules.specs.States.{is_running};
+ghost use Rattle.jb_repo.specs.Openable.{IsOpenable, AreIdle, opened_journal};
+ghost use Rattle.jb_repo.specs.inside.Sized.{IsSized};
 
-use jb_plan::{MAX_ITEM_COUNT, MAX_PARTITIONS, MAX_THREADS};
-use jb_rules::{Row, RowState};
+use jb_job::Range;
+use jb_plan::{MAX_ITEM_COUNT, MAX_PARTITIONS, MAX_THREADS, are_disjoint};
+use jb_rules::Row;
 
 /// Whether the row is sound and its partition isn't running.
 fn is_idle(row: &Row) -> bool
     ensures { IsTrue result ↔ (IsSoundRow row.now × (is_running row.now.state ≡ false)) }
 {
-    row.sound() && !matches!(row.state, RowState::Running(_))
+    row.sound() && !row.state.is_running()
 }
 
 /// Whether each row is sound and no partition is running.
@@ -27,40 +30,19 @@ fn are_idle(rows: &[Row]) -> bool
     true
 }
 
-/// Whether no record belongs to both partitions.
-fn have_none_in_common(left: &Row, right: &Row) -> bool
-    ensures { IsTrue result ↔ HaveNoneInCommon left.now right.now }
-{
-    left.hi.min(right.hi) <= left.lo.max(right.lo)
-}
-
-/// Whether no record of the i-th partition belongs to a later one.
-fn is_apart(rows: &[Row], i: usize) -> bool
-    requires { i < length rows.now }
-    ensures { IsTrue result ↔ IsApart rows.now i }
-{
-    for k in i + 1..rows.len() {
-        if !have_none_in_common(&rows[i], &rows[k]) {
-            return false;
-        }
-    }
-    true
-}
-
-/// Whether no record belongs to two partitions.
-fn are_apart(rows: &[Row]) -> bool
-    ensures { IsTrue result ↔ AreApart rows.now }
+/// Writes the records of each row's partition.
+fn write_ranges(rows: &[Row], ranges: &mut [Range])
+    requires { length rows.now ≤ length ranges.old }
+    ensures ranges { take (length rows.now) ranges.new ≡ map range_of rows.now }
+    ensures length { length ranges.new ≡ length ranges.old }
 {
     for i in 0..rows.len() {
-        if !is_apart(rows, i) {
-            return false;
-        }
+        ranges[i] = rows[i].range();
     }
-    true
 }
 
-fn is_within_limits(partitions: usize, threads: u32, item_count: u64) -> bool
-    ensures { IsTrue result ↔ IsWithinLimits partitions threads item_count }
+fn is_sized(partitions: usize, threads: u32, item_count: u64) -> bool
+    ensures { IsTrue result ↔ IsSized partitions threads item_count }
 {
     1 <= partitions
         && partitions <= MAX_PARTITIONS
@@ -73,11 +55,13 @@ fn is_within_limits(partitions: usize, threads: u32, item_count: u64) -> bool
 /// Whether a repository may be opened with these rows, so many threads and this item count: 1 to 256 rows that are
 /// sound, none of them running, of ranges that have no record in common; 1 to 64 threads; an item count of 1 to
 /// 1,000,000.
-pub fn is_ready(rows: &[Row], threads: u32, item_count: u64) -> bool
-    ensures { IsTrue result ↔ IsReady (opened rows.now threads item_count) }
+pub fn can_open(rows: &[Row], threads: u32, item_count: u64) -> bool
+    ensures { IsTrue result ↔ IsOpenable (opened_journal rows.now threads item_count) }
 {
-    if !is_within_limits(rows.len(), threads, item_count) || !are_idle(rows) {
+    if !is_sized(rows.len(), threads, item_count) || !are_idle(rows) {
         return false;
     }
-    are_apart(rows)
+    let mut ranges = [Range { lo: 0, hi: 0 }; MAX_PARTITIONS];
+    write_ranges(rows, &mut ranges);
+    are_disjoint(&ranges[..rows.len()])
 }

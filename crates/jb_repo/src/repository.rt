@@ -2,28 +2,31 @@
 
 ghost use Rattle.std.specs.Prelude.{◌≡◌, ◌+◌, ◌≤◌, ℕ, None, reverse, length, OnOk, OnErr, IfOk, IfErr, IfSome, Some, ◌<◌, vec_len, vec_capacity, is_some, unwrap_or, slice_get};
 ghost use Rattle.jb_repo.specs.History.{owner, running, number, is_plan, is_stopping};
-ghost use Rattle.jb_repo.specs.Rows.{counts_of, CountsFit};
+ghost use Rattle.jb_repo.specs.Rows.{total_counts};
+ghost use Rattle.jb_repo.specs.inside.Fit.{CountsFit};
 ghost use Rattle.jb_repo.specs.Sound.{IsTable};
 ghost use Rattle.jb_repo.specs.Table.{refusal, first_refusal, outcome_conditions, after, rows_of, row_of, reserved, is_full, is_good_plan, is_good_commit};
 ghost use Rattle.jb_repo.specs.Answers.{IsRefusal, places_of};
-ghost use Rattle.jb_repo.specs.Ready.{IsReady, IsLawful, opened};
-ghost use Rattle.jb_repo.specs.Steps.{CanStep, stepped_rows};
+ghost use Rattle.jb_repo.specs.Openable.{IsOpenable, IsReplayable, opened_journal};
+ghost use Rattle.jb_repo.specs.inside.Steps.{CanStep, stepped_rows};
+ghost use Rattle.jb_rules.specs.Sound.{IsSoundRow};
 ghost use Rattle.jb_rules.specs.declared.row.Row.{Row};
 
 use crate::events::{Event, MAX_EVENTS};
+use crate::laws::laws_below;
 use crate::refused::Refused;
 use crate::snapshot::Snapshot;
 use crate::steps::{is_commit, stepped};
-use crate::table::{is_at_limit, is_least_plan, is_over_row, remaining_counts, totals};
+use crate::table::{is_at_limit, is_ended, remaining_counts, totals};
 use crate::walks;
-use jb_cert::Certificate;
+use jb_cert::{Certificate, is_least_plan};
 use jb_job::Range;
 use jb_plan::{MAX_ITEM_COUNT, MAX_PARTITIONS, MAX_THREADS};
 use jb_rules::{Counts, Row};
 use std::alloc::{AllocError, Global};
 use std::marker::Model;
 
-/// The job repository of a step: the rows that it was opened with, the events that it accepted, and the rows now.
+/// The job repository of a step: the rows that it was opened_journal with, the events that it accepted, and the rows now.
 ///
 /// What a job repository keeps is left open by Jakarta Batch 2.1, "Job Repository"; that it is the list of events, and
 /// which events are accepted, is this project's own choice. Contracts see the opening rows, the threads, the item count
@@ -52,10 +55,10 @@ impl Model for Repo {
 impl Repo {
     ghost use Rattle.jb_repo.specs.Shown.{IsSnapshot};
 
-    /// A repository of these rows, with no event yet. `is_ready` is the test of its condition. It takes no memory.
+    /// A repository of these rows, with no event yet. `can_open` is the test of its condition. It takes no memory.
     pub fn new(rows: Vec<Row>, threads: u32, item_count: u64) -> Self
-        requires { IsReady (opened rows.items threads item_count) }
-        ensures { result ≡ opened rows.items threads item_count }
+        requires { IsOpenable (opened_journal rows.items threads item_count) }
+        ensures { result ≡ opened_journal rows.items threads item_count }
     {
         let mut now = [Row::fresh(Range { lo: 0, hi: 0 }); MAX_PARTITIONS];
         for i in 0..rows.len() {
@@ -74,14 +77,14 @@ impl Repo {
     /// The events that were accepted, the oldest first.
     pub fn history(&self) -> &[Event]
         ensures events { result.now ≡ reverse self.now.past }
-        ensures lawful { IsLawful self.now }
+        ensures replayable { IsReplayable self.now }
     {
         self.history.as_slice()
     }
 
     /// The sums of the rows' counts.
     pub fn totals(&self) -> Counts
-        ensures { result ≡ counts_of (rows_of self.now) }
+        ensures { result ≡ total_counts (rows_of self.now) }
     {
         totals(self.rows_now())
     }
@@ -110,16 +113,19 @@ impl Repo {
     /// The rows now.
     fn rows_now(&self) -> &[Row]
         ensures rows { result.now ≡ rows_of self.now }
-        ensures table { IsTable result.now (counts_of result.now) }
-        ensures fit { CountsFit (counts_of result.now) }
+        ensures table { IsTable result.now (total_counts result.now) }
+        ensures fit { CountsFit (total_counts result.now) }
     {
+        laws_below();
         &self.rows[..self.opening.len()]
     }
 
     /// The row of a partition now.
     fn row(&self, partition: u32) -> Option<Row>
-        ensures { result ≡ row_of self.now partition }
+        ensures row { result ≡ row_of self.now partition }
+        ensures sound { IfSome result (λ row. IsSoundRow row) }
     {
+        laws_below();
         let index = partition as usize;
         if index < self.opening.len() {
             Some(self.rows[index])
@@ -148,6 +154,7 @@ impl Repo {
     fn is_good_plan(&self, rounds: u64, certificate: Certificate) -> bool
         ensures { result ≡ is_good_plan self.now rounds certificate }
     {
+        laws_below();
         let rows = self.rows_now();
         let mut counts = [0; MAX_PARTITIONS];
         remaining_counts(rows, self.item_count, &mut counts);
@@ -197,7 +204,7 @@ impl Repo {
             Some(Refused::LaneRange)
         } else if walks::is_lane_marked(history, lane) {
             Some(Refused::LaneBusy)
-        } else if walks::is_partition_marked(history, partition) || is_over_row(row) {
+        } else if walks::is_partition_marked(history, partition) || is_ended(row) {
             Some(Refused::NotIdle)
         } else if !walks::is_plan_open(history) {
             Some(Refused::PastPlan)
@@ -288,8 +295,9 @@ impl Repo {
         ensures accepted { OnOk result ((refusal self.old event ≡ None) × (self.new ≡ after self.old event)) }
         ensures refused { IfErr result (λ refused. IsRefusal self.old event refused) }
         ensures unchanged { OnErr result (self.new ≡ self.old) }
-        ensures lawful { IsLawful self.new }
+        ensures replayable { IsReplayable self.new }
     {
+        laws_below();
         if let Some(refused) = self.refusal(event) {
             return Err(refused);
         }

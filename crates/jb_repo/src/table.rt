@@ -2,22 +2,19 @@
 
 ghost use Rattle.std.specs.Prelude.{◌≡◌, ◌≤◌, ℕ, length, take, slice_get, Some};
 ghost use Rattle.jb_rules.specs.Sound.{IsSoundRow};
-ghost use Rattle.jb_repo.specs.Rows.{CountsFit};
-ghost use Rattle.jb_repo.specs.Rows.{remaining, remaining_of, counts_of};
-ghost use Rattle.jb_cert.specs.Load.{IsWithinLimits};
-ghost use Rattle.jb_repo.specs.Certificates.{is_least_plan};
-ghost use Rattle.jb_repo.specs.Table.{is_over_row, is_at_limit};
+ghost use Rattle.jb_repo.specs.inside.Fit.{CountsFit};
+ghost use Rattle.jb_repo.specs.Rows.{remaining, remaining_of, total_counts};
+ghost use Rattle.jb_repo.specs.Table.{is_ended, is_at_limit};
 
-use jb_cert::{Certificate, check_certificate, least_rounds};
 use jb_plan::{MAX_ITEM_COUNT, chunks_left};
 use jb_rules::{Counts, MAX_ROLLBACKS, Row, RowState};
 
 /// Whether no chunk of the partition is begun any more.
-pub fn is_over_row(row: Option<Row>) -> bool
-    ensures { result ≡ is_over_row row }
+pub fn is_ended(row: Option<Row>) -> bool
+    ensures { result ≡ is_ended row }
 {
     match row {
-        Some(row) => matches!(row.state, RowState::Finished | RowState::Failed),
+        Some(row) => row.state.has_ended(),
         None => false,
     }
 }
@@ -57,20 +54,10 @@ pub fn remaining_counts(rows: &[Row], item_count: u64, counts: &mut [u64])
     }
 }
 
-/// Whether the number of rounds is the least one for the counts, and the certificate holds.
-#[tactic(auto, using(crate::proofs::Certified::least_plan_is))]
-pub fn is_least_plan(counts: &[u64], threads: u32, rounds: u64, certificate: Certificate) -> bool
-    requires { IsWithinLimits counts.now threads }
-    ensures { result ≡ is_least_plan counts.now threads rounds certificate }
-{
-    rounds == least_rounds(counts, threads)
-        && check_certificate(counts, threads, rounds, certificate)
-}
-
 /// The sums of the rows' counts.
 pub fn totals(rows: &[Row]) -> Counts
-    requires { CountsFit (counts_of rows.now) }
-    ensures { result ≡ counts_of rows.now }
+    requires { CountsFit (total_counts rows.now) }
+    ensures { result ≡ total_counts rows.now }
 {
     let mut totals = Counts::ZERO;
     for row in rows {

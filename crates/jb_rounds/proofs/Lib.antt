@@ -1,3 +1,4 @@
-pub mod Places
+pub mod PrefixSums
 pub mod Made
+pub mod Busy
 pub mod Rows

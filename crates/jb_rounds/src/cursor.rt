@@ -1,20 +1,22 @@
-//! Rounds on demand: the chunk of any round and lane is found from the prefix sums of the counts, by a binary search.
-ghost use Rattle.std.specs.Prelude.{◌≡◌, ◌+◌, ◌-◌, ◌<◌, ◌≤◌, length, ◌==◌, slice_index, IfOk, IfSome, sum, position, nat_lt, if◌then◌else◌};
-ghost use Rattle.std.specs.List.Sorted.{IsNonDecreasing};
-ghost use Rattle.jb_cert.specs.Load.{IsWithinLimits, mcnaughton};
-ghost use Rattle.jb_cert.specs.Lawful.{IsLeast, IsLeastNumber};
-ghost use Rattle.jb_cert.specs.Certificates.{Holds, certificate_of};
-ghost use Rattle.jb_cert.specs.WrapAround.{chunk_at, pair_at, slot_of, wrap_around};
-ghost use Rattle.jb_rounds.specs.Starts.{starts_from, counts_of};
-ghost use Rattle.jb_rounds.specs.Cursor.{Load, IsIndexOf};
+//! Rounds on demand: what any lane runs in any round, with no plan in memory.
+ghost use Rattle.std.specs.Prelude.{◌≡◌, ◌<◌, ◌≤◌, ℕ, length, ◌==◌, slice_index, IfOk, IfSome, IsSome, position};
+ghost use Rattle.jb_cert.specs.Load.{IsWithinLimits, Load, mcnaughton};
+ghost use Rattle.jb_cert.specs.Lawful.{IsLeastNumber};
+ghost use Rattle.jb_cert.specs.Certificates.{Holds, bound_certificate};
+ghost use Rattle.jb_cert.specs.Plans.{StandsForLeast};
+ghost use Rattle.jb_cert.specs.WrapAround.{slot_of, wrapped_rounds};
+ghost use Rattle.jb_rounds.specs.inside.Starts.{counts_between};
+ghost use Rattle.jb_rounds.specs.inside.Index.{IsIndexOf};
 
-use jb_cert::{Certificate, least_rounds};
+use crate::places::{chunk_total, pair_in, starts_of};
+use jb_cert::{Certificate, bound_is_least, least_rounds, wrap_around_is_least};
 use std::alloc::{AllocError, Global};
 use std::marker::Model;
 
-/// The wrap-around of some counts of chunks over some threads, slot by slot.
+/// The wrap-around of some counts of chunks over some threads, slot by slot. It keeps a number for each partition, and
+/// no round; contracts see the counts and the number of threads.
 #[derive(Debug, Drop)]
-pub(crate) struct RoundCursor {
+pub struct RoundCursor {
     // Where each partition begins in the row of all chunks, and at last where the last one ends.
     starts: Vec<u64>,
     threads: u32,
@@ -25,82 +27,116 @@ pub(crate) struct RoundCursor {
 impl Model for RoundCursor {
     ghost Value = { Load };
 
-    ghost view = { λ c. record { counts = counts_of c.starts.items; threads = c.threads } };
+    ghost view = { λ c. record { counts = counts_between c.starts.items; threads = c.threads } };
 
     ghost invariant = { λ c. IsIndexOf c.starts.items c.threads c.rounds c.certificate };
 }
 
 impl RoundCursor {
-    /// The cursor for these counts and threads.
-    pub(crate) fn new(alloc: Global, counts: &[u64], threads: u32) -> Result<Self, AllocError>
+    /// The cursor for these counts of chunks, one for each partition, and so many threads. The only error is want of
+    /// memory; no other call takes memory.
+    pub fn new(alloc: Global, counts: &[u64], threads: u32) -> Result<Self, AllocError>
         requires { IsWithinLimits counts.now threads }
         ensures counts { IfOk result (λ cursor. cursor.counts ≡ counts.now) }
         ensures threads { IfOk result (λ cursor. cursor.threads ≡ threads) }
 
         // The slots, round by round, are a lawful plan of the fewest rounds.
-        ensures least { IfOk result (λ cursor. IsLeast counts.now threads (wrap_around cursor.counts cursor.threads)) }
+        ensures least { IfOk result (λ cursor. StandsForLeast counts.now threads (wrapped_rounds cursor.counts cursor.threads)) }
     {
+        wrap_around_is_least();
         let rounds = least_rounds(counts, threads);
+        let starts = starts_of(alloc, counts)?;
         Ok(RoundCursor {
-            starts: starts_of(alloc, counts)?,
+            starts,
             threads,
             rounds,
             certificate: certificate_for(counts, threads, rounds),
         })
     }
 
-    /// The number of rounds.
-    pub(crate) fn rounds(&self) -> u64
+    /// The number of threads, 1 to 64.
+    pub fn threads(&self) -> u32
+        ensures value { result ≡ self.now.threads }
+        ensures limits { IsWithinLimits self.now.counts self.now.threads }
+    {
+        self.threads
+    }
+
+    /// The number of rounds, 0 to 10,000,000: `least_rounds` of the counts and the threads.
+    pub fn rounds(&self) -> u64
         ensures bound { result ≡ mcnaughton self.now.counts self.now.threads }
         ensures least { IsLeastNumber self.now.counts self.now.threads result }
+
+        // The slots, round by round, are a lawful plan of so many rounds, the fewest.
+        ensures length { length (wrapped_rounds self.now.counts self.now.threads) ≡ result }
+        ensures plan { StandsForLeast self.now.counts self.now.threads (wrapped_rounds self.now.counts self.now.threads) }
     {
+        bound_is_least();
+        wrap_around_is_least();
         self.rounds
     }
 
     /// Why no plan has fewer rounds.
-    pub(crate) fn certificate(&self) -> Certificate
-        ensures value { result ≡ certificate_of self.now.counts self.now.threads }
+    pub fn certificate(&self) -> Certificate
+        ensures value { result ≡ bound_certificate self.now.counts self.now.threads }
         ensures holds { Holds self.now.counts self.now.threads (mcnaughton self.now.counts self.now.threads) result }
     {
+        bound_is_least();
         self.certificate
     }
 
-    /// The partition that the lane runs in that round, and the number of its chunk; None where the lane has none, and
-    /// past the last round and the last lane.
-    pub(crate) fn slot(&self, round: u64, lane: u32) -> Option<(u32, u64)>
-        ensures { result ≡ slot_of self.now.counts self.now.threads round lane }
+    /// How many lanes run a chunk in that round: the first so many; 0 from `rounds()` on.
+    pub fn busy_lanes(&self, round: u64) -> u32
+        ensures few { result ≤ self.now.threads }
+        ensures busy { (lane : ℕ) → lane < result → IsSome (slot_of self.now.counts self.now.threads round lane) }
+        ensures idle { (lane : ℕ) → result ≤ lane → slot_of self.now.counts self.now.threads round lane ≡ None }
+    {
+        if round >= self.rounds {
+            return 0;
+        }
+        (chunk_total(&self.starts) - round).div_ceil(self.rounds) as u32
+    }
+
+    /// The partition that the lane runs in that round, and the number of its chunk; None where the lane has none, from
+    /// `rounds()` on and from the number of threads on. It is found by a binary search.
+    pub fn slot(&self, round: u64, lane: u32) -> Option<(u32, u64)>
+        ensures value { result ≡ slot_of self.now.counts self.now.threads round lane }
+        ensures partition { IfSome result (λ slot. slot.0 < length self.now.counts) }
+        ensures chunk { IfSome result (λ slot. slot.1 < slice_index self.now.counts slot.0) }
+        ensures past_rounds { mcnaughton self.now.counts self.now.threads ≤ round → result ≡ None }
+        ensures past_threads { self.now.threads ≤ lane → result ≡ None }
+    {
+        self.slot_near(round, lane, 0)
+    }
+
+    /// The same, with the partition `near` and the one behind it looked at before the search. Whoever walks the rounds in
+    /// order, and gives for each lane the partition that it had in the round before, searches only where empty
+    /// partitions lie between. Any number will do.
+    pub fn slot_near(&self, round: u64, lane: u32, near: u32) -> Option<(u32, u64)>
+        ensures value { result ≡ slot_of self.now.counts self.now.threads round lane }
+        ensures partition { IfSome result (λ slot. slot.0 < length self.now.counts) }
+        ensures chunk { IfSome result (λ slot. slot.1 < slice_index self.now.counts slot.0) }
+        ensures past_rounds { mcnaughton self.now.counts self.now.threads ≤ round → result ≡ None }
+        ensures past_threads { self.now.threads ≤ lane → result ≡ None }
     {
         if round >= self.rounds || lane >= self.threads {
             return None;
         }
+        wrap_around_is_least();
         pair_in(
             &self.starts,
             self.rounds,
             u64::from(lane) * self.rounds + round,
+            near,
         )
     }
-}
-
-// The prefix sums of the counts.
-fn starts_of(alloc: Global, counts: &[u64]) -> Result<Vec<u64>, AllocError>
-    requires { sum counts.now ≤ 10000000 }
-    ensures { IfOk result (λ starts. starts.items ≡ starts_from 0 counts.now) }
-{
-    let mut starts = Vec::with_capacity(alloc, counts.len() + 1)?;
-    let mut end = 0;
-    starts.push(end)?;
-    for count in counts {
-        end += *count;
-        starts.push(end)?;
-    }
-    Ok(starts)
 }
 
 // Nothing where there is no chunk, else the first partition of as many chunks as there are rounds, else the full load.
 fn certificate_for(counts: &[u64], threads: u32, rounds: u64) -> Certificate
     requires limits { IsWithinLimits counts.now threads }
     requires rounds { rounds ≡ mcnaughton counts.now threads }
-    ensures { result ≡ certificate_of counts.now threads }
+    ensures { result ≡ bound_certificate counts.now threads }
 {
     let total: u64 = counts.iter().sum();
     if total == 0 {
@@ -118,57 +154,4 @@ fn first_of_count(counts: &[u64], wanted: u64) -> Option<usize>
     ensures within { IfSome result (λ p. p < length counts.now) }
 {
     counts.iter().position(|count| *count == wanted)
-}
-
-// The partition and chunk at a place of the row of all chunks.
-fn pair_in(starts: &[u64], rounds: u64, place: u64) -> Option<(u32, u64)>
-    requires indexed { starts.now ≡ starts_from 0 (counts_of starts.now) }
-    requires few_counts { length starts.now ≤ 4097 }
-    requires few_chunks { sum (counts_of starts.now) ≤ 10000000 }
-    requires some_round { 0 < rounds }
-    requires few_rounds { rounds ≤ 10000000 }
-    ensures { result ≡ (if nat_lt place (sum (counts_of starts.now)) then Some (pair_at (counts_of starts.now) rounds place) else None) }
-{
-    let last = starts.len() - 1;
-    if place >= starts[last] {
-        return None;
-    }
-    let partition = partition_in(starts, place);
-    let start = starts[partition];
-    let count = starts[partition + 1] - start;
-    Some((partition as u32, chunk_in(rounds, start, count, place)))
-}
-
-// The partition between whose start and end the place lies.
-fn partition_in(starts: &[u64], place: u64) -> usize
-    requires rising { IsNonDecreasing starts.now }
-    requires some { 0 < length starts.now }
-    requires from { slice_index starts.now 0 ≤ place }
-    requires until { place < slice_index starts.now (length starts.now - 1) }
-    ensures known { result + 1 < length starts.now }
-    ensures from { slice_index starts.now result ≤ place }
-    ensures until { place < slice_index starts.now (result + 1) }
-{
-    starts.partition_point(|start| *start <= place) - 1
-}
-
-// The chunk at a place of a partition with so many chunks from the start on, where the row is cut into lanes of so many
-// rounds.
-fn chunk_in(rounds: u64, start: u64, count: u64, place: u64) -> u64
-    requires some_round { 0 < rounds }
-    requires few_rounds { rounds ≤ 10000000 }
-    requires few_chunks { start + count ≤ 10000000 }
-    requires from { start ≤ place }
-    requires until { place < start + count }
-    ensures { result ≡ chunk_at rounds start count place }
-{
-    let cut = (start / rounds + 1) * rounds;
-    let end = start + count;
-    if cut >= end {
-        place - start
-    } else if place >= cut {
-        place - cut
-    } else {
-        (end - cut) + (place - start)
-    }
 }

@@ -4,14 +4,14 @@
 //! rounds, one lane for each thread. A partition that a cut divides runs its part behind the cut first, so its two
 //! parts never share a round.
 //!
-//! - `cursor`: the chunk of any round and lane, found from prefix sums.
+//! - `places`: the row of all chunks, and which one stands at a place.
+//! - `cursor`: the chunk of any round and lane, with no plan in memory.
 //! - `planner`: whole plans.
-//! - `tests`: worked plans for this crate and `jb_cert`.
 #![tactic(auto)]
 
 mod cursor;
+mod places;
 mod planner;
-#[cfg(test)]
-mod tests;
 
+pub use cursor::RoundCursor;
 pub use planner::plan;

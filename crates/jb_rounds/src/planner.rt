@@ -1,12 +1,12 @@
 //! Whole plans.
 ghost use Rattle.std.specs.Prelude.{◌≡◌, IfOk, length, map};
 ghost use Rattle.jb_cert.specs.Load.{IsWithinLimits, mcnaughton};
-ghost use Rattle.jb_cert.specs.Certificates.{Holds, certificate_of};
+ghost use Rattle.jb_cert.specs.Certificates.{Holds, bound_certificate};
 ghost use Rattle.jb_cert.specs.Plans.{StandsForLeast, rounds_of};
-ghost use Rattle.jb_rounds.specs.Slots.{slots_of_round, wrapped_rounds};
+ghost use Rattle.jb_cert.specs.WrapAround.{slots_of_round, wrapped_rounds};
 
 use crate::cursor::RoundCursor;
-use jb_cert::{Certificate, Plan, Slot};
+use jb_cert::{Certificate, Plan, Slot, bound_is_least, wrap_around_is_least};
 use std::alloc::{AllocError, Global};
 
 /// A lawful plan of the fewest rounds for these counts of chunks, one for each partition, on so many threads, by
@@ -18,47 +18,36 @@ pub fn plan(alloc: Global, counts: &[u64], threads: u32) -> Result<(Plan, Certif
     requires { IsWithinLimits counts.now threads }
     ensures slots { IfOk result (λ made. rounds_of made.0 ≡ wrapped_rounds counts.now threads) }
     ensures least { IfOk result (λ made. StandsForLeast counts.now threads (rounds_of made.0)) }
-    ensures certificate { IfOk result (λ made. made.1 ≡ certificate_of counts.now threads) }
+    ensures certificate { IfOk result (λ made. made.1 ≡ bound_certificate counts.now threads) }
     ensures certified { IfOk result (λ made. Holds counts.now threads (length (rounds_of made.0)) made.1) }
 {
-    let total: u64 = counts.iter().sum();
+    bound_is_least();
+    wrap_around_is_least();
     let cursor = RoundCursor::new(alloc, counts, threads)?;
-    let rounds = rounds_of_cursor(alloc, &cursor, threads, total)?;
+    let rounds = rounds_of_cursor(alloc, &cursor)?;
     let certificate = cursor.certificate();
     Ok((Plan { rounds }, certificate))
 }
 
-// The slots of all rounds. The total is that of the chunks: it tells how much memory each round takes.
-fn rounds_of_cursor(
-    alloc: Global,
-    cursor: &RoundCursor,
-    threads: u32,
-    total: u64,
-) -> Result<Vec<Vec<Slot>>, AllocError>
-    requires { threads ≡ cursor.now.threads }
-    ensures { IfOk result (λ rounds. map (λ round. round.items) rounds.items ≡ wrapped_rounds cursor.now.counts threads) }
+// The slots of all rounds.
+fn rounds_of_cursor(alloc: Global, cursor: &RoundCursor) -> Result<Vec<Vec<Slot>>, AllocError>
+    ensures { IfOk result (λ rounds. map (λ round. round.items) rounds.items ≡ wrapped_rounds cursor.now.counts cursor.now.threads) }
 {
     let length = cursor.rounds();
     let mut rounds = Vec::with_capacity(alloc, length as usize)?;
     for round in 0..length {
-        let lanes = total.saturating_sub(round).div_ceil(length);
-        rounds.push(round_of_cursor(alloc, cursor, threads, round, lanes as usize)?)?;
+        let slots = round_of_cursor(alloc, cursor, round)?;
+        rounds.push(slots)?;
     }
     Ok(rounds)
 }
 
-// The slots of one round, of which memory for so many lanes is taken at once.
-fn round_of_cursor(
-    alloc: Global,
-    cursor: &RoundCursor,
-    threads: u32,
-    round: u64,
-    lanes: usize,
-) -> Result<Vec<Slot>, AllocError>
-    requires { threads ≡ cursor.now.threads }
-    ensures { IfOk result (λ slots. slots.items ≡ slots_of_round cursor.now.counts threads round) }
+// The slots of one round.
+fn round_of_cursor(alloc: Global, cursor: &RoundCursor, round: u64) -> Result<Vec<Slot>, AllocError>
+    ensures { IfOk result (λ slots. slots.items ≡ slots_of_round cursor.now.counts cursor.now.threads round) }
 {
-    let mut slots = Vec::with_capacity(alloc, lanes)?;
+    let threads = cursor.threads();
+    let mut slots = Vec::with_capacity(alloc, cursor.busy_lanes(round) as usize)?;
     for lane in 0..threads {
         let Some((partition, chunk)) = cursor.slot(round, lane) else {
             break;

@@ -1,5 +1,5 @@
 -- The counts of a chunk step, and what a chunk may add to them.
-use Rattle.std.specs.Prelude.{ℕ, ◌≡◌, ◌+◌, ◌<◌, ◌^◌, ◌⊎◌}
+use Rattle.std.specs.Prelude.{ℕ, ◌≡◌, ◌+◌, ◌==◌, ◌<◌, ◌^◌, ◌⊎◌, ◌&&◌, ◌||◌, nat_lt, Bool}
 use Rattle.jb_rules.specs.declared.counts.Counts.{Counts}
 
 abbrev pub no_counts : Counts
@@ -27,6 +27,10 @@ plus_counts a b = record {
   write_skip = a.write_skip + b.write_skip;
 }
 
+-- the counts after one more rollback
+abbrev pub rolled_counts : Counts → Counts
+rolled_counts c = record c { rollback = c.rollback + 1 }
+
 -- each sum is a number of the program
 pub record SumsFit (a b : Counts) : Type 0 where
   pub read : a.read + b.read < 2 ^ 64
@@ -48,3 +52,12 @@ pub record IsDelta (records : ℕ) (d : Counts) : Type 0 where
   pub results :
       (d.write_skip ≡ 0) × (d.process_skip + d.filter + d.write ≡ d.read)
       ⊎ (d.write_skip ≡ 1) × (d.write ≡ 0) × (d.process_skip + d.filter < d.read)
+
+-- the test of the same
+abbrev pub is_delta : (records : ℕ) → Counts → Bool
+is_delta records d =
+    d.read + d.read_skip == records
+    && d.commit == 1
+    && d.rollback == 0
+    && ((d.write_skip == 0 && d.process_skip + d.filter + d.write == d.read)
+    || (d.write_skip == 1 && d.write == 0 && nat_lt (d.process_skip + d.filter) d.read))

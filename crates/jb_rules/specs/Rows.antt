@@ -1,13 +1,14 @@
--- Rows: of a partition that has not begun, and after a chunk.
+-- The life of a row: how a partition begins, and what each step of it changes in its row.
 use Rattle.std.specs.Prelude.{ℕ, ◌+◌, ◌==◌, if◌then◌else◌, max}
 use Rattle.jb_job.specs.declared.job.Range.{Range}
+use Rattle.jb_plan.specs.Blocks.{next_block}
 use Rattle.jb_rules.specs.declared.counts.Counts.{Counts}
 use Rattle.jb_rules.specs.declared.row.Row.{Row}
 use Rattle.jb_rules.specs.declared.row.RowState.{RowState}
-use Rattle.jb_rules.specs.declared.row.RowState.TheVariants.{Waiting, Finished, Failed}
-use Rattle.jb_rules.specs.Counts.{no_counts, plus_counts}
+use Rattle.jb_rules.specs.declared.row.RowState.TheVariants.{Waiting, Running, Finished, Failed}
+use Rattle.jb_rules.specs.Counts.{no_counts, plus_counts, rolled_counts}
 
--- the state of a row whose next record is `at`
+-- the state of a row that no lane runs and whose next record is `at`
 abbrev pub state_at : (at hi : ℕ) → RowState
 state_at at hi = if at == hi then Finished else Waiting
 
@@ -24,8 +25,20 @@ fresh_row r = record {
   state = state_at r.lo r.hi;
 }
 
--- the row after a chunk that ends at `at`
-abbrev pub committed_row : Row → ℕ → Counts → Row
+-- the records of the row's partition
+abbrev pub range_of : Row → Range
+range_of row = record { lo = row.lo; hi = row.hi }
+
+-- the row's next chunk
+abbrev pub row_block : (item_count : ℕ) → Row → Range
+row_block item_count row = next_block row.at row.redo row.hi item_count
+
+-- the row when a lane begins its next chunk
+abbrev pub begun_row : Row → (lane : ℕ) → Row
+begun_row row lane = record row { state = Running lane }
+
+-- the row after a chunk that ends at `at` was committed
+abbrev pub committed_row : Row → (at : ℕ) → Counts → Row
 committed_row row at delta = record row {
   at = at;
   written = row.written + delta.write;
@@ -33,21 +46,23 @@ committed_row row at delta = record row {
   state = state_at at row.hi;
 }
 
--- the faults that the partition skipped in committed chunks
-abbrev pub skips_of : Row → ℕ
-skips_of row = row.counts.read_skip + row.counts.process_skip + row.counts.write_skip
-
--- the row after a chunk that ends at `end` is rolled back and is to be retried record by record
-abbrev pub rolled_row : Row → ℕ → Row
+-- the row after a chunk that ends at `end` was rolled back and is to be retried record by record
+abbrev pub rolled_row : Row → (end : ℕ) → Row
 rolled_row row end = record row {
   redo = max row.redo end;
   retries = row.retries + 1;
-  counts = record row.counts { rollback = row.counts.rollback + 1 };
+  counts = rolled_counts row.counts;
+  state = Waiting;
 }
 
--- the row after a chunk failed
+-- the row after a chunk failed, which is rolled back too
 abbrev pub failed_row : Row → Row
-failed_row row = record row {
-  counts = record row.counts { rollback = row.counts.rollback + 1 };
-  state = Failed;
-}
+failed_row row = record row { counts = rolled_counts row.counts; state = Failed }
+
+-- the row after a chunk was given up, of which nothing was done
+abbrev pub dropped_row : Row → Row
+dropped_row row = record row { state = Waiting }
+
+-- the faults that the partition skipped in committed chunks
+abbrev pub skips_of : Row → ℕ
+skips_of row = row.counts.read_skip + row.counts.process_skip + row.counts.write_skip

@@ -1,7 +1,7 @@
 //! What becomes of a fault.
 
 ghost use Rattle.std.specs.Prelude.{◌≡◌};
-ghost use Rattle.jb_rules.specs.Decide.{is_in, is_below, choice_of};
+ghost use Rattle.jb_rules.specs.Decide.{has_class, is_below, choice_of};
 
 use jb_job::{ClassId, Rules};
 
@@ -17,12 +17,12 @@ pub enum Choice {
 }
 
 fn has_class(classes: u64, class: ClassId) -> bool
-    ensures { result ≡ is_in classes class }
+    ensures { result ≡ has_class classes class }
 {
     (classes >> class.number()) % 2 == 1
 }
 
-fn is_under(limit: Option<u64>, used: u64) -> bool
+fn is_below(limit: Option<u64>, used: u64) -> bool
     ensures { result ≡ is_below limit used }
 {
     match limit {
@@ -39,7 +39,7 @@ fn is_under(limit: Option<u64>, used: u64) -> bool
 pub fn decide(rules: &Rules, class: ClassId, retrying: bool, skips: u64, retries: u64) -> Choice
     ensures { result ≡ choice_of rules.now class retrying skips retries }
 {
-    let skip_open = has_class(rules.skippable, class) && is_under(rules.skip_limit, skips);
+    let skip_open = has_class(rules.skippable, class) && is_below(rules.skip_limit, skips);
     let retry_open = has_class(rules.retryable, class) && retries < rules.retry_limit;
     match (retrying, skip_open, retry_open) {
         (false, _, true) => Choice::Retry,

@@ -1,7 +1,8 @@
 //! The metrics of a chunk step.
 
-ghost use Rattle.std.specs.Prelude.{◌≡◌};
-ghost use Rattle.jb_rules.specs.Counts.{plus_counts, SumsFit};
+ghost use Rattle.std.specs.Prelude.{◌≡◌, ◌↔◌, IsTrue};
+ghost use Rattle.jb_rules.specs.Counts.{plus_counts, SumsFit, IsDelta, is_delta};
+ghost use Rattle.jb_rules.specs.Laws.{DeltasAreTested};
 
 /// The metrics of a partition (Jakarta Batch 2.1, "Metric"). They are kept over restarts.
 #[derive(Clone, Copy, Debug, PartialEq, Eq)]
@@ -53,4 +54,24 @@ impl Counts {
             write_skip: self.write_skip + other.write_skip,
         }
     }
+
+    /// Whether a committed chunk of so many records may add these counts.
+    pub fn is_delta(&self, records: u64) -> bool
+        ensures test { result ≡ is_delta records self.now }
+        ensures delta { IsTrue result ↔ IsDelta records self.now }
+    {
+        deltas_are_tested();
+        let read = u128::from(self.read);
+        let settled = u128::from(self.process_skip) + u128::from(self.filter);
+        read + u128::from(self.read_skip) == u128::from(records)
+            && self.commit == 1
+            && self.rollback == 0
+            && ((self.write_skip == 0 && settled + u128::from(self.write) == read)
+                || (self.write_skip == 1 && self.write == 0 && settled < read))
+    }
 }
+
+/// The law of `Counts::is_delta`: its definition as a test says what the definition as a fact does.
+pub fn deltas_are_tested()
+    ensures { DeltasAreTested }
+{}

@@ -2,18 +2,16 @@
 //!
 //! - `counts`: the metrics of a chunk step.
 //! - `row`: how a partition stands, and the rules that each row keeps.
-//! - `outcome`: the row after a chunk was committed, rolled back or failed.
+//! - `life`: a row's next chunk, and the row after it was begun, committed, rolled back, failed or given up.
 //! - `choice`: what becomes of a fault.
 #![tactic(auto)]
 
 mod choice;
 mod counts;
-mod outcome;
+mod life;
 mod row;
 
 pub use choice::{Choice, decide};
-pub use counts::Counts;
+pub use counts::{Counts, deltas_are_tested};
+pub use life::rows_stay_sound;
 pub use row::{MAX_ROLLBACKS, Row, RowState};
-
-#[cfg(test)]
-mod tests;

@@ -1,7 +1,8 @@
 //! How a partition stands, and the rules that each row keeps.
 
 ghost use Rattle.std.specs.Prelude.{◌≡◌, ◌↔◌, ◌≤◌, IsTrue};
-ghost use Rattle.jb_rules.specs.Rows.{fresh_row};
+ghost use Rattle.jb_rules.specs.Rows.{fresh_row, range_of};
+ghost use Rattle.jb_rules.specs.States.{is_running, has_ended};
 ghost use Rattle.jb_rules.specs.Sound.{IsCounted, IsPlaced, IsSoundRow};
 
 use crate::counts::Counts;
@@ -22,6 +23,22 @@ pub enum RowState {
     Finished,
     /// A fault was neither skipped nor retried.
     Failed,
+}
+
+impl RowState {
+    /// Whether a lane does the partition's next chunk.
+    pub fn is_running(&self) -> bool
+        ensures { result ≡ is_running self.now }
+    {
+        matches!(*self, RowState::Running(_))
+    }
+
+    /// Whether no chunk of the partition is begun any more: it is finished, or it has failed.
+    pub fn has_ended(&self) -> bool
+        ensures { result ≡ has_ended self.now }
+    {
+        matches!(*self, RowState::Finished | RowState::Failed)
+    }
 }
 
 /// The checkpoint of a partition: its range, the next record, and its counts.
@@ -63,6 +80,16 @@ impl Row {
             } else {
                 RowState::Waiting
             },
+        }
+    }
+
+    /// The records of the row's partition.
+    pub fn range(&self) -> Range
+        ensures { result ≡ range_of self.now }
+    {
+        Range {
+            lo: self.lo,
+            hi: self.hi,
         }
     }
 

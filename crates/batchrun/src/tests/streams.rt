@@ -1,36 +1,8 @@
-//! The program on a document in memory, and streams that fail.
+//! Streams that fail.
 
-use crate::perform::perform;
 use std::alloc::Global;
 use std::io;
 use std::io::{Read, Write};
-
-/// What the program left on a document.
-#[derive(Drop)]
-pub struct Outcome {
-    pub status: u8,
-    pub output: Vec<u8>,
-    pub faults: Vec<u8>,
-}
-
-/// Runs the program on a document.
-pub fn performed(rt: &HostRuntime, words: &[&str], document: &str) -> Outcome {
-    let alloc = rt.alloc();
-    let mut output = Vec::new(alloc);
-    let mut faults = Vec::new(alloc);
-    let status = perform(
-        rt,
-        words,
-        &mut document.as_bytes(),
-        &mut output,
-        &mut faults,
-    );
-    Outcome {
-        status,
-        output,
-        faults,
-    }
-}
 
 /// Gives one byte at each call, and fails at one of them.
 #[derive(Drop)]

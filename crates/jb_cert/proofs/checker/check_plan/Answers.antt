@@ -1,8 +1,8 @@
 use Rattle.std.proofs.Common.{◌≡◌, ◌∙◌, inr, sym, Some}
 use Rattle.jb_cert.specs.Plans.{rounds_of}
-use Rattle.jb_cert.specs.Walk.{found_fault}
+use Rattle.jb_cert.specs.inside.Walk.{found_fault}
 use Rattle.jb_cert.proofs.Faultless.{lawful_from_no_fault, no_fault_from_lawful}
-use Rattle.jb_cert.proofs.FirstFault.{first_fault-is}
+use Rattle.jb_cert.proofs.FirstFault.{first_plan_fault-is}
 use Rattle.jb_cert.proofs.checker.check_plan.Goals as goal
 
 pub returns-in-Some-clause-unlawful : goal.returns-in-Some-clause-unlawful
@@ -16,4 +16,4 @@ returns-clause-lawful c = lawful_from_no_fault c.args.counts.now c.args.threads 
 
 pub returns-in-Some-clause-first : goal.returns-in-Some-clause-first
 returns-in-Some-clause-first c =
-    inr (first_fault-is c.args.counts.now c.args.threads (rounds_of c.args.plan.now) ∙ sym c.in-Some.ensures)
+    inr (first_plan_fault-is c.args.counts.now c.args.threads (rounds_of c.args.plan.now) ∙ sym c.in-Some.ensures)

@@ -3,7 +3,7 @@ use Rattle.std.proofs.lemmas.List.{length-map}
 use Rattle.jb_cert.specs.declared.plans.Slot.{Slot}
 use Rattle.jb_cert.specs.Plans.{rounds_of}
 use Rattle.jb_cert.specs.Faults.{slots_of}
-use Rattle.jb_cert.specs.Walk.{fault_in_round}
+use Rattle.jb_cert.specs.inside.Walk.{fault_in_round}
 use Rattle.jb_cert.proofs.Judged.{plan_fault, plan_more, plan_end, slots_in_all-more, round_read}
 use Rattle.jb_cert.proofs.checker.plan_fault.Goals as goal
 use Rattle.jb_cert.proofs.checker.plan_fault.Goals.{After-deref}

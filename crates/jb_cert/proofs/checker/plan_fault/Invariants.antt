@@ -1,7 +1,7 @@
 use Rattle.std.proofs.Common.{◌≡◌, ◌<◌, ℕ, length, slice_index, take, drop}
 use Rattle.jb_cert.specs.Plans.{rounds_of}
 use Rattle.jb_cert.specs.Faults.{slots_in_all}
-use Rattle.jb_cert.specs.Walk.{fault_after, found_fault}
+use Rattle.jb_cert.specs.inside.Walk.{fault_after, found_fault}
 use Rattle.jb_cert.proofs.checker.plan_fault.Given as goal
 
 abbrev pub invariant-loop-round : goal.invariant-loop-round

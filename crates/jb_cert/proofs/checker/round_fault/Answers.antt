@@ -1,6 +1,5 @@
 use Rattle.std.proofs.Common.{sym, arith, slice_index}
-use Rattle.jb_cert.specs.Faults.{no_slot}
-use Rattle.jb_cert.proofs.Judged.{round_fault, round_more, ran_more}
+use Rattle.jb_cert.proofs.Judged.{no_slot, round_fault, round_more, ran_more}
 use Rattle.jb_cert.proofs.checker.round_fault.Goals as goal
 
 pub returns-in-Some-clause-fault : goal.returns-in-Some-clause-fault

@@ -1,6 +1,6 @@
 use Rattle.std.proofs.Common.{◌≡◌, ◌+◌, ◌<◌, ℕ, [], length, get_or, take, drop}
 use Rattle.jb_cert.specs.Faults.{slots_of}
-use Rattle.jb_cert.specs.Walk.{fault_in_round}
+use Rattle.jb_cert.specs.inside.Walk.{fault_in_round}
 use Rattle.jb_cert.proofs.checker.round_fault.Given as goal
 
 abbrev pub invariant-loop-i : goal.invariant-loop-i

@@ -7,7 +7,7 @@ use Rattle.jb_chunk.proofs.alone.run_alone.Goals as goal
 pub loop-task-init : goal.loop-task-init
 loop-task-init g c = record {
   waiting = c.requires.waiting;
-  room = has-room (g.T.PartitionTask.standing c.args.task) c.requires.room;
+  room = has-room (g.T.PartitionTask.standing c.args.task) c.requires.ready c.requires.room;
   ready = c.requires.ready;
   reached = begun _;
 }
@@ -19,7 +19,7 @@ returns-then-row-clause-alone g c =
     let done = rw c.in-Committed.is at c.attempt-next.ensures.attempt in
     let at = ap (λ (r : Row). r.at) c.row.ensures in
     let hi = ap (λ (r : Row). r.hi) c.row-in-Committed.ensures in
-    commit-ends (standing c.args.task) (standing c.loop-task.task) (standing c.attempt-next.result.task) _ _ loop.ready loop.waiting loop.reached done (omega (arith, at, hi, c.if-row.true))
+    commit-ends c.chunks_follow_one_another.ensures (standing c.args.task) (standing c.loop-task.task) (standing c.attempt-next.result.task) _ _ loop.ready loop.waiting loop.reached done (omega (arith, at, hi, c.if-row.true))
 
 pub returns-then-row-clause-plain : goal.returns-then-row-clause-plain
 returns-then-row-clause-plain g c =
@@ -28,8 +28,8 @@ returns-then-row-clause-plain g c =
     let done = rw c.in-Committed.is at c.attempt-next.ensures.attempt in
     let at = ap (λ (r : Row). r.at) c.row.ensures in
     let hi = ap (λ (r : Row). r.hi) c.row-in-Committed.ensures in
-    let ended = commit-ends (standing c.args.task) (standing c.loop-task.task) (standing c.attempt-next.result.task) _ _ loop.ready loop.waiting loop.reached done (omega (arith, at, hi, c.if-row.true)) in
-    plain-alone (standing c.args.task) (standing c.attempt-next.result.task) c.requires.ready c.requires.waiting ended.0
+    let ended = commit-ends c.chunks_follow_one_another.ensures (standing c.args.task) (standing c.loop-task.task) (standing c.attempt-next.result.task) _ _ loop.ready loop.waiting loop.reached done (omega (arith, at, hi, c.if-row.true)) in
+    plain-alone c.chunks_follow_one_another.ensures (standing c.args.task) (standing c.attempt-next.result.task) c.requires.ready c.requires.waiting ended.0
 
 pub loop-task-smaller-else-row : goal.loop-task-smaller-else-row
 loop-task-smaller-else-row g c =
@@ -38,7 +38,7 @@ loop-task-smaller-else-row g c =
     let done = rw c.in-Committed.is at c.attempt-next.ensures.attempt in
     let at = ap (λ (r : Row). r.at) c.row.ensures in
     let hi = ap (λ (r : Row). r.hi) c.row-in-Committed.ensures in
-    let next = commit-next (standing c.args.task) (standing c.loop-task.task) (standing c.attempt-next.result.task) _ _ loop.ready loop.waiting loop.room loop.reached done (omega (arith, at, hi, c.if-row.false, c.attempt-next.ensures.ready.sound.placed.at_to)) in
+    let next = commit-next c.chunks_follow_one_another.ensures (standing c.args.task) (standing c.loop-task.task) (standing c.attempt-next.result.task) _ _ loop.ready loop.waiting loop.room loop.reached done (omega (arith, at, hi, c.if-row.false, c.attempt-next.ensures.ready.sound.placed.at_to)) in
     next.fewer
 
 pub loop-task-preserved-else-row : goal.loop-task-preserved-else-row
@@ -48,7 +48,7 @@ loop-task-preserved-else-row g c =
     let done = rw c.in-Committed.is at c.attempt-next.ensures.attempt in
     let at = ap (λ (r : Row). r.at) c.row.ensures in
     let hi = ap (λ (r : Row). r.hi) c.row-in-Committed.ensures in
-    let next = commit-next (standing c.args.task) (standing c.loop-task.task) (standing c.attempt-next.result.task) _ _ loop.ready loop.waiting loop.room loop.reached done (omega (arith, at, hi, c.if-row.false, c.attempt-next.ensures.ready.sound.placed.at_to)) in
+    let next = commit-next c.chunks_follow_one_another.ensures (standing c.args.task) (standing c.loop-task.task) (standing c.attempt-next.result.task) _ _ loop.ready loop.waiting loop.room loop.reached done (omega (arith, at, hi, c.if-row.false, c.attempt-next.ensures.ready.sound.placed.at_to)) in
     record { waiting = next.waiting; room = next.room; ready = c.attempt-next.ensures.ready; reached = next.reached }
 
 pub loop-task-smaller : goal.loop-task-smaller
@@ -80,7 +80,7 @@ returns-in-Failed-clause-plain g c =
     let loop = c.loop-task.invariant in
     let done = rw c.in-Failed.is at c.attempt-next.ensures.attempt in
     let ended = fail-ends (standing c.args.task) (standing c.loop-task.task) (standing c.attempt-next.result.task) _ _ loop.ready loop.waiting loop.reached done in
-    never-fails (standing c.args.task) (standing c.attempt-next.result.task) c.requires.ready c.requires.waiting ended.0 ended.1
+    never-fails c.chunks_follow_one_another.ensures (standing c.args.task) (standing c.attempt-next.result.task) c.requires.ready c.requires.waiting ended.0 ended.1
 
 pub returns-in-NoMemory-clause-alone : goal.returns-in-NoMemory-clause-alone
 returns-in-NoMemory-clause-alone g c =

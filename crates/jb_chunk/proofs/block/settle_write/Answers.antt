@@ -2,22 +2,21 @@ use Rattle.std.proofs.Common.{◌≡◌, ◌+◌, Some, None, take, ap, sym, ◌
 use Rattle.jb_rules.specs.Rows.{skips_of}
 use Rattle.jb_artifacts.specs.Writer.{Numbered, Writer, write_fault, after_write}
 use Rattle.jb_artifacts.specs.Meaning.{Workplace}
-use Rattle.jb_artifacts.specs.contracts.artifacts.ArtifactsMeaning.TheImpl.{ghosts}
 use Rattle.jb_chunk.specs.Attempt.{end_at, end_by}
 use Rattle.jb_chunk.specs.Block.{choice_at}
-use Rattle.jb_chunk.specs.Tried.{writer_by}
+use Rattle.jb_chunk.specs.inside.Tried.{writer_by}
 use Rattle.jb_chunk.proofs.Ending.{kept-none, kept-some, longer-write}
 use Rattle.jb_chunk.proofs.block.settle_write.Goals as goal
 
 pub cut_back-requires : goal.cut_back-requires
 cut_back-requires g c =
-    let w = (ghosts g.dyn-1 g.dyn-2 g.dyn-3 g.dyn-4).workplace c.args.artifacts.now in
+    let w = g.A.Meaning.workplace c.args.artifacts.now in
     let e = rw c.in-Ok-Some.field-0-is at c.in-Ok-Some.ensures.ok in
     longer-write w _ c.as_slice.result.now _ c.requires.count e.1
 
 pub returns-in-Ok-None-clause-ok : goal.returns-in-Ok-None-clause-ok
 returns-in-Ok-None-clause-ok g c =
-    let w = (ghosts g.dyn-1 g.dyn-2 g.dyn-3 g.dyn-4).workplace c.args.artifacts.now in
+    let w = g.A.Meaning.workplace c.args.artifacts.now in
     let found = c.args.tally.now.found.items in
     let skips = skips_of c.args.row.now + c.args.tally.now.read_skips + c.args.tally.now.process_skips in
     let e = rw c.in-Ok-None.field-0-is at c.in-Ok-None.ensures.ok in
@@ -32,7 +31,7 @@ returns-in-Ok-None-clause-ok g c =
 
 pub returns-in-Ok-Some-clause-ok : goal.returns-in-Ok-Some-clause-ok
 returns-in-Ok-Some-clause-ok g c =
-    let w = (ghosts g.dyn-1 g.dyn-2 g.dyn-3 g.dyn-4).workplace c.args.artifacts.now in
+    let w = g.A.Meaning.workplace c.args.artifacts.now in
     let found = c.args.tally.now.found.items in
     let class = c.in-Ok-Some.class in
     let skips = skips_of c.args.row.now + c.args.tally.now.read_skips + c.args.tally.now.process_skips in

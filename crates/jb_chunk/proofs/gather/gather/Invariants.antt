@@ -1,15 +1,14 @@
 use Rattle.std.proofs.Common.{◌≡◌, ◌-◌, ◌≤◌, None}
-use Rattle.jb_artifacts.specs.contracts.artifacts.ArtifactsMeaning.TheImpl.{ghosts}
 use Rattle.jb_chunk.specs.Block.{settling, passed}
-use Rattle.jb_chunk.specs.Gathering.{IsTally}
+use Rattle.jb_chunk.specs.inside.Gathering.{IsTally}
 use Rattle.jb_chunk.proofs.gather.gather.Given as goal
 
 -- the records so far are done, and each of their faults is skipped
 abbrev pub invariant-loop-number : goal.invariant-loop-number
 invariant-loop-number g l =
-    let old = (ghosts g.dyn-1 g.dyn-2 g.dyn-3 g.dyn-4).workplace l.fn.artifacts in
+    let old = g.A.Meaning.workplace l.fn.artifacts in
     record {
-      moved : (ghosts g.dyn-1 g.dyn-2 g.dyn-3 g.dyn-4).workplace l.artifacts ≡ passed old l.row.at l.number;
+      moved : g.A.Meaning.workplace l.artifacts ≡ passed old l.row.at l.number;
       tally : IsTally old l.row.at l.number l.tally;
       none : settling l.rules l.row old l.number ≡ None;
       read_skips : l.tally.read_skips ≤ l.number - l.row.at;

@@ -2,4 +2,4 @@ use Rattle.jb_job.proofs.Names.{map-insert_key}
 use Rattle.jb_job.proofs.class_list.add_name.Goals as goal
 
 pub returns-clause-added : goal.returns-clause-added
-returns-clause-added c = rw (c.in_ok-insert.ensures.keys, ← c.in_ok-from_str.ensures.ok) (map-insert_key c.args.names.now.keys c.in_ok-from_str.field-0)
+returns-clause-added c = rw c.in_ok-insert.ensures.keys (map-insert_key c.args.names.now.keys c.args.name)

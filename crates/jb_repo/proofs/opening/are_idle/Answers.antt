@@ -2,7 +2,7 @@ use Rattle.std.proofs.Common.{rules, ◌≡◌, false, refl, arith}
 use Rattle.std.proofs.lemmas.Option.{slice_get-get_or, slice_get_within}
 use Rattle.jb_rules.specs.declared.row.Row.{Row}
 use Rattle.jb_rules.specs.Sound.{IsSoundRow}
-use Rattle.jb_repo.specs.States.{is_running}
+use Rattle.jb_rules.specs.States.{is_running}
 use Rattle.jb_repo.proofs.Openings.{each_more}
 use Rattle.jb_repo.proofs.opening.are_idle.Goals as goal
 

@@ -1,6 +1,6 @@
 use Rattle.std.proofs.Common.{◌≡◌, ℕ, List, length, take, ◌∙◌, ap, sym, arith}
 use Rattle.std.proofs.lemmas.List.{length-take}
-use Rattle.jb_repo.specs.Certificates.{is_least_plan}
+use Rattle.jb_cert.specs.Certificates.{is_least_plan}
 use Rattle.jb_repo.specs.Kept.{journal_of}
 use Rattle.jb_repo.specs.Rows.{remaining}
 use Rattle.jb_repo.specs.Table.{rows_of}
@@ -19,7 +19,7 @@ is_least_plan-requires c =
     let ready = c.self.invariant.ready in
     record {
       few_counts = omega (arith, length-take (length c.rows_now-rows.result.now) c.remaining_counts.new.counts, c.rows_now-rows.ensures.table.few_rows);
-      few_chunks = rw same (remaining_fits (journal_of c.self.inside) ready c.self.invariant.accepted);
+      few_chunks = rw same (remaining_fits c.laws_below.ensures (journal_of c.self.inside) ready c.self.invariant.accepted);
       some_thread = ready.some_threads;
       few_threads = ready.few_threads;
     }
@@ -27,4 +27,4 @@ is_least_plan-requires c =
 pub returns : goal.returns
 returns c =
     let same = counts_are (goal.at.returns c).After-remaining_counts in
-    rw (← c.self.view_is) (c.is_least_plan.ensures ∙ ap (λ (counts : List ℕ). is_least_plan counts c.self.inside.threads c.args.rounds c.args.certificate) same)
+    rw (← c.self.view_is) (c.is_least_plan.ensures.value ∙ ap (λ (counts : List ℕ). is_least_plan counts c.self.inside.threads c.args.rounds c.args.certificate) same)

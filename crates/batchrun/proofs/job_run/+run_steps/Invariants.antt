@@ -1,6 +1,0 @@
-use Rattle.std.proofs.Common.{length}
-use Rattle.batchrun.proofs.job_run.+run_steps.Given as goal
-
--- each call has a step less
-abbrev pub decreases-run_steps : goal.decreases-run_steps
-decreases-run_steps l = length l.steps.now

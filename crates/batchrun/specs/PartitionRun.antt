@@ -1,0 +1,88 @@
+-- What a partition of a step leaves that runs by itself (own choice: a partition is a range of the step's records).
+use Rattle.std.specs.Prelude.{ℕ, ◌≡◌, ◌+◌, ◌-◌, ◌<◌, ◌∷◌, ◌==◌, ◌&&◌, nat_le, nat_lt, Bool, List, [], map, take, drop, filter, find, reverse, Option, Some, None}
+use Rattle.std.specs.Str.Lossy.{utf8_lossy}
+use Rattle.jb_job.specs.declared.job.Range.{Range}
+use Rattle.jb_rules.specs.Rows.{fresh_row}
+use Rattle.jb_artifacts.specs.declared.faults.FaultPlan.{FaultPlan}
+use Rattle.jb_artifacts.specs.declared.faults.FaultPlan.TheVariants as plan
+use Rattle.jb_artifacts.specs.Faults.{Plans}
+use Rattle.jb_artifacts.specs.Meaning.{Workplace}
+use Rattle.jb_artifacts.specs.Prefix.{prefixed}
+use Rattle.jb_artifacts.specs.Collected.{count_text}
+use Rattle.jb_documents.specs.declared.run.faults.FaultKind.{FaultKind}
+use Rattle.jb_documents.specs.declared.run.faults.FaultKind.TheVariants.{Bad, Shaky}
+use Rattle.jb_documents.specs.declared.run.faults.PlannedFault.{PlannedFault}
+use Rattle.jb_chunk.specs.Standing.{TaskState, started}
+use Rattle.jb_chunk.specs.Alone.{IsAlone}
+use Rattle.jb_chunk.specs.Plain.{IsCalm, plain_outputs, plain_row}
+use Rattle.jb_texts.specs.Report.{PartitionReport}
+use Rattle.batchrun.specs.declared.run.settings.StepSettings.{StepSettings}
+
+-- the records of a range, of all the step's
+abbrev pub records_in : List (List ℕ) → Range → List (List ℕ)
+records_in records range = take (range.hi - range.lo) (drop range.lo records)
+
+-- ---- the fault plans of an artifact
+
+abbrev pub fault_plan_of : FaultKind → FaultPlan
+fault_plan_of (Bad class) = plan.Bad class
+fault_plan_of (Shaky classes) = plan.Shaky classes
+
+-- a record without a planned fault is sound
+abbrev pub fault_plan_by : Option PlannedFault → FaultPlan
+fault_plan_by None = plan.Sound
+fault_plan_by (Some fault) = fault_plan_of fault.kind
+
+-- the plan of each record: the fault that the list has for its number
+abbrev pub fault_plans : List PlannedFault → Plans
+fault_plans faults = λ k. fault_plan_by (find (λ fault. k == fault.number) (reverse faults))
+
+abbrev pub is_of_range : Range → PlannedFault → Bool
+is_of_range range fault = nat_le range.lo fault.number && nat_lt fault.number range.hi
+
+-- An artifact gets the plans of its own range's records.
+unfoldable pub plans_in : List PlannedFault → Range → Plans
+plans_in faults range = fault_plans (filter (is_of_range range) faults)
+
+-- ---- the partition's task
+
+-- what a partition works with before it begins: its records, the prefix, an empty list of results, and the counts as texts
+abbrev pub workplace_of : StepSettings → (records : List (List ℕ)) → Range → Workplace
+workplace_of step records range = record {
+  reader = record { first = range.lo; records = records; place = range.lo; faults = plans_in step.faults.read range };
+  processor = record { answer = λ _ item. prefixed step.prefix step.drop item; faults = plans_in step.faults.process range };
+  writer = record { written = []; faults = plans_in step.faults.write range };
+  collector = count_text;
+}
+
+-- the task of a partition that has not begun
+abbrev pub first_task : StepSettings → (records : List (List ℕ)) → (partition : ℕ) → Range → TaskState
+first_task step records partition range = started partition (fresh_row range) step.rules step.item_count (workplace_of step records range)
+
+-- ---- what it leaves
+
+-- a task's row, and the results in its writer as texts
+abbrev pub report_of : TaskState → PartitionReport
+report_of task = record { row = task.row; outputs = map utf8_lossy task.work.writer.written }
+
+-- what is left where no call fails: the answers on all records, however they are cut into chunks
+abbrev pub plain_report : TaskState → PartitionReport
+plain_report begun = record { row = plain_row begun; outputs = map utf8_lossy (plain_outputs begun) }
+
+-- Some task leaves this that the other leads to by its own attempts, one after another, until it is finished or failed.
+abbrev pub IsLeftBy : TaskState → PartitionReport → Type 0
+IsLeftBy begun left = (task : TaskState) × IsAlone begun task × (left ≡ report_of task)
+
+-- What the task of a partition leaves. It runs by itself: nothing here speaks of another partition. One with no record is
+-- finished from the start.
+pub record IsPartitionRun (begun : TaskState) (left : PartitionReport) : Type 0 where
+  pub without_records : begun.row.lo ≡ begun.row.hi → left ≡ report_of begun
+  pub with_records : begun.row.lo < begun.row.hi → IsLeftBy begun left
+  pub without_faults : begun.row.lo < begun.row.hi → IsCalm begun.work begun.row.lo begun.row.hi → left ≡ plain_report begun
+
+-- what the partitions of a step leave, in order, from this number on, where this is how each begins
+abbrev pub ArePartitionRuns : (begun : (partition : ℕ) → Range → TaskState) → (partition : ℕ) → List Range → List PartitionReport → Type 0
+ArePartitionRuns begun partition [] reports = reports ≡ []
+ArePartitionRuns begun partition (range ∷ ranges) [] = ⊥
+ArePartitionRuns begun partition (range ∷ ranges) (left ∷ reports) =
+    IsPartitionRun (begun partition range) left × ArePartitionRuns begun (partition + 1) ranges reports

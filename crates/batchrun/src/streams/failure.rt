@@ -1,0 +1,143 @@
+//! Why the program gives no report.
+
+ghost use Rattle.std.specs.Prelude.{◌≡◌, ◌≤◌};
+ghost use Rattle.batchrun.specs.Statuses.{failure_code};
+
+use crate::words::LineFault;
+use jb_job::JobError;
+use jb_plan::PlanError;
+use std::alloc::{AllocError, AllocFailed};
+use std::io;
+use std::io::Write;
+
+/// What the words do, what they read and what they print.
+const HELP: &str = "usage: batchrun WORD < DOCUMENT
+
+Reads one JSON document on standard input, to its end. WORD says what is done with it:
+
+  run    runs the document's job and prints a report, one line of JSON
+         {\"job\": job record, \"data\": [{\"records\": [text, ..], \"prefix\": text, \"drop\": text, \"faults\": {..}}, ..]}
+  plan   prints a plan of the fewest rounds: `rounds N CERTIFICATE`, then a line for each round
+         {\"counts\": [chunks of a partition, ..], \"threads\": number}
+  check  prints whether a plan is lawful, and whether its certificate holds
+         {\"counts\": .., \"threads\": .., \"rounds\": [[[lane, partition, chunk], ..], ..], \"certificate\": ..}
+
+A document that is refused prints nothing but one line on standard error.
+Exit status: 0 completed, or lawful and certified; 1 failed, or not; 3 refused; 4 no memory or a failing stream; 5 these words.
+";
+
+/// Why the program gives no report.
+#[derive(Clone, Copy, Debug, PartialEq, Eq)]
+pub enum Failure {
+    /// The words of the command line are none that the program knows.
+    Usage,
+    /// The document has this fault.
+    Document(JobError),
+    /// The partition plan of a step has this fault.
+    Plan(PlanError),
+    /// There was no memory.
+    Memory,
+    /// Standard input, standard output or standard error failed.
+    Stream,
+}
+
+impl Failure {
+    /// The exit status: 3 where the document or a plan is refused, 4 for memory and streams, 5 for the command line.
+    pub fn status(self) -> u8
+        ensures code { result ≡ failure_code self }
+        ensures range { (3 ≤ result) × (result ≤ 5) }
+    {
+        match self {
+            Failure::Document(_) | Failure::Plan(_) => 3,
+            Failure::Memory | Failure::Stream => 4,
+            Failure::Usage => 5,
+        }
+    }
+}
+
+impl From<AllocError> for Failure {
+    ghost use Rattle.std.specs.Prelude.{◌≡◌};
+    ghost use Rattle.batchrun.specs.declared.streams.failure.Failure.TheVariants.{Memory};
+
+    ghost from_gives = { λ _ e. e ≡ Memory };
+
+    fn from(_e: AllocError) -> Failure {
+        Failure::Memory
+    }
+}
+
+impl<T: Drop> From<AllocFailed<T>> for Failure {
+    ghost use Rattle.std.specs.Prelude.{◌≡◌};
+    ghost use Rattle.batchrun.specs.declared.streams.failure.Failure.TheVariants.{Memory};
+
+    ghost from_gives = { λ _ e. e ≡ Memory };
+
+    fn from(_e: AllocFailed<T>) -> Failure {
+        Failure::Memory
+    }
+}
+
+impl From<io::Error> for Failure {
+    ghost use Rattle.std.specs.Prelude.{◌≡◌};
+    ghost use Rattle.batchrun.specs.declared.streams.failure.Failure.TheVariants.{Stream};
+
+    ghost from_gives = { λ _ e. e ≡ Stream };
+
+    fn from(_e: io::Error) -> Failure {
+        Failure::Stream
+    }
+}
+
+impl From<LineFault> for Failure {
+    ghost use Rattle.std.specs.Prelude.{◌≡◌};
+    ghost use Rattle.batchrun.specs.Statuses.{line_failure};
+
+    ghost from_gives = { λ fault failure. failure ≡ line_failure fault };
+
+    fn from(fault: LineFault) -> Failure {
+        match fault {
+            LineFault::Usage => Failure::Usage,
+            LineFault::Memory => Failure::Memory,
+        }
+    }
+}
+
+impl From<JobError> for Failure {
+    ghost use Rattle.std.specs.Prelude.{◌≡◌};
+    ghost use Rattle.batchrun.specs.Statuses.{failure_of};
+
+    ghost from_gives = { λ fault failure. failure ≡ failure_of fault };
+
+    fn from(fault: JobError) -> Failure {
+        match fault {
+            JobError::Memory => Failure::Memory,
+            fault => Failure::Document(fault),
+        }
+    }
+}
+
+impl From<PlanError> for Failure {
+    ghost use Rattle.std.specs.Prelude.{◌≡◌};
+    ghost use Rattle.batchrun.specs.Statuses.{plan_failure};
+
+    ghost from_gives = { λ fault failure. failure ≡ plan_failure fault };
+
+    fn from(fault: PlanError) -> Failure {
+        match fault {
+            PlanError::Memory => Failure::Memory,
+            fault => Failure::Plan(fault),
+        }
+    }
+}
+
+/// Writes one line on why there is no report, or the help where the words are wrong.
+pub fn write_failure<W: Write>(failure: Failure, writer: &mut W) -> io::Result<()> {
+    match failure {
+        Failure::Usage => writer.write_all(HELP.as_bytes())?,
+        Failure::Document(fault) => writeln!(writer, "refused: {fault}")?,
+        Failure::Plan(fault) => writeln!(writer, "refused: {fault}")?,
+        Failure::Memory => writeln!(writer, "no memory")?,
+        Failure::Stream => writeln!(writer, "stream failed")?,
+    }
+    writer.flush()
+}

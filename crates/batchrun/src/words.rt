@@ -1,0 +1,14 @@
+//! The command line, and what each of its words does with a document.
+//!
+//! - `line`: which word the command line has.
+//! - `run`, `plan`, `check`: the words.
+
+mod check;
+mod line;
+mod plan;
+mod run;
+
+pub use check::run_check;
+pub use line::{LineFault, Word, line_of};
+pub use plan::run_plan;
+pub use run::run;

@@ -1,0 +1,46 @@
+//! The word `run`: a job is run, and its report is written.
+
+ghost use Rattle.std.specs.Prelude.{◌≡◌, ◌≢◌, ◌⊎◌, IfErr, IfOk, IfSome};
+ghost use Rattle.std.specs.Io.KnownBytes.{Appends, Keeps};
+ghost use Rattle.jb_job.specs.declared.error.JobError.{JobError};
+ghost use Rattle.jb_plan.specs.declared.fault.PlanError.{PlanError};
+ghost use Rattle.jb_documents.specs.RunDocument.{IsRefusedDocument};
+ghost use Rattle.jb_texts.specs.Statuses.{status_code};
+ghost use Rattle.batchrun.specs.Refusals.{IsRunFailure};
+ghost use Rattle.batchrun.specs.RunWord.{IsRefusedPlan, IsRun};
+
+use crate::run::run_job;
+use crate::streams::{Failure, read_all};
+use jb_documents::read_document;
+use jb_texts::{ReportText, Status};
+use std::alloc::Global;
+use std::io::{Read, Write};
+
+/// Writes the report whole, and gives the exit status.
+fn write_report<W: Write>(
+    status: Status,
+    report: &ReportText,
+    writer: &mut W,
+) -> Result<u8, Failure>
+    ensures ok { IfOk result (λ code. (code ≡ status_code status) × Appends (W.contents writer.old) (W.contents writer.new) report.now) }
+    ensures err { IfErr result (λ e. e ≡ Failure.Stream) }
+{
+    report.write_to(writer)?;
+    Ok(status.code())
+}
+
+/// Reads a document of `run`, runs its job and writes the report. The exit status is 0 where the job is completed, and 1
+/// where it failed.
+#[tactic(auto, using(crate::proofs::Refusals::refusals))]
+pub fn run<R: Read, W: Write>(alloc: Global, reader: &mut R, writer: &mut W) -> Result<u8, Failure>
+    ensures ok { IfOk result (IsRun (R.remaining reader.old) (W.contents writer.old) (W.contents writer.new)) }
+    ensures refused { IfErr result (λ e. (fault : JobError) → e ≡ Failure.Document fault → IfSome (R.remaining reader.old) (IsRefusedDocument fault)) }
+    ensures unplanned { IfErr result (λ e. (fault : PlanError) → e ≡ Failure.Plan fault → IfSome (R.remaining reader.old) (IsRefusedPlan fault)) }
+    ensures failures { IfErr result IsRunFailure }
+    ensures silent { IfErr result (λ e. e ≢ Failure.Stream → Keeps (W.contents writer.old) (W.contents writer.new)) }
+{
+    let bytes = read_all(alloc, reader)?;
+    let document = read_document(alloc, bytes)?;
+    let (status, report) = run_job(alloc, document)?;
+    write_report(status, &report, writer)
+}

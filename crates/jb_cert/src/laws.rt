@@ -1,0 +1,33 @@
+//! Laws over every load. The functions do nothing: their contracts are the laws.
+ghost use Rattle.jb_cert.specs.Laws.{BoundIsLeast, BoundIsCertified, CertifiedIsShortest, CertifiesWhatHolds, LeastPlanMeans, WrapAroundIsBound, WrapAroundIsLeast, SlotsAreKnown, LanesAreFound, PlacesLieRound};
+
+/// McNaughton's bound is the number of rounds of a least lawful plan, and its certificate holds.
+pub fn bound_is_least()
+    ensures least { BoundIsLeast }
+    ensures certified { BoundIsCertified }
+{}
+
+/// Where a certificate holds, no lawful plan is shorter; and the tests of certificates and of least plans answer yes
+/// where the certificate holds and the number of rounds is the least one, and nowhere else.
+pub fn tests_are_exact()
+    ensures shortest { CertifiedIsShortest }
+    ensures certifies { CertifiesWhatHolds }
+    ensures least { LeastPlanMeans }
+{}
+
+/// McNaughton's wrap-around stands for a least lawful plan, and each of its slots has a chunk of the load.
+pub fn wrap_around_is_least()
+    ensures bound { WrapAroundIsBound }
+    ensures least { WrapAroundIsLeast }
+    ensures known { SlotsAreKnown }
+{}
+
+/// In a round of the wrap-around the slot of a lane, if it has one, is found by its lane.
+pub fn lanes_are_found()
+    ensures { LanesAreFound }
+{}
+
+/// In the row of all chunks, the partition at a place is the one whose chunks lie round it.
+pub fn places_lie_round()
+    ensures { PlacesLieRound }
+{}

@@ -1,0 +1,92 @@
+-- What the functions that read and process a block keep, record by record.
+use Rattle.std.specs.Prelude.{ℕ, ◌≡◌, ◌+◌, ◌≤◌, ◌++◌, ◌⊎◌, length, false, Option, Some, None, option_to_list}
+use Rattle.jb_job.specs.declared.class.ClassId.{ClassId}
+use Rattle.jb_rules.specs.declared.row.Row.{Row}
+use Rattle.jb_job.specs.Records.{RulesRecord}
+use Rattle.jb_artifacts.specs.Faults.{Plans, live, used_at}
+use Rattle.jb_artifacts.specs.Meaning.{Workplace}
+use Rattle.jb_chunk.specs.declared.tally.Tally.{Tally}
+use Rattle.jb_chunk.specs.declared.gather.Gathered.{Gathered}
+use Rattle.jb_chunk.specs.declared.gather.Gathered.TheVariants.{Settled, Whole}
+use Rattle.jb_rules.specs.declared.choice.Choice.{Choice}
+use Rattle.jb_rules.specs.Rows.{skips_of}
+use Rattle.jb_chunk.specs.declared.entry.Entry.{Entry}
+use Rattle.jb_chunk.specs.Attempt.{BlockTally}
+use Rattle.jb_chunk.specs.Block.{entry, results, count_of, skips_before, choice_at, settling, passed, is_skip, stops, MayBeUsed}
+use Rattle.jb_chunk.specs.Entries.{fault_in, is_read_fault, is_process_fault, is_filtered, text_in, numbered, one_if}
+
+-- the tally of the records `lo` to `hi - 1`
+pub record IsTally (w : Workplace) (lo hi : ℕ) (t : Tally) : Type 0 where
+  pub found : t.found.items ≡ results w lo hi
+  pub read_skips : t.read_skips ≡ count_of is_read_fault w lo hi
+  pub process_skips : t.process_skips ≡ count_of is_process_fault w lo hi
+  pub filtered : t.filtered ≡ count_of is_filtered w lo hi
+
+-- the tally, by its numbers, of a block of so many records
+abbrev pub block_tally : (records : ℕ) → Tally → BlockTally
+block_tally records t = record {
+  records = records;
+  read_skips = t.read_skips;
+  process_skips = t.process_skips;
+  filtered = t.filtered;
+  found = length t.found.items;
+}
+
+-- a fault settled the block at its first record whose fault isn't skipped, or there is none
+abbrev pub IsGathered : RulesRecord → Row → Workplace → (hi : ℕ) → Gathered → Workplace → Type 0
+IsGathered rules row w hi (Settled number class choice) now =
+    (settling rules row w hi ≡ Some number)
+    × (fault_in (entry w number) ≡ Some class)
+    × (choice ≡ choice_at rules row class (skips_before row w number))
+    × (is_skip choice ≡ false)
+    × (now ≡ passed w row.at (number + 1))
+IsGathered rules row w hi (Whole tally) now =
+    (settling rules row w hi ≡ None) × IsTally w row.at hi tally × (now ≡ passed w row.at hi)
+
+-- the processor's plans after record `k`: only a record that was read is processed
+abbrev pub processed_at : (read_fault : Option ClassId) → Plans → ℕ → Plans
+processed_at (Some class) plans k = plans
+processed_at None plans k = used_at plans k
+
+-- reader and processor after record `k`
+abbrev pub passed_one : Workplace → ℕ → Workplace
+passed_one w k = record w {
+  reader = record w.reader { place = k + 1; faults = used_at w.reader.faults k };
+  processor = record w.processor { faults = processed_at (live (w.reader.faults k)) w.processor.faults k };
+}
+
+-- after record `k` without memory: it may be read, but it isn't processed
+abbrev pub IsWorn : Workplace → ℕ → Workplace → Type 0
+IsWorn w k now =
+    (now ≡ w)
+    ⊎ (now ≡ record w { reader = record w.reader { place = k + 1; faults = used_at w.reader.faults k } })
+
+-- reader and processor may have worked on, and nothing else
+pub record IsWornTo (w now : Workplace) : Type 0 where
+  pub reader : now.reader ≡ record w.reader { place = now.reader.place; faults = now.reader.faults }
+  pub processor : now.processor ≡ record w.processor { faults = now.processor.faults }
+  pub writer : now.writer ≡ w.writer
+  pub collector : now.collector ≡ w.collector
+  pub read_plans : MayBeUsed w.reader.faults now.reader.faults
+  pub process_plans : MayBeUsed w.processor.faults now.processor.faults
+
+-- the numbers of a tally are far from a limit
+pub record IsSmallTally (t : Tally) : Type 0 where
+  pub read_skips : t.read_skips ≤ 10000000
+  pub process_skips : t.process_skips ≤ 10000000
+  pub filtered : t.filtered ≤ 10000000
+
+-- the tally has one more record, with this entry
+pub record IsCountedUp (number : ℕ) (e : Entry) (old new : Tally) : Type 0 where
+  pub found : new.found.items ≡ old.found.items ++ option_to_list (numbered number (text_in e))
+  pub read_skips : new.read_skips ≡ old.read_skips + one_if (is_read_fault e)
+  pub process_skips : new.process_skips ≡ old.process_skips + one_if (is_process_fault e)
+  pub filtered : new.filtered ≡ old.filtered + one_if (is_filtered e)
+
+-- a record with this entry settled the block, or it is counted
+abbrev pub IsStep : RulesRecord → Row → Entry → (number : ℕ) → Tally → Option (ClassId × Choice) → Tally → Type 0
+IsStep rules row e number old (Some settled) new =
+    let choice = choice_at rules row settled.0 (skips_of row + old.read_skips + old.process_skips) in
+    (fault_in e ≡ Some settled.0) × (settled.1 ≡ choice) × (is_skip choice ≡ false)
+IsStep rules row e number old None new =
+    (stops rules row (fault_in e) (skips_of row + old.read_skips + old.process_skips) ≡ false) × IsCountedUp number e old new

@@ -1,0 +1,9 @@
+pub mod CheckDocument
+pub mod Classes
+pub mod FaultLists
+pub mod inside
+pub mod Limits
+pub mod PlanDocument
+pub mod RunDocument
+pub mod StepFields
+pub mod Worked

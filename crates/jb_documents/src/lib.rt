@@ -1,0 +1,21 @@
+//! The documents of the program: what the JSON text of each stands for, or its first fault.
+//!
+//! - `run`: the document of `run`, a job record and the data of each of its steps.
+//! - `plan`: the document of `plan`, counts of chunks and a number of threads.
+//! - `check`: the document of `check`, a plan that someone made and its certificate.
+//! - `taken`: trees taken apart by value.
+//!
+//! Each field is checked in the order of its document's table, and the first fault is the answer.
+#![tactic(auto)]
+
+mod check;
+mod plan;
+mod run;
+mod taken;
+
+pub use check::{PlanClaim, read_claim};
+pub use plan::{ChunkLoad, read_load};
+pub use run::{
+    ClassIds, DataList, Document, FaultKind, PlannedFault, PlannedFaults, Records, StepData,
+    StepFaults, read_document,
+};

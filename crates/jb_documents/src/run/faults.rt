@@ -1,0 +1,103 @@
+//! The faults that a document plans for the artifacts of a step.
+
+ghost use Rattle.std.specs.Prelude.{◌≡◌, []};
+
+use jb_job::ClassId;
+use std::alloc::Global;
+use std::marker::Model;
+
+/// Fault classes, in order.
+#[derive(Drop)]
+pub struct ClassIds {
+    classes: Vec<ClassId>,
+}
+
+impl Model for ClassIds {
+    ghost use Rattle.std.specs.Prelude.{List};
+    ghost use Rattle.jb_job.specs.declared.class.ClassId.{ClassId};
+
+    ghost Value = { List ClassId };
+
+    ghost view = { λ c. c.classes.items };
+}
+
+impl ClassIds {
+    pub fn new(classes: Vec<ClassId>) -> ClassIds
+        ensures { result ≡ classes.items }
+    {
+        ClassIds { classes }
+    }
+
+    pub fn as_slice(&self) -> &[ClassId]
+        ensures { result.now ≡ self.now }
+    {
+        self.classes.as_slice()
+    }
+}
+
+/// How the calls for a record fail.
+#[derive(Drop)]
+pub enum FaultKind {
+    /// Each call fails with this class.
+    Bad(ClassId),
+    /// One call fails for each of these classes, in order.
+    Shaky(ClassIds),
+}
+
+/// The fault that is planned for a record.
+#[derive(Drop)]
+pub struct PlannedFault {
+    /// The record's number, from 0.
+    pub number: u64,
+    pub kind: FaultKind,
+}
+
+/// The faults of an artifact, by rising number of their records.
+#[derive(Drop)]
+pub struct PlannedFaults {
+    faults: Vec<PlannedFault>,
+}
+
+impl Model for PlannedFaults {
+    ghost use Rattle.std.specs.Prelude.{List};
+    ghost use Rattle.jb_documents.specs.declared.run.faults.PlannedFault.{PlannedFault};
+
+    ghost Value = { List PlannedFault };
+
+    ghost view = { λ r. r.faults.items };
+}
+
+impl PlannedFaults {
+    pub fn new(faults: Vec<PlannedFault>) -> PlannedFaults
+        ensures { result ≡ faults.items }
+    {
+        PlannedFaults { faults }
+    }
+
+    pub fn as_slice(&self) -> &[PlannedFault]
+        ensures { result.now ≡ self.now }
+    {
+        self.faults.as_slice()
+    }
+}
+
+/// The faults of a step's reader, processor and writer.
+#[derive(Drop)]
+pub struct StepFaults {
+    pub read: PlannedFaults,
+    pub process: PlannedFaults,
+    pub write: PlannedFaults,
+}
+
+impl StepFaults {
+    /// No fault at all.
+    pub fn none(alloc: Global) -> StepFaults
+        ensures { result ≡ record { read = []; process = []; write = [] } }
+    {
+        StepFaults {
+            read: PlannedFaults::new(Vec::new(alloc)),
+            process: PlannedFaults::new(Vec::new(alloc)),
+            write: PlannedFaults::new(Vec::new(alloc)),
+        }
+    }
+}

@@ -1,0 +1,81 @@
+-- A step keeps the row rules.
+use Rattle.std.proofs.Common.{◌≡◌, ◌≢◌, ℕ, ◌+◌, ◌-◌, ◌<◌, ◌≤◌, Bool, true, false, ◌&&◌, nat_eq, refl, sym, ap, ◌∙◌, subst, arith}
+use Rattle.std.proofs.lemmas.Bool.Decides.{nat_tests}
+use Rattle.jb_rules.specs.declared.counts.Counts.{Counts}
+use Rattle.jb_rules.specs.declared.row.Row.{Row}
+use Rattle.jb_rules.specs.declared.row.RowState.TheVariants.{Running, Finished}
+use Rattle.jb_rules.specs.Counts.{IsDelta}
+use Rattle.jb_rules.specs.Rows.{row_block, committed_row}
+use Rattle.jb_rules.specs.Sound.{IsSoundRow}
+use Rattle.jb_rules.specs.States.{has_ended}
+use Rattle.jb_repo.specs.declared.events.Event.{Event}
+use Rattle.jb_repo.specs.declared.events.Event.TheVariants.{Plan, Begin, Commit, Roll, Fail, Drop, Round, Stop}
+use Rattle.jb_repo.specs.Table.{is_commit_of}
+use Rattle.jb_repo.specs.inside.Below.{LawsBelow}
+use Rattle.jb_repo.specs.inside.Steps.{step, CanStep}
+
+-- a true conjunction has true parts
+pub and_parts : (a b : Bool) → (a && b) ≡ true → (a ≡ true) × (b ≡ true)
+and_parts true b h = (refl, h)
+and_parts false b h = absurd cc
+
+eqb_fact : (a b : ℕ) → nat_eq a b ≡ true → a ≡ b
+eqb_fact a b h = grind (arith, nat_tests)
+
+-- a row that isn't finished has a record left
+pub before-end : (row : Row) → IsSoundRow row → row.state ≢ Finished → row.at < row.hi
+before-end row s going =
+    let apart : row.at ≢ row.hi = λ e. going (s.finished.1 e) in
+    omega (arith, s.placed.at_to, apart)
+
+pub waiting-before-end : (row : Row) → IsSoundRow row → has_ended row.state ≡ false → row.at < row.hi
+waiting-before-end row s unended =
+    before-end row s (λ e. let h = ap has_ended e in cc)
+
+pub running-before-end : (row : Row) (lane : ℕ) → IsSoundRow row → row.state ≡ Running lane → row.at < row.hi
+running-before-end row lane s runs = before-end row s (λ e. cc)
+
+-- what a good commit says
+pub record IsCommitOf (c : ℕ) (row : Row) (d : Counts) (w : ℕ) : Type 0 where
+  pub delta : IsDelta ((row_block c row).hi - row.at) d
+  pub written : w ≡ row.written + d.write
+
+pub commit_facts : (laws : LawsBelow) (c : ℕ) (row : Row) (d : Counts) (w : ℕ) → is_commit_of c row d w ≡ true → IsCommitOf c row d w
+commit_facts laws c row d w h =
+    let p = and_parts _ _ h in
+    record { delta = (laws.deltas ((row_block c row).hi - row.at) d).0 p.0; written = eqb_fact _ _ p.1 }
+
+module _ (laws : LawsBelow) (c : ℕ) (row : Row) (some : 1 ≤ c) (s : IsSoundRow row) (lt : row.at < row.hi) where
+  block_some : row.at < (row_block c row).hi
+  block_some = (laws.chunks.next row.at row.redo row.hi c lt s.placed.redo_to some).some
+
+  block_within : (row_block c row).hi ≤ row.hi
+  block_within = (laws.chunks.next row.at row.redo row.hi c lt s.placed.redo_to some).within
+
+  -- a commit passes the row's next block
+  pub passed-block : (d : Counts) (w : ℕ) → IsCommitOf c row d w → row.at + (d.read + d.read_skip) ≡ (row_block c row).hi
+  passed-block d w k =
+      let more = block_some in
+      let passed = k.delta.passed in
+      omega (arith, more, passed)
+
+  -- and leaves the row that is committed
+  pub commit-is : (l : ℕ) (d : Counts) (w : ℕ) → IsCommitOf c row d w → step c row (Commit l d w) ≡ committed_row row (row_block c row).hi d
+  commit-is l d w k =
+      ap (λ (at : ℕ). record (committed_row row at d) { written = w }) (passed-block d w k)
+      ∙ ap (λ (n : ℕ). record (committed_row row (row_block c row).hi d) { written = n }) k.written
+
+  sound-commit : (l : ℕ) (d : Counts) (w : ℕ) → IsCommitOf c row d w → IsSoundRow (step c row (Commit l d w))
+  sound-commit l d w k =
+      subst IsSoundRow (sym (commit-is l d w k)) (laws.rows.committed row (row_block c row).hi d s block_some block_within k.delta)
+
+pub sound-step : (laws : LawsBelow) (c : ℕ) (row : Row) → 1 ≤ c → (e : Event) → CanStep c row e → IsSoundRow (step c row e)
+sound-step laws c row some (Plan n k) can = can.sound
+sound-step laws c row some (Begin l p) can = laws.rows.begun row l can.sound can.unfinished
+sound-step laws c row some (Commit l d w) can = sound-commit laws c row some can.sound can.unfinished l d w (commit_facts laws c row d w can.commit)
+sound-step laws c row some (Roll l k) can =
+    laws.rows.rolled row (row_block c row).hi can.sound can.unfinished (block_within laws c row some can.sound can.unfinished) (can.below_limit tt)
+sound-step laws c row some (Fail l k) can = laws.rows.failed row can.sound can.unfinished (can.below_limit tt)
+sound-step laws c row some (Drop l) can = laws.rows.dropped row can.sound can.unfinished
+sound-step laws c row some Round can = can.sound
+sound-step laws c row some Stop can = can.sound

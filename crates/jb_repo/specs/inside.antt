@@ -1,0 +1,4 @@
+pub mod Below
+pub mod Fit
+pub mod Sized
+pub mod Steps

@@ -1,0 +1,3 @@
+-- What only this crate's own functions and proofs speak of.
+pub mod Starts
+pub mod Index

@@ -1,0 +1,18 @@
+-- How a partition stands, by the state of its row.
+use Rattle.std.specs.Prelude.{Bool, true, false}
+use Rattle.jb_rules.specs.declared.row.RowState.{RowState}
+use Rattle.jb_rules.specs.declared.row.RowState.TheVariants.{Waiting, Running, Finished, Failed}
+
+abbrev pub is_waiting : RowState → Bool
+is_waiting Waiting = true
+is_waiting _ = false
+
+abbrev pub is_running : RowState → Bool
+is_running (Running lane) = true
+is_running _ = false
+
+-- no chunk of the partition is begun any more
+abbrev pub has_ended : RowState → Bool
+has_ended Finished = true
+has_ended Failed = true
+has_ended _ = false

@@ -1,0 +1,35 @@
+use Rattle.jb_chunk.proofs.Worked.{first_run, everything_filtered, no_record, retry_to_singles, skip_in_redo, one_failed, torn_write, retry_limit, read_skip, rolled_back_skip, plain_runs}
+use Rattle.jb_tests.proofs.chunk.worked.worked_rows.Goals as goal
+
+pub returns-clause-first_run : goal.returns-clause-first_run
+returns-clause-first_run c = first_run
+
+pub returns-clause-everything_filtered : goal.returns-clause-everything_filtered
+returns-clause-everything_filtered c = everything_filtered
+
+pub returns-clause-no_record : goal.returns-clause-no_record
+returns-clause-no_record c = no_record
+
+pub returns-clause-retry_to_singles : goal.returns-clause-retry_to_singles
+returns-clause-retry_to_singles c = retry_to_singles
+
+pub returns-clause-skip_in_redo : goal.returns-clause-skip_in_redo
+returns-clause-skip_in_redo c = skip_in_redo
+
+pub returns-clause-one_failed : goal.returns-clause-one_failed
+returns-clause-one_failed c = one_failed
+
+pub returns-clause-torn_write : goal.returns-clause-torn_write
+returns-clause-torn_write c = torn_write
+
+pub returns-clause-retry_limit : goal.returns-clause-retry_limit
+returns-clause-retry_limit c = retry_limit
+
+pub returns-clause-read_skip : goal.returns-clause-read_skip
+returns-clause-read_skip c = read_skip
+
+pub returns-clause-rolled_back_skip : goal.returns-clause-rolled_back_skip
+returns-clause-rolled_back_skip c = rolled_back_skip
+
+pub returns-clause-plain_runs : goal.returns-clause-plain_runs
+returns-clause-plain_runs c = plain_runs

@@ -1,0 +1,86 @@
+//! Worked rows, run alone with the ready artifacts: that they find their memory.
+
+use jb_artifacts::{
+    ArtifactsOf, CountCollector, FaultPlan, FaultPlans, Item, ItemWriter, ListWriter,
+    PrefixProcessor, TableReader,
+};
+use jb_chunk::{AloneEnd, PartitionTask, Task, run_alone};
+use jb_job::{ClassId, Range, Rules};
+use jb_rules::{Row, RowState};
+use std::alloc::Global;
+use std::test::*;
+
+/// The plans by which the calls for record 1 always fail, with the class of number 0.
+fn bad_one(alloc: Global) -> Result<FaultPlans, Fail> {
+    let mut plans = FaultPlans::new(alloc);
+    plans.insert(1, FaultPlan::Bad(ClassId::new(0)))?;
+    Ok(plans)
+}
+
+/// What a partition that ran alone left.
+#[derive(Drop)]
+struct Ran {
+    row: Row,
+    end: AloneEnd,
+    last: Vec<u8>,
+}
+
+/// Runs a partition of the letters a to d alone, with a processor that puts an x before each. The class of number 0 is
+/// skippable and the classes `retryable` are retried. Answers the last output too.
+fn run(
+    alloc: Global,
+    item_count: u64,
+    retryable: u64,
+    processes: FaultPlans,
+    writes: FaultPlans,
+) -> Result<Ran, Fail> {
+    let mut records = Vec::new(alloc);
+    for byte in b"abcd" {
+        records.push(Item::copy_of(alloc, &[*byte])?)?;
+    }
+    let prefix = Item::copy_of(alloc, b"x")?;
+    let artifacts = ArtifactsOf {
+        reader: TableReader::new(alloc, 0, records, FaultPlans::new(alloc)),
+        processor: PrefixProcessor::new(alloc, prefix, None, processes),
+        writer: ListWriter::new(alloc, Vec::new(alloc), writes),
+        collector: CountCollector::new(alloc),
+    };
+    let row = Row::fresh(Range { lo: 0, hi: 4 });
+    if !row.sound() || row.state != RowState::Waiting || !Task::fits(&artifacts, &row) {
+        return Err(Fail::from("a task"));
+    }
+    if item_count < 1 || item_count > 1_000_000 {
+        return Err(Fail::from("an item count"));
+    }
+    let rules = Rules {
+        skippable: 1,
+        retryable,
+        skip_limit: Some(1),
+        retry_limit: 1000,
+    };
+    let alone = run_alone(alloc, Task::start(0, row, rules, item_count, artifacts));
+    let row = *alone.task.row();
+    let artifacts = alone.task.into_artifacts();
+    let last = match artifacts.writer.item_at(row.written.saturating_sub(1)) {
+        Some(text) => Vec::from_slice(alloc, text)?,
+        None => Vec::new(alloc),
+    };
+    Ok(Ran {
+        row,
+        end: alone.end,
+        last,
+    })
+}
+
+#[test]
+fn rows(rt: HostRuntime) -> Result<(), Fail> {
+    let alloc = rt.alloc();
+    let skipped = run(alloc, 2, 1, bad_one(alloc)?, FaultPlans::new(alloc))?;
+    assert_eq!(rt; skipped.end, AloneEnd::Finished);
+    assert_eq!(rt; (skipped.row.written, skipped.row.counts.rollback), (3, 1));
+    assert_eq!(rt; skipped.last.as_slice(), b"xd".as_slice());
+    let torn = run(alloc, 4, 0, FaultPlans::new(alloc), bad_one(alloc)?)?;
+    assert_eq!(rt; torn.end, AloneEnd::Finished);
+    assert_eq!(rt; (torn.row.written, torn.row.counts.write_skip), (0, 1));
+    Ok(())
+}

@@ -1,0 +1,372 @@
+//! The worked lists of events, the refusals, the limits, and memory that is refused.
+
+ghost use Rattle.std.specs.Prelude.{◌≡◌, ◌∷◌, [], Some, None, IfOk};
+ghost use Rattle.jb_rules.specs.Rows.{fresh_row};
+ghost use Rattle.jb_job.specs.declared.class.ClassId.{ClassId};
+ghost use Rattle.jb_repo.specs.Openable.{IsOpenable, opened_journal};
+ghost use Rattle.jb_repo.specs.Rows.{total_counts};
+ghost use Rattle.jb_repo.specs.Table.{rows_of};
+ghost use Rattle.jb_repo.specs.Worked.{table_answers, journal_after};
+ghost use Rattle.jb_repo.specs.Worked.{fresh, two_partitions, walk, answered, finished, four_records, rollback, given_up, one_record, tries, tried_out, at_limit};
+
+use jb_cert::Certificate;
+use jb_job::{ClassId, Range};
+use jb_repo::*;
+use jb_rules::{Counts, MAX_ROLLBACKS, Row, RowState};
+use std::alloc::{AllocError, Global};
+use std::process::Abort;
+use std::test::Fail;
+
+/// The definitions, computed on the worked lists of events.
+fn worked_lists()
+    ensures in_order { table_answers two_partitions (walk 0 1) ≡ answered }
+    ensures other_order { table_answers two_partitions (walk 1 0) ≡ answered }
+    ensures rows { rows_of (journal_after two_partitions (walk 0 1)) ≡ finished 0 2 ∷ finished 2 4 ∷ [] }
+    ensures same_rows { rows_of (journal_after two_partitions (walk 1 0)) ≡ finished 0 2 ∷ finished 2 4 ∷ [] }
+    ensures totals { total_counts (finished 0 2 ∷ finished 2 4 ∷ []) ≡ record { read = 4; write = 4; commit = 2; rollback = 0; read_skip = 0; process_skip = 0; filter = 0; write_skip = 0 } }
+    ensures rolled_back { (class : ClassId) → table_answers four_records (rollback class) ≡ None ∷ None ∷ None ∷ Some Refused.LaneBusy ∷ None ∷ Some Refused.PastPlan ∷ Some Refused.BadPlan ∷ None ∷ [] }
+    ensures given_up { rows_of (journal_after two_partitions given_up) ≡ finished 0 2 ∷ fresh 2 4 ∷ [] }
+    ensures tries { (class : ClassId) → table_answers one_record (tries class) ≡ None ∷ None ∷ None ∷ None ∷ None ∷ None ∷ None ∷ None ∷ None ∷ None ∷ None ∷ None ∷ Some Refused.NotIdle ∷ None ∷ [] }
+    ensures failed { (class : ClassId) → rows_of (journal_after one_record (tries class)) ≡ tried_out ∷ [] }
+    ensures at_limit { table_answers at_limit (Event.Plan 1 (Certificate.Longest 0) ∷ Event.Begin 0 0 ∷ []) ≡ None ∷ Some Refused.Full ∷ [] }
+{}
+
+const TWO_RECORDS: Counts = Counts {
+    read: 2,
+    write: 2,
+    commit: 1,
+    rollback: 0,
+    read_skip: 0,
+    process_skip: 0,
+    filter: 0,
+    write_skip: 0,
+};
+
+/// Fresh rows of these ranges.
+fn rows_of(alloc: Global, ranges: &[(u64, u64)]) -> Result<Vec<Row>, AllocError> {
+    let mut rows = Vec::new(alloc);
+    for (lo, hi) in ranges {
+        rows.push(Row::fresh(Range { lo: *lo, hi: *hi }))?;
+    }
+    Ok(rows)
+}
+
+/// A repository of these rows.
+fn opened(rt: &impl Abort, rows: Vec<Row>, threads: u32, item_count: u64) -> Repo {
+    assert!(rt; can_open(rows.as_slice(), threads, item_count));
+    Repo::new(rows, threads, item_count)
+}
+
+/// Two partitions of two records each, two threads, chunks of two items.
+fn two_partitions(rt: &impl Abort, alloc: Global) -> Result<Repo, AllocError> {
+    Ok(opened(rt, rows_of(alloc, &[(0, 2), (2, 4)])?, 2, 2))
+}
+
+/// The events of the walk with their answers; lane `first` commits before lane `second`.
+fn walk(first: u32, second: u32) -> [(Event, Option<Refused>); 17] {
+    [
+        (
+            Event::Plan(2, Certificate::FullLoad),
+            Some(Refused::BadPlan),
+        ),
+        (Event::Plan(1, Certificate::Longest(0)), None),
+        (Event::Begin(0, 0), None),
+        (Event::Begin(1, 0), Some(Refused::NotIdle)),
+        (Event::Begin(0, 1), Some(Refused::LaneBusy)),
+        (Event::Begin(2, 1), Some(Refused::LaneRange)),
+        (Event::Begin(1, 2), Some(Refused::NoPartition)),
+        (Event::Begin(1, 1), None),
+        (Event::Round, Some(Refused::StillRunning)),
+        (
+            Event::Commit(first, TWO_RECORDS, 1),
+            Some(Refused::BadDelta),
+        ),
+        (Event::Commit(first, TWO_RECORDS, 2), None),
+        (Event::Commit(second, TWO_RECORDS, 2), None),
+        (Event::Commit(0, TWO_RECORDS, 2), Some(Refused::NotRunning)),
+        (Event::Round, None),
+        (Event::Round, Some(Refused::PastPlan)),
+        (Event::Stop, None),
+        (
+            Event::Plan(0, Certificate::Nothing),
+            Some(Refused::Stopping),
+        ),
+    ]
+}
+
+/// Applies the events one after another, each of which has this answer.
+fn apply_all(rt: &impl Abort, repo: &mut Repo, events: &[(Event, Option<Refused>)]) {
+    for (event, expected) in events {
+        let answer = repo.apply(*event).err();
+        assert!(rt; answer == *expected, "{event:?}: {answer:?}");
+    }
+}
+
+fn run_walk(rt: &impl Abort, alloc: Global, first: u32, second: u32) -> Result<Repo, AllocError> {
+    let mut repo = two_partitions(rt, alloc)?;
+    apply_all(rt, &mut repo, &walk(first, second));
+    Ok(repo)
+}
+
+#[test]
+fn both_orders(rt: HostRuntime) -> Result<(), Fail> {
+    worked_lists();
+    let one = run_walk(&rt, rt.alloc(), 0, 1)?;
+    let other = run_walk(&rt, rt.alloc(), 1, 0)?;
+    let shown = one.snapshot()?;
+    let other_shown = other.snapshot()?;
+    assert!(rt; shown.rows == other_shown.rows);
+    assert!(rt; one.history() != other.history());
+    let done = Counts {
+        read: 4,
+        write: 4,
+        commit: 2,
+        ..Counts::ZERO
+    };
+    assert!(rt; one.totals() == done);
+    assert!(rt; shown.totals == done);
+    assert!(rt; shown.events == 7 && shown.plans == 1 && shown.stopping);
+    for row in &shown.rows {
+        assert!(rt; row.state == RowState::Finished && row.at == row.hi && row.written == 2);
+    }
+    Ok(())
+}
+
+#[test]
+fn refusals_of_each_event(rt: HostRuntime) -> Result<(), Fail> {
+    let class = ClassId::new(0);
+    let plan = Event::Plan(1, Certificate::Longest(0));
+    let commit = Event::Commit(0, TWO_RECORDS, 2);
+    let events = [
+        (Event::Begin(0, 0), Some(Refused::PastPlan)),
+        (Event::Round, Some(Refused::PastPlan)),
+        (
+            Event::Plan(1, Certificate::Longest(2)),
+            Some(Refused::BadPlan),
+        ),
+        (Event::Plan(1, Certificate::Nothing), Some(Refused::BadPlan)),
+        (plan, None),
+        (plan, Some(Refused::StillRunning)),
+        (Event::Commit(2, TWO_RECORDS, 2), Some(Refused::LaneRange)),
+        (Event::Roll(2, class), Some(Refused::LaneRange)),
+        (Event::Fail(2, class), Some(Refused::LaneRange)),
+        (Event::Drop(2), Some(Refused::LaneRange)),
+        (commit, Some(Refused::NotRunning)),
+        (Event::Roll(0, class), Some(Refused::NotRunning)),
+        (Event::Fail(0, class), Some(Refused::NotRunning)),
+        (Event::Drop(0), Some(Refused::NotRunning)),
+        (Event::Begin(2, 2), Some(Refused::NoPartition)),
+        (Event::Begin(0, 0), None),
+        (Event::Begin(1, 1), None),
+        (plan, Some(Refused::StillRunning)),
+        (commit, None),
+        (Event::Begin(0, 0), Some(Refused::LaneBusy)),
+        (Event::Drop(1), None),
+        (Event::Round, None),
+        (Event::Begin(0, 1), Some(Refused::PastPlan)),
+        (Event::Plan(1, Certificate::Longest(1)), None),
+        (Event::Begin(0, 0), Some(Refused::NotIdle)),
+        (Event::Begin(0, 1), None),
+        (Event::Fail(0, class), None),
+        (Event::Begin(1, 1), Some(Refused::NotIdle)),
+        (Event::Stop, None),
+        (Event::Begin(1, 1), Some(Refused::Stopping)),
+        (Event::Round, None),
+        (
+            Event::Plan(0, Certificate::Nothing),
+            Some(Refused::Stopping),
+        ),
+        (Event::Stop, None),
+    ];
+    let mut repo = two_partitions(&rt, rt.alloc())?;
+    apply_all(&rt, &mut repo, &events);
+    Ok(())
+}
+
+#[test]
+fn a_rollback_ends_the_plan(rt: HostRuntime) -> Result<(), Fail> {
+    let mut repo = opened(&rt, rows_of(rt.alloc(), &[(0, 4)])?, 1, 4);
+    let events = [
+        Event::Plan(1, Certificate::Longest(0)),
+        Event::Begin(0, 0),
+        Event::Roll(0, ClassId::new(0)),
+        Event::Round,
+        Event::Begin(0, 0),
+        Event::Plan(1, Certificate::Longest(0)),
+        Event::Plan(4, Certificate::Longest(0)),
+    ];
+    let answers = run_events(&mut repo, &events)?;
+    let expected = [
+        None,
+        None,
+        None,
+        None,
+        Some(Refused::PastPlan),
+        Some(Refused::BadPlan),
+        None,
+    ];
+    assert!(rt; answers.as_slice() == expected.as_slice());
+    let shown = repo.snapshot()?;
+    assert!(rt; shown.events == 5 && shown.plans == 2 && !shown.stopping);
+    for row in &shown.rows {
+        assert!(rt; row.redo == 4 && row.retries == 1 && row.counts.rollback == 1);
+    }
+    Ok(())
+}
+
+/// What a chunk of one written record adds.
+const ONE_RECORD: Counts = Counts {
+    read: 1,
+    write: 1,
+    commit: 1,
+    ..Counts::ZERO
+};
+
+#[test]
+fn many_partitions_and_threads(rt: HostRuntime) -> Result<(), Fail> {
+    let mut rows = Vec::new(rt.alloc());
+    for lo in 0..256 {
+        rows.push(Row::fresh(Range { lo, hi: lo + 1 }))?;
+    }
+    let mut repo = opened(&rt, rows, 64, 1);
+    assert!(rt; repo.apply(Event::Plan(3, Certificate::FullLoad)) == Err(Refused::BadPlan));
+    assert!(rt; repo.apply(Event::Plan(4, Certificate::FullLoad)).is_ok());
+    for round in 0..4 {
+        for lane in 0..64 {
+            assert!(rt; repo.apply(Event::Begin(lane, round * 64 + lane)).is_ok());
+        }
+        assert!(rt; repo.apply(Event::Begin(64, 0)) == Err(Refused::LaneRange));
+        assert!(rt; repo.apply(Event::Begin(0, 256)) == Err(Refused::NoPartition));
+        for lane in 0..64 {
+            assert!(rt; repo.apply(Event::Commit(lane, ONE_RECORD, 1)).is_ok());
+        }
+        assert!(rt; repo.apply(Event::Round).is_ok());
+    }
+    assert_eq!(rt; repo.totals().commit, 256);
+    assert!(rt; repo.apply(Event::Plan(0, Certificate::Nothing)).is_ok());
+    Ok(())
+}
+
+#[test]
+fn a_partition_at_its_limit_of_rollbacks(rt: HostRuntime) -> Result<(), Fail> {
+    let class = ClassId::new(0);
+    for (before, answer) in [
+        (MAX_ROLLBACKS, Err(Refused::Full)),
+        (MAX_ROLLBACKS - 1, Ok(())),
+    ] {
+        let mut row = Row::fresh(Range { lo: 0, hi: 1 });
+        row.counts.rollback = before;
+        let mut rows = Vec::new(rt.alloc());
+        rows.push(row)?;
+        let mut repo = opened(&rt, rows, 1, 1);
+        assert!(rt; repo.apply(Event::Plan(1, Certificate::Longest(0))).is_ok());
+        assert!(rt; repo.apply(Event::Begin(0, 0)) == answer);
+        let rolled = repo.apply(Event::Roll(0, class));
+        assert_eq!(rt; rolled.is_ok(), answer.is_ok());
+        assert_eq!(rt; repo.totals().rollback, MAX_ROLLBACKS);
+    }
+    Ok(())
+}
+
+#[test]
+fn what_a_repository_is_opened_with(rt: HostRuntime) -> Result<(), Fail> {
+    let cases: [(&[(u64, u64)], u32, u64, bool); 10] = [
+        (&[(0, 2), (2, 4)], 2, 2, true),
+        (&[(2, 4), (0, 2), (3, 3)], 64, 1_000_000, true),
+        (&[(0, 3), (2, 4)], 2, 2, false),
+        (&[(0, 2), (7, 9), (1, 2)], 2, 2, false),
+        (&[], 2, 2, false),
+        (&[(0, 10_000_001)], 2, 2, false),
+        (&[(0, 2)], 0, 2, false),
+        (&[(0, 2)], 65, 2, false),
+        (&[(0, 2)], 1, 0, false),
+        (&[(0, 2)], 1, 1_000_001, false),
+    ];
+    for (ranges, threads, item_count, want) in cases {
+        let rows = rows_of(rt.alloc(), ranges)?;
+        assert_eq!(rt; can_open(rows.as_slice(), threads, item_count), want);
+    }
+    let mut running = Row::fresh(Range { lo: 0, hi: 2 });
+    running.state = RowState::Running(0);
+    assert!(rt; !can_open(&[running], 1, 1));
+    let many = vec![in rt.alloc(); Row::fresh(Range { lo: 0, hi: 0 }); 257]?;
+    assert!(rt; !can_open(many.as_slice(), 1, 1));
+    assert!(rt; can_open(&many.as_slice()[1..], 1, 1));
+    Ok(())
+}
+
+/// Applies an event that is lawful. Where its memory is refused nothing changes, and the event is accepted afterwards.
+fn apply_lawful(rt: &impl Abort, repo: &mut Repo, event: Event) {
+    let events = repo.history().len();
+    let totals = repo.totals();
+    if let Err(refused) = repo.apply(event) {
+        assert!(rt; refused == Refused::Memory);
+        assert!(rt; repo.history().len() == events && repo.totals() == totals);
+        assert!(rt; repo.apply(event).is_ok());
+    }
+    assert!(rt; repo.history().len() == events + 1);
+}
+
+/// Run also with each request for memory refused in turn.
+#[test]
+fn memory_refused(rt: HostRuntime) {
+    let Ok(mut repo) = two_partitions(&rt, rt.alloc()) else {
+        return;
+    };
+    apply_lawful(&rt, &mut repo, Event::Plan(1, Certificate::Longest(0)));
+    apply_lawful(&rt, &mut repo, Event::Begin(0, 0));
+    assert!(rt; repo.apply(Event::Commit(0, TWO_RECORDS, 2)).is_ok());
+    apply_lawful(&rt, &mut repo, Event::Begin(1, 1));
+    assert!(rt; repo.apply(Event::Drop(1)).is_ok());
+    apply_lawful(&rt, &mut repo, Event::Round);
+    match repo.snapshot() {
+        Ok(shown) => assert!(rt; shown.events == 6 && shown.totals == TWO_RECORDS),
+        Err(_) => assert!(rt; repo.snapshot().is_ok()),
+    }
+    let events = [
+        Event::Plan(1, Certificate::Longest(1)),
+        Event::Begin(0, 1),
+        Event::Commit(0, TWO_RECORDS, 4),
+        Event::Commit(0, TWO_RECORDS, 2),
+        Event::Round,
+        Event::Stop,
+    ];
+    let before = repo.history().len();
+    let Ok(answers) = run_events(&mut repo, &events) else {
+        assert!(rt; repo.history().len() == before);
+        assert!(rt; run_events(&mut repo, &events).is_ok());
+        return;
+    };
+    let refused = answers
+        .iter()
+        .filter(|answer| **answer == Some(Refused::Memory));
+    if refused.count() == 0 {
+        let bad = answers
+            .iter()
+            .filter(|answer| **answer == Some(Refused::BadDelta));
+        assert!(rt; bad.count() == 1 && repo.history().len() == before + 5);
+    }
+}
+
+#[test]
+fn names_of_refusals(rt: HostRuntime) -> Result<(), Fail> {
+    let names = [
+        (Refused::Stopping, "Stopping"),
+        (Refused::NoPartition, "NoPartition"),
+        (Refused::LaneRange, "LaneRange"),
+        (Refused::LaneBusy, "LaneBusy"),
+        (Refused::NotIdle, "NotIdle"),
+        (Refused::NotRunning, "NotRunning"),
+        (Refused::BadDelta, "BadDelta"),
+        (Refused::StillRunning, "StillRunning"),
+        (Refused::PastPlan, "PastPlan"),
+        (Refused::BadPlan, "BadPlan"),
+        (Refused::Memory, "Memory"),
+        (Refused::Full, "Full"),
+    ];
+    for (refused, name) in names {
+        let text = format!(in rt.alloc(); "{refused}")?;
+        assert_eq!(rt; text.as_str(), name);
+    }
+    Ok(())
+}

@@ -1,0 +1,240 @@
+ghost use Rattle.std.specs.Prelude.{◌≡◌, ◌≤◌, ◌<◌, Some, None, slice_index, true, false};
+ghost use Rattle.jb_rules.specs.Counts.{no_counts, is_delta};
+ghost use Rattle.jb_rules.specs.Decide.{choice_by, is_below};
+ghost use Rattle.jb_rules.specs.Rows.{fresh_row, begun_row, committed_row, rolled_row, failed_row, dropped_row};
+ghost use Rattle.jb_rules.specs.Sound.{IsSoundRow};
+
+use jb_job::{ClassId, Range, Rules};
+use jb_rules::*;
+
+/// The numbers of a row in the order of a saved text: lo, hi, at, redo, retries, written, and the eight counts.
+fn row_of(numbers: [u64; 14], state: RowState) -> Row {
+    Row {
+        lo: numbers[0],
+        hi: numbers[1],
+        at: numbers[2],
+        redo: numbers[3],
+        retries: numbers[4],
+        written: numbers[5],
+        counts: counts_of([
+            numbers[6],
+            numbers[7],
+            numbers[8],
+            numbers[9],
+            numbers[10],
+            numbers[11],
+            numbers[12],
+            numbers[13],
+        ]),
+        state,
+    }
+}
+
+fn counts_of(numbers: [u64; 8]) -> Counts
+    ensures { result ≡ record { read = slice_index numbers 0; write = slice_index numbers 1; commit = slice_index numbers 2; rollback = slice_index numbers 3; read_skip = slice_index numbers 4; process_skip = slice_index numbers 5; filter = slice_index numbers 6; write_skip = slice_index numbers 7 } }
+{
+    Counts {
+        read: numbers[0],
+        write: numbers[1],
+        commit: numbers[2],
+        rollback: numbers[3],
+        read_skip: numbers[4],
+        process_skip: numbers[5],
+        filter: numbers[6],
+        write_skip: numbers[7],
+    }
+}
+
+/// The rule of faults, computed: skipping and retrying may both be open, one of them, or none.
+fn worked_choices()
+    ensures both { choice_by false true true ≡ Choice.Retry }
+    ensures both_again { choice_by true true true ≡ Choice.Skip }
+    ensures skip { choice_by false true false ≡ Choice.Skip }
+    ensures retry_again { choice_by true false true ≡ Choice.Retry }
+    ensures none { choice_by false false false ≡ Choice.Fail }
+    ensures none_again { choice_by true false false ≡ Choice.Fail }
+    ensures at_limit { is_below (Some 1) 1 ≡ false }
+    ensures no_limit { is_below None 10000000 ≡ true }
+{}
+
+/// The life of a row, computed: a partition of four records whose first chunk of two is begun, given up, begun again,
+/// rolled back, and done again record by record; then the write of the rest is skipped.
+fn worked_rows()
+    ensures fresh { fresh_row (record { lo = 0; hi = 4 }) ≡ record { lo = 0; hi = 4; at = 0; redo = 0; retries = 0; written = 0; counts = no_counts; state = RowState.Waiting } }
+    ensures empty { fresh_row (record { lo = 2; hi = 2 }) ≡ record { lo = 2; hi = 2; at = 2; redo = 2; retries = 0; written = 0; counts = no_counts; state = RowState.Finished } }
+    ensures begun { begun_row (fresh_row (record { lo = 0; hi = 4 })) 3 ≡ record (fresh_row (record { lo = 0; hi = 4 })) { state = RowState.Running 3 } }
+    ensures dropped { dropped_row (begun_row (fresh_row (record { lo = 0; hi = 4 })) 3) ≡ fresh_row (record { lo = 0; hi = 4 }) }
+    ensures rolled { rolled_row (begun_row (fresh_row (record { lo = 0; hi = 4 })) 3) 2 ≡ record { lo = 0; hi = 4; at = 0; redo = 2; retries = 1; written = 0; counts = record no_counts { rollback = 1 }; state = RowState.Waiting } }
+    ensures earlier { (rolled_row (record (fresh_row (record { lo = 0; hi = 4 })) { redo = 3 }) 2).redo ≡ 3 }
+    ensures committed { committed_row (rolled_row (fresh_row (record { lo = 0; hi = 4 })) 2) 1 (record no_counts { read = 1; write = 1; commit = 1 }) ≡ record { lo = 0; hi = 4; at = 1; redo = 2; retries = 1; written = 1; counts = record no_counts { read = 1; write = 1; commit = 1; rollback = 1 }; state = RowState.Waiting } }
+    ensures finished { (committed_row (record (fresh_row (record { lo = 0; hi = 4 })) { at = 2 }) 4 (record no_counts { read = 2; commit = 1; write_skip = 1 })).state ≡ RowState.Finished }
+    ensures failed { failed_row (begun_row (fresh_row (record { lo = 4; hi = 5 })) 0) ≡ record { lo = 4; hi = 5; at = 4; redo = 4; retries = 0; written = 0; counts = record no_counts { rollback = 1 }; state = RowState.Failed } }
+    ensures torn { IsSoundRow (record { lo = 0; hi = 3; at = 3; redo = 0; retries = 0; written = 0; counts = record no_counts { read = 3; commit = 1; write_skip = 1 }; state = RowState.Finished }) }
+{}
+
+/// What a chunk of two records may add to the counts, computed: one read skipped and one item written, a write skipped
+/// with one result; and what it may not: a record too few, two commits, a rollback, an item that nothing became of,
+/// a skipped write with no result, or with one written.
+fn worked_deltas()
+    ensures written { is_delta 2 (record no_counts { read = 1; write = 1; commit = 1; read_skip = 1 }) ≡ true }
+    ensures skipped { is_delta 2 (record no_counts { read = 2; commit = 1; filter = 1; write_skip = 1 }) ≡ true }
+    ensures few { is_delta 2 (record no_counts { read = 1; write = 1; commit = 1 }) ≡ false }
+    ensures commits { is_delta 2 (record no_counts { read = 2; write = 2; commit = 2 }) ≡ false }
+    ensures rolled { is_delta 2 (record no_counts { read = 2; write = 2; commit = 1; rollback = 1 }) ≡ false }
+    ensures lost { is_delta 2 (record no_counts { read = 2; write = 1; commit = 1 }) ≡ false }
+    ensures nothing { is_delta 2 (record no_counts { read = 2; commit = 1; filter = 2; write_skip = 1 }) ≡ false }
+    ensures both { is_delta 2 (record no_counts { read = 2; write = 1; commit = 1; write_skip = 1 }) ≡ false }
+{}
+
+#[test]
+fn faults_settled(rt: HostRuntime) {
+    worked_choices();
+    worked_deltas();
+    let rules = Rules {
+        skippable: 0b011,
+        retryable: 0b101,
+        skip_limit: Some(2),
+        retry_limit: 1,
+    };
+    let both = ClassId::new(0);
+    let skippable = ClassId::new(1);
+    let retryable = ClassId::new(2);
+    let other = ClassId::new(63);
+    let cases = [
+        (both, false, 0, 0, Choice::Retry),
+        (both, true, 0, 0, Choice::Skip),
+        (both, false, 0, 1, Choice::Skip),
+        (both, true, 2, 0, Choice::Retry),
+        (both, false, 2, 1, Choice::Fail),
+        (both, true, 2, 1, Choice::Fail),
+        (skippable, false, 1, 0, Choice::Skip),
+        (skippable, false, 2, 0, Choice::Fail),
+        (retryable, true, 0, 0, Choice::Retry),
+        (retryable, true, 0, 1, Choice::Fail),
+        (other, false, 0, 0, Choice::Fail),
+    ];
+    for (class, retrying, skips, retries, want) in cases {
+        assert_eq!(rt; decide(&rules, class, retrying, skips, retries), want);
+    }
+    let unlimited = Rules {
+        skippable: 0b011,
+        retryable: 0b101,
+        skip_limit: None,
+        retry_limit: 1,
+    };
+    assert_eq!(rt;
+        decide(&unlimited, skippable, false, 10_000_000, 0),
+        Choice::Skip
+    );
+}
+
+#[test]
+fn sound_rows(rt: HostRuntime) {
+    use RowState::{Failed, Finished, Running, Waiting};
+    let cases = [
+        ([0, 4, 4, 0, 0, 0, 4, 0, 1, 0, 0, 0, 4, 0], Finished, true),
+        ([0, 4, 4, 4, 1, 4, 4, 4, 4, 1, 0, 0, 0, 0], Finished, true),
+        ([0, 4, 2, 0, 0, 1, 2, 1, 1, 1, 0, 1, 0, 0], Failed, true),
+        ([0, 3, 3, 0, 0, 0, 3, 0, 1, 0, 0, 0, 0, 1], Finished, true),
+        ([0, 1, 0, 1, 2, 0, 0, 0, 0, 3, 0, 0, 0, 0], Failed, true),
+        ([0, 3, 3, 2, 1, 2, 2, 2, 3, 1, 1, 0, 0, 0], Finished, true),
+        ([0, 2, 0, 0, 0, 0, 0, 0, 0, 0, 0, 0, 0, 0], Running(1), true),
+        ([0, 3, 4, 0, 0, 4, 4, 4, 2, 0, 0, 0, 0, 0], Finished, false),
+        ([3, 5, 5, 3, 0, 2, 3, 2, 1, 0, 0, 0, 0, 0], Finished, false),
+        ([0, 2, 2, 0, 0, 2, 2, 2, 1, 0, 0, 0, 0, 0], Waiting, false),
+        ([0, 2, 1, 0, 0, 1, 1, 1, 0, 0, 0, 0, 0, 0], Waiting, false),
+        ([0, 2, 1, 0, 0, 1, 1, 1, 2, 0, 0, 0, 0, 0], Waiting, false),
+        ([0, 2, 0, 0, 1, 0, 0, 0, 0, 0, 0, 0, 0, 0], Waiting, false),
+        ([1, 2, 1, 0, 0, 0, 0, 0, 0, 0, 0, 0, 0, 0], Waiting, false),
+        ([0, 2, 1, 0, 0, 0, 1, 1, 1, 0, 0, 0, 0, 0], Waiting, false),
+        ([0, 2, 1, 0, 0, 0, 1, 0, 1, 0, 0, 0, 0, 2], Waiting, false),
+    ];
+    for (numbers, state, want) in cases {
+        let row = row_of(numbers, state);
+        assert_eq!(rt; row.sound(), want, "{row:?}");
+    }
+    let limits = [
+        (
+            [
+                0,
+                10_000_000,
+                0,
+                0,
+                0,
+                0,
+                0,
+                0,
+                0,
+                MAX_ROLLBACKS,
+                0,
+                0,
+                0,
+                0,
+            ],
+            true,
+        ),
+        ([0, 10_000_001, 0, 0, 0, 0, 0, 0, 0, 0, 0, 0, 0, 0], false),
+        (
+            [0, 1, 0, 0, 0, 0, 0, 0, 0, MAX_ROLLBACKS + 1, 0, 0, 0, 0],
+            false,
+        ),
+        (
+            [
+                0,
+                1,
+                0,
+                0,
+                0,
+                u64::MAX,
+                u64::MAX,
+                u64::MAX,
+                0,
+                0,
+                1,
+                0,
+                0,
+                0,
+            ],
+            false,
+        ),
+    ];
+    for (numbers, want) in limits {
+        assert_eq!(rt; row_of(numbers, Waiting).sound(), want);
+    }
+}
+
+/// The calls of a row's life, each once.
+#[test]
+fn rows_of_a_partition(rt: HostRuntime) {
+    worked_rows();
+    let fresh = Row::fresh(Range { lo: 0, hi: 4 });
+    assert_eq!(rt; fresh.range(), Range { lo: 0, hi: 4 });
+    assert_eq!(rt; fresh.block(2), Range { lo: 0, hi: 2 });
+    assert_eq!(rt; fresh.begun(3).state, RowState::Running(3));
+    assert!(rt; fresh.begun(3).state.is_running());
+    assert_eq!(rt; fresh.begun(3).dropped(), fresh);
+    let rolled = fresh.begun(3).rolled(2);
+    assert_eq!(rt;
+        rolled,
+        row_of(
+            [0, 4, 0, 2, 1, 0, 0, 0, 0, 1, 0, 0, 0, 0],
+            RowState::Waiting
+        )
+    );
+    let one = counts_of([1, 1, 1, 0, 0, 0, 0, 0]);
+    assert!(rt; one.is_delta(1) && !one.is_delta(2));
+    let first = rolled.committed(1, &one);
+    let last = first.committed(4, &counts_of([2, 0, 1, 0, 1, 0, 0, 1]));
+    assert_eq!(rt;
+        last,
+        row_of(
+            [0, 4, 4, 2, 1, 1, 3, 1, 2, 1, 1, 0, 0, 1],
+            RowState::Finished
+        )
+    );
+    assert_eq!(rt; last.skips(), 2);
+    assert_eq!(rt; first.failed().counts.rollback, 2);
+    assert!(rt; first.failed().state.has_ended());
+    let sum = counts_of([1, 2, 3, 4, 5, 6, 7, 8]).plus(&counts_of([8, 7, 6, 5, 4, 3, 2, 1]));
+    assert_eq!(rt; sum, counts_of([9, 9, 9, 9, 9, 9, 9, 9]));
+}

@@ -1,0 +1,4 @@
+pub mod Lanes
+pub mod Tokens
+pub mod Utf8
+pub mod Writing

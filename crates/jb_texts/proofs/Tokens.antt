@@ -1,0 +1,75 @@
+-- The tokens of a report's parts, put together.
+use Rattle.std.proofs.Common.{◌≡◌, ℕ, List, [], ◌∷◌, ◌++◌, map, flat_map, take, length, ◌≤◌, arith, codes, refl, ap, sym, ◌∙◌, append_assoc}
+use Rattle.std.proofs.lemmas.List.{take_all}
+use Rattle.std.proofs.lemmas.List.Concat.{flat_map_single}
+use Rattle.std.proofs.lemmas.Simd.{map-map}
+use Rattle.std.specs.Str.Lossy.{utf8_lossy}
+use Rattle.serde_json.specs.Data.{Data}
+use Rattle.serde_json.specs.View.{items_of}
+use Rattle.serde_json.specs.Written.{compact_text, items_outline}
+use Rattle.serde_json.proofs.Texts.{print-outline}
+use Rattle.json.specs.Token.{Token, begin_object, end_object, begin_array, end_array, key, string}
+use Rattle.json.specs.Tree.{items_tokens}
+use Rattle.json.specs.Print.{print, print_from, escape_byte}
+use Rattle.jb_texts.specs.declared.status.Status.{Status}
+use Rattle.jb_texts.specs.Statuses.{status_name}
+use Rattle.jb_texts.specs.Report.{StepReport, list_tree, rows_tree, texts_tree, step_tree, steps_tree, report_text}
+use Rattle.jb_texts.specs.ReportTokens.{tokens_of, outputs_tokens, step_tokens, steps_tokens}
+use Rattle.jb_texts.specs.inside.Head.{head_text}
+
+members : {X : Type 0} (tree : X → Data) (xs : List X) → items_tokens (items_outline (items_of (map tree xs))) ≡ flat_map (λ x. tokens_of (tree x)) xs ++ end_array ∷ []
+members tree [] = refl
+members tree (x ∷ xs) =
+    let rest = flat_map (λ y. tokens_of (tree y)) xs in
+    ap (λ ts. tokens_of (tree x) ++ ts) (members tree xs) ∙ sym (append_assoc (tokens_of (tree x)) rest (end_array ∷ []))
+
+-- a list's tokens are its members', between brackets
+pub list-tokens : {X : Type 0} (tree : X → Data) (xs : List X) → tokens_of (list_tree (map tree xs)) ≡ begin_array ∷ (flat_map (λ x. tokens_of (tree x)) xs ++ end_array ∷ [])
+list-tokens tree xs = ap (λ ts. begin_array ∷ ts) (members tree xs)
+
+-- a list whose members were written one after another
+pub list-written : {X : Type 0} (tree : X → Data) (xs : List X) (old begun passed new : List Token) → begun ≡ old ++ begin_array ∷ []
+    → passed ≡ begun ++ flat_map (λ x. tokens_of (tree x)) xs → new ≡ passed ++ end_array ∷ [] → new ≡ old ++ tokens_of (list_tree (map tree xs))
+list-written tree xs old begun passed new begins passes ends =
+    let members = flat_map (λ x. tokens_of (tree x)) xs in
+    ends ∙ ap (λ ts. ts ++ end_array ∷ []) passes ∙ ap (λ ts. (ts ++ members) ++ end_array ∷ []) begins
+    ∙ append_assoc (old ++ begin_array ∷ []) members (end_array ∷ []) ∙ append_assoc old (begin_array ∷ []) (members ++ end_array ∷ [])
+    ∙ ap (λ ts. old ++ ts) (sym (list-tokens tree xs))
+
+-- the same of results that stand for texts
+pub texts-written : (written : List (List ℕ)) (count place : ℕ) (old begun passed new : List Token) → begun ≡ old ++ begin_array ∷ []
+    → passed ≡ begun ++ map (λ bytes. string (utf8_lossy bytes)) (take place written) → count ≡ length written → count ≤ place → new ≡ passed ++ end_array ∷ []
+    → new ≡ old ++ tokens_of (texts_tree (map utf8_lossy written))
+texts-written written count place old begun passed new begins passes counted all ends =
+    let texts = map utf8_lossy written in
+    let same : map (λ bytes. string (utf8_lossy bytes)) (take place written) ≡ flat_map (λ text. string text ∷ []) texts =
+    ap (map (λ bytes. string (utf8_lossy bytes))) (take_all place written (omega (arith, counted, all))) ∙ sym (map-map string utf8_lossy written) ∙ sym (flat_map_single string texts) in
+    list-written Data.string texts old begun passed new begins (passes ∙ ap (λ ts. begun ++ ts) same) ends
+
+-- what follows on a step's outputs
+abbrev rest_of : StepReport → List Token
+rest_of s = key (codes "rows") ∷ (tokens_of (rows_tree (map (λ p. p.row) s.partitions))
+    ++ key (codes "status") ∷ string (status_name s.status) ∷ key (codes "step") ∷ string s.id ∷ end_object ∷ [])
+
+pub step-tokens : (s : StepReport) → step_tokens s ≡ tokens_of (step_tree s)
+step-tokens s =
+    let outputs = outputs_tokens s.partitions in
+    let head : List Token → List Token = λ ts. begin_object ∷ key (codes "outputs") ∷ ts in
+    sym (ap (λ ts. head (ts ++ rest_of s)) (list-tokens (λ p. texts_tree p.outputs) s.partitions) ∙ ap (λ ts. head (begin_array ∷ ts)) (append_assoc outputs (end_array ∷ []) (rest_of s)))
+
+steps-tokens : (steps : List StepReport) → flat_map step_tokens steps ≡ flat_map (λ s. tokens_of (step_tree s)) steps
+steps-tokens [] = refl
+steps-tokens (s ∷ ss) = λ i. step-tokens s i ++ steps-tokens ss i
+
+-- the list of the steps' reports, ended, is printed as its tree
+pub steps-print : (steps : List StepReport) → print (steps_tokens steps ++ end_array ∷ []) ≡ compact_text (steps_tree steps)
+steps-print steps =
+    ap (λ ts. print (begin_array ∷ (ts ++ end_array ∷ []))) (steps-tokens steps) ∙ ap print (sym (list-tokens step_tree steps)) ∙ print-outline (steps_tree steps)
+
+pub head-print : (job : List ℕ) (status : Status) → print (begin_object ∷ key (codes "job") ∷ string job ∷ key (codes "status") ∷ string (status_name status) ∷ key (codes "steps") ∷ []) ≡ head_text job status
+unfolding print_from head_text escape_byte
+head-print job status = refl
+
+pub report-joined : (job : List ℕ) (status : Status) (steps : List StepReport) → head_text job status ++ (compact_text (steps_tree steps) ++ 125 ∷ 10 ∷ []) ≡ report_text (record { job = job; status = status; steps = steps })
+unfolding head_text report_text escape_byte
+report-joined job status steps = simp append_assoc

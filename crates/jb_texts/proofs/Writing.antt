@@ -1,0 +1,60 @@
+-- What several writes in turn append.
+use Rattle.std.proofs.Common.{◌≡◌, ℕ, ◌+◌, List, [], ◌∷◌, ◌++◌, map, Option, Some, None, get_or, length, take, ◌<◌, zero, suc, ap, sym, ◌∙◌, append_assoc, append-nil, add-one, arith}
+use Rattle.std.specs.Io.KnownBytes.{Appends, Keeps, append_known}
+use Rattle.std.specs.List.{concat, enumerate_from, range_with_len}
+use Rattle.jb_cert.specs.declared.plans.Slot.{Slot}
+use Rattle.jb_texts.specs.PlanText.{lines_of, round_line}
+use Rattle.std.proofs.lemmas.List.FromFn.{map-range_with_len_more}
+
+-- one write and then another
+pub appends-both : (a b c : Option (List ℕ)) (xs ys : List ℕ) → Appends a b xs → Appends b c ys → Appends a c (xs ++ ys)
+appends-both None b c xs ys first second = tt
+appends-both (Some us) None c xs ys first second = absurd first
+appends-both (Some us) (Some vs) None xs ys first second = absurd second
+appends-both (Some us) (Some vs) (Some ws) xs ys first second = rw (second, first) (append_assoc us xs ys)
+
+pub concat-last : (xss : List (List ℕ)) (xs : List ℕ) → concat (xss ++ xs ∷ []) ≡ concat xss ++ xs
+concat-last [] xs = append-nil xs
+concat-last (ys ∷ xss) xs = ap (λ zs. ys ++ zs) (concat-last xss xs) ∙ sym (append_assoc ys (concat xss) xs)
+
+-- one lane more
+pub lane_more : (f : ℕ → List ℕ) (n : ℕ) → concat (map f (range_with_len 0 (n + 1))) ≡ concat (map f (range_with_len 0 n)) ++ f n
+lane_more f n = ap concat (map-range_with_len_more f 0 n n (omega arith)) ∙ concat-last (map f (range_with_len 0 n)) (f n)
+
+-- one round more
+numbered_more : {X : Type 0} (n : ℕ) (xs : List X) (k j : ℕ) (d : X) → n + k ≡ j → k < length xs → enumerate_from n (take (suc k) xs) ≡ enumerate_from n (take k xs) ++ (j, get_or xs k d) ∷ []
+numbered_more n [] k j d e h = absurd (omega (arith, h))
+numbered_more n (x ∷ xs) zero j d e h = let is : n ≡ j = omega (arith, e) in ap (λ m. (m, x) ∷ []) is
+numbered_more n (x ∷ xs) (suc k) j d e h = ap (λ ps. (n, x) ∷ ps) (numbered_more (n + 1) xs k j d (omega (arith, e)) (omega (arith, h)))
+
+lines_last : (threads : ℕ) (ps : List (ℕ × List Slot)) (k : ℕ) (round : List Slot) → lines_of threads (ps ++ (k, round) ∷ []) ≡ lines_of threads ps ++ round_line threads k round
+lines_last threads [] k round = append-nil (round_line threads k round)
+lines_last threads (p ∷ ps) k round =
+    ap (λ zs. round_line threads p.0 p.1 ++ zs) (lines_last threads ps k round) ∙ sym (append_assoc (round_line threads p.0 p.1) (lines_of threads ps) (round_line threads k round))
+
+pub line_more : (threads k : ℕ) (rounds : List (List Slot)) (round : List Slot) → k < length rounds → get_or rounds k round ≡ round
+    → lines_of threads (enumerate_from 0 (take (k + 1) rounds)) ≡ lines_of threads (enumerate_from 0 (take k rounds)) ++ round_line threads k round
+line_more threads k rounds round h is =
+    rw (add-one k) (ap (lines_of threads) (numbered_more 0 rounds k k round (omega arith) h)) ∙ lines_last threads (enumerate_from 0 (take k rounds)) k (get_or rounds k round)
+    ∙ ap (λ one. lines_of threads (enumerate_from 0 (take k rounds)) ++ round_line threads k one) is
+
+-- bytes that wait in a block stand behind those that the writer holds
+pub appends-block : (a c : Option (List ℕ)) (block longer xs ys : List ℕ) → Appends a (append_known c block) xs → longer ≡ block ++ ys → Appends a (append_known c longer) (xs ++ ys)
+appends-block None c block longer xs ys before is = tt
+appends-block (Some us) None block longer xs ys before is = absurd before
+appends-block (Some us) (Some vs) block longer xs ys before is = rw is (sym (append_assoc vs block ys) ∙ ap (λ zs. zs ++ ys) before ∙ append_assoc us xs ys)
+
+pub appends-kept : (a b c : Option (List ℕ)) (xs : List ℕ) → Appends a b xs → Keeps b c → Appends a c xs
+appends-kept None b c xs first kept = tt
+appends-kept (Some us) None c xs first kept = absurd first
+appends-kept (Some us) (Some vs) None xs first kept = absurd kept
+appends-kept (Some us) (Some vs) (Some ws) xs first kept = kept ∙ first
+
+-- a block is written
+pub appends-written : (a c d : Option (List ℕ)) (block xs : List ℕ) → Appends a (append_known c block) xs → Appends c d block → Appends a d xs
+appends-written None c d block xs before written = tt
+appends-written (Some us) None d block xs before written = absurd before
+appends-written (Some us) (Some vs) None block xs before written = absurd written
+appends-written (Some us) (Some vs) (Some ws) block xs before written = written ∙ before
+
+pub ruleset appends = (appends-both, appends-both)

@@ -1,0 +1,7 @@
+pub mod CheckText
+pub mod PlanText
+pub mod Report
+pub mod ReportTokens
+pub mod Statuses
+pub mod Worked
+pub mod inside

@@ -1,0 +1,17 @@
+//! What the program writes: the report of a run, the lines of a plan, and what was found of a plan.
+//!
+//! - `status`: how a step or a job ended, and the exit status.
+//! - `report`: the report of a run, which is written as JSON text while the job runs.
+//! - `plan`: the heading and the lines of a plan of rounds.
+//! - `judgement`: two lines on a plan and its certificate.
+#![tactic(auto)]
+
+mod judgement;
+mod plan;
+mod report;
+mod status;
+
+pub use judgement::Judgement;
+pub use plan::{BLOCK_ROOM, write_plan};
+pub use report::{ReportText, StepsText};
+pub use status::Status;

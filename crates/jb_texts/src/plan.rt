@@ -1,0 +1,9 @@
+//! The lines of a plan of rounds, written slot by slot: no plan is kept in memory.
+//!
+//! - `lanes`: what the lanes have in a round.
+//! - `lines`: the heading, and a line for each round.
+
+mod lanes;
+mod lines;
+
+pub use lines::{BLOCK_ROOM, write_plan};

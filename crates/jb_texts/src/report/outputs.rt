@@ -1,0 +1,60 @@
+//! The results of a partition, as texts.
+
+ghost use Rattle.std.specs.Prelude.{◌≡◌, ◌++◌, ◌∷◌, [], map, length, ◌<◌, get_or, OnOk};
+ghost use Rattle.std.specs.Str.Lossy.{utf8_lossy};
+ghost use Rattle.json.specs.Token.{string};
+ghost use Rattle.jb_texts.specs.Report.{texts_tree};
+ghost use Rattle.jb_texts.specs.ReportTokens.{tokens_of};
+
+use jb_artifacts::ItemWriter;
+use json::Writer;
+use std::alloc::{AllocError, Global};
+use std::str::from_utf8;
+
+#[tactic(auto, using(crate::proofs::Utf8::lossy))]
+/// Writes a result. What is no UTF-8 in it is replaced.
+fn write_result(alloc: Global, out: &mut Writer, bytes: &[u8]) -> Result<(), AllocError>
+    ensures text { OnOk result (out.new.tokens ≡ out.old.tokens ++ string (utf8_lossy bytes.now) ∷ []) }
+    ensures before { out.new.before ≡ out.old.before }
+{
+    match from_utf8(bytes) {
+        Ok(text) => out.string(text),
+        Err(_) => {
+            let text = String::from_utf8_lossy(alloc, bytes)?;
+            out.string(text.as_str())
+        }
+    }
+}
+
+/// Writes the result at this place of the writer's list.
+fn write_result_at<W: ItemWriter>(
+    alloc: Global,
+    out: &mut Writer,
+    writer: &W,
+    place: u64,
+) -> Result<(), AllocError>
+    requires { place < length (W.writer writer.now).written }
+    ensures text { OnOk result (out.new.tokens ≡ out.old.tokens ++ string (utf8_lossy (get_or (W.writer writer.now).written place [])) ∷ []) }
+    ensures before { out.new.before ≡ out.old.before }
+{
+    let Some(bytes) = writer.item_at(place) else {
+        unreachable!();
+    };
+    write_result(alloc, out, bytes)
+}
+
+/// Writes the list of what the writer holds.
+pub fn write_outputs<W: ItemWriter>(
+    alloc: Global,
+    out: &mut Writer,
+    writer: &W,
+) -> Result<(), AllocError>
+    ensures outputs { OnOk result (out.new.tokens ≡ out.old.tokens ++ tokens_of (texts_tree (map utf8_lossy (W.writer writer.now).written))) }
+    ensures before { out.new.before ≡ out.old.before }
+{
+    out.begin_array()?;
+    for place in 0..writer.count() {
+        write_result_at(alloc, out, writer, place)?;
+    }
+    out.end_array()
+}
