@@ -1,0 +1,49 @@
+/* Preloaded into a program: counts its requests for memory, and refuses the one that REFUSED names (from 1; 0: none).
+ * At the end the count is written to the descriptor that COUNTS names. */
+#include <stdio.h>
+#include <stdlib.h>
+#include <errno.h>
+#include <unistd.h>
+
+void *__libc_malloc(size_t);
+void *__libc_calloc(size_t, size_t);
+void *__libc_realloc(void *, size_t);
+void *__libc_memalign(size_t, size_t);
+
+static unsigned long asked, refused;
+static int counting, counts;
+
+__attribute__((constructor)) static void begin(void) {
+    const char *number = getenv("REFUSED");
+    refused = number ? strtoul(number, NULL, 10) : 0;
+    number = getenv("COUNTS");
+    counts = number ? atoi(number) : -1;
+    counting = 1;
+}
+
+__attribute__((destructor)) static void end(void) {
+    char text[32];
+    counting = 0;
+    int length = snprintf(text, sizeof text, "%lu", asked);
+    if (write(counts, text, length) < 0) return;
+}
+
+/* Whether the program gets this request. */
+static int given(void) {
+    if (!counting || ++asked != refused) return 1;
+    errno = ENOMEM;
+    return 0;
+}
+
+void *malloc(size_t size) { return given() ? __libc_malloc(size) : NULL; }
+void *calloc(size_t count, size_t size) { return given() ? __libc_calloc(count, size) : NULL; }
+void *realloc(void *old, size_t size) { return given() ? __libc_realloc(old, size) : NULL; }
+void *memalign(size_t alignment, size_t size) { return given() ? __libc_memalign(alignment, size) : NULL; }
+void *aligned_alloc(size_t alignment, size_t size) { return memalign(alignment, size); }
+
+int posix_memalign(void **place, size_t alignment, size_t size) {
+    void *found = memalign(alignment, size);
+    if (!found) return ENOMEM;
+    *place = found;
+    return 0;
+}
