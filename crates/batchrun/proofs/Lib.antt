@@ -1,4 +1,5 @@
 pub mod CommandLines
+pub mod Failed
 pub mod FaultPlans
 pub mod Known
 pub mod Least

@@ -1,5 +1,5 @@
 -- A refused document or plan is a failure of its kind.
-use Rattle.std.proofs.Common.{◌≡◌, ℕ, List, Option, Some, None, IfSome, Result, Ok, Err, IfErr, refl, arith}
+use Rattle.std.proofs.Common.{◌≡◌, ℕ, List, Option, Some, None, IfSome, refl, arith}
 use Rattle.jb_job.specs.declared.error.JobError.{JobError}
 use Rattle.jb_job.specs.declared.error.JobError.TheVariants as fault
 use Rattle.jb_plan.specs.declared.fault.PlanError.{PlanError}
@@ -53,12 +53,3 @@ refused_by_check input (failure.Plan f) document fails code = absurd fails
 refused_by_check input failure.Memory document fails code = absurd (omega (arith, code))
 refused_by_check input failure.Stream document fails code = absurd (omega (arith, code))
 refused_by_check input failure.Usage document fails code = absurd fails
-
--- what follows of a failure
-pub err-both : {P Q S : Failure → Type 0} (r : Result ℕ Failure) → ((e : Failure) → P e → Q e → S e) → IfErr r P → IfErr r Q → IfErr r S
-err-both (Ok x) f p q = tt
-err-both (Err e) f p q = f e p q
-
-pub err-all : {P Q R S : Failure → Type 0} (r : Result ℕ Failure) → ((e : Failure) → P e → Q e → R e → S e) → IfErr r P → IfErr r Q → IfErr r R → IfErr r S
-err-all (Ok x) f p q t = tt
-err-all (Err e) f p q t = f e p q t

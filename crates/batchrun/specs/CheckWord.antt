@@ -8,6 +8,7 @@ use Rattle.jb_cert.specs.Faults.{first_plan_fault}
 use Rattle.jb_cert.specs.Plans.{StandsForLawful, StandsForLeast}
 use Rattle.jb_documents.specs.CheckDocument.{Claim, Claims}
 use Rattle.jb_texts.specs.declared.judgement.Judgement.{Judgement}
+use Rattle.jb_texts.specs.Front.{AppendsFront}
 use Rattle.jb_texts.specs.CheckText.{check_status, check_text}
 
 -- the claim's plan is lawful
@@ -40,3 +41,11 @@ pub record IsCheckAnswer (input old new : Option (List ℕ)) (status : ℕ) : Ty
   pub claim : Claim
   pub answered : IsClaimAnswer claim old new status
   pub claimed : IfSome input (Claims claim)
+
+-- The writer holds the front of the lines on the claim more.
+abbrev pub IsClaimFront : Claim → (old new : Option (List ℕ)) → Type 0
+IsClaimFront claim old new = (found : Judgement) × IsJudgementOf claim found × AppendsFront old new (check_text found)
+
+-- The same of the claim of the reader's bytes.
+abbrev pub IsCheckFront : (input old new : Option (List ℕ)) → Type 0
+IsCheckFront input old new = (claim : Claim) × IsClaimFront claim old new × IfSome input (Claims claim)

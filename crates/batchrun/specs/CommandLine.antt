@@ -1,6 +1,6 @@
 -- The command line of the program, and what its matches ask for (own choice: one word, with no argument).
-use Rattle.std.specs.Prelude.{◌≡◌, ◌⊎◌, List, true, false, Option, Some, None, option_map, codes, bytes_eq, if◌then◌else◌}
-use Rattle.clap.specs.Words.{App, Row, Shape, Text, new_app, subcommand_of, takes, with_subcommand}
+use Rattle.std.specs.Prelude.{◌≡◌, ◌⊎◌, List, [], true, false, Option, Some, None, option_map, codes, bytes_eq, if◌then◌else◌}
+use Rattle.clap.specs.Words.{App, Row, Shape, Text, fault_of, new_app, subcommand_of, takes, with_subcommand}
 use Rattle.batchrun.specs.declared.words.line.Line.{Line}
 use Rattle.batchrun.specs.declared.words.line.Word.{Word}
 use Rattle.batchrun.specs.declared.words.line.Word.TheVariants.{Run, Plan, Check}
@@ -30,6 +30,11 @@ line_in (Some found) = option_map (λ word. record { word = word; rounds = None 
 -- what the words after the program's name ask for, by `clap`'s matches of them
 abbrev pub asked_by : List Text → Option Line
 asked_by words = line_in (subcommand_of app words)
+
+-- `clap` takes the words, since it has no error for them, and its matches of them ask for this
+pub record Asks (words : List Text) (line : Line) : Type 0 where
+  pub taken : fault_of app words ≡ []
+  pub asked : asked_by words ≡ Some line
 
 -- the program doesn't know the words: `clap` doesn't take them, or they ask for nothing
 abbrev pub AreUnknown : List Text → Type 0

@@ -1,6 +1,6 @@
 -- The run of a job: its steps in order, up to the first that fails (Jakarta Batch 2.1: the steps of a job run one after
 -- another; that a failed one ends the job, and all else here, is this project's choice).
-use Rattle.std.specs.Prelude.{ℕ, ◌≡◌, ◌-◌, ◌⊎◌, Bool, true, false, List, [], ◌∷◌, length, map, slice_get, Option, Some, None, if◌then◌else◌}
+use Rattle.std.specs.Prelude.{ℕ, ◌≡◌, ◌-◌, ◌⊎◌, List, [], ◌∷◌, length, map, slice_get, Option, Some, None, if◌then◌else◌}
 use Rattle.std.specs.List.{list_any}
 use Rattle.jb_job.specs.Records.{SpecRecord, StepRecord}
 use Rattle.jb_job.specs.declared.job.Range.{Range}
@@ -8,9 +8,8 @@ use Rattle.jb_plan.specs.declared.fault.PlanError.{PlanError}
 use Rattle.jb_plan.specs.declared.plan.PartitionPlan.{PartitionPlan}
 use Rattle.jb_plan.specs.Plans.{IsRunnable}
 use Rattle.jb_plan.specs.Faults.{IsFirst, plan_errors}
-use Rattle.jb_rules.specs.declared.row.RowState.{RowState}
-use Rattle.jb_rules.specs.declared.row.RowState.TheVariants as state
 use Rattle.jb_rules.specs.declared.row.Row.{Row}
+use Rattle.jb_rules.specs.States.{is_failed}
 use Rattle.jb_mapper.specs.EvenCover.{even_ranges}
 use Rattle.jb_documents.specs.declared.run.step_data.StepData.{StepData}
 use Rattle.jb_documents.specs.declared.run.document.Document.{Document}
@@ -43,12 +42,6 @@ settings_of step supply = record { rules = step.rules; item_count = step.item_co
 -- each partition begins with the records of its range
 abbrev pub begun_with : StepSettings → (records : List (List ℕ)) → (partition : ℕ) → Range → TaskState
 begun_with settings records partition range = first_task settings (records_in records range) partition range
-
-abbrev pub is_failed : RowState → Bool
-is_failed state.Failed = true
-is_failed state.Waiting = false
-is_failed (state.Running lane) = false
-is_failed state.Finished = false
 
 -- A step fails where some partition fails, and is completed where all are finished.
 abbrev pub status_of : List Row → Status

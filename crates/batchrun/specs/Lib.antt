@@ -1,9 +1,13 @@
 pub mod Answer
 pub mod CheckWord
 pub mod CommandLine
+pub mod FailureText
+pub mod Failures
+pub mod Help
 pub mod JobRun
 pub mod PartitionRun
 pub mod PlanWord
+pub mod ProcessWords
 pub mod Refusals
 pub mod RunWord
 pub mod Statuses

@@ -4,6 +4,7 @@ use Rattle.std.specs.Io.KnownBytes.{Appends}
 use Rattle.jb_plan.specs.declared.fault.PlanError.{PlanError}
 use Rattle.jb_documents.specs.declared.run.document.Document.{Document}
 use Rattle.jb_documents.specs.RunDocument.{IsDocument}
+use Rattle.jb_texts.specs.Front.{AppendsFront}
 use Rattle.jb_texts.specs.Report.{Report, report_text}
 use Rattle.jb_texts.specs.Statuses.{status_code}
 use Rattle.batchrun.specs.JobRun.{IsJobRun, IsRefusedAtStep}
@@ -20,6 +21,10 @@ pub record IsRun (input old new : Option (List ℕ)) (status : ℕ) : Type 0 whe
   pub written : Appends old new (report_text report)
   pub ended : status ≡ status_code report.status
   pub report_of : IfSome input (IsReportOf report)
+
+-- The writer holds the front of that report more.
+abbrev pub IsRunFront : (input old new : Option (List ℕ)) → Type 0
+IsRunFront input old new = (report : Report) × AppendsFront old new (report_text report) × IfSome input (IsReportOf report)
 
 -- A step of the bytes' document has a plan that is refused for this fault, and each step before it was completed.
 pub record IsRefusedPlan (fault : PlanError) (bytes : List ℕ) : Type 0 where

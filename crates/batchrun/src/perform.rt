@@ -1,29 +1,29 @@
-//! The program over any reader and any two writers.
+//! The program over any arguments, any reader and any two writers.
 
-ghost use Rattle.std.specs.Prelude.{◌≡◌, ◌≢◌, ◌⊎◌, ◌<◌, ◌≤◌, map, Some, IfErr, IfOk, IfSome};
-ghost use Rattle.std.specs.Io.KnownBytes.{Appends, Keeps};
-ghost use Rattle.batchrun.specs.Statuses.{failure_code};
+ghost use Rattle.std.specs.Prelude.{◌≡◌, ◌⊎◌, ◌<◌, ◌≤◌, map, Some, IfErr, IfOk, OnOk};
+ghost use Rattle.std.specs.Io.KnownBytes.{Keeps};
 ghost use Rattle.batchrun.specs.declared.words.line.Line.{Line};
-ghost use Rattle.batchrun.specs.CommandLine.{asked_by, AreUnknown};
-ghost use Rattle.batchrun.specs.Answer.{IsAnswer, IsRefusedBy};
+ghost use Rattle.batchrun.specs.Answer.{IsAnswer};
+ghost use Rattle.batchrun.specs.Failures.{HasFailed, IsAsked, IsTold};
+ghost use Rattle.batchrun.specs.ProcessWords.{process_words};
 
 use crate::streams::{Failure, write_failure};
-use crate::words::{Word, line_of, run, run_check, run_plan};
-use std::alloc::{AllocGlobal, Global};
+use crate::words::{Word, arguments, line_of, run, run_check, run_plan, words_after_name};
+use std::alloc::Global;
+use std::env::Args;
+use std::io;
 use std::io::{Read, Write};
 
 /// Does what the words ask.
-fn try_perform<'a, R: Read, W: Write>(
+fn answer_words<'a, R: Read, W: Write>(
     alloc: Global,
     words: &'a [&'a str],
     reader: &mut R,
     writer: &mut W,
 ) -> Result<u8, Failure>
-    ensures ok { IfOk result (λ status. (line : Line) × (asked_by (map (λ w. w.now) words.now) ≡ Some line) × IsAnswer line.word (R.remaining reader.old) (W.contents writer.old) (W.contents writer.new) status) }
+    ensures answered { IfOk result (λ status. (line : Line) × IsAsked (Some (map (λ w. w.now) words.now)) line × IsAnswer line.word (R.remaining reader.old) (W.contents writer.old) (W.contents writer.new) status) }
     ensures status { IfOk result (λ status. status < 2) }
-    ensures refused { IfErr result (λ e. failure_code e ≡ 3 → (line : Line) × (asked_by (map (λ w. w.now) words.now) ≡ Some line) × IfSome (R.remaining reader.old) (IsRefusedBy line.word e)) }
-    ensures unknown { IfErr result (λ e. e ≡ Failure.Usage → AreUnknown (map (λ w. w.now) words.now)) }
-    ensures silent { IfErr result (λ e. e ≢ Failure.Stream → Keeps (W.contents writer.old) (W.contents writer.new)) }
+    ensures failed { IfErr result (HasFailed (Some (map (λ w. w.now) words.now)) (R.remaining reader.old) (W.contents writer.old) (W.contents writer.new)) }
 {
     let line = line_of(alloc, words)?;
     match line.word {
@@ -33,28 +33,52 @@ fn try_perform<'a, R: Read, W: Write>(
     }
 }
 
-/// Does what the words after the program's name ask, and gives the exit status: 0 and 1 for an answer, which the writer
-/// then holds; 3 where the document or a step's partition plan is refused, by its first fault; 4 where there is no memory or
-/// a stream fails; 5 where the program doesn't know the words. What is wrong is written to the fault writer.
-pub fn perform<'a, T: AllocGlobal, R: Read, W: Write, F: Write>(
-    rt: &T,
-    words: &'a [&'a str],
+/// Does what the process's arguments ask.
+fn answer<R: Read, W: Write>(
+    alloc: Global,
+    args: io::Result<Args>,
     reader: &mut R,
     writer: &mut W,
-    fault_writer: &mut F,
-) -> u8
-    ensures answered { result < 3 → (line : Line) × (asked_by (map (λ w. w.now) words.now) ≡ Some line) × IsAnswer line.word (R.remaining reader.old) (W.contents writer.old) (W.contents writer.new) result }
-    ensures status { (result < 2) ⊎ ((3 ≤ result) × (result ≤ 5)) }
-    ensures quiet { result < 3 → Keeps (F.contents fault_writer.old) (F.contents fault_writer.new) }
-    ensures refused { result ≡ 3 → (line : Line) × (asked_by (map (λ w. w.now) words.now) ≡ Some line) × (failure : Failure) × IfSome (R.remaining reader.old) (IsRefusedBy line.word failure) }
-    ensures unknown { result ≡ 5 → AreUnknown (map (λ w. w.now) words.now) }
-    ensures silent { (result ≡ 3) ⊎ (result ≡ 5) → Keeps (W.contents writer.old) (W.contents writer.new) }
+) -> Result<u8, Failure>
+    ensures answered { IfOk result (λ status. (line : Line) × IsAsked (process_words args) line × IsAnswer line.word (R.remaining reader.old) (W.contents writer.old) (W.contents writer.new) status) }
+    ensures status { IfOk result (λ status. status < 2) }
+    ensures failed { IfErr result (HasFailed (process_words args) (R.remaining reader.old) (W.contents writer.old) (W.contents writer.new)) }
 {
-    match try_perform(rt.alloc(), words, reader, writer) {
+    let args = arguments(alloc, args)?;
+    let words = words_after_name(alloc, &args)?;
+    answer_words(alloc, &words, reader, writer)
+}
+
+/// The exit status of an answer, or of a failure, which is written to the fault writer.
+fn status_of<F: Write>(answer: Result<u8, Failure>, fault_writer: &mut F) -> u8
+    ensures answered { IfOk answer (λ status. result ≡ status) }
+    ensures quiet { OnOk answer (Keeps (F.contents fault_writer.old) (F.contents fault_writer.new)) }
+    ensures failed { IfErr answer (λ failure. IsTold failure (F.contents fault_writer.old) (F.contents fault_writer.new) result) }
+{
+    match answer {
         Ok(status) => status,
         Err(failure) => match write_failure(failure, fault_writer) {
             Ok(()) => failure.status(),
             Err(_) => Failure::Stream.status(),
         },
     }
+}
+
+/// Does what the process's arguments ask, and gives the exit status: 0 and 1 for an answer, which the writer then holds; 3
+/// where the document or a step's partition plan is refused, by its first fault; 4 where there is no memory or a stream
+/// fails; 5 where the program doesn't know the words. What is wrong is written to the fault writer.
+pub fn perform<R: Read, W: Write, F: Write>(
+    alloc: Global,
+    args: io::Result<Args>,
+    reader: &mut R,
+    writer: &mut W,
+    fault_writer: &mut F,
+) -> u8
+    ensures answered { result < 3 → (line : Line) × IsAsked (process_words args) line × IsAnswer line.word (R.remaining reader.old) (W.contents writer.old) (W.contents writer.new) result }
+    ensures status { (result < 2) ⊎ ((3 ≤ result) × (result ≤ 5)) }
+    ensures quiet { result < 3 → Keeps (F.contents fault_writer.old) (F.contents fault_writer.new) }
+    ensures failed { 3 ≤ result → (failure : Failure) × HasFailed (process_words args) (R.remaining reader.old) (W.contents writer.old) (W.contents writer.new) failure × IsTold failure (F.contents fault_writer.old) (F.contents fault_writer.new) result }
+{
+    let answer = answer(alloc, args, reader, writer);
+    status_of(answer, fault_writer)
 }

@@ -1,6 +1,6 @@
 //! The artifacts of a partition.
 
-ghost use Rattle.std.specs.Prelude.{◌≡◌, ◌↔◌, IsTrue};
+ghost use Rattle.std.specs.Prelude.{◌≡◌, ◌↔◌, ◌≤◌, IsTrue};
 ghost use Rattle.jb_artifacts.specs.Meaning.{Workplace, Fits};
 
 use crate::interfaces::{Collector, ItemProcessor, ItemReader, ItemWriter};
@@ -34,8 +34,18 @@ impl Artifacts {
     pub fn fit(&self, row: &Row) -> bool
         ensures { IsTrue result ↔ Fits (⟦<Artifacts as Meaning>⟧.workplace self.now) row.now }
     {
-        self.reader.first() <= row.lo
-            && row.hi <= self.reader.end()
-            && row.written <= self.writer.count()
+        row_is_served(
+            row,
+            self.reader.first(),
+            self.reader.end(),
+            self.writer.count(),
+        )
     }
+}
+
+/// Whether a reader of the records from `first` to `end - 1` and a writer of `count` results serve this row.
+pub fn row_is_served(row: &Row, first: u64, end: u64, count: u64) -> bool
+    ensures { IsTrue result ↔ (first ≤ row.now.lo) × (row.now.hi ≤ end) × (row.now.written ≤ count) }
+{
+    first <= row.lo && row.hi <= end && row.written <= count
 }

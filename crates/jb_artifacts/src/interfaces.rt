@@ -31,7 +31,9 @@ pub trait ItemReader: Send {
 
     /// The number of the record that is read next, or `end`.
     fn place(&self) -> u64
-        ensures { result ≡ (reader self.now).place };
+        ensures place { result ≡ (reader self.now).place }
+        ensures from { (reader self.now).first ≤ result }
+        ensures to { result ≤ reader_end (reader self.now) };
 
     /// Goes to the record of this number, or to the end.
     fn open_at(&mut self, at: u64)

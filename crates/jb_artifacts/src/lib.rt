@@ -19,7 +19,7 @@ mod prefix_processor;
 mod table_reader;
 mod view;
 
-pub use artifacts::{Artifacts, Meaning};
+pub use artifacts::{Artifacts, Meaning, row_is_served};
 pub use artifacts_of::ArtifactsOf;
 pub use count_collector::CountCollector;
 pub use fault_plans::FaultPlans;

@@ -12,7 +12,7 @@ use Rattle.jb_cert.specs.Faults.{slots_of, slots_in_all}
 use Rattle.jb_cert.specs.inside.Walk.{found_fault}
 use Rattle.jb_cert.proofs.Numbers.{one_if}
 use Rattle.jb_cert.proofs.Judged.{no_slot, slots_in_all-more}
-use Rattle.jb_cert.proofs.NoFault.{IsGood, IsFaultless, faultless_from_none, none_from_faultless}
+use Rattle.jb_cert.proofs.NoFault.{IsGood, AreGood, IsFaultless, faultless_from_none, none_from_faultless}
 
 -- ---- counts of slots with one number, as a lane or a partition
 
@@ -102,13 +102,13 @@ ran-rises : (p : ℕ) (rounds : List (List Slot)) (r s : ℕ) → r ≤ s → sl
 ran-rises p rounds r s order =
     omega (arith, sum_by-take-le (slots_of p) (take s rounds) r, ap (slots_in_all p) (take-take r s rounds order))
 
-ran-whole : (p : ℕ) (rounds : List (List Slot)) → slots_in_all p (take (length rounds) rounds) ≡ slots_in_all p rounds
+pub ran-whole : (p : ℕ) (rounds : List (List Slot)) → slots_in_all p (take (length rounds) rounds) ≡ slots_in_all p rounds
 ran-whole p rounds = ap (slots_in_all p) (take_all (length rounds) rounds (le_refl (length rounds)))
 
 -- ---- what stands in a set is a slot of the round
 
 -- slot i of round r
-abbrev slot_at : List (List Slot) → ℕ → ℕ → Slot
+abbrev pub slot_at : List (List Slot) → ℕ → ℕ → Slot
 slot_at rounds r i = get_or (get_or rounds r []) i no_slot
 
 pub record HasSlot (rounds : List (List Slot)) (r p j : ℕ) : Type 0 where
@@ -121,7 +121,7 @@ pub record HasSlot (rounds : List (List Slot)) (r p j : ℕ) : Type 0 where
 set_at : (rounds : List (List Slot)) (r : ℕ) (d : List Pair) → r < length rounds → get_or (sets_of rounds) r d ≡ map slot_pair (get_or rounds r [])
 set_at rounds r d within = get_or-map (map slot_pair) rounds r [] d within
 
-slot_from_stands : (rounds : List (List Slot)) (r p j : ℕ) → StandsIn (sets_of rounds) r (p, j) → HasSlot rounds r p j
+pub slot_from_stands : (rounds : List (List Slot)) (r p j : ℕ) → StandsIn (sets_of rounds) r (p, j) → HasSlot rounds r p j
 slot_from_stands rounds r p j stands =
     let round : r < length rounds = omega (arith, stands.0, length-map rounds (map slot_pair)) in
     let contains : Contains (map slot_pair (get_or rounds r [])) (p, j) = subst (λ (pairs : List Pair). Contains pairs (p, j)) (set_at rounds r [] round) stands.1 in
@@ -132,7 +132,7 @@ slot_from_stands rounds r p j stands =
 same_pair : (s : Slot) (p j : ℕ) → s.partition ≡ p → s.chunk ≡ j → slot_pair s ≡ (p, j)
 same_pair s p j a b = cc
 
-stands_from_slot : (rounds : List (List Slot)) (r i : ℕ) → r < length rounds → i < length (get_or rounds r []) → StandsIn (sets_of rounds) r ((slot_at rounds r i).partition, (slot_at rounds r i).chunk)
+pub stands_from_slot : (rounds : List (List Slot)) (r i : ℕ) → r < length rounds → i < length (get_or rounds r []) → StandsIn (sets_of rounds) r ((slot_at rounds r i).partition, (slot_at rounds r i).chunk)
 stands_from_slot rounds r i round within =
     let u : Pair = slot_pair (slot_at rounds r i) in
     let contains : Contains (map slot_pair (get_or rounds r [])) u =
@@ -143,37 +143,35 @@ stands_as : (rounds : List (List Slot)) (r i p j : ℕ) → r < length rounds �
 stands_as rounds r i p j round within a b =
     subst (λ (u : Pair). StandsIn (sets_of rounds) r u) (same_pair (slot_at rounds r i) p j a b) (stands_from_slot rounds r i round within)
 
--- ---- from faultless to lawful
+-- ---- what good slots say of the first rounds
 
-module _ (counts : List ℕ) (threads : ℕ) (rounds : List (List Slot)) (faultless : IsFaultless counts threads rounds) where
-  good_at : (r i : ℕ) → r < length rounds → i < length (get_or rounds r []) → IsGood counts threads (slots_in_all (slot_at rounds r i).partition (take r rounds)) (take i (get_or rounds r [])) (slot_at rounds r i)
-  good_at r i round within = faultless.good r i no_slot round within
+module _ (counts : List ℕ) (threads : ℕ) (rounds : List (List Slot)) (first : ℕ) (some : first ≤ length rounds) (good : AreGood counts threads rounds first) where
+  good_at : (r i : ℕ) → r < first → i < length (get_or rounds r []) → IsGood counts threads (slots_in_all (slot_at rounds r i).partition (take r rounds)) (take i (get_or rounds r [])) (slot_at rounds r i)
+  good_at r i round within = good r i no_slot round within
 
-  apart_in : (r : ℕ) → r < length rounds → (i j : ℕ) (d : Slot) → i < j → j < length (get_or rounds r []) → ((get_or (get_or rounds r []) i d).lane ≢ (get_or (get_or rounds r []) j d).lane) × ((get_or (get_or rounds r []) i d).partition ≢ (get_or (get_or rounds r []) j d).partition)
+  apart_in : (r : ℕ) → r < first → (i j : ℕ) (d : Slot) → i < j → j < length (get_or rounds r []) → ((get_or (get_or rounds r []) i d).lane ≢ (get_or (get_or rounds r []) j d).lane) × ((get_or (get_or rounds r []) i d).partition ≢ (get_or (get_or rounds r []) j d).partition)
   apart_in r round i j d before within =
-      let good = faultless.good r j d round within in
+      let slot = good r j d round within in
       let here : i < length (take j (get_or rounds r [])) = omega (arith, length-take-le j (get_or rounds r []) (omega arith)) in
-      subst (λ (s : Slot). (s.lane ≢ (get_or (get_or rounds r []) j d).lane) × (s.partition ≢ (get_or (get_or rounds r []) j d).partition)) (get_or-take j (get_or rounds r []) i d before) (good.apart i d here)
+      subst (λ (s : Slot). (s.lane ≢ (get_or (get_or rounds r []) j d).lane) × (s.partition ≢ (get_or (get_or rounds r []) j d).partition)) (get_or-take j (get_or rounds r []) i d before) (slot.apart i d here)
 
-  lanes_apart_in : (r : ℕ) → r < length rounds → AllPairs (λ a b. a.lane ≢ b.lane) (get_or rounds r [])
+  lanes_apart_in : (r : ℕ) → r < first → AllPairs (λ a b. a.lane ≢ b.lane) (get_or rounds r [])
   lanes_apart_in r round i j d before within = (apart_in r round i j d before within).0
 
-  partitions_apart_in : (r : ℕ) → r < length rounds → AllPairs (λ a b. a.partition ≢ b.partition) (get_or rounds r [])
+  partitions_apart_in : (r : ℕ) → r < first → AllPairs (λ a b. a.partition ≢ b.partition) (get_or rounds r [])
   partitions_apart_in r round i j d before within = (apart_in r round i j d before within).1
 
-  chunk_is_ran : (r p j : ℕ) → HasSlot rounds r p j → j ≡ slots_in_all p (take r rounds)
-  chunk_is_ran r p j has =
-      sym has.chunk_is ∙ (good_at r has.place has.round has.within).next ∙ ap (λ q. slots_in_all q (take r rounds)) has.partition_is
+  pub chunk_is_ran : (r p j : ℕ) → r < first → HasSlot rounds r p j → j ≡ slots_in_all p (take r rounds)
+  chunk_is_ran r p j round has =
+      sym has.chunk_is ∙ (good_at r has.place round has.within).next ∙ ap (λ q. slots_in_all q (take r rounds)) has.partition_is
 
-  one_of_partition : (r p j : ℕ) → HasSlot rounds r p j → 1 ≤ slots_of p (get_or rounds r [])
-  one_of_partition r p j has = one_at (λ s. s.partition) p (get_or rounds r []) has.place no_slot has.within has.partition_is
-
-  ran_later : (r s p j : ℕ) → r < s → HasSlot rounds r p j → slots_in_all p (take r rounds) + 1 ≤ slots_in_all p (take s rounds)
+  pub ran_later : (r s p j : ℕ) → r < s → HasSlot rounds r p j → slots_in_all p (take r rounds) + 1 ≤ slots_in_all p (take s rounds)
   ran_later r s p j later has =
-      omega (arith, slots_in_all-more p rounds r has.round, one_of_partition r p j has, ran-rises p rounds (r + 1) s (omega arith))
+      let one : 1 ≤ slots_of p (get_or rounds r []) = one_at (λ s. s.partition) p (get_or rounds r []) has.place no_slot has.within has.partition_is in
+      omega (arith, slots_in_all-more p rounds r has.round, one, ran-rises p rounds (r + 1) s (omega arith))
 
   -- the round at which the count of the partition passes j
-  passes_at : (p j k : ℕ) → k ≤ length rounds → j < slots_in_all p (take k rounds) → (r : ℕ) × (r < k) × (slots_in_all p (take r rounds) ≡ j) × (1 ≤ slots_of p (get_or rounds r []))
+  passes_at : (p j k : ℕ) → k ≤ first → j < slots_in_all p (take k rounds) → (r : ℕ) × (r < k) × (slots_in_all p (take r rounds) ≡ j) × (1 ≤ slots_of p (get_or rounds r []))
   passes_at p j zero within below_it = absurd (omega arith)
   passes_at p j (suc k) within below_it = elim (cases_lt j (slots_in_all p (take k rounds))) [
     | inl earlier ↦
@@ -186,49 +184,75 @@ module _ (counts : List ℕ) (threads : ℕ) (rounds : List (List Slot)) (faultl
         (k, omega arith, omega (arith, more, next, one, here, below_it), omega (arith, more, next, here, below_it))
   ]
 
+  -- so the chunks that ran before round k stand there, and are chunks of the load
+  pub stood : (p j k : ℕ) → k ≤ first → j < slots_in_all p (take k rounds) → (r : ℕ) × (r < k) × StandsIn (sets_of rounds) r (p, j) × (p < length counts) × (j < slice_index counts p)
+  stood p j k within below_it =
+      let at = passes_at p j k within below_it in
+      let slot = found_at (λ s. s.partition) p (get_or rounds at.0 []) at.3 in
+      let here = good_at at.0 slot.0 (omega (arith, at.1)) slot.1 in
+      let partition : (slot_at rounds at.0 slot.0).partition ≡ p = slot.2 no_slot in
+      let chunk : (slot_at rounds at.0 slot.0).chunk ≡ j = here.next ∙ ap (λ q. slots_in_all q (take at.0 rounds)) partition ∙ at.2 in
+      let counted : slice_index counts (slot_at rounds at.0 slot.0).partition ≡ slice_index counts p = ap (slice_index counts) partition in (
+        at.0,
+        at.1,
+        stands_as rounds at.0 slot.0 p j (omega (arith, at.1)) slot.1 partition chunk,
+        omega (arith, here.partition, partition),
+        omega (arith, here.chunk, chunk, counted),
+      )
+
+-- ---- from faultless to lawful
+
+module _ (counts : List ℕ) (threads : ℕ) (rounds : List (List Slot)) (faultless : IsFaultless counts threads rounds) where
+  all : length rounds ≤ length rounds
+  all = le_refl (length rounds)
+
+  ran_at : (r p j : ℕ) → StandsIn (sets_of rounds) r (p, j) → j ≡ slots_in_all p (take r rounds)
+  ran_at r p j stands =
+      let has = slot_from_stands rounds r p j stands in
+      chunk_is_ran counts threads rounds (length rounds) all faultless.good r p j has.round has
+
+  rises_behind : (r s p j : ℕ) → r < s → StandsIn (sets_of rounds) r (p, j) → slots_in_all p (take r rounds) + 1 ≤ slots_in_all p (take s rounds)
+  rises_behind r s p j later stands =
+      ran_later counts threads rounds (length rounds) all faultless.good r s p j later (slot_from_stands rounds r p j stands)
+
   somewhere : (p j : ℕ) → p < length counts → j < slice_index counts p → (r : ℕ) × StandsIn (sets_of rounds) r (p, j)
   somewhere p j known there =
-      let at = passes_at p j (length rounds) (le_refl (length rounds)) (omega (arith, faultless.whole p known, ran-whole p rounds)) in
-      let slot = found_at (λ s. s.partition) p (get_or rounds at.0 []) at.3 in
-      let good = good_at at.0 slot.0 at.1 slot.1 in
-      let chunk : (slot_at rounds at.0 slot.0).chunk ≡ j = good.next ∙ ap (λ q. slots_in_all q (take at.0 rounds)) (slot.2 no_slot) ∙ at.2 in
-      (at.0, stands_as rounds at.0 slot.0 p j at.1 slot.1 (slot.2 no_slot) chunk)
+      let at = stood counts threads rounds (length rounds) all faultless.good p j (length rounds) all (omega (arith, faultless.whole p known, ran-whole p rounds)) in
+      (at.0, at.2)
 
   sets_lawful : IsLawful counts threads (sets_of rounds)
   sets_lawful = record {
     known = λ r p j stands.
         let has = slot_from_stands rounds r p j stands in
-        let good = good_at r has.place has.round has.within in
+        let good = faultless.good r has.place no_slot has.round has.within in
         let counted : slice_index counts (slot_at rounds r has.place).partition ≡ slice_index counts p = ap (slice_index counts) has.partition_is in
         (omega (arith, good.partition, has.partition_is), omega (arith, good.chunk, has.chunk_is, counted));
     small = λ r d within.
         let round : r < length rounds = omega (arith, within, length-map rounds (map slot_pair)) in
         let long = ap length (set_at rounds r d round) in
-        omega (arith, long, length-map (get_or rounds r []) slot_pair, few_slots (λ s. s.lane) threads (get_or rounds r []) (lanes_apart_in r round) (λ k e here. (faultless.good r k e round here).lane));
+        omega (arith, long, length-map (get_or rounds r []) slot_pair, few_slots (λ s. s.lane) threads (get_or rounds r []) (lanes_apart_in counts threads rounds (length rounds) all faultless.good r round) (λ k e here. (faultless.good r k e round here).lane));
     apart = λ r d within.
         let round : r < length rounds = omega (arith, within, length-map rounds (map slot_pair)) in
         subst HasOnePerPartition (sym (set_at rounds r d round)) (λ i j e before inside same.
         let long = length-map (get_or rounds r []) slot_pair in
         let first = get_or-map slot_pair (get_or rounds r []) i no_slot e (omega (arith, long)) in
         let second = get_or-map slot_pair (get_or rounds r []) j no_slot e (omega (arith, long)) in
-        partitions_apart_in r round i j no_slot before (omega (arith, long))
+        partitions_apart_in counts threads rounds (length rounds) all faultless.good r round i j no_slot before (omega (arith, long))
         (sym (ap (λ (u : Pair). u.0) first) ∙ same ∙ ap (λ (u : Pair). u.0) second));
     somewhere = somewhere;
     once = λ r s p j a b.
-        let first = slot_from_stands rounds r p j a in
-        let second = slot_from_stands rounds s p j b in
-        let j_first = chunk_is_ran r p j first in
-        let j_second = chunk_is_ran s p j second in
+        let j_first = ran_at r p j a in
+        let j_second = ran_at s p j b in
         elim (cases_lt r s) [
-          | inl earlier ↦ absurd (omega (arith, ran_later r s p j earlier first, j_first, j_second))
+          | inl earlier ↦ absurd (omega (arith, rises_behind r s p j earlier a, j_first, j_second))
           | inr rest ↦ elim (cases_lt s r) [
-            | inl later ↦ absurd (omega (arith, ran_later s r p j later second, j_first, j_second))
+            | inl later ↦ absurd (omega (arith, rises_behind s r p j later b, j_first, j_second))
             | inr same ↦ omega arith
           ]
         ];
     in_order = λ r s p j a b.
-        let j_first = chunk_is_ran r p j (slot_from_stands rounds r p j a) in
-        let j_second = chunk_is_ran s p (j + 1) (slot_from_stands rounds s p (j + 1) b) in
+        let j_first = ran_at r p j a in
+        let j_second = ran_at s p (j + 1) b in
         elim (cases_lt r s) [
           | inl earlier ↦ earlier
           | inr rest ↦ absurd (omega (arith, ran-rises p rounds s r rest, j_first, j_second))
@@ -238,7 +262,7 @@ module _ (counts : List ℕ) (threads : ℕ) (rounds : List (List Slot)) (faultl
   pub lawful_from_faultless : StandsForLawful counts threads rounds
   lawful_from_faultless = record {
     lanes = All-from_get_or (λ (slots : List Slot). All (λ slot. slot.lane < threads) slots) rounds [] (λ r round k d within. (faultless.good r k d round within).lane);
-    lanes_apart = All-from_get_or (λ (slots : List Slot). AllPairs (λ a b. a.lane ≢ b.lane) slots) rounds [] lanes_apart_in;
+    lanes_apart = All-from_get_or (λ (slots : List Slot). AllPairs (λ a b. a.lane ≢ b.lane) slots) rounds [] (lanes_apart_in counts threads rounds (length rounds) all faultless.good);
     lawful = sets_lawful;
   }
 

@@ -11,4 +11,5 @@ pub mod FirstFault
 pub mod Meant
 pub mod NoFault
 pub mod Faultless
+pub mod FaultsSaid
 pub mod Rows

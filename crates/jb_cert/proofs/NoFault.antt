@@ -51,7 +51,7 @@ none_from_tests true true true next a b c d = cc
 none_from_tests true true false false a b c d = cc
 none_from_tests true true false true a b c d = refl
 
-known_both : (a n c k : ℕ) → a < n → c < k → (ltb a n && ltb c k) ≡ true
+pub known_both : (a n c k : ℕ) → a < n → c < k → (ltb a n && ltb c k) ≡ true
 known_both a n c k p q = grind (arith, nat_tests)
 
 good_from_none : (counts : List ℕ) (threads : ℕ) (ran : ℕ → ℕ) (here : List Slot) (slot : Slot) → fault_here counts threads ran here slot ≡ None → IsGood counts threads (ran slot.partition) here slot
@@ -84,7 +84,7 @@ none-first_of_two (Some f) b x y = cc
 
 -- ---- a round
 
-good_in_round : (counts : List ℕ) (threads : ℕ) (ran : ℕ → ℕ) (here rest : List Slot) → fault_in_round counts threads ran here rest ≡ None → (i : ℕ) (d : Slot) → i < length rest → IsGood counts threads (ran (get_or rest i d).partition) (here ++ take i rest) (get_or rest i d)
+pub good_in_round : (counts : List ℕ) (threads : ℕ) (ran : ℕ → ℕ) (here rest : List Slot) → fault_in_round counts threads ran here rest ≡ None → (i : ℕ) (d : Slot) → i < length rest → IsGood counts threads (ran (get_or rest i d).partition) (here ++ take i rest) (get_or rest i d)
 good_in_round counts threads ran here [] is i d within = absurd (omega arith)
 good_in_round counts threads ran here (slot ∷ rest) is zero d within =
     let parts = first_of_two-none (fault_here counts threads ran here slot) (fault_in_round counts threads ran (here ++ slot ∷ []) rest) is in
@@ -105,8 +105,13 @@ none_in_round counts threads ran here (slot ∷ rest) good =
 
 -- ---- the plan
 
+-- each slot of the first rounds is good
+abbrev pub AreGood : List ℕ → ℕ → List (List Slot) → ℕ → Type 0
+AreGood counts threads rounds first =
+    (r i : ℕ) (d : Slot) → r < first → i < length (get_or rounds r []) → IsGood counts threads (slots_in_all (get_or (get_or rounds r []) i d).partition (take r rounds)) (take i (get_or rounds r [])) (get_or (get_or rounds r []) i d)
+
 pub record IsFaultless (counts : List ℕ) (threads : ℕ) (rounds : List (List Slot)) : Type 0 where
-  pub good : (r i : ℕ) (d : Slot) → r < length rounds → i < length (get_or rounds r []) → IsGood counts threads (slots_in_all (get_or (get_or rounds r []) i d).partition (take r rounds)) (take i (get_or rounds r [])) (get_or (get_or rounds r []) i d)
+  pub good : AreGood counts threads rounds (length rounds)
   pub whole : (p : ℕ) → p < length counts → slots_in_all p rounds ≡ slice_index counts p
 
 rounds_pass : (counts : List ℕ) (threads : ℕ) (before rest : List (List Slot)) → fault_after counts threads before rest ≡ None → (r : ℕ) → r < length rest → fault_in_round counts threads (λ p. slots_in_all p (before ++ take r rest)) [] (get_or rest r []) ≡ None

@@ -4,6 +4,7 @@ pub mod Certificates
 pub mod WrapAround
 pub mod Plans
 pub mod Faults
+pub mod WrongPlans
 pub mod Laws
 pub mod Texts
 pub mod inside

@@ -1,24 +1,15 @@
 -- A load: the count of chunks of each partition, and a number of threads.
 use Rattle.std.specs.Prelude.{ℕ, ◌≤◌, max, List, [], ◌∷◌, length, sum}
 use Rattle.std.specs.Int.{div_ceil}
+use Rattle.jb_job.specs.Limits.{max_load_partitions, max_chunks, max_threads}
 
 pub record Load : Type 0 where
   pub counts : List ℕ
   pub threads : ℕ
 
--- the largest loads that are planned and checked (own choice)
-abbrev pub max_partitions : ℕ
-max_partitions = 4096
-
-abbrev pub max_chunks : ℕ
-max_chunks = 10000000
-
-abbrev pub max_threads : ℕ
-max_threads = 64
-
--- the limits that every call with a load asks for
+-- the limits that every call with a load asks for (own choice)
 pub record IsWithinLimits (counts : List ℕ) (threads : ℕ) : Type 0 where
-  pub few_counts : length counts ≤ max_partitions
+  pub few_counts : length counts ≤ max_load_partitions
   pub few_chunks : sum counts ≤ max_chunks
   pub some_thread : 1 ≤ threads
   pub few_threads : threads ≤ max_threads

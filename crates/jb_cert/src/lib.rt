@@ -20,7 +20,8 @@ mod plans;
 pub use certificates::{Certificate, check_certificate, is_least_plan};
 pub use checker::check_plan;
 pub use laws::{
-    bound_is_least, lanes_are_found, places_lie_round, tests_are_exact, wrap_around_is_least,
+    bound_is_least, faults_are_there, lanes_are_found, places_lie_round, tests_are_exact,
+    wrap_around_is_least,
 };
-pub use load::{MAX_CHUNKS, MAX_PARTITIONS, MAX_THREADS, fits, least_rounds};
+pub use load::{fits, least_rounds};
 pub use plans::{Plan, PlanFault, Slot};

@@ -1,16 +1,10 @@
 //! The limits of a load, and the least number of rounds for it.
 ghost use Rattle.std.specs.Prelude.{◌≡◌, ◌*◌, ◌≤◌, ◌↔◌, IsTrue, sum};
-ghost use Rattle.jb_cert.specs.Load.{IsWithinLimits, longest_count, max_chunks, mcnaughton};
+ghost use Rattle.jb_job.specs.Limits.{max_chunks};
+ghost use Rattle.jb_cert.specs.Load.{IsWithinLimits, longest_count, mcnaughton};
 ghost use Rattle.jb_cert.specs.Lawful.{IsLeastNumber};
 
-/// The most partitions of a load (this project's own choice).
-pub const MAX_PARTITIONS: usize = 4_096;
-
-/// The most chunks of a load, all partitions together (this project's own choice).
-pub const MAX_CHUNKS: u64 = 10_000_000;
-
-/// The most threads (this project's own choice).
-pub const MAX_THREADS: u32 = 64;
+use jb_job::{MAX_CHUNKS, MAX_LOAD_PARTITIONS, MAX_THREADS};
 
 /// Whether the counts of chunks, one for each partition, and the number of threads are within the limits: at most
 /// 4,096 counts, at most 10,000,000 chunks in all, and 1 to 64 threads.
@@ -19,7 +13,7 @@ pub const MAX_THREADS: u32 = 64;
 pub fn fits(counts: &[u64], threads: u32) -> bool
     ensures { IsTrue result ↔ IsWithinLimits counts.now threads }
 {
-    if counts.len() > MAX_PARTITIONS || threads < 1 || threads > MAX_THREADS {
+    if counts.len() > MAX_LOAD_PARTITIONS || threads < 1 || threads > MAX_THREADS {
         return false;
     }
     let mut total = 0;

@@ -61,16 +61,16 @@ done-ready t block work now tried row after ready sound b w done r a =
 abbrev pub reopened : Row → Workplace → Workplace
 reopened row w = record w { reader = opened w.reader row.at; writer = record w.writer { written = take row.written w.writer.written } }
 
-pub undone-restored : (t : TaskState) (block : Range) (work now : Workplace) (tried : Tried) → IsReady t → block ≡ block_of t → work ≡ t.work → IsTried (trial_at t block work) tried now → IsRestored t.work (reopened t.row now)
+pub undone-restored : (t : TaskState) (block : Range) (work now : Workplace) (tried : Tried) → IsReady t → block ≡ block_of t → work ≡ t.work → IsTried (trial_at t block work) tried now → IsRestored t.row.at (block_of t).hi t.work (reopened t.row now)
 undone-restored t block work now tried ready b w done =
     let tr = tried-same t block work now tried b w done in
-    let P : Workplace → Type 0 = λ x. IsRestored t.work (reopened t.row x) in
+    let P : Workplace → Type 0 = λ x. IsRestored t.row.at (block_of t).hi t.work (reopened t.row x) in
     subst P (sym tr.left) (restored-by t tried.end ready)
 
-pub undone-attempt : (t : TaskState) (work : Workplace) (out : Outcome) (values : List (List ℕ)) (after : TaskState) → out ≡ NoMemory → values ≡ [] → after ≡ record t { work = work } → IsRestored t.work work → IsAttempt t (ending_of after out values)
+pub undone-attempt : (t : TaskState) (work : Workplace) (out : Outcome) (values : List (List ℕ)) (after : TaskState) → out ≡ NoMemory → values ≡ [] → after ≡ record t { work = work } → IsRestored t.row.at (block_of t).hi t.work work → IsAttempt t (ending_of after out values)
 undone-attempt t work out values after o v a restored =
     let Out : Outcome → Type 0 = λ x. IsAttempt t (ending_of after x values) in
-    let Left : Workplace → Type 0 = λ x. IsRestored t.work x in
+    let Left : Workplace → Type 0 = λ x. IsRestored t.row.at (block_of t).hi t.work x in
     subst Out (sym o) (
       v,
       record {
@@ -79,7 +79,7 @@ undone-attempt t work out values after o v a restored =
       },
     )
 
-pub undone-ready : (t : TaskState) (work : Workplace) (after : TaskState) → IsReady t → IsRestored t.work work → after ≡ record t { work = work } → IsReady after
+pub undone-ready : (t : TaskState) (work : Workplace) (after : TaskState) → IsReady t → IsRestored t.row.at (block_of t).hi t.work work → after ≡ record t { work = work } → IsReady after
 undone-ready t work after ready restored a =
     let first : work.reader.first ≡ t.work.reader.first = ap (λ (r : Reader). r.first) restored.reader in
     let place : work.reader.place ≡ t.work.reader.place = ap (λ (r : Reader). r.place) restored.reader in

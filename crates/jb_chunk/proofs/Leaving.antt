@@ -1,5 +1,5 @@
 -- What an attempt leaves.
-use Rattle.std.proofs.Common.{◌≡◌, ℕ, ◌+◌, ◌≤◌, ◌++◌, List, [], ◌∷◌, length, length-append, take, refl, ap, sym, ◌∙◌, arith, ◌⊎◌, inl, inr, Option, Some, None, Bool, true, false, cond, eqb}
+use Rattle.std.proofs.Common.{◌≡◌, ℕ, ◌+◌, ◌≤◌, ◌<◌, ◌++◌, List, [], ◌∷◌, length, length-append, take, refl, ap, sym, ◌∙◌, arith, ◌⊎◌, inl, inr, Option, Some, None, Bool, true, false, cond, eqb}
 use Rattle.jb_rules.specs.Sound.{IsSoundRow}
 use Rattle.jb_artifacts.specs.declared.faults.FaultPlan.{FaultPlan}
 use Rattle.jb_artifacts.specs.Faults.{Plans, used, used_at}
@@ -9,13 +9,15 @@ use Rattle.jb_artifacts.specs.Meaning.{Workplace}
 use Rattle.jb_chunk.specs.declared.end.End.{End}
 use Rattle.jb_chunk.specs.declared.end.End.TheVariants.{Written, Unwritten, Rolled, Failed}
 use Rattle.jb_chunk.specs.declared.tried.Tried.{Tried}
-use Rattle.jb_chunk.specs.Attempt.{Trial, found_in, work_with, trial_of, settled_at, read_end, write_plans, IsRestored, ending_of, ending_by, attempt_of}
+use Rattle.jb_chunk.specs.Attempt.{Trial, block_of, found_in, work_with, trial_of, settled_at, read_end, write_plans, IsRestored, ending_of, ending_by, attempt_of}
 use Rattle.jb_chunk.specs.inside.Ends.{work_by, row_by, kept_by, after_end, values_by, outcome_by}
 use Rattle.jb_chunk.specs.Block.{passed, MayBeUsed}
 use Rattle.jb_chunk.specs.Standing.{TaskState, IsReady}
 use Rattle.jb_chunk.specs.inside.Tried.{IsTried}
 use Rattle.jb_chunk.proofs.Wearing.{worn-passed}
+use Rattle.jb_chunk.proofs.Within.{read-in, failing-in}
 use Rattle.std.proofs.lemmas.Grind.{common_steps}
+use Rattle.std.proofs.lemmas.Bool.Decides.{nat_tests}
 
 pub length-texts : (xs : Numbered) → length (texts_of xs) ≡ length xs
 length-texts [] = refl
@@ -77,14 +79,22 @@ either : (b : Bool) (p : FaultPlan) → (cond b (used p) p ≡ p) ⊎ (cond b (u
 either true p = inr refl
 either false p = inl refl
 
-may-used_for : (plans : Plans) (o : Option (ℕ × List ℕ)) → MayBeUsed plans (used_for plans o)
-unfolding used_at
-may-used_for plans None = record { each = λ k. inl refl }
-may-used_for plans (Some r) = record { each = λ j. either (eqb j r.0) (plans j) }
+apart : (lo hi j k : ℕ) → (lo ≤ k) × (k < hi) → (j < lo) ⊎ (hi ≤ j) → eqb j k ≡ false
+apart lo hi j k within (inl below) = let from = within.0 in grind (arith, nat_tests)
+apart lo hi j k within (inr past) = let to = within.1 in grind (arith, nat_tests)
 
-may-write : (t : Trial) (settled : Option ℕ) → MayBeUsed t.work.writer.faults (write_plans t settled)
-may-write t (Some k) = record { each = λ k. inl refl }
-may-write t None = may-used_for t.work.writer.faults (failing t.work.writer.faults (found_in t))
+-- a write uses a plan of the block's records alone
+may-used_for : (plans : Plans) (o : Option (ℕ × List ℕ)) (lo hi : ℕ) → ((r : ℕ × List ℕ) → o ≡ Some r → (lo ≤ r.0) × (r.0 < hi)) → MayBeUsed lo hi plans (used_for plans o)
+unfolding used_at
+may-used_for plans None lo hi within = record { each = λ k. inl refl; others = λ k out. refl }
+may-used_for plans (Some r) lo hi within = record {
+  each = λ j. either (eqb j r.0) (plans j);
+  others = λ j out. ap (λ b. cond b (used (plans j)) (plans j)) (apart lo hi j r.0 (within r refl) out);
+}
+
+may-write : (t : Trial) (settled : Option ℕ) → MayBeUsed t.row.at t.hi t.work.writer.faults (write_plans t settled)
+may-write t (Some k) = record { each = λ k. inl refl; others = λ k out. refl }
+may-write t None = may-used_for t.work.writer.faults (failing t.work.writer.faults (found_in t)) t.row.at t.hi (failing-in t)
 
 take-all : (xs : List (List ℕ)) (n : ℕ) → length xs ≡ n → take n xs ≡ xs
 take-all xs n e = grind (arith, common_steps)
@@ -99,13 +109,14 @@ cut-kept (Rolled class) old found n h = take-all old n h
 cut-kept (Failed class) old found n h = take-all old n h
 
 -- what an end leaves, opened again at the checkpoint
-pub restored-by : (t : TaskState) (e : End) → IsReady t → IsRestored t.work (record (work_by (trial_of t) e) { reader = opened (work_by (trial_of t) e).reader t.row.at; writer = record (work_by (trial_of t) e).writer { written = take t.row.written (work_by (trial_of t) e).writer.written } })
+pub restored-by : (t : TaskState) (e : End) → IsReady t → IsRestored t.row.at (block_of t).hi t.work (record (work_by (trial_of t) e) { reader = opened (work_by (trial_of t) e).reader t.row.at; writer = record (work_by (trial_of t) e).writer { written = take t.row.written (work_by (trial_of t) e).writer.written } })
 unfolding work_with
 restored-by t e r =
     let s = settled_at (trial_of t) in
-    let worn = worn-passed t.work (passed t.work t.row.at (read_end (trial_of t) s)) t.row.at (read_end (trial_of t) s) refl in
+    let end = read_end (trial_of t) s in
+    let worn = worn-passed t.work (passed t.work t.row.at end) t.row.at end (block_of t).hi (read-in (trial_of t) s refl) refl in
     record {
-      reader = λ i. record t.work.reader { place = sym r.place i; faults = (passed t.work t.row.at (read_end (trial_of t) s)).reader.faults };
+      reader = λ i. record t.work.reader { place = sym r.place i; faults = (passed t.work t.row.at end).reader.faults };
       processor = refl;
       writer = λ i. record { written = cut-kept e t.work.writer.written (texts_of (found_in (trial_of t))) t.row.written r.count i; faults = write_plans (trial_of t) s };
       collector = refl;

@@ -2,11 +2,15 @@ pub mod Counting
 pub mod Passing
 pub mod Settling
 pub mod Wearing
+pub mod Within
 pub mod Ending
 pub mod Trying
 pub mod Leaving
 pub mod Attempting
 pub mod Running
+pub mod Adding
+pub mod Course
+pub mod Ways
 pub mod Calm
 pub mod Following
 pub mod Worked

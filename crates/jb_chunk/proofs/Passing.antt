@@ -1,5 +1,5 @@
 -- Reader and processor that pass one record after another.
-use Rattle.std.proofs.Common.{◌≡◌, ℕ, ◌+◌, ◌≤◌, Bool, true, false, not, Option, Some, None, is_some, refl, ap, sym, ◌∙◌, arith}
+use Rattle.std.proofs.Common.{◌≡◌, ℕ, ◌+◌, ◌≤◌, ◌<◌, Bool, true, false, not, Option, Some, None, is_some, refl, ap, sym, ◌∙◌, arith}
 use Rattle.std.proofs.lemmas.Bool.Decides.{nat_tests}
 use Rattle.jb_job.specs.declared.class.ClassId.{ClassId}
 use Rattle.jb_artifacts.specs.Faults.{Plans, live, used_at, is_live}
@@ -15,6 +15,10 @@ fun_ext h = λ i x. h x i
 pub between-outside : (called : ℕ → Bool) (plans : Plans) (lo hi k : ℕ) → hi ≤ k → used_between called plans lo hi k ≡ plans k
 unfolding used_between
 between-outside called plans lo hi k le = grind (arith, nat_tests)
+
+pub between-before : (called : ℕ → Bool) (plans : Plans) (lo hi k : ℕ) → k < lo → used_between called plans lo hi k ≡ plans k
+unfolding used_between
+between-before called plans lo hi k lt = grind (arith, nat_tests)
 
 pub between-none : (called : ℕ → Bool) (plans : Plans) (lo : ℕ) → used_between called plans lo lo ≡ plans
 unfolding used_between

@@ -3,6 +3,7 @@ use Rattle.std.proofs.Common.{◌≡◌, ℕ, ◌+◌, ◌≤◌, ◌<◌, Bool,
 use Rattle.std.specs.Prelude.{◌&&◌, nat_lt, ◌==◌}
 use Rattle.std.proofs.lemmas.Bool.Decides.{nat_tests}
 use Rattle.jb_job.specs.declared.class.ClassId.{ClassId}
+use Rattle.jb_job.specs.Limits.{max_retry_limit, max_rollbacks}
 use Rattle.jb_job.specs.Records.{RulesRecord}
 use Rattle.jb_plan.specs.Blocks.{ChunksFollow}
 use Rattle.jb_rules.specs.declared.counts.Counts.{Counts}
@@ -61,7 +62,7 @@ block-in law t lt redo c = let next = law.next t.row.at t.row.redo t.row.hi t.it
 
 -- there is a number for each rollback to come
 abbrev pub HasRoom : TaskState → Type 0
-HasRoom t = t.row.counts.rollback + retries_left t < 1000000000000
+HasRoom t = t.row.counts.rollback + retries_left t < max_rollbacks
 
 -- the task after an attempt from which another may follow
 pub record IsFurther (before after : TaskState) : Type 0 where
@@ -83,7 +84,7 @@ roll-by t Written class h w o = cc
 roll-by t Unwritten class h w o = cc
 roll-by t (Rolled k) class h w o =
     let below = rolled-below (trial_of t) k (sym h) in
-    (record { fewer = omega (arith, below); room = omega (arith, below) }, refl)
+    (record { fewer = omega (arith, below); room = omega (arith, below) }, w)
 roll-by t (Failed k) class h w o = cc
 
 fail-by : (t : TaskState) (e : End) (class : ClassId) → outcome.Failed class ≡ outcome_by (trial_of t) e → (after_end t e).row.state ≡ state.Failed
@@ -133,7 +134,7 @@ fail-left before after class values done =
     subst P (sym (left-by before after _ values done)) (fail-by before (end_of (trial_of before)) class (ended-by before after _ values done))
 
 -- no more is retried than the limit of a step's retries
-pub has-room : (t : TaskState) → IsReady t → t.row.counts.rollback ≤ 999000000000 → HasRoom t
+pub has-room : (t : TaskState) → IsReady t → t.row.counts.rollback + max_retry_limit < max_rollbacks → HasRoom t
 has-room t ready few = let most = ready.retried in omega (arith, few, most)
 
 -- some attempts were made, and there may be as many more as are left now
@@ -222,6 +223,7 @@ breaks-off start now after ready waiting way unfinished = record {
   attempts = way.attempts;
   last = now;
   run = way.run;
+  waiting = waiting;
   few = let few = way.few in let lt = left-waiting now.row ready.sound waiting in omega (arith, few, lt);
   unfinished = unfinished;
 }

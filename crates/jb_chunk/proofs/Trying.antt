@@ -6,7 +6,7 @@ use Rattle.jb_rules.specs.declared.choice.Choice.{Choice}
 use Rattle.jb_rules.specs.Rows.{skips_of}
 use Rattle.jb_rules.specs.Counts.{no_counts}
 use Rattle.jb_artifacts.specs.Reader.{opened}
-use Rattle.jb_artifacts.specs.Writer.{Writer, Numbered, texts_of, write_fault, torn_write}
+use Rattle.jb_artifacts.specs.Writer.{Numbered, texts_of, write_fault, torn_write}
 use Rattle.jb_artifacts.specs.Meaning.{Workplace}
 use Rattle.jb_chunk.specs.declared.tally.Tally.{Tally}
 use Rattle.jb_chunk.specs.declared.tried.Tried.{Tried}
@@ -14,7 +14,7 @@ use Rattle.jb_chunk.specs.Attempt.{Trial, settled_at, found_in, end_at, end_by, 
 use Rattle.jb_chunk.specs.inside.Ends.{delta_by, counts_by, place_by, kept_by, work_by}
 use Rattle.jb_chunk.specs.Block.{entry, choice_at, skips_before, is_skip, passed}
 use Rattle.jb_chunk.specs.Entries.{fault_in}
-use Rattle.jb_chunk.specs.inside.Gathering.{IsTally, IsWornTo}
+use Rattle.jb_chunk.specs.inside.Gathering.{IsTally}
 use Rattle.jb_chunk.specs.inside.Tried.{IsTried, IsFinish, IsTorn, writer_by}
 use Rattle.jb_chunk.proofs.Counting.{all-counted}
 use Rattle.jb_chunk.proofs.Settling.{skips-tally}
@@ -70,27 +70,12 @@ front-longer xs ys = grind (arith, common_steps)
 take-same : (xs ys : List (List ℕ)) → ys ≡ xs → take (length xs) ys ≡ xs
 take-same xs ys e = rw e (grind (arith, common_steps))
 
--- a block that found no memory before its write
-pub torn-worn : (w now : Workplace) → IsWornTo w now → IsTorn w now
-torn-worn w now worn =
-    let same : now.writer.written ≡ w.writer.written = ap (λ (v : Writer). v.written) worn.writer in
-    record {
-      reader = worn.reader;
-      processor = worn.processor;
-      collector = worn.collector;
-      read_plans = worn.read_plans;
-      process_plans = worn.process_plans;
-      write_plans = ap (λ (v : Writer). v.faults) worn.writer;
-      written = take-same w.writer.written now.writer.written same;
-      longer = omega (arith, ap length same);
-    }
-
 -- a block that found no memory in its write
-pub torn-written : (w whole now : Workplace) (lo hi count : ℕ) (found : Numbered) → whole ≡ passed w lo hi → now ≡ record whole { writer = torn_write whole.writer found count } → IsTorn w now
+pub torn-written : (w whole now : Workplace) (lo hi count : ℕ) (found : Numbered) → whole ≡ passed w lo hi → now ≡ record whole { writer = torn_write whole.writer found count } → IsTorn lo hi w now
 torn-written w whole now lo hi count found passes e =
-    let P : Workplace → Type 0 = λ v. IsTorn w v in
+    let P : Workplace → Type 0 = λ v. IsTorn lo hi w v in
     let at = e ∙ ap (λ (v : Workplace). record v { writer = torn_write v.writer found count }) passes in
-    let worn = worn-passed w (passed w lo hi) lo hi refl in
+    let worn = worn-passed w (passed w lo hi) lo hi hi (omega arith) refl in
     let more = texts_of (take (count - length w.writer.written) found) in
     subst P (sym at) (record {
       reader = refl;

@@ -12,7 +12,7 @@ use Rattle.jb_chunk.specs.Attempt.{Ending, attempt_of, end_of, work_with}
 use Rattle.jb_chunk.specs.Block.{entry, results, count_of, settles, settling, used_between}
 use Rattle.jb_chunk.specs.Plain.{plain_answers}
 use Rattle.jb_chunk.specs.Standing.{TaskState}
-use Rattle.jb_chunk.specs.Worked.{FirstRun, EverythingFiltered, NoRecord, RetryToSingles, SkipInRedo, OneFailed, TornWrite, RetryLimit, ReadSkip, RolledBackSkip, PlainRuns, RunsTo, numbers, texts_in, filtered_task, first_task, second_task, recordless_task, retried_task, skipped_task, failed_task, beside_failed_task, torn_task, retried_out_task, read_skipped_task, rolled_back_task}
+use Rattle.jb_chunk.specs.Worked.{FirstRun, EverythingFiltered, NoRecord, RetryToSingles, SkipInRedo, OneFailed, TornWrite, WriteRetried, WriteFailed, ShakyWrite, RetryLimit, ReadSkip, RolledBackSkip, PlainRuns, RunsTo, numbers, texts_in, filtered_task, first_task, second_task, recordless_task, retried_task, skipped_task, failed_task, beside_failed_task, torn_task, rewritten_task, unwritable_task, shaky_writes_task, retried_out_task, read_skipped_task, rolled_back_task}
 
 -- the first `n` attempts, while the task waits, and where they lead
 unfoldable attempts : ℕ → TaskState → List Ending
@@ -81,6 +81,18 @@ skip_in_redo = runs_to skipped_task 4 refl (lit≤ tt) refl refl refl refl
 pub torn_write : TornWrite
 unfolding attempts place end_of settling settles entry results count_of work_with used_between used_at digits blocks
 torn_write = runs_to torn_task 1 refl (lit≤ tt) refl refl refl refl
+
+pub write_retried : WriteRetried
+unfolding attempts place end_of settling settles entry results count_of work_with used_between used_at digits blocks
+write_retried = runs_to rewritten_task 4 refl (lit≤ tt) refl refl refl refl
+
+pub write_failed : WriteFailed
+unfolding attempts place end_of settling settles entry results count_of work_with used_between used_at digits blocks
+write_failed = runs_to unwritable_task 2 refl (lit≤ tt) refl refl refl refl
+
+pub shaky_write : ShakyWrite
+unfolding attempts place end_of settling settles entry results count_of work_with used_between used_at digits blocks
+shaky_write = runs_to shaky_writes_task 4 refl (lit≤ tt) refl refl refl refl
 
 pub retry_limit : RetryLimit
 unfolding attempts place end_of settling settles entry results count_of work_with used_between used_at digits blocks

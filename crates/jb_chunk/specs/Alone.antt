@@ -14,6 +14,11 @@ abbrev pub IsRunOf : TaskState → List Ending → TaskState → Type 0
 IsRunOf t [] s = s ≡ t
 IsRunOf t (e ∷ es) s = (t.row.state ≡ state.Waiting) × (e ≡ attempt_of t) × IsRunOf e.task es s
 
+-- some of the task's attempts lead there
+pub record IsOnTheWay (t s : TaskState) : Type 0 where
+  pub attempts : List Ending
+  pub run : IsRunOf t attempts s
+
 -- how often a chunk of the task may still be retried
 abbrev pub retries_left : TaskState → ℕ
 retries_left t = t.rules.retry_limit - t.row.retries
@@ -30,11 +35,12 @@ pub record IsAlone (t s : TaskState) : Type 0 where
   pub ended : has_ended s.row.state ≡ true
   pub few : length attempts ≤ attempts_left t
 
--- some attempts alone were made, and then one that found no memory
+-- some attempts alone were made, which left the task waiting, and then one that found no memory
 pub record IsBroken (t s : TaskState) : Type 0 where
   pub attempts : List Ending
   pub last : TaskState
   pub run : IsRunOf t attempts last
+  pub waiting : last.row.state ≡ state.Waiting
   pub few : length attempts < attempts_left t
   pub unfinished : IsUnfinished last s
 

@@ -188,20 +188,21 @@ ending_by t (Failed class) =
 abbrev pub attempt_of : TaskState → Ending
 attempt_of t = ending_by t (end_of (trial_of t))
 
--- all is as it was, but for plans: each is as it was, or has used its next fault
-pub record IsRestored (before after : Workplace) : Type 0 where
+-- all is as it was, but for the plans of the records from `lo` to `hi - 1`: each is as it was, or has used its next fault
+pub record IsRestored (lo hi : ℕ) (before after : Workplace) : Type 0 where
   pub reader : after.reader ≡ record before.reader { faults = after.reader.faults }
   pub processor : after.processor ≡ record before.processor { faults = after.processor.faults }
   pub writer : after.writer ≡ record before.writer { faults = after.writer.faults }
   pub collector : after.collector ≡ before.collector
-  pub read_plans : MayBeUsed before.reader.faults after.reader.faults
-  pub process_plans : MayBeUsed before.processor.faults after.processor.faults
-  pub write_plans : MayBeUsed before.writer.faults after.writer.faults
+  pub read_plans : MayBeUsed lo hi before.reader.faults after.reader.faults
+  pub process_plans : MayBeUsed lo hi before.processor.faults after.processor.faults
+  pub write_plans : MayBeUsed lo hi before.writer.faults after.writer.faults
 
--- an attempt that found no memory left row and outputs as they were, and reader and writer at the checkpoint
+-- an attempt that found no memory left row and outputs as they were, and reader and writer at the checkpoint; of the fault
+-- plans it used its own block's alone
 pub record IsUnfinished (before after : TaskState) : Type 0 where
   pub task : after ≡ record before { work = after.work }
-  pub work : IsRestored before.work after.work
+  pub work : IsRestored before.row.at (block_of before).hi before.work after.work
 
 abbrev pub IsAttemptBy : Outcome → TaskState → Ending → Type 0
 IsAttemptBy (outcome.Committed delta) t e = e ≡ attempt_of t

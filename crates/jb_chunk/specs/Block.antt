@@ -1,5 +1,5 @@
 -- Faults of a block: one entry for each record, and the first fault that isn't skipped.
-use Rattle.std.specs.Prelude.{ℕ, ◌+◌, ◌-◌, Bool, true, false, not, ◌&&◌, nat_lt, nat_le, if◌then◌else◌, List, Option, Some, None, find, count_by, ◌≡◌, ◌⊎◌}
+use Rattle.std.specs.Prelude.{ℕ, ◌+◌, ◌-◌, Bool, true, false, not, ◌&&◌, nat_lt, nat_le, if◌then◌else◌, List, Option, Some, None, find, count_by, ◌≡◌, ◌≤◌, ◌<◌, ◌⊎◌}
 use Rattle.std.specs.List.{filter_map, range_with_len}
 use Rattle.jb_job.specs.declared.class.ClassId.{ClassId}
 use Rattle.jb_job.specs.Records.{RulesRecord}
@@ -82,6 +82,7 @@ passed w lo hi = record w {
   processor = record w.processor { faults = used_between (λ k. not (is_live w.reader.faults k)) w.processor.faults lo hi };
 }
 
--- each plan is as it was, or has used its next fault
-pub record MayBeUsed (old new : Plans) : Type 0 where
+-- each plan of the records from `lo` to `hi - 1` is as it was, or has used its next fault; the others are as they were
+pub record MayBeUsed (lo hi : ℕ) (old new : Plans) : Type 0 where
   pub each : (k : ℕ) → (new k ≡ old k) ⊎ (new k ≡ used (old k))
+  pub others : (k : ℕ) → (k < lo) ⊎ (hi ≤ k) → new k ≡ old k

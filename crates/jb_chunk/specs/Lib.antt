@@ -2,6 +2,7 @@ pub mod Alone
 pub mod Attempt
 pub mod Block
 pub mod Entries
+pub mod Laws
 pub mod Plain
 pub mod Standing
 pub mod Worked

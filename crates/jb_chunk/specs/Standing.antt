@@ -2,7 +2,7 @@
 use Rattle.std.specs.Prelude.{ℕ, ◌≡◌, ◌≤◌, length, take}
 use Rattle.jb_job.specs.Limits.{max_retry_limit}
 use Rattle.jb_job.specs.Records.{RulesRecord}
-use Rattle.jb_plan.specs.declared.limits.TheConstants.{MAX_ITEM_COUNT}
+use Rattle.jb_job.specs.Limits.{max_item_count}
 use Rattle.jb_rules.specs.declared.row.Row.{Row}
 use Rattle.jb_rules.specs.Sound.{IsSoundRow}
 use Rattle.jb_artifacts.specs.Reader.{opened}
@@ -19,7 +19,7 @@ pub record TaskState : Type 0 where
 -- the number of records in a chunk (Jakarta Batch 2.1, "Chunk"; the upper limit is this project's choice)
 pub record HasItemCount (item_count : ℕ) : Type 0 where
   pub some : 1 ≤ item_count
-  pub few : item_count ≤ MAX_ITEM_COUNT
+  pub few : item_count ≤ max_item_count
 
 -- The row is sound, the artifacts serve it, and reader and writer stand at its checkpoint: the next record, and behind the
 -- results that were committed (Jakarta Batch 2.1, "Checkpoint Algorithm"; that these checkpoints are numbers is this
@@ -48,3 +48,7 @@ started partition row rules item_count w = record {
   item_count = item_count;
   work = at_checkpoint row w;
 }
+
+-- the task begun again from its row, with what it works with
+abbrev pub taken_up : TaskState → TaskState
+taken_up t = started t.partition t.row t.rules t.item_count t.work

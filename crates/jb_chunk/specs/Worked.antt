@@ -101,6 +101,15 @@ beside_failed_task = task 1 4 6 2 (one_skip 1 0) sound two_bad sound
 abbrev pub torn_task : TaskState
 torn_task = task 0 0 3 3 (rules_of 1 0) sound sound (only 1 (Bad class_e))
 
+abbrev pub rewritten_task : TaskState
+rewritten_task = task 0 0 4 2 (rules_of 0 1) sound sound (only 1 (Shaky (class_e ∷ [])))
+
+abbrev pub unwritable_task : TaskState
+unwritable_task = task 0 0 4 2 (rules_of 2 2) sound sound (only 3 (Bad class_e))
+
+abbrev pub shaky_writes_task : TaskState
+shaky_writes_task = task 0 0 3 3 (rules_of 2 1) sound sound (only 1 (Shaky (class_e ∷ class_f ∷ [])))
+
 abbrev pub retried_out_task : TaskState
 retried_out_task = task 0 0 1 1 (two_retries 0 1) sound (only 0 (Bad class_e)) sound
 
@@ -201,6 +210,31 @@ TornWrite =
     RunsTo torn_task
     (3 ∷ 0 ∷ 0 ∷ 0 ∷ 3 ∷ 0 ∷ 1 ∷ 0 ∷ 0 ∷ 0 ∷ 0 ∷ 1 ∷ []) Finished
     [] (codes "0:3:0" ∷ codes "0:3:0:end" ∷ [])
+
+-- a write that fails once with E, which is retryable: item count 2, at record 1. The result before it isn't kept, and is
+-- written again in the single-record redo.
+abbrev pub WriteRetried : Type 0
+WriteRetried =
+    RunsTo rewritten_task
+    (4 ∷ 2 ∷ 1 ∷ 4 ∷ 4 ∷ 4 ∷ 3 ∷ 1 ∷ 0 ∷ 0 ∷ 0 ∷ 0 ∷ []) Finished
+    (codes "xa" ∷ codes "xb" ∷ codes "xc" ∷ codes "xd" ∷ [])
+    (codes "0:1:1" ∷ codes "0:2:2" ∷ codes "0:4:4" ∷ codes "0:4:4:end" ∷ [])
+
+-- a write that always fails with E, where F alone is skippable and retryable: item count 2, at record 3. The partition
+-- fails, and the result before it isn't kept.
+abbrev pub WriteFailed : Type 0
+WriteFailed =
+    RunsTo unwritable_task
+    (2 ∷ 0 ∷ 0 ∷ 2 ∷ 2 ∷ 2 ∷ 1 ∷ 1 ∷ 0 ∷ 0 ∷ 0 ∷ 0 ∷ []) Failed
+    (codes "xa" ∷ codes "xb" ∷ []) (codes "0:2:2" ∷ [])
+
+-- a write that fails first with E, which is retryable, and then with F, which is skippable: item count 3, at record 1
+abbrev pub ShakyWrite : Type 0
+ShakyWrite =
+    RunsTo shaky_writes_task
+    (3 ∷ 3 ∷ 1 ∷ 2 ∷ 3 ∷ 2 ∷ 3 ∷ 1 ∷ 0 ∷ 0 ∷ 0 ∷ 1 ∷ []) Finished
+    (codes "xa" ∷ codes "xc" ∷ [])
+    (codes "0:1:1" ∷ codes "0:2:1" ∷ codes "0:3:2" ∷ codes "0:3:2:end" ∷ [])
 
 -- the retry limit reached: one record that always fails, retryable, retry limit 2
 abbrev pub RetryLimit : Type 0

@@ -1,6 +1,7 @@
 //! A task's attempts, one after another.
 
-ghost use Rattle.std.specs.Prelude.{◌≡◌, ◌≤◌};
+ghost use Rattle.std.specs.Prelude.{◌≡◌, ◌+◌, ◌<◌};
+ghost use Rattle.jb_job.specs.Limits.{max_retry_limit, max_rollbacks};
 ghost use Rattle.jb_rules.specs.declared.row.RowState.TheVariants.{Waiting};
 ghost use Rattle.jb_chunk.specs.Alone.{EndsAlone, KeepsPlain};
 ghost use Rattle.jb_chunk.specs.Standing.{IsReady};
@@ -35,7 +36,7 @@ pub struct Alone<T = Task> {
 /// collector's texts are dropped.
 pub fn run_alone<T: PartitionTask>(alloc: Global, task: T) -> Alone<T>
     requires waiting { (T.standing task).row.state ≡ Waiting }
-    requires room { (T.standing task).row.counts.rollback ≤ 999000000000 }
+    requires room { (T.standing task).row.counts.rollback + max_retry_limit < max_rollbacks }
     requires ready { IsReady (T.standing task) }
     ensures alone { EndsAlone (T.standing task) result.end (T.standing result.task) }
     ensures plain { KeepsPlain (T.standing task) result.end (T.standing result.task) }

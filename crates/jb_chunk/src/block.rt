@@ -139,7 +139,7 @@ pub fn try_block<A: PartitionArtifacts>(
     ensures ok { let t : Trial = record { rules = rules.now; row = row.now; hi = hi; work = A.workplace artifacts.old } in
         IfOk result (λ tried. IsTried t tried (A.workplace artifacts.new)) }
     ensures counted { IfOk result (λ tried. IsCommitted tried.end → IsDelta (hi - row.now.at) tried.delta) }
-    ensures err { OnErr result (IsTorn (A.workplace artifacts.old) (A.workplace artifacts.new)) }
+    ensures err { OnErr result (IsTorn row.now.at hi (A.workplace artifacts.old) (A.workplace artifacts.new)) }
 {
     match gather(alloc, artifacts, rules, row, hi) {
         Ok(Gathered::Settled(_, class, choice)) => {

@@ -96,7 +96,7 @@ pub fn gather<A: PartitionArtifacts>(
     ensures ok { let w = A.workplace artifacts.old in
         let now = A.workplace artifacts.new in
         IfOk result (λ gathered. IsGathered rules.now row.now w hi gathered now) }
-    ensures err { OnErr result (IsWornTo (A.workplace artifacts.old) (A.workplace artifacts.new)) }
+    ensures err { OnErr result (IsWornTo row.now.at hi (A.workplace artifacts.old) (A.workplace artifacts.new)) }
 {
     let mut tally = Tally::new(alloc);
     for number in row.at..hi {

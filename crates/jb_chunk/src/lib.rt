@@ -2,6 +2,7 @@
 //!
 //! - `partition_task`: what a partition's task is to the crates above.
 //! - `task`: a row with its rules and artifacts, `partition_artifacts`.
+//! - `laws`: what holds of a task's attempts, wherever they lead.
 //! - `outcome`: how an attempt ends.
 //! - `alone`: a task's attempts, one after another.
 //! - `block`: one block tried to its end, `end`, with what it adds to the counts, `tried`.
@@ -15,6 +16,7 @@ mod checkpoint;
 mod end;
 mod entry;
 mod gather;
+mod laws;
 mod outcome;
 mod partition_artifacts;
 mod partition_task;
@@ -23,6 +25,9 @@ mod task;
 mod tried;
 
 pub use alone::{Alone, AloneEnd, run_alone};
+pub use laws::{
+    attempts_are_steps, runs_end_alike, runs_lead_to_an_end, tasks_go_on, tasks_stay_ready,
+};
 pub use outcome::{Done, Outcome};
 pub use partition_artifacts::PartitionArtifacts;
 pub use partition_task::PartitionTask;

@@ -9,7 +9,7 @@ ghost use Rattle.jb_artifacts.specs.Writer.{cut, write_fault, after_write, torn_
 
 use jb_artifacts::{
     Artifacts, ArtifactsOf, Collector, Item, ItemProcessor, ItemReader, ItemWriter, Meaning,
-    RowView,
+    RowView, row_is_served,
 };
 use jb_job::ArtifactError;
 use jb_rules::Row;
@@ -23,7 +23,9 @@ pub trait PartitionArtifacts: Meaning + Drop {
 
     /// The number of the record that is read next.
     fn place(&self) -> u64
-        ensures { result ≡ (Self.workplace self.now).reader.place };
+        ensures place { result ≡ (Self.workplace self.now).reader.place }
+        ensures from { (Self.workplace self.now).reader.first ≤ result }
+        ensures to { result ≤ reader_end (Self.workplace self.now).reader };
 
     /// How many results were written.
     fn count(&self) -> u64
@@ -128,9 +130,12 @@ impl<
     C: Collector + Drop,
 > PartitionArtifacts for ArtifactsOf<R, P, W, C> {
     fn serves(&self, row: &Row) -> bool {
-        self.reader.first() <= row.lo
-            && row.hi <= self.reader.end()
-            && row.written <= self.writer.count()
+        row_is_served(
+            row,
+            self.reader.first(),
+            self.reader.end(),
+            self.writer.count(),
+        )
     }
 
     fn place(&self) -> u64 {

@@ -3,7 +3,7 @@
 ghost use Rattle.std.specs.Prelude.{◌≡◌, ◌↔◌, ◌<◌, IsTrue};
 ghost use Rattle.jb_rules.specs.Sound.{IsSoundRow};
 ghost use Rattle.jb_rules.specs.declared.row.RowState.TheVariants.{Waiting};
-ghost use Rattle.jb_rules.specs.declared.row.TheConstants.{MAX_ROLLBACKS};
+ghost use Rattle.jb_job.specs.Limits.{max_rollbacks};
 ghost use Rattle.jb_artifacts.specs.Meaning.{Fits};
 ghost use Rattle.jb_chunk.specs.Attempt.{IsAttempt, ending_of};
 ghost use Rattle.jb_chunk.specs.Standing.{TaskState, IsReady, HasItemCount, started};
@@ -63,7 +63,7 @@ pub trait PartitionTask: Send + Drop {
     /// was, too.
     fn attempt(self, alloc: Global) -> Done<Self>
         requires waiting { (standing self).row.state ≡ Waiting }
-        requires room { (standing self).row.counts.rollback < MAX_ROLLBACKS }
+        requires room { (standing self).row.counts.rollback < max_rollbacks }
         requires ready { IsReady (standing self) }
         ensures attempt { IsAttempt (standing self) (ending_of (standing result.task) result.outcome result.values.items) }
         ensures ready { IsReady (standing result.task) };

@@ -3,7 +3,7 @@
 ghost use Rattle.std.specs.Prelude.{◌≡◌, ◌≤◌, ◌<◌, ◌-◌, IfOk, [], length};
 ghost use Rattle.jb_rules.specs.Counts.{IsDelta};
 ghost use Rattle.jb_rules.specs.Sound.{IsSoundRow};
-ghost use Rattle.jb_rules.specs.declared.row.TheConstants.{MAX_ROLLBACKS};
+ghost use Rattle.jb_job.specs.Limits.{max_rollbacks};
 ghost use Rattle.jb_chunk.specs.Attempt.{values_of};
 ghost use Rattle.jb_chunk.specs.inside.Ends.{outcome_with, values_with, row_with};
 ghost use Rattle.jb_chunk.specs.inside.Tried.{IsCommitted};
@@ -19,8 +19,7 @@ use crate::partition_artifacts::PartitionArtifacts;
 use crate::partition_task::PartitionTask;
 use crate::tried::Tried;
 use jb_artifacts::{Artifacts, Item, RowView};
-use jb_job::Rules;
-use jb_plan::MAX_ITEM_COUNT;
+use jb_job::{MAX_ITEM_COUNT, Rules};
 use jb_rules::Row;
 use std::alloc::{AllocError, Global};
 
@@ -121,7 +120,7 @@ fn ended_row(row: &Row, hi: u64, tried: &Tried) -> Row
     requires sound { IsSoundRow row.now }
     requires from { row.now.at < hi }
     requires to { hi ≤ row.now.hi }
-    requires room { row.now.counts.rollback < MAX_ROLLBACKS }
+    requires room { row.now.counts.rollback < max_rollbacks }
     requires counted { IsCommitted tried.now.end → IsDelta (hi - row.now.at) tried.now.delta }
     ensures row { result ≡ row_with row.now hi tried.now.end tried.now.delta }
     ensures sound { IsSoundRow result }

@@ -1,9 +1,10 @@
 -- The fault class of a number.
-use Rattle.std.specs.Prelude.{ℕ, min}
+use Rattle.std.specs.Prelude.{ℕ, ◌-◌, min}
 use Rattle.std.proofs.Common.{suc-le-suc}
 use Rattle.std.proofs.Math.Nat.{min-le_right}
+use Rattle.jb_job.specs.Limits.{max_classes}
 use Rattle.jb_job.specs.declared.class.ClassId.{ClassId}
 
--- The class of a number below 64. A job has no other, so what a larger number gives is no matter.
+-- The class of a number below the most classes of a job. A job has no other, so what a larger number gives is no matter.
 unfoldable pub class_of : ℕ → ClassId
-class_of number = record { number = min number 63; below = suc-le-suc (min-le_right number 63) }
+class_of number = record { number = min number (max_classes - 1); below = suc-le-suc (min-le_right number (max_classes - 1)) }

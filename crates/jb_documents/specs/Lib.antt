@@ -2,7 +2,6 @@ pub mod CheckDocument
 pub mod Classes
 pub mod FaultLists
 pub mod inside
-pub mod Limits
 pub mod PlanDocument
 pub mod RunDocument
 pub mod StepFields

@@ -6,12 +6,13 @@ use Rattle.jb_job.specs.declared.field.Field.{Field}
 use Rattle.jb_job.specs.declared.field.Field.TheVariants as field
 use Rattle.jb_job.specs.declared.error.JobError.{JobError}
 use Rattle.jb_job.specs.Reading.{Read, ◌>>=◌, GivesOfText, tree_of, ranged, object_at, number_at, list_at, each_at, required}
-use Rattle.jb_cert.specs.Load.{Load, max_partitions, max_chunks, max_threads}
+use Rattle.jb_job.specs.Limits.{max_load_partitions, max_chunks, max_threads}
+use Rattle.jb_cert.specs.Load.{Load}
 
 -- how many chunks each partition has: each count, and then their sum, within the limit
 unfoldable pub counts_at : Field → Data → Read (List ℕ)
 counts_at f d = do
-  items ← list_at 0 max_partitions f d
+  items ← list_at 0 max_load_partitions f d
   counts ← each_at (λ _. number_at 0 max_chunks f) items
   ranged f (nat_le (sum counts) max_chunks) counts
 

@@ -4,7 +4,7 @@ ghost use Rattle.std.specs.Prelude.{◌≡◌, ◌≢◌, ◌≤◌, length, opt
 ghost use Rattle.serde_json.specs.Find.{as_array, as_str, get};
 ghost use Rattle.serde_json.specs.View.{view, items_view};
 ghost use Rattle.jb_job.specs.Names.{name_of};
-ghost use Rattle.jb_job.specs.Reading.{Gives, list_at, object_at, shaped, text_at};
+ghost use Rattle.jb_job.specs.Reading.{GivesExactly, list_at, object_at, shaped, text_at};
 
 use jb_job::kinds::{list, object};
 use jb_job::{Field, JobError, Text};
@@ -13,7 +13,7 @@ use serde_json::Value;
 /// An object that has no key besides the table's. Another key is `WrongShape(unknown)`.
 #[tactic(auto, using(crate::proofs::Trees::tree_steps))]
 pub fn take_object(field: Field, table: &[Field], tree: Value) -> Result<Value, JobError>
-    ensures { Gives view result (object_at field table.now (view tree)) }
+    ensures { GivesExactly view result (object_at field table.now (view tree)) }
 {
     object(field, table, &tree)?;
     Ok(tree)
@@ -21,7 +21,7 @@ pub fn take_object(field: Field, table: &[Field], tree: Value) -> Result<Value, 
 
 /// A list of any length: another kind is WrongShape.
 pub fn take_array(field: Field, tree: Value) -> Result<Vec<Value>, JobError>
-    ensures { Gives (λ v. items_view v.items) result (shaped field (as_array (view tree))) }
+    ensures { GivesExactly (λ v. items_view v.items) result (shaped field (as_array (view tree))) }
 {
     match tree {
         Value::Array(items) => Ok(items),
@@ -30,7 +30,7 @@ pub fn take_array(field: Field, tree: Value) -> Result<Vec<Value>, JobError>
 }
 
 fn take_string(field: Field, tree: Value) -> Result<String, JobError>
-    ensures { Gives string_bytes result (shaped field (as_str (view tree))) }
+    ensures { GivesExactly string_bytes result (shaped field (as_str (view tree))) }
 {
     match tree {
         Value::String(text) => Ok(text),
@@ -41,7 +41,7 @@ fn take_string(field: Field, tree: Value) -> Result<String, JobError>
 /// A list of low to high members: another kind is WrongShape, more are TooMany, fewer OutOfRange.
 #[tactic(auto, using(crate::proofs::Trees::tree_steps), unfolding(jb_job::specs::Reading::list_at))]
 pub fn take_list(low: usize, high: usize, field: Field, tree: Value) -> Result<Vec<Value>, JobError>
-    ensures exact { Gives (λ v. items_view v.items) result (list_at low high field (view tree)) }
+    ensures exact { GivesExactly (λ v. items_view v.items) result (list_at low high field (view tree)) }
     ensures short { IfOk result (λ v. length v.items ≤ high) }
 {
     let _items = list(low, high, field, &tree)?;
@@ -51,7 +51,7 @@ pub fn take_list(low: usize, high: usize, field: Field, tree: Value) -> Result<V
 /// A text of low to high bytes: another kind is WrongShape, another length OutOfRange.
 #[tactic(auto, unfolding(jb_job::specs::Reading::text_at))]
 pub fn take_text(low: usize, high: usize, field: Field, tree: Value) -> Result<Text, JobError>
-    ensures { Gives (λ t. t) result (text_at low high field (view tree)) }
+    ensures { GivesExactly (λ t. t) result (text_at low high field (view tree)) }
 {
     let text = take_string(field, tree)?;
     if low <= text.len() && text.len() <= high {

@@ -1,3 +1,4 @@
+pub mod Kept
 pub mod Names
 pub mod Texts
 pub mod Trees

@@ -13,7 +13,7 @@ use Rattle.jb_job.specs.declared.field.Field.{Field}
 use Rattle.jb_job.specs.declared.field.Field.TheVariants as field
 use Rattle.jb_job.specs.declared.job.Range.{Range}
 use Rattle.jb_job.specs.declared.job.Job.{Job}
-use Rattle.jb_job.specs.Limits.{max_steps, max_name, max_classes, max_class_names, max_item_count, max_skip_limit, max_retry_limit, max_partitions_asked, max_threads_asked, max_ranges, max_records}
+use Rattle.jb_job.specs.Limits.{max_steps, max_name, max_classes, max_class_names, max_item_count, default_item_count, max_skip_limit, max_retry_limit, default_retry_limit, max_partitions_asked, max_threads_asked, max_ranges, max_records}
 use Rattle.jb_job.specs.Names.{name_of}
 use Rattle.jb_job.specs.Reading.{wrong_shape, unknown_class, Read, ◌>>=◌, shaped, ranged, whole_number, object_at, text_at, number_at, flag_at, list_at, each_at, pair_at, required, optional}
 use Rattle.jb_job.specs.Records.{RulesRecord, SpecRecord, StepRecord}
@@ -120,9 +120,9 @@ limit_at high f d = number_at 0 high f d >>= λ n. Ok (Some n)
 unfoldable pub chunk_at : List (List ℕ) → Field → Data → Read (ℕ × RulesRecord)
 chunk_at classes f d = do
   chunk ← object_at f (field.ItemCount ∷ field.SkipLimit ∷ field.RetryLimit ∷ field.SkippableExceptionClasses ∷ field.RetryableExceptionClasses ∷ []) d
-  item_count ← optional (number_at 1 max_item_count) 10 field.ItemCount chunk
+  item_count ← optional (number_at 1 max_item_count) default_item_count field.ItemCount chunk
   skip_limit ← optional (limit_at max_skip_limit) None field.SkipLimit chunk
-  retry_limit ← optional (number_at 0 max_retry_limit) 1000 field.RetryLimit chunk
+  retry_limit ← optional (number_at 0 max_retry_limit) default_retry_limit field.RetryLimit chunk
   skippable ← optional (set_at classes) 0 field.SkippableExceptionClasses chunk
   retryable ← optional (set_at classes) 0 field.RetryableExceptionClasses chunk
   Ok (item_count, record { skippable = skippable; retryable = retryable; skip_limit = skip_limit; retry_limit = retry_limit })

@@ -1,3 +1,4 @@
+pub mod Kept
 pub mod Limits
 pub mod Names
 pub mod Reading

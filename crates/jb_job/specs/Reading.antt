@@ -45,6 +45,20 @@ Fails (OutOfRange f) read = read ≡ Err (out_of_range f)
 Fails (TooMany f) read = read ≡ Err (too_many f)
 Fails UnknownClass read = read ≡ Err unknown_class
 
+-- The error is what reading gives. Nothing took memory, so none ran out.
+abbrev pub FailsExactly : {Y : Type 0} → JobError → Read Y → Type 0
+FailsExactly Memory read = ⊥
+FailsExactly NotJson read = ⊥
+FailsExactly (WrongShape f) read = read ≡ Err (wrong_shape f)
+FailsExactly (OutOfRange f) read = read ≡ Err (out_of_range f)
+FailsExactly (TooMany f) read = read ≡ Err (too_many f)
+FailsExactly UnknownClass read = read ≡ Err unknown_class
+
+-- What a function that takes no memory returned, seen by view, is what reading gives.
+abbrev pub GivesExactly : {X Y : Type 0} → (X → Y) → Result X JobError → Read Y → Type 0
+GivesExactly view (Ok x) read = read ≡ Ok (view x)
+GivesExactly view (Err e) read = FailsExactly e read
+
 -- What a function returned, seen by view, is what reading gives, unless memory ran out.
 abbrev pub Gives : {X Y : Type 0} → (X → Y) → Result X JobError → Read Y → Type 0
 Gives view (Ok x) read = read ≡ Ok (view x)

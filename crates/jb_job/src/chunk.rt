@@ -3,8 +3,8 @@
 ghost use Rattle.std.specs.Prelude.{◌≡◌, ◌≤◌, IfOk, None};
 ghost use Rattle.std.specs.Option.{ForSome};
 ghost use Rattle.serde_json.specs.View.{view};
-ghost use Rattle.jb_job.specs.Reading.{Gives, number_at, optional};
-ghost use Rattle.jb_job.specs.Limits.{max_item_count, max_skip_limit, max_retry_limit};
+ghost use Rattle.jb_job.specs.Reading.{Gives, GivesExactly, number_at, optional};
+ghost use Rattle.jb_job.specs.Limits.{max_item_count, default_item_count, max_skip_limit, max_retry_limit, default_retry_limit};
 ghost use Rattle.jb_job.specs.JobRecord.{limit_at, chunk_at};
 ghost use Rattle.jb_job.specs.declared.field.Field.TheVariants as field;
 
@@ -13,25 +13,20 @@ use crate::classes::Classes;
 use crate::error::JobError;
 use crate::field::Field;
 use crate::kinds::{number, object};
+use crate::limits::{MAX_ITEM_COUNT, MAX_RETRY_LIMIT, MAX_SKIP_LIMIT};
 use crate::rules::Rules;
 use serde_json::Value;
 use std::alloc::Global;
 
 const DEFAULT_ITEM_COUNT: u64 = 10;
 
-const MAX_ITEM_COUNT: u64 = 1_000_000;
-
-const MAX_SKIP_LIMIT: u64 = 10_000_000;
-
 const DEFAULT_RETRY_LIMIT: u64 = 1_000;
-
-const MAX_RETRY_LIMIT: u64 = 100_000;
 
 #[tactic(auto, unfolding(crate::specs::Reading::optional))]
 fn item_count(chunk: &Value) -> Result<u64, JobError>
-    ensures exact { Gives (λ n. n) result (optional (number_at 1 max_item_count) 10 field.ItemCount (view chunk.now)) }
+    ensures exact { GivesExactly (λ n. n) result (optional (number_at 1 max_item_count) default_item_count field.ItemCount (view chunk.now)) }
     ensures least { IfOk result (λ n. 1 ≤ n) }
-    ensures most { IfOk result (λ n. n ≤ 1000000) }
+    ensures most { IfOk result (λ n. n ≤ max_item_count) }
 {
     match chunk.get(Field::ItemCount.name()) {
         None => Ok(DEFAULT_ITEM_COUNT),
@@ -41,8 +36,8 @@ fn item_count(chunk: &Value) -> Result<u64, JobError>
 
 #[tactic(auto, unfolding(crate::specs::JobRecord::limit_at, crate::specs::Reading::optional))]
 fn skip_limit(chunk: &Value) -> Result<Option<u64>, JobError>
-    ensures exact { Gives (λ n. n) result (optional (limit_at max_skip_limit) None field.SkipLimit (view chunk.now)) }
-    ensures most { IfOk result (λ limit. ForSome limit (λ n. n ≤ 10000000)) }
+    ensures exact { GivesExactly (λ n. n) result (optional (limit_at max_skip_limit) None field.SkipLimit (view chunk.now)) }
+    ensures most { IfOk result (λ limit. ForSome limit (λ n. n ≤ max_skip_limit)) }
 {
     match chunk.get(Field::SkipLimit.name()) {
         None => Ok(None),
@@ -52,8 +47,8 @@ fn skip_limit(chunk: &Value) -> Result<Option<u64>, JobError>
 
 #[tactic(auto, unfolding(crate::specs::Reading::optional))]
 fn retry_limit(chunk: &Value) -> Result<u64, JobError>
-    ensures exact { Gives (λ n. n) result (optional (number_at 0 max_retry_limit) 1000 field.RetryLimit (view chunk.now)) }
-    ensures most { IfOk result (λ n. n ≤ 100000) }
+    ensures exact { GivesExactly (λ n. n) result (optional (number_at 0 max_retry_limit) default_retry_limit field.RetryLimit (view chunk.now)) }
+    ensures most { IfOk result (λ n. n ≤ max_retry_limit) }
 {
     match chunk.get(Field::RetryLimit.name()) {
         None => Ok(DEFAULT_RETRY_LIMIT),
@@ -66,7 +61,7 @@ fn retry_limit(chunk: &Value) -> Result<u64, JobError>
 pub fn chunk_parts(alloc: Global, classes: &Classes, tree: &Value) -> Result<(u64, Rules), JobError>
     ensures exact { Gives (λ c. c) result (chunk_at classes.now field.Chunk (view tree.now)) }
     ensures least { IfOk result (λ c. 1 ≤ c.0) }
-    ensures most { IfOk result (λ c. c.0 ≤ 1000000) }
+    ensures most { IfOk result (λ c. c.0 ≤ max_item_count) }
 {
     let chunk = object(
         Field::Chunk,

@@ -1,19 +1,20 @@
 //! The number of a fault class.
 
 ghost use Rattle.std.specs.Prelude.{◌≡◌, ◌<◌, ◌^◌};
+ghost use Rattle.jb_job.specs.Limits.{max_classes};
 
 /// A fault class of a job: its place among the distinct names of the job's `exception-classes`, from
 /// 0 to 63 (own choice).
 #[derive(Clone, Copy, Debug, PartialEq, Eq)]
 pub struct ClassId {
     number: u8,
-    pub ghost below: { number < 64 },
+    pub ghost below: { number < max_classes },
 }
 
 impl ClassId {
     /// The class of a number below 64.
     pub fn new(number: u8) -> ClassId
-        requires { number < 64 }
+        requires { number < max_classes }
         ensures { result.number ≡ number }
     {
         ClassId { number }
@@ -22,7 +23,7 @@ impl ClassId {
     /// The number, 0 to 63.
     pub fn number(self) -> u8
         ensures value { result ≡ self.number }
-        ensures small { result < 64 }
+        ensures small { result < max_classes }
     {
         self.number
     }

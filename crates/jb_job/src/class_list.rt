@@ -2,6 +2,7 @@
 
 ghost use Rattle.std.specs.Prelude.{◌≡◌, ◌≤◌, ◌+◌, length, map, string_bytes, OnOk, IfOk, IfErr};
 ghost use Rattle.serde_json.specs.View.{view, items_view};
+ghost use Rattle.jb_job.specs.Limits.{max_classes};
 ghost use Rattle.jb_job.specs.Reading.{Gives};
 ghost use Rattle.jb_job.specs.JobRecord.{class_name_at, with_name, distinct, classes_at};
 ghost use Rattle.jb_job.specs.declared.error.JobError.TheVariants.{Memory};
@@ -10,7 +11,8 @@ ghost use Rattle.jb_job.specs.declared.field.Field.TheVariants as field;
 use crate::classes::Classes;
 use crate::error::JobError;
 use crate::field::Field;
-use crate::kinds::{MAX_NAME, each, list, text};
+use crate::kinds::{each, list, text};
+use crate::limits::{MAX_CLASSES, MAX_NAME};
 use indexmap::IndexSet;
 use serde_json::Value;
 use std::alloc::Global;
@@ -18,8 +20,6 @@ use std::marker::Brand;
 
 /// The text that stands for every class in an include list.
 pub const EVERY_CLASS: &str = "*";
-
-const MAX_CLASSES: usize = 64;
 
 #[tactic(auto, unfolding(crate::specs::JobRecord::class_name_at))]
 fn class_name(alloc: Global, tree: &Value) -> Result<String, JobError>
@@ -45,7 +45,7 @@ fn add_name(names: &mut IndexSet<String>, name: String) -> Result<(), JobError>
 
 /// The classes of at most 64 names, each once.
 fn distinct_classes(alloc: Global, names: Vec<String>) -> Result<Classes, JobError>
-    requires { length names.items ≤ 64 }
+    requires { length names.items ≤ max_classes }
     ensures classes { IfOk result (λ c. c ≡ distinct (map string_bytes names.items)) }
     ensures memory { IfErr result (λ e. e ≡ Memory) }
 {

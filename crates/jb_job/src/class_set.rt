@@ -2,7 +2,7 @@
 
 ghost use Rattle.std.specs.Prelude.{◌≡◌};
 ghost use Rattle.serde_json.specs.View.{view, items_view};
-ghost use Rattle.jb_job.specs.Reading.{Gives, optional};
+ghost use Rattle.jb_job.specs.Reading.{Gives, GivesExactly, optional};
 ghost use Rattle.jb_job.specs.JobRecord.{bits_at, names_at, set_at};
 ghost use Rattle.jb_job.specs.declared.field.Field.TheVariants as field;
 
@@ -11,16 +11,15 @@ use crate::classes::Classes;
 use crate::error::JobError;
 use crate::field::Field;
 use crate::kinds::{each, list, object};
+use crate::limits::MAX_CLASS_NAMES;
 use serde_json::Value;
 use std::alloc::Global;
 use std::marker::Brand;
 
-const MAX_NAMES: usize = 128;
-
 /// The bit of a name, or every bit for `*` where it may stand.
 #[tactic(auto, unfolding(crate::specs::JobRecord::bits_at))]
 fn class_bits(star: bool, classes: &Classes, field: Field, tree: &Value) -> Result<u64, JobError>
-    ensures { Gives (λ n. n) result (bits_at star classes.now field (view tree.now)) }
+    ensures { GivesExactly (λ n. n) result (bits_at star classes.now field (view tree.now)) }
 {
     let name = tree.as_str().ok_or(JobError::WrongShape(field))?;
     if star && name == EVERY_CLASS {
@@ -43,7 +42,7 @@ fn names(
 ) -> Result<u64, JobError>
     ensures { Gives (λ n. n) result (names_at star classes.now field (view tree.now)) }
 {
-    let items = list(0, MAX_NAMES, field, tree)?;
+    let items = list(0, MAX_CLASS_NAMES, field, tree)?;
     let bits = each::<Brand, u64, _>(alloc, items, |_, tree| {
         class_bits(star, classes, field, tree)
     })?;

@@ -15,20 +15,22 @@ pub struct Classes {
 
 impl Model for Classes {
     ghost use Rattle.std.specs.Prelude.{ℕ, List, map, length, string_bytes, ◌≤◌};
+    ghost use Rattle.jb_job.specs.Limits.{max_classes};
 
     ghost Value = { List (List ℕ) };
 
     ghost view = { λ c. map string_bytes c.names.keys };
 
-    ghost invariant = { λ c. length c.names.keys ≤ 64 };
+    ghost invariant = { λ c. length c.names.keys ≤ max_classes };
 }
 
 impl Classes {
     ghost use Rattle.std.specs.Prelude.{◌≡◌, ◌≤◌, ◌<◌, length, map, position, bytes_eq, string_bytes, option_map, IfSome};
+    ghost use Rattle.jb_job.specs.Limits.{max_classes};
 
     /// The classes of a set of at most 64 names.
     pub fn new(names: IndexSet<String>) -> Classes
-        requires { length names.keys ≤ 64 }
+        requires { length names.keys ≤ max_classes }
         ensures { result ≡ map string_bytes names.keys }
     {
         Classes { names }
@@ -45,7 +47,7 @@ impl Classes {
     /// The place of a name.
     fn place(&self, name: &str) -> Option<usize>
         ensures value { result ≡ position (bytes_eq name.now) self.now }
-        ensures small { IfSome result (λ place. place < 64) }
+        ensures small { IfSome result (λ place. place < max_classes) }
     {
         self.names.get_index_of(name)
     }

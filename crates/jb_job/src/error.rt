@@ -5,32 +5,46 @@ ghost use Rattle.jb_job.specs.declared.error.JobError.TheVariants.{Memory};
 
 use crate::field::Field;
 use std::alloc::{AllocError, AllocFailed};
-use thiserror::Error;
+use std::error::Error;
+use std::fmt;
 
 /// The first fault of a text or a tree that is read by a table of fields.
-///
-/// It prints as the program's refusal has it: the name, and its field in parentheses.
-#[derive(Clone, Copy, Debug, PartialEq, Eq, Error)]
+#[derive(Clone, Copy, Debug, PartialEq, Eq)]
 pub enum JobError {
     /// The text has no JSON tree.
-    #[error("NotJson")]
     NotJson,
     /// A field that is missing or of the wrong kind, or, under `unknown`, a key that no field has.
-    #[error("WrongShape({0})")]
     WrongShape(Field),
     /// A value out of its field's range.
-    #[error("OutOfRange({0})")]
     OutOfRange(Field),
     /// A list longer than its field takes.
-    #[error("TooMany({0})")]
     TooMany(Field),
     /// A fault class that the job doesn't declare.
-    #[error("UnknownClass")]
     UnknownClass,
     /// There was no memory for the answer.
-    #[error("no memory")]
     Memory,
 }
+
+/// The fault's name as the program's refusal has it, and its field in parentheses; or `no memory`.
+impl fmt::Display for JobError {
+    ghost use Rattle.std.specs.Prelude.{Some};
+    ghost use Rattle.jb_job.specs.Names.{fault_text};
+
+    ghost output = { λ fault. Some (fault_text fault) };
+
+    fn fmt<W: fmt::Write>(&self, f: &mut fmt::Formatter<W>) -> fmt::Result {
+        match self {
+            JobError::NotJson => f.write_str("NotJson"),
+            JobError::WrongShape(field) => write!(f, "WrongShape({field})"),
+            JobError::OutOfRange(field) => write!(f, "OutOfRange({field})"),
+            JobError::TooMany(field) => write!(f, "TooMany({field})"),
+            JobError::UnknownClass => f.write_str("UnknownClass"),
+            JobError::Memory => f.write_str("no memory"),
+        }
+    }
+}
+
+impl Error for JobError {}
 
 impl From<AllocError> for JobError {
     ghost from_gives = { λ _ e. e ≡ Memory };

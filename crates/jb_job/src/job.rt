@@ -3,8 +3,8 @@
 use crate::class::ClassId;
 use crate::classes::Classes;
 use crate::lists::{Ranges, Steps};
+use crate::name::Name;
 use crate::rules::Rules;
-use crate::text::Text;
 use std::marker::Model;
 
 /// The records numbered from `lo` to `hi - 1`.
@@ -28,25 +28,31 @@ pub struct Spec {
 }
 
 impl Model for Spec {
-    ghost use Rattle.std.specs.Prelude.{◌≤◌};
+    ghost use Rattle.jb_job.specs.Kept.{IsSpec};
     ghost use Rattle.jb_job.specs.Records.{SpecRecord};
 
     ghost Value = { SpecRecord };
 
     ghost view = { λ s. record { partitions = s.partitions; threads = s.threads; replace = s.replace; ranges = s.ranges } };
 
-    ghost invariant = { λ s. (1 ≤ s.partitions) × (s.partitions ≤ 4096) × (s.threads ≤ 4096) };
+    ghost invariant = { λ s. IsSpec (record { partitions = s.partitions; threads = s.threads; replace = s.replace; ranges = s.ranges }) };
 }
 
 impl Spec {
-    ghost use Rattle.std.specs.Prelude.{◌≡◌, ◌≤◌, option_map};
+    ghost use Rattle.std.specs.Prelude.{◌≡◌, ◌≤◌, All, IfSome, length, option_map};
+    ghost use Rattle.jb_job.specs.Kept.{IsNumbered};
+    ghost use Rattle.jb_job.specs.Limits.{max_partitions_asked, max_ranges, max_threads_asked};
     ghost use Rattle.jb_job.specs.Records.{SpecRecord};
 
-    /// The values of 1 to 4,096 partitions and at most 4,096 threads.
+    /// The values of 1 to 4,096 partitions and at most 4,096 threads; or of at most 4,096 ranges of records numbered to
+    /// 10,000,000, which stand for one partition each, beside the number 1.
     pub fn new(partitions: u32, threads: u32, replace: bool, ranges: Option<Ranges>) -> Spec
         requires some { 1 ≤ partitions }
-        requires few { partitions ≤ 4096 }
-        requires threads { threads ≤ 4096 }
+        requires few { partitions ≤ max_partitions_asked }
+        requires threads { threads ≤ max_threads_asked }
+        requires few_ranges { IfSome ranges (λ ranges. length ranges ≤ max_ranges) }
+        requires numbered { IfSome ranges (All IsNumbered) }
+        requires ranges_alone { IfSome ranges (λ _. partitions ≡ 1) }
         ensures { result ≡ record { partitions = partitions; threads = threads; replace = replace; ranges = ranges } }
     {
         Spec {
@@ -61,7 +67,7 @@ impl Spec {
     pub fn partitions(&self) -> u32
         ensures value { result ≡ self.now.partitions }
         ensures least { 1 ≤ result }
-        ensures most { result ≤ 4096 }
+        ensures most { result ≤ max_partitions_asked }
     {
         self.partitions
     }
@@ -69,7 +75,7 @@ impl Spec {
     /// The number of threads asked for, at most 4,096. At 0 it is the number of partitions.
     pub fn threads(&self) -> u32
         ensures value { result ≡ self.now.threads }
-        ensures most { result ≤ 4096 }
+        ensures most { result ≤ max_threads_asked }
     {
         self.threads
     }
@@ -81,9 +87,11 @@ impl Spec {
         self.replace
     }
 
-    /// The partitions' ranges, where the plan gives them.
+    /// The partitions' ranges, where the plan gives them: at most 4,096, of records numbered to 10,000,000.
     pub fn ranges(&self) -> Option<&Ranges>
-        ensures { option_map (λ r. r.now) result ≡ self.now.ranges }
+        ensures value { option_map (λ r. r.now) result ≡ self.now.ranges }
+        ensures few { IfSome self.now.ranges (λ ranges. length ranges ≤ max_ranges) }
+        ensures numbered { IfSome self.now.ranges (All IsNumbered) }
     {
         self.ranges.as_ref()
     }
@@ -102,7 +110,7 @@ impl Spec {
 /// Contracts see the record of the four values that its methods show.
 #[derive(Debug, Drop)]
 pub struct Step {
-    id: Text,
+    id: Name,
     item_count: u64,
     rules: Rules,
     spec: Spec,
@@ -110,22 +118,25 @@ pub struct Step {
 
 impl Model for Step {
     ghost use Rattle.std.specs.Prelude.{◌≤◌};
+    ghost use Rattle.jb_job.specs.Limits.{max_item_count};
     ghost use Rattle.jb_job.specs.Records.{StepRecord};
 
     ghost Value = { StepRecord };
 
     ghost view = { λ s. record { id = s.id; item_count = s.item_count; rules = s.rules; spec = s.spec } };
 
-    ghost invariant = { λ s. (1 ≤ s.item_count) × (s.item_count ≤ 1000000) };
+    ghost invariant = { λ s. (1 ≤ s.item_count) × (s.item_count ≤ max_item_count) };
 }
 
 impl Step {
     ghost use Rattle.std.specs.Prelude.{◌≡◌, ◌≤◌};
+    ghost use Rattle.jb_job.specs.Kept.{IsName};
+    ghost use Rattle.jb_job.specs.Limits.{max_item_count};
 
     /// A step of an item count of 1 to 1,000,000.
-    pub fn new(id: Text, item_count: u64, rules: Rules, spec: Spec) -> Step
+    pub fn new(id: Name, item_count: u64, rules: Rules, spec: Spec) -> Step
         requires some { 1 ≤ item_count }
-        requires few { item_count ≤ 1000000 }
+        requires few { item_count ≤ max_item_count }
         ensures { result ≡ record { id = id; item_count = item_count; rules = rules; spec = spec } }
     {
         Step {
@@ -136,9 +147,10 @@ impl Step {
         }
     }
 
-    /// The step's name within its job.
+    /// The step's name within its job, 1 to 64 bytes.
     pub fn id(&self) -> &str
-        ensures { result.now ≡ self.now.id }
+        ensures value { result.now ≡ self.now.id }
+        ensures kept { IsName result.now }
     {
         self.id.as_str()
     }
@@ -147,7 +159,7 @@ impl Step {
     pub fn item_count(&self) -> u64
         ensures value { result ≡ self.now.item_count }
         ensures least { 1 ≤ result }
-        ensures most { result ≤ 1000000 }
+        ensures most { result ≤ max_item_count }
     {
         self.item_count
     }
@@ -167,7 +179,7 @@ impl Step {
     }
 
     /// The name and what is asked of the partitions, by value.
-    pub fn into_parts(self) -> (Text, Spec)
+    pub fn into_parts(self) -> (Name, Spec)
         ensures id { result.0 ≡ self.id }
         ensures spec { result.1 ≡ self.spec }
     {
@@ -179,8 +191,8 @@ impl Step {
 /// A job: its fault classes and its steps, which run in their order.
 #[derive(Debug, Drop)]
 pub struct Job {
-    /// The job's name, 1 to 64 bytes.
-    pub id: Text,
+    /// The job's name.
+    pub id: Name,
     /// The fault classes that the job declares.
     pub classes: Classes,
     /// The steps, of which no two have one id.

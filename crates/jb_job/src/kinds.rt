@@ -9,16 +9,13 @@ ghost use Rattle.std.specs.BTreeMap.{keys};
 ghost use Rattle.serde_json.specs.Find.{get};
 ghost use Rattle.serde_json.specs.View.{view, items_view};
 ghost use Rattle.jb_job.specs.Names.{name_of};
-ghost use Rattle.jb_job.specs.Reading.{Read, Gives, each_at, pair_at, triple_at, whole_number, shaped, is_named, object_at, text_at, number_at, list_at, flag_at};
+ghost use Rattle.jb_job.specs.Reading.{Read, Gives, GivesExactly, each_at, pair_at, triple_at, whole_number, shaped, is_named, object_at, text_at, number_at, list_at, flag_at};
 
 use crate::error::JobError;
 use crate::field::Field;
 use serde_json::{Map, Value};
 use std::alloc::Global;
 use std::marker::Brand;
-
-/// The most bytes of a name: of a job, a step or a fault class.
-pub const MAX_NAME: usize = 64;
 
 /// Whether the name is the key of a field of the table.
 fn is_key(table: &[Field], name: &str) -> bool
@@ -37,7 +34,7 @@ fn has_only(table: &[Field], members: &Map<String, Value>) -> bool
 /// An object that has no key besides the table's. Another key is `WrongShape(unknown)`.
 #[tactic(auto, using(crate::proofs::Trees::tree_steps), unfolding(crate::specs::Reading::object_at))]
 pub fn object<'a>(field: Field, table: &[Field], tree: &'a Value) -> Result<&'a Value, JobError>
-    ensures { Gives (λ v. view v.now) result (object_at field table.now (view tree.now)) }
+    ensures { GivesExactly (λ v. view v.now) result (object_at field table.now (view tree.now)) }
 {
     let members = tree.as_object().ok_or(JobError::WrongShape(field))?;
     if has_only(table, members) {
@@ -50,7 +47,9 @@ pub fn object<'a>(field: Field, table: &[Field], tree: &'a Value) -> Result<&'a 
 /// A text of low to high bytes: another kind is WrongShape, another length OutOfRange.
 #[tactic(auto, unfolding(crate::specs::Reading::text_at))]
 pub fn text(low: usize, high: usize, field: Field, tree: &Value) -> Result<&str, JobError>
-    ensures { Gives (λ s. s.now) result (text_at low high field (view tree.now)) }
+    ensures exact { GivesExactly (λ s. s.now) result (text_at low high field (view tree.now)) }
+    ensures least { IfOk result (λ s. low ≤ length s.now) }
+    ensures most { IfOk result (λ s. length s.now ≤ high) }
 {
     let text = tree.as_str().ok_or(JobError::WrongShape(field))?;
     if low <= text.len() && text.len() <= high {
@@ -63,7 +62,7 @@ pub fn text(low: usize, high: usize, field: Field, tree: &Value) -> Result<&str,
 /// A number from low to high: another kind is WrongShape, another number OutOfRange.
 #[tactic(auto, unfolding(crate::specs::Reading::number_at))]
 pub fn number(low: u64, high: u64, field: Field, tree: &Value) -> Result<u64, JobError>
-    ensures exact { Gives (λ n. n) result (number_at low high field (view tree.now)) }
+    ensures exact { GivesExactly (λ n. n) result (number_at low high field (view tree.now)) }
     ensures least { IfOk result (λ n. low ≤ n) }
     ensures most { IfOk result (λ n. n ≤ high) }
 {
@@ -78,7 +77,8 @@ pub fn number(low: u64, high: u64, field: Field, tree: &Value) -> Result<u64, Jo
 /// A list of low to high members: another kind is WrongShape, more are TooMany, fewer OutOfRange.
 #[tactic(auto, using(crate::proofs::Trees::tree_steps), unfolding(crate::specs::Reading::list_at))]
 pub fn list(low: usize, high: usize, field: Field, tree: &Value) -> Result<&Vec<Value>, JobError>
-    ensures exact { Gives (λ v. items_view v.now.items) result (list_at low high field (view tree.now)) }
+    ensures exact { GivesExactly (λ v. items_view v.now.items) result (list_at low high field (view tree.now)) }
+    ensures least { IfOk result (λ v. low ≤ length v.now.items) }
     ensures short { IfOk result (λ v. length v.now.items ≤ high) }
 {
     let items = tree.as_array().ok_or(JobError::WrongShape(field))?;
@@ -93,7 +93,7 @@ pub fn list(low: usize, high: usize, field: Field, tree: &Value) -> Result<&Vec<
 
 /// A field that has to be there: an object without it is WrongShape.
 pub fn required<'a>(field: Field, tree: &'a Value) -> Result<&'a Value, JobError>
-    ensures { Gives (λ v. view v.now) result (shaped field (get (name_of field) (view tree.now))) }
+    ensures { GivesExactly (λ v. view v.now) result (shaped field (get (name_of field) (view tree.now))) }
 {
     tree.get(field.name()).ok_or(JobError::WrongShape(field))
 }
@@ -101,7 +101,7 @@ pub fn required<'a>(field: Field, tree: &'a Value) -> Result<&'a Value, JobError
 /// A truth value.
 #[tactic(auto, unfolding(crate::specs::Reading::flag_at))]
 pub fn flag(field: Field, tree: &Value) -> Result<bool, JobError>
-    ensures { Gives (λ b. b) result (flag_at field (view tree.now)) }
+    ensures { GivesExactly (λ b. b) result (flag_at field (view tree.now)) }
 {
     tree.as_bool().ok_or(JobError::WrongShape(field))
 }
@@ -109,7 +109,7 @@ pub fn flag(field: Field, tree: &Value) -> Result<bool, JobError>
 /// A list of two members: another kind or another number of members is WrongShape.
 #[tactic(auto, using(crate::proofs::Trees::tree_steps), unfolding(crate::specs::Reading::pair_at))]
 pub fn pair(field: Field, tree: &Value) -> Result<(&Value, &Value), JobError>
-    ensures { Gives (λ p. (view p.0.now, view p.1.now)) result (pair_at field (view tree.now)) }
+    ensures { GivesExactly (λ p. (view p.0.now, view p.1.now)) result (pair_at field (view tree.now)) }
 {
     let items = tree.as_array().ok_or(JobError::WrongShape(field))?;
     match items.as_slice() {
@@ -121,7 +121,7 @@ pub fn pair(field: Field, tree: &Value) -> Result<(&Value, &Value), JobError>
 /// A list of three members: another kind or another number of members is WrongShape.
 #[tactic(auto, using(crate::proofs::Trees::tree_steps), unfolding(crate::specs::Reading::triple_at))]
 pub fn triple(field: Field, tree: &Value) -> Result<(&Value, &Value, &Value), JobError>
-    ensures { Gives (λ t. (view t.0.now, view t.1.now, view t.2.now)) result (triple_at field (view tree.now)) }
+    ensures { GivesExactly (λ t. (view t.0.now, view t.1.now, view t.2.now)) result (triple_at field (view tree.now)) }
 {
     let items = tree.as_array().ok_or(JobError::WrongShape(field))?;
     match items.as_slice() {
@@ -132,7 +132,7 @@ pub fn triple(field: Field, tree: &Value) -> Result<(&Value, &Value, &Value), Jo
 
 /// A number of any size: another kind is WrongShape.
 pub fn whole(field: Field, tree: &Value) -> Result<u64, JobError>
-    ensures { Gives (λ n. n) result (shaped field (whole_number (view tree.now))) }
+    ensures { GivesExactly (λ n. n) result (shaped field (whole_number (view tree.now))) }
 {
     tree.as_u64().ok_or(JobError::WrongShape(field))
 }

@@ -15,7 +15,9 @@ mod error;
 mod field;
 mod job;
 pub mod kinds;
+mod limits;
 mod lists;
+mod name;
 mod partition;
 mod reading;
 mod rules;
@@ -28,7 +30,14 @@ pub use classes::Classes;
 pub use error::JobError;
 pub use field::Field;
 pub use job::{Job, Range, Spec, Step};
+pub use limits::{
+    MAX_CHUNKS, MAX_CLASS_NAMES, MAX_CLASSES, MAX_EVENTS, MAX_ITEM_COUNT, MAX_LOAD_PARTITIONS,
+    MAX_NAME, MAX_PARTITIONS, MAX_PARTITIONS_ASKED, MAX_RANGES, MAX_RECORDS, MAX_RETRY_LIMIT,
+    MAX_ROLLBACKS, MAX_SKIP_LIMIT, MAX_STEPS, MAX_THREADS, MAX_THREADS_ASKED,
+    limits_are_as_defined,
+};
 pub use lists::{Ranges, Steps};
+pub use name::Name;
 pub use reading::{job_of, read_job};
 pub use rules::Rules;
 pub use text::Text;

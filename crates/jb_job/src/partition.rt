@@ -1,10 +1,12 @@
 //! The object `partition`: what a step asks of its partitions.
 
-ghost use Rattle.std.specs.Prelude.{◌≡◌, [], Some, None, is_some};
+ghost use Rattle.std.specs.Prelude.{◌≡◌, ◌≤◌, [], All, IfOk, Some, None, false, is_some, length};
 ghost use Rattle.serde_json.specs.Find.{get};
 ghost use Rattle.serde_json.specs.View.{view, items_view};
 ghost use Rattle.jb_job.specs.Names.{name_of};
-ghost use Rattle.jb_job.specs.Reading.{Gives, each_at};
+ghost use Rattle.jb_job.specs.Reading.{Gives, GivesExactly, each_at, number_at, optional};
+ghost use Rattle.jb_job.specs.Kept.{IsNumbered};
+ghost use Rattle.jb_job.specs.Limits.{max_partitions_asked, max_ranges, max_threads_asked};
 ghost use Rattle.jb_job.specs.JobRecord.{range_pair_at, own_ranges_at, plan_at, partition_at};
 ghost use Rattle.jb_job.specs.declared.field.Field.TheVariants as field;
 
@@ -12,22 +14,15 @@ use crate::error::JobError;
 use crate::field::Field;
 use crate::job::{Range, Spec};
 use crate::kinds::{each, flag, list, number, object, pair, required, whole};
+use crate::limits::{MAX_PARTITIONS_ASKED, MAX_RANGES, MAX_RECORDS, MAX_THREADS_ASKED};
 use crate::lists::Ranges;
 use serde_json::Value;
 use std::alloc::Global;
 use std::marker::Brand;
 
-const MAX_PARTITIONS: u64 = 4_096;
-
-const MAX_THREADS: u64 = 4_096;
-
-const MAX_RANGES: usize = 4_096;
-
-const MAX_RECORDS: u64 = 10_000_000;
-
 #[tactic(auto, unfolding(crate::specs::JobRecord::range_pair_at))]
 fn range(tree: &Value) -> Result<Range, JobError>
-    ensures { Gives (λ r. r) result (range_pair_at (view tree.now)) }
+    ensures { GivesExactly (λ r. r) result (range_pair_at (view tree.now)) }
 {
     let (lo, hi) = pair(Field::Ranges, tree)?;
     let lo = whole(Field::Ranges, lo)?;
@@ -40,7 +35,9 @@ fn range(tree: &Value) -> Result<Range, JobError>
 }
 
 fn ranges(alloc: Global, items: &Vec<Value>) -> Result<Ranges, JobError>
-    ensures { Gives (λ r. r) result (each_at (λ _. range_pair_at) (items_view items.now.items)) }
+    ensures exact { Gives (λ r. r) result (each_at (λ _. range_pair_at) (items_view items.now.items)) }
+    ensures long { IfOk result (λ r. length r ≡ length items.now.items) }
+    ensures numbered { IfOk result (All IsNumbered) }
 {
     let ranges = each::<Brand, Range, _>(alloc, items, |_, tree| range(tree))?;
     Ok(Ranges::new(ranges))
@@ -49,12 +46,47 @@ fn ranges(alloc: Global, items: &Vec<Value>) -> Result<Ranges, JobError>
 /// The ranges of a plan that has no number of partitions.
 #[tactic(auto, unfolding(crate::specs::JobRecord::own_ranges_at))]
 fn own_ranges(alloc: Global, counted: bool, tree: &Value) -> Result<Ranges, JobError>
-    ensures { Gives (λ r. Some r) result (own_ranges_at counted field.Ranges (view tree.now)) }
+    ensures exact { Gives (λ r. Some r) result (own_ranges_at counted field.Ranges (view tree.now)) }
+    ensures few { IfOk result (λ r. length r ≤ max_ranges) }
+    ensures numbered { IfOk result (All IsNumbered) }
+    ensures alone { IfOk result (λ _. counted ≡ false) }
 {
     if counted {
         return Err(JobError::WrongShape(Field::Ranges));
     }
     ranges(alloc, list(0, MAX_RANGES, Field::Ranges, tree)?)
+}
+
+/// The number of even partitions, 1 where none is given.
+#[tactic(auto, unfolding(crate::specs::Reading::optional))]
+fn partitions(plan: &Value) -> Result<u32, JobError>
+    ensures exact { GivesExactly (λ n. n) result (optional (number_at 1 max_partitions_asked) 1 field.Partitions (view plan.now)) }
+    ensures least { IfOk result (λ n. 1 ≤ n) }
+    ensures most { IfOk result (λ n. n ≤ max_partitions_asked) }
+    ensures absent { is_some (get (name_of field.Partitions) (view plan.now)) ≡ false → IfOk result (λ n. n ≡ 1) }
+{
+    match plan.get(Field::Partitions.name()) {
+        None => Ok(1),
+        Some(given) => {
+            let most = u64::from(MAX_PARTITIONS_ASKED);
+            Ok(number(1, most, Field::Partitions, given)? as u32)
+        }
+    }
+}
+
+/// The number of threads asked for, 0 where none is given.
+#[tactic(auto, unfolding(crate::specs::Reading::optional))]
+fn threads(plan: &Value) -> Result<u32, JobError>
+    ensures exact { GivesExactly (λ n. n) result (optional (number_at 0 max_threads_asked) 0 field.Threads (view plan.now)) }
+    ensures most { IfOk result (λ n. n ≤ max_threads_asked) }
+{
+    match plan.get(Field::Threads.name()) {
+        None => Ok(0),
+        Some(given) => {
+            let most = u64::from(MAX_THREADS_ASKED);
+            Ok(number(0, most, Field::Threads, given)? as u32)
+        }
+    }
 }
 
 #[tactic(auto, unfolding(crate::specs::JobRecord::plan_at, crate::specs::Reading::optional))]
@@ -71,24 +103,18 @@ fn plan(alloc: Global, tree: &Value) -> Result<Spec, JobError>
         ],
         tree,
     )?;
-    let counted = plan.get(Field::Partitions.name());
-    let partitions = match counted {
-        None => 1,
-        Some(partitions) => number(1, MAX_PARTITIONS, Field::Partitions, partitions)?,
-    };
-    let threads = match plan.get(Field::Threads.name()) {
-        None => 0,
-        Some(threads) => number(0, MAX_THREADS, Field::Threads, threads)?,
-    };
+    let counted = plan.get(Field::Partitions.name()).is_some();
+    let partitions = partitions(plan)?;
+    let threads = threads(plan)?;
     let replace = match plan.get(Field::Override.name()) {
         None => false,
         Some(replace) => flag(Field::Override, replace)?,
     };
     let ranges = match plan.get(Field::Ranges.name()) {
         None => None,
-        Some(ranges) => Some(own_ranges(alloc, counted.is_some(), ranges)?),
+        Some(ranges) => Some(own_ranges(alloc, counted, ranges)?),
     };
-    Ok(Spec::new(partitions as u32, threads as u32, replace, ranges))
+    Ok(Spec::new(partitions, threads, replace, ranges))
 }
 
 /// What the object asks.

@@ -1,9 +1,10 @@
 //! Reading a job record, field by field.
 
-ghost use Rattle.std.specs.Prelude.{◌≡◌, [], bytes_eq};
-ghost use Rattle.std.specs.List.{list_any};
+ghost use Rattle.std.specs.Prelude.{◌≡◌, ◌≤◌, [], IfOk, length};
 ghost use Rattle.serde_json.specs.View.{view, items_view};
-ghost use Rattle.jb_job.specs.Reading.{Gives, GivesOfText, each_at, tree_of};
+ghost use Rattle.jb_job.specs.Reading.{Gives, GivesExactly, GivesOfText, each_at, tree_of};
+ghost use Rattle.jb_job.specs.Kept.{IsName};
+ghost use Rattle.jb_job.specs.Limits.{max_steps};
 ghost use Rattle.jb_job.specs.JobRecord.{new_id_at, step_at, job_at};
 ghost use Rattle.jb_job.specs.declared.field.Field.TheVariants as field;
 
@@ -13,29 +14,22 @@ use crate::classes::Classes;
 use crate::error::JobError;
 use crate::field::Field;
 use crate::job::{Job, Spec, Step};
-use crate::kinds::{MAX_NAME, each, list, object, required, text};
-use crate::lists::Steps;
+use crate::kinds::{each, list, object, required, text};
+use crate::limits::{MAX_NAME, MAX_STEPS};
+use crate::lists::{Steps, has_id};
+use crate::name::Name;
 use crate::partition::partition_spec;
-use crate::text::Text;
 use crate::tree::read_tree;
 use indexmap::IndexSet;
 use serde_json::Value;
 use std::alloc::Global;
 use std::marker::Brand;
 
-const MAX_STEPS: usize = 16;
-
-/// Whether a step has the id.
-fn has_id(steps: &[Step], id: &str) -> bool
-    ensures { result ≡ list_any (λ s. bytes_eq s.id id.now) steps.now }
-{
-    steps.iter().any(|step| step.id() == id)
-}
-
 /// The id of a step, which no earlier step has.
 #[tactic(auto, unfolding(crate::specs::JobRecord::new_id_at))]
 fn new_id<'a>(earlier: &[Step], tree: &'a Value) -> Result<&'a str, JobError>
-    ensures { Gives (λ s. s.now) result (new_id_at earlier.now field.Id (view tree.now)) }
+    ensures exact { GivesExactly (λ s. s.now) result (new_id_at earlier.now field.Id (view tree.now)) }
+    ensures named { IfOk result (λ s. IsName s.now) }
 {
     let id = text(1, MAX_NAME, Field::Id, tree)?;
     if has_id(earlier, id) {
@@ -60,11 +54,13 @@ fn step(alloc: Global, classes: &Classes, earlier: &[Step], tree: &Value) -> Res
         None => Spec::new(1, 0, false, None),
         Some(given) => partition_spec(alloc, given)?,
     };
-    let id = Text::new(String::from_str(alloc, id)?);
+    let id = Name::new(String::from_str(alloc, id)?);
     Ok(Step::new(id, item_count, rules, spec))
 }
 
 fn steps(alloc: Global, classes: &Classes, items: &Vec<Value>) -> Result<Steps, JobError>
+    requires some { 1 ≤ length items.now.items }
+    requires few { length items.now.items ≤ max_steps }
     ensures { Gives (λ s. s) result (each_at (step_at classes.now) (items_view items.now.items)) }
 {
     let steps = each::<Brand, Step, _>(alloc, items, |earlier, tree| {
@@ -91,7 +87,7 @@ pub fn job_of(alloc: Global, tree: &Value) -> Result<Job, JobError>
     let items = list(1, MAX_STEPS, Field::Step, required(Field::Step, job)?)?;
     let steps = steps(alloc, &classes, items)?;
     Ok(Job {
-        id: Text::new(String::from_str(alloc, id)?),
+        id: Name::new(String::from_str(alloc, id)?),
         classes,
         steps,
     })

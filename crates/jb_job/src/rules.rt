@@ -21,13 +21,14 @@ pub struct Rules {
 impl Model for Rules {
     ghost use Rattle.std.specs.Prelude.{◌≤◌};
     ghost use Rattle.std.specs.Option.{ForSome};
+    ghost use Rattle.jb_job.specs.Limits.{max_skip_limit, max_retry_limit};
     ghost use Rattle.jb_job.specs.Records.{RulesRecord};
 
     ghost Value = { RulesRecord };
 
     ghost view = { λ r. record { skippable = r.skippable; retryable = r.retryable; skip_limit = r.skip_limit; retry_limit = r.retry_limit } };
 
-    ghost invariant = { λ r. ForSome r.skip_limit (λ limit. limit ≤ 10000000) × (r.retry_limit ≤ 100000) };
+    ghost invariant = { λ r. ForSome r.skip_limit (λ limit. limit ≤ max_skip_limit) × (r.retry_limit ≤ max_retry_limit) };
 
     ghost inverse = { λ r. record { skippable = r.skippable; retryable = r.retryable; skip_limit = r.skip_limit; retry_limit = r.retry_limit } };
 }

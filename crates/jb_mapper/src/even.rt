@@ -2,7 +2,7 @@
 
 ghost use Rattle.std.specs.Prelude.{◌≡◌, ◌≤◌, ◌<◌, IfOk};
 ghost use Rattle.jb_plan.specs.Plans.{IsRunnable};
-ghost use Rattle.jb_plan.specs.declared.limits.TheConstants.{MAX_PARTITIONS, MAX_THREADS_ASKED};
+ghost use Rattle.jb_job.specs.Limits.{max_partitions, max_partitions_asked, max_threads_asked};
 ghost use Rattle.jb_mapper.specs.EvenCover.{bound, even_ranges, IsEvenCover};
 ghost use Rattle.jb_mapper.specs.Mapping.{even};
 
@@ -10,9 +10,6 @@ use crate::mapper::PartitionMapper;
 use jb_job::{ArtifactError, Range, Ranges};
 use jb_plan::PartitionPlan;
 use std::alloc::{AllocError, Global};
-
-/// The most partitions that a mapper is asked for. A checked plan has fewer: `jb_plan::MAX_PARTITIONS`.
-pub const MAX_PARTITIONS_ASKED: u32 = 4_096;
 
 /// A mapper that covers the records by consecutive ranges whose lengths differ by one at most.
 #[derive(Debug, Drop)]
@@ -28,7 +25,7 @@ impl EvenMapper {
     /// A mapper of 1 to 4,096 partitions. Takes no memory.
     pub fn new(alloc: Global, partitions: u32, threads: u32, replace: bool) -> EvenMapper
         requires some { 1 ≤ partitions }
-        requires few { partitions ≤ MAX_PARTITIONS_ASKED }
+        requires few { partitions ≤ max_partitions_asked }
         ensures { ⟦<EvenMapper as PartitionMapper>⟧.mapping result ≡ even partitions threads replace }
     {
         EvenMapper {
@@ -90,7 +87,7 @@ pub fn even_cover(records: u64, partitions: u32)
 /// accepts them for each number of records that it takes.
 pub fn even_plan_is_runnable(records: u64, partitions: u32, threads: u32, replace: bool)
     requires some { 1 ≤ partitions }
-    requires few { partitions ≤ MAX_PARTITIONS }
-    requires threads { threads ≤ MAX_THREADS_ASKED }
+    requires few { partitions ≤ max_partitions }
+    requires threads { threads ≤ max_threads_asked }
     ensures { IsRunnable records (record { ranges = even_ranges records partitions; threads = threads; replace = replace }) }
 {}

@@ -9,6 +9,6 @@ mod even;
 mod fixed;
 mod mapper;
 
-pub use even::{EvenMapper, MAX_PARTITIONS_ASKED, even_cover, even_plan_is_runnable};
+pub use even::{EvenMapper, even_cover, even_plan_is_runnable};
 pub use fixed::FixedMapper;
 pub use mapper::PartitionMapper;

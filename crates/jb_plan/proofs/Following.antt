@@ -1,6 +1,6 @@
 -- The chunks that are left follow one another.
 use Rattle.std.proofs.Common.{◌≡◌, ℕ, zero, suc, ◌+◌, ◌-◌, ◌*◌, ◌/◌, ◌≤◌, ◌<◌, Bool, true, false, List, [], ◌∷◌, ◌++◌, map, refl, sym, ap, ◌∙◌, subst, arith}
-use Rattle.std.specs.Prelude.{max, min, nat_lt, nat_le, filter, unwrap_or, slice_get}
+use Rattle.std.specs.Prelude.{max, min, nat_lt, nat_le, ◌==◌, filter, drop, unwrap_or, slice_get, Option, Some}
 use Rattle.std.specs.List.{range_with_len}
 use Rattle.std.proofs.lemmas.Bool.{ltb-true, ltb-false}
 use Rattle.std.proofs.lemmas.Bool.Decides.{nat_tests}
@@ -146,9 +146,42 @@ none-left redo hi count re =
     let past : hi - max hi redo ≡ 0 = omega arith in
     rw (none, past) refl
 
+-- THE CHUNKS BEHIND ONE OF THE LIST
+
+none-at : (j : ℕ) (b : Range) → ◌≡◌ {A = Option Range} (slice_get [] j) (Some b) → ⊥
+none-at zero b e = cc
+none-at (suc j) b e = cc
+
+first-at : (a b : Range) (rs : List Range) → slice_get (a ∷ rs) 0 ≡ Some b → a ≡ b
+first-at a b rs e = cc
+
+drop-more : (j : ℕ) (a : Range) (rs : List Range) → drop (j + 1) rs ≡ drop (suc j + 1) (a ∷ rs)
+drop-more j a rs = let more : suc j + 1 ≡ suc (j + 1) = omega arith in ap (λ n. drop n (a ∷ rs)) (sym more)
+
+-- the rest behind chunk j, at a checkpoint that is the end of the range or not
+rest_by : (ended : Bool) (j at redo hi count : ℕ) (b : Range) → (at == hi) ≡ ended → at ≤ hi → redo ≤ hi → 1 ≤ count → slice_get (blocks at redo hi count) j ≡ Some b → blocks b.hi redo hi count ≡ drop (j + 1) (blocks at redo hi count)
+rest_by true j at redo hi count b e le re one here =
+    let same : at ≡ hi = grind (arith, nat_tests) in
+    let none : blocks at redo hi count ≡ [] = ap (λ a. blocks a redo hi count) same ∙ none-left redo hi count re in
+    absurd (none-at j b (ap (λ (rs : List Range). slice_get rs j) (sym none) ∙ here))
+rest_by false zero at redo hi count b e le re one here =
+    let lt : at < hi = grind (arith, nat_tests) in
+    let next = next_by (nat_lt at redo) at redo hi count refl lt re one in
+    let same = first-at (next_block at redo hi count) b (blocks (next_block at redo hi count).hi redo hi count) (ap (λ (rs : List Range). slice_get rs 0) (sym next.others) ∙ here) in
+    ap (λ (r : Range). blocks r.hi redo hi count) (sym same) ∙ ap (drop 1) (sym next.others)
+rest_by false (suc j) at redo hi count b e le re one here =
+    let lt : at < hi = grind (arith, nat_tests) in
+    let next = next_by (nat_lt at redo) at redo hi count refl lt re one in
+    let mid = (next_block at redo hi count).hi in
+    let there : slice_get (blocks mid redo hi count) j ≡ Some b = ap (λ (rs : List Range). slice_get rs (suc j)) (sym next.others) ∙ here in
+    rest_by (mid == hi) j mid redo hi count b refl next.within re one there
+    ∙ drop-more j (next_block at redo hi count) (blocks mid redo hi count)
+    ∙ ap (drop (suc j + 1)) (sym next.others)
+
 pub chunks_follow : ChunksFollow
 chunks_follow = record {
   next = λ at redo hi count lt re one. next_by (nat_lt at redo) at redo hi count refl lt re one;
   none = none-left;
+  rest = λ at redo hi count j b le re one here. rest_by (at == hi) j at redo hi count b refl le re one here;
   few = λ at redo hi count le re one. rw (left_is at redo hi count one) (left-few at redo hi count le re one);
 }

@@ -7,7 +7,7 @@ use Rattle.jb_job.specs.declared.job.Range.{Range}
 use Rattle.jb_plan.specs.declared.fault.PlanError.{PlanError}
 use Rattle.jb_plan.specs.declared.fault.PlanError.TheVariants.{NoPartition, Reversed, PastEnd, Overlap, Threads}
 use Rattle.jb_plan.specs.declared.plan.PartitionPlan.{PartitionPlan}
-use Rattle.jb_plan.specs.declared.limits.TheConstants.{MAX_PARTITIONS, MAX_THREADS_ASKED}
+use Rattle.jb_job.specs.Limits.{max_partitions, max_threads_asked}
 use Rattle.jb_plan.specs.Plans.{IsWithin, IsRunnable}
 use Rattle.jb_plan.specs.Ranges.{HaveNoneInCommon, AreDisjoint, do_overlap}
 use Rattle.jb_plan.specs.Faults.{error_if, bound_errors, overlaps_with, overlap_errors, range_errors, plan_errors, IsFirst}
@@ -93,7 +93,7 @@ pub overlap-runnable : (records : ℕ) (plan : PartitionPlan) (error : PlanError
 overlap-runnable records plan error ranges same runnable e = first-none (overlap_errors 0 ranges) error e (rw same (none-all_apart 0 plan.ranges runnable.disjoint))
 
 -- a plan whose list of ranges, pairs and threads have no error can be run
-pub runnable-parts : (records : ℕ) (plan : PartitionPlan) (listed : List Range) → listed ≡ plan.ranges → range_errors records listed ≡ [] → length listed ≤ MAX_PARTITIONS → overlap_errors 0 listed ≡ [] → plan.threads ≤ MAX_THREADS_ASKED → IsRunnable records plan
+pub runnable-parts : (records : ℕ) (plan : PartitionPlan) (listed : List Range) → listed ≡ plan.ranges → range_errors records listed ≡ [] → length listed ≤ max_partitions → overlap_errors 0 listed ≡ [] → plan.threads ≤ max_threads_asked → IsRunnable records plan
 runnable-parts records plan listed same ranges few pairs threads =
     let parts = no_errors (error_if (length plan.ranges == 0) NoPartition) (bound_errors records 0 plan.ranges) (rw (← same) ranges) in
     let some = no_error (length plan.ranges == 0) NoPartition parts.0 in
@@ -118,20 +118,20 @@ overlap-first i ranges d error lt found =
     rw cons (first_more (overlaps_with i (get_or ranges i d) (i + 1) (drop (i + 1) ranges)) (overlap_errors (i + 1) (drop (i + 1) ranges)) error found)
 
 -- where there are not too many ranges, their first error is the plan's
-pub ranges-first : (records : ℕ) (plan : PartitionPlan) (listed : List Range) (error : PlanError) → listed ≡ plan.ranges → length listed ≤ MAX_PARTITIONS → IsFirst error (range_errors records listed) → IsFirst error (plan_errors records plan)
+pub ranges-first : (records : ℕ) (plan : PartitionPlan) (listed : List Range) (error : PlanError) → listed ≡ plan.ranges → length listed ≤ max_partitions → IsFirst error (range_errors records listed) → IsFirst error (plan_errors records plan)
 ranges-first records plan listed error same few found =
-    let few' : length plan.ranges ≤ MAX_PARTITIONS = rw (← same) few in
-    let enough : nat_lt MAX_PARTITIONS (length plan.ranges) ≡ false = grind (arith, nat_tests) in
+    let few' : length plan.ranges ≤ max_partitions = rw (← same) few in
+    let enough : nat_lt max_partitions (length plan.ranges) ≡ false = grind (arith, nat_tests) in
     let found' : IsFirst error (range_errors records plan.ranges) = rw (← same) found in
     rw enough
-    (first_more (range_errors records plan.ranges ++ overlap_errors 0 plan.ranges) (error_if (nat_lt MAX_THREADS_ASKED plan.threads) Threads) error
+    (first_more (range_errors records plan.ranges ++ overlap_errors 0 plan.ranges) (error_if (nat_lt max_threads_asked plan.threads) Threads) error
     (first_more (range_errors records plan.ranges) (overlap_errors 0 plan.ranges) error found'))
 
 -- and where no range has an error, that of their pairs
-pub pairs-first : (records : ℕ) (plan : PartitionPlan) (listed : List Range) (error : PlanError) → listed ≡ plan.ranges → length listed ≤ MAX_PARTITIONS → range_errors records listed ≡ [] → IsFirst error (overlap_errors 0 listed) → IsFirst error (plan_errors records plan)
+pub pairs-first : (records : ℕ) (plan : PartitionPlan) (listed : List Range) (error : PlanError) → listed ≡ plan.ranges → length listed ≤ max_partitions → range_errors records listed ≡ [] → IsFirst error (overlap_errors 0 listed) → IsFirst error (plan_errors records plan)
 pairs-first records plan listed error same few none found =
-    let few' : length plan.ranges ≤ MAX_PARTITIONS = rw (← same) few in
-    let enough : nat_lt MAX_PARTITIONS (length plan.ranges) ≡ false = grind (arith, nat_tests) in
+    let few' : length plan.ranges ≤ max_partitions = rw (← same) few in
+    let enough : nat_lt max_partitions (length plan.ranges) ≡ false = grind (arith, nat_tests) in
     let none' : range_errors records plan.ranges ≡ [] = rw (← same) none in
     let found' : IsFirst error (overlap_errors 0 plan.ranges) = rw (← same) found in
-    rw (enough, none') (first_more (overlap_errors 0 plan.ranges) (error_if (nat_lt MAX_THREADS_ASKED plan.threads) Threads) error found')
+    rw (enough, none') (first_more (overlap_errors 0 plan.ranges) (error_if (nat_lt max_threads_asked plan.threads) Threads) error found')

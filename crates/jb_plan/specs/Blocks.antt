@@ -1,5 +1,5 @@
 -- The chunks that are left of a range of records.
-use Rattle.std.specs.Prelude.{ℕ, ◌+◌, ◌-◌, ◌*◌, ◌/◌, if◌then◌else◌, nat_lt, ◌==◌, min, max, Option, Some, None, unwrap_or, slice_get, List, [], ◌∷◌, ◌++◌, length, map, filter, ◌≡◌, ◌≤◌, ◌<◌}
+use Rattle.std.specs.Prelude.{ℕ, ◌+◌, ◌-◌, ◌*◌, ◌/◌, if◌then◌else◌, nat_lt, ◌==◌, min, max, Option, Some, None, unwrap_or, slice_get, List, [], ◌∷◌, ◌++◌, length, map, filter, drop, ◌≡◌, ◌≤◌, ◌<◌}
 use Rattle.std.specs.List.{range_with_len}
 use Rattle.jb_job.specs.declared.job.Range.{Range}
 
@@ -42,10 +42,14 @@ pub record IsNext (at redo hi count : ℕ) (block : Range) : Type 0 where
   pub within : block.hi ≤ hi
   pub others : blocks at redo hi count ≡ block ∷ blocks block.hi redo hi count
 
--- the chunks that are left follow one another up to the range's end, and there are no more of them than records
+-- the chunks that are left follow one another up to the range's end: from the end of any of them on, those behind it are left;
+-- and there are no more of them than records
 pub record ChunksFollow : Type 0 where
   pub next : (at redo hi count : ℕ) → at < hi → redo ≤ hi → 1 ≤ count → IsNext at redo hi count (next_block at redo hi count)
   pub none : (redo hi count : ℕ) → redo ≤ hi → blocks hi redo hi count ≡ []
+  pub rest :
+      (at redo hi count j : ℕ) (chunk : Range) → at ≤ hi → redo ≤ hi → 1 ≤ count → slice_get (blocks at redo hi count) j ≡ Some chunk
+      → blocks chunk.hi redo hi count ≡ drop (j + 1) (blocks at redo hi count)
   pub few : (at redo hi count : ℕ) → at ≤ hi → redo ≤ hi → 1 ≤ count → left at redo hi count ≤ hi - at
 
 -- THE SAME AS FORMULAS

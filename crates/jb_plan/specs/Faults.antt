@@ -4,7 +4,7 @@ use Rattle.jb_job.specs.declared.job.Range.{Range}
 use Rattle.jb_plan.specs.declared.fault.PlanError.{PlanError}
 use Rattle.jb_plan.specs.declared.fault.PlanError.TheVariants.{NoPartition, TooMany, Reversed, PastEnd, Overlap, Threads}
 use Rattle.jb_plan.specs.declared.plan.PartitionPlan.{PartitionPlan}
-use Rattle.jb_plan.specs.declared.limits.TheConstants.{MAX_PARTITIONS, MAX_THREADS_ASKED}
+use Rattle.jb_job.specs.Limits.{max_partitions, max_threads_asked}
 use Rattle.jb_plan.specs.Ranges.{do_overlap}
 
 -- this error, where the condition holds
@@ -34,10 +34,10 @@ range_errors records ranges = error_if (length ranges == 0) NoPartition ++ bound
 -- the errors of a plan for a step of so many records
 abbrev pub plan_errors : (records : ℕ) → PartitionPlan → List PlanError
 plan_errors records plan =
-    error_if (nat_lt MAX_PARTITIONS (length plan.ranges)) TooMany
+    error_if (nat_lt max_partitions (length plan.ranges)) TooMany
     ++ range_errors records plan.ranges
     ++ overlap_errors 0 plan.ranges
-    ++ error_if (nat_lt MAX_THREADS_ASKED plan.threads) Threads
+    ++ error_if (nat_lt max_threads_asked plan.threads) Threads
 
 -- the one that is answered
 abbrev pub IsFirst : PlanError → List PlanError → Type 0

@@ -3,7 +3,7 @@ use Rattle.std.specs.Prelude.{ℕ, ◌≤◌, ◌==◌, if◌then◌else◌, min
 use Rattle.jb_job.specs.declared.job.Range.{Range}
 use Rattle.jb_plan.specs.declared.plan.PartitionPlan.{PartitionPlan}
 use Rattle.jb_plan.specs.Ranges.{AreDisjoint}
-use Rattle.jb_plan.specs.declared.limits.TheConstants.{MAX_RECORDS, MAX_PARTITIONS, MAX_THREADS, MAX_THREADS_ASKED}
+use Rattle.jb_job.specs.Limits.{max_partitions, max_records, max_threads, max_threads_asked}
 
 -- a range of records below `records`; it may be empty
 abbrev pub IsWithin : (records : ℕ) → Range → Type 0
@@ -13,14 +13,14 @@ IsWithin records r = (r.lo ≤ r.hi) × (r.hi ≤ records)
 -- are ranges of records, and the limits, are this project's choice).
 pub record IsRunnable (records : ℕ) (plan : PartitionPlan) : Type 0 where
   pub some : 1 ≤ length plan.ranges
-  pub few : length plan.ranges ≤ MAX_PARTITIONS
+  pub few : length plan.ranges ≤ max_partitions
   pub within : All (IsWithin records) plan.ranges
   pub disjoint : AreDisjoint plan.ranges
-  pub threads : plan.threads ≤ MAX_THREADS_ASKED
+  pub threads : plan.threads ≤ max_threads_asked
 
 -- as many threads as were asked for, or as there are ranges where 0 was; at most 64
 abbrev pub threads_of : PartitionPlan → ℕ
-threads_of plan = min (if plan.threads == 0 then length plan.ranges else plan.threads) MAX_THREADS
+threads_of plan = min (if plan.threads == 0 then length plan.ranges else plan.threads) max_threads
 
 -- what a checked plan shows
 pub record CheckedPlan : Type 0 where
@@ -34,8 +34,8 @@ checked_plan plan = record { ranges = plan.ranges; threads = threads_of plan; re
 -- what each checked plan keeps
 pub record IsCheckedPlan (plan : CheckedPlan) : Type 0 where
   pub some : 1 ≤ length plan.ranges
-  pub few : length plan.ranges ≤ MAX_PARTITIONS
-  pub within : All (IsWithin MAX_RECORDS) plan.ranges
+  pub few : length plan.ranges ≤ max_partitions
+  pub within : All (IsWithin max_records) plan.ranges
   pub disjoint : AreDisjoint plan.ranges
   pub some_threads : 1 ≤ plan.threads
-  pub few_threads : plan.threads ≤ MAX_THREADS
+  pub few_threads : plan.threads ≤ max_threads

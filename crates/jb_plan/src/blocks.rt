@@ -1,9 +1,9 @@
 //! The chunks that are left of a range of records.
 
 ghost use Rattle.std.specs.Prelude.{◌≡◌, ◌≤◌, ◌-◌, List, slice_get, IfSome};
+ghost use Rattle.jb_job.specs.Limits.{max_item_count, max_records};
 ghost use Rattle.jb_plan.specs.Blocks.{blocks, left, first_block, blocks_left, IsNext, ChunksFollow};
 
-use crate::limits::{MAX_ITEM_COUNT, MAX_RECORDS};
 use jb_job::Range;
 
 /// The next chunk of the records from `at` to below `hi`, or none where nothing is left.
@@ -14,9 +14,9 @@ use jb_job::Range;
 pub fn next_chunk(at: u64, redo: u64, hi: u64, item_count: u64) -> Option<Range>
     requires at_in { at ≤ hi }
     requires redo_in { redo ≤ hi }
-    requires records { hi ≤ MAX_RECORDS }
+    requires records { hi ≤ max_records }
     requires some { 1 ≤ item_count }
-    requires count { item_count ≤ MAX_ITEM_COUNT }
+    requires count { item_count ≤ max_item_count }
     ensures first { result ≡ slice_get (blocks at redo hi item_count) 0 }
     ensures formula { result ≡ first_block at redo hi item_count }
     ensures next { IfSome result (λ block. IsNext at redo hi item_count block) }
@@ -38,9 +38,9 @@ pub fn next_chunk(at: u64, redo: u64, hi: u64, item_count: u64) -> Option<Range>
 pub fn chunks_left(at: u64, redo: u64, hi: u64, item_count: u64) -> u64
     requires at_in { at ≤ hi }
     requires redo_in { redo ≤ hi }
-    requires records { hi ≤ MAX_RECORDS }
+    requires records { hi ≤ max_records }
     requires some { 1 ≤ item_count }
-    requires count { item_count ≤ MAX_ITEM_COUNT }
+    requires count { item_count ≤ max_item_count }
     ensures number { result ≡ left at redo hi item_count }
     ensures formula { result ≡ blocks_left at redo hi item_count }
     ensures few { result ≤ hi - at }
@@ -48,8 +48,8 @@ pub fn chunks_left(at: u64, redo: u64, hi: u64, item_count: u64) -> u64
     redo.saturating_sub(at) + (hi - at.max(redo)).div_ceil(item_count)
 }
 
-/// The law of chunks: each is followed by the others that are left, up to the range's end, and there are no more of them
-/// than records.
+/// The law of chunks: each is followed by the others that are left, up to the range's end; from the end of any of them on
+/// those behind it are left; and there are no more of them than records.
 pub fn chunks_follow_one_another()
     ensures { ChunksFollow }
 {}

@@ -1,15 +1,15 @@
 //! The check of a partition plan.
 
 ghost use Rattle.std.specs.Prelude.{◌≡◌, ◌≤◌, ◌<◌, ◌+◌, ◌↔◌, [], length, drop, IsTrue, IsOk, IfOk, IfErr};
+ghost use Rattle.jb_job.specs.Limits.{max_records};
 ghost use Rattle.jb_plan.specs.Plans.{IsRunnable, checked_plan};
 ghost use Rattle.jb_plan.specs.Faults.{bound_errors, overlaps_with, overlap_errors, range_errors, plan_errors, IsFirst};
 ghost use Rattle.jb_plan.specs.inside.Found.{FindsFirst};
 ghost use Rattle.jb_plan.specs.Ranges.{do_overlap, AreDisjoint};
 
 use crate::fault::PlanError;
-use crate::limits::{MAX_PARTITIONS, MAX_RECORDS, MAX_THREADS_ASKED};
 use crate::plan::{Checked, PartitionPlan};
-use jb_job::Range;
+use jb_job::{MAX_PARTITIONS, MAX_THREADS_ASKED, Range};
 
 /// Whether some record stands in both ranges.
 fn do_overlap(left: Range, right: Range) -> bool
@@ -81,7 +81,7 @@ pub fn are_disjoint(ranges: &[Range]) -> bool
 /// some record stands in two ranges, and where it asks for more than 4,096 threads. Of several faults the first in
 /// this order is answered, ranges and pairs of ranges by their places. No memory is taken.
 pub fn checked(plan: PartitionPlan, records: u64) -> Result<Checked, PlanError>
-    requires { records ≤ MAX_RECORDS }
+    requires { records ≤ max_records }
     ensures ok { IsOk result ↔ IsRunnable records plan }
     ensures value { IfOk result (λ plan_checked. plan_checked ≡ checked_plan plan) }
     ensures err { IfErr result (λ error. IsFirst error (plan_errors records plan)) }

@@ -1,29 +1,45 @@
 //! What can be wrong with a partition plan.
 
-use thiserror::Error;
+use std::error::Error;
+use std::fmt;
 
 /// Why a partition plan is refused. Partitions are named by their places in the plan's list of ranges, from 0.
-#[derive(Clone, Copy, Debug, PartialEq, Eq, Error)]
+#[derive(Clone, Copy, Debug, PartialEq, Eq)]
 pub enum PlanError {
     /// The plan has no range.
-    #[error("NoPartition")]
     NoPartition,
     /// The plan has more than 256 ranges.
-    #[error("TooMany")]
     TooMany,
     /// This range ends before it begins.
-    #[error("Reversed({0})")]
     Reversed(usize),
     /// This range ends past the last record.
-    #[error("PastEnd({0})")]
     PastEnd(usize),
     /// Some record stands in both of these ranges.
-    #[error("Overlap({0},{1})")]
     Overlap(usize, usize),
     /// The plan asks for more than 4,096 threads.
-    #[error("Threads")]
     Threads,
     /// There was no memory for the plan.
-    #[error("no memory")]
     Memory,
 }
+
+/// The fault's name, with the partitions in parentheses; or `no memory`.
+impl fmt::Display for PlanError {
+    ghost use Rattle.std.specs.Prelude.{Some};
+    ghost use Rattle.jb_plan.specs.Texts.{error_text};
+
+    ghost output = { λ error. Some (error_text error) };
+
+    fn fmt<W: fmt::Write>(&self, f: &mut fmt::Formatter<W>) -> fmt::Result {
+        match self {
+            PlanError::NoPartition => f.write_str("NoPartition"),
+            PlanError::TooMany => f.write_str("TooMany"),
+            PlanError::Reversed(range) => write!(f, "Reversed({range})"),
+            PlanError::PastEnd(range) => write!(f, "PastEnd({range})"),
+            PlanError::Overlap(first, second) => write!(f, "Overlap({first},{second})"),
+            PlanError::Threads => f.write_str("Threads"),
+            PlanError::Memory => f.write_str("no memory"),
+        }
+    }
+}
+
+impl Error for PlanError {}

@@ -1,6 +1,5 @@
 //! Partition plans, and the blocks of records that chunks are made of.
 //!
-//! - `limits`: how large a step may be.
 //! - `blocks`: the chunks that are left of a range.
 //! - `plan`: plans, and plans that were checked.
 //! - `fault`: what can be wrong with a plan.
@@ -10,11 +9,9 @@
 mod blocks;
 mod checking;
 mod fault;
-mod limits;
 mod plan;
 
 pub use blocks::{chunks_follow_one_another, chunks_left, next_chunk};
 pub use checking::{are_disjoint, checked, ranges_in};
 pub use fault::PlanError;
-pub use limits::{MAX_ITEM_COUNT, MAX_PARTITIONS, MAX_RECORDS, MAX_THREADS, MAX_THREADS_ASKED};
 pub use plan::{Checked, PartitionPlan};

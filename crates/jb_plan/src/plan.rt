@@ -1,10 +1,10 @@
 //! Partition plans, and plans that were checked.
 
 ghost use Rattle.std.specs.Prelude.{◌≡◌, ◌≤◌};
+ghost use Rattle.jb_job.specs.Limits.{max_records, max_threads};
 ghost use Rattle.jb_plan.specs.Plans.{IsRunnable, IsCheckedPlan, checked_plan, threads_of};
 
-use crate::limits::{MAX_RECORDS, MAX_THREADS};
-use jb_job::{Range, Ranges};
+use jb_job::{MAX_THREADS, Range, Ranges};
 use std::marker::Model;
 
 /// How a step's records are to be partitioned (Jakarta Batch 2.1, "Partition Plan"; the ranges are this project's own).
@@ -54,7 +54,7 @@ impl Checked {
     /// The checked plan of one that can be run by a step of so many records.
     pub(crate) fn of(plan: PartitionPlan, records: u64) -> Checked
         requires runnable { IsRunnable records plan }
-        requires records { records ≤ MAX_RECORDS }
+        requires records { records ≤ max_records }
         ensures { result ≡ checked_plan plan }
     {
         let threads = plan.threads(records);
@@ -78,7 +78,7 @@ impl Checked {
     pub fn threads(&self) -> u32
         ensures threads { result ≡ self.now.threads }
         ensures some { 1 ≤ result }
-        ensures few { result ≤ MAX_THREADS }
+        ensures few { result ≤ max_threads }
     {
         self.threads
     }

@@ -1,7 +1,7 @@
 //! The row of all chunks, partition after partition: where each partition begins, and which chunk stands at a place.
 ghost use Rattle.std.specs.Prelude.{◌≡◌, ◌+◌, ◌-◌, ◌^◌, ◌<◌, ◌≤◌, length, slice_index, IfOk, IsTrue, sum, nat_lt, if◌then◌else◌};
 ghost use Rattle.std.specs.List.Sorted.{IsNonDecreasing};
-ghost use Rattle.jb_cert.specs.Load.{max_chunks, max_partitions};
+ghost use Rattle.jb_job.specs.Limits.{max_chunks, max_load_partitions};
 ghost use Rattle.jb_cert.specs.WrapAround.{chunk_at_place, pair_at_place};
 ghost use Rattle.jb_rounds.specs.inside.Starts.{LiesBetween, starts_from, counts_between};
 
@@ -35,7 +35,7 @@ pub(crate) fn chunk_total(starts: &[u64]) -> u64
 /// one behind it are looked at before the search.
 pub(crate) fn pair_in(starts: &[u64], rounds: u64, place: u64, near: u32) -> Option<(u32, u64)>
     requires indexed { starts.now ≡ starts_from 0 (counts_between starts.now) }
-    requires few_counts { length starts.now ≤ max_partitions + 1 }
+    requires few_counts { length starts.now ≤ max_load_partitions + 1 }
     requires few_chunks { sum (counts_between starts.now) ≤ max_chunks }
     requires some_round { 0 < rounds }
     requires few_rounds { rounds ≤ max_chunks }

@@ -12,12 +12,13 @@ use std::alloc::{AllocError, Global};
 /// A lawful plan of the fewest rounds for these counts of chunks, one for each partition, on so many threads, by
 /// McNaughton's wrap-around of 1959, and the reason why no lawful plan has fewer.
 ///
-/// The slots of a round stand by rising lane. The plan holds a slot for each chunk, and the work is in proportion to
-/// the chunks. The only error is want of memory.
+/// It has `least_rounds` rounds. The slots of a round stand by rising lane. The plan holds a slot for each chunk, and the
+/// work is in proportion to the chunks. The only error is want of memory.
 pub fn plan(alloc: Global, counts: &[u64], threads: u32) -> Result<(Plan, Certificate), AllocError>
     requires { IsWithinLimits counts.now threads }
     ensures slots { IfOk result (λ made. rounds_of made.0 ≡ wrapped_rounds counts.now threads) }
     ensures least { IfOk result (λ made. StandsForLeast counts.now threads (rounds_of made.0)) }
+    ensures rounds { IfOk result (λ made. length made.0.rounds.items ≡ mcnaughton counts.now threads) }
     ensures certificate { IfOk result (λ made. made.1 ≡ bound_certificate counts.now threads) }
     ensures certified { IfOk result (λ made. Holds counts.now threads (length (rounds_of made.0)) made.1) }
 {

@@ -3,12 +3,11 @@ use Rattle.std.proofs.Common.{◌≡◌, ℕ, ◌+◌, ◌-◌, ◌<◌, ◌≤�
 use Rattle.std.specs.Prelude.{max, ◌==◌, ◌↔◌}
 use Rattle.std.proofs.lemmas.Bool.Decides.{nat_tests}
 use Rattle.jb_job.specs.declared.job.Range.{Range}
-use Rattle.jb_plan.specs.declared.limits.TheConstants.{MAX_RECORDS}
+use Rattle.jb_job.specs.Limits.{max_records, max_rollbacks}
 use Rattle.jb_rules.specs.declared.counts.Counts.{Counts}
 use Rattle.jb_rules.specs.declared.row.Row.{Row}
 use Rattle.jb_rules.specs.declared.row.RowState.{RowState}
 use Rattle.jb_rules.specs.declared.row.RowState.TheVariants.{Waiting, Running, Finished, Failed}
-use Rattle.jb_rules.specs.declared.row.TheConstants.{MAX_ROLLBACKS}
 use Rattle.jb_rules.specs.Counts.{IsDelta}
 use Rattle.jb_rules.specs.Laws.{RowsStaySound}
 use Rattle.jb_rules.specs.Rows.{state_at, fresh_row, committed_row}
@@ -22,10 +21,10 @@ finished_by false at hi e = (λ h. absurd cc, λ is. (let f = eq-eqb at hi is in
 finished-at : (at hi : ℕ) → (state_at at hi ≡ Finished) ↔ (at ≡ hi)
 finished-at at hi = finished_by (at == hi) at hi refl
 
--- a row before its end in a state that isn't finished, with its chunk perhaps rolled back
-unfinished : (row : Row) (redo retries rollback : ℕ) (state : RowState) → IsSoundRow row → row.at < row.hi → row.lo ≤ redo → redo ≤ row.hi → retries ≤ rollback → rollback ≤ MAX_ROLLBACKS → (state ≡ Finished → ⊥)
+-- a row whose chunk was perhaps rolled back, in a state that says whether it is at its end
+changed : (row : Row) (redo retries rollback : ℕ) (state : RowState) → IsSoundRow row → row.lo ≤ redo → redo ≤ row.hi → retries ≤ rollback → rollback ≤ max_rollbacks → (state ≡ Finished) ↔ (row.at ≡ row.hi)
     → IsSoundRow (record row { redo = redo; retries = retries; counts = record row.counts { rollback = rollback }; state = state })
-unfinished row redo retries rollback state s lt from to tried few going = record {
+changed row redo retries rollback state s from to tried few finished = record {
   placed = record { at_from = s.placed.at_from; at_to = s.placed.at_to; redo_from = from; redo_to = to; records = s.placed.records };
   counted = record {
     passed = s.counted.passed;
@@ -38,10 +37,19 @@ unfinished row redo retries rollback state s lt from to tried few going = record
     retried = tried;
     rolled = few;
   };
-  finished = (λ is. absurd (going is), λ is. absurd (omega (arith, is, lt)));
+  finished = finished;
 }
 
-sound_fresh : (r : Range) → r.lo ≤ r.hi → r.hi ≤ MAX_RECORDS → IsSoundRow (fresh_row r)
+-- before the end of a row no state is the finished one
+before_end : (at hi : ℕ) (state : RowState) → at < hi → (state ≡ Finished → ⊥) → (state ≡ Finished) ↔ (at ≡ hi)
+before_end at hi state lt going = (λ is. absurd (going is), λ is. absurd (omega (arith, is, lt)))
+
+-- the row in another state
+in_state : (row : Row) (state : RowState) → IsSoundRow row → row.at < row.hi → (state ≡ Finished → ⊥) → IsSoundRow (record row { state = state })
+in_state row state s lt going =
+    changed row row.redo row.retries row.counts.rollback state s s.placed.redo_from s.placed.redo_to s.counted.retried s.counted.rolled (before_end row.at row.hi state lt going)
+
+sound_fresh : (r : Range) → r.lo ≤ r.hi → r.hi ≤ max_records → IsSoundRow (fresh_row r)
 sound_fresh r le few = record {
   placed = record { at_from = omega arith; at_to = le; redo_from = omega arith; redo_to = le; records = few };
   counted = record {
@@ -83,11 +91,11 @@ sound_committed row at d s more to k =
 pub rows_stay_sound : RowsStaySound
 rows_stay_sound = record {
   fresh = sound_fresh;
-  begun = λ row lane s lt. unfinished row row.redo row.retries row.counts.rollback (Running lane) s lt s.placed.redo_from s.placed.redo_to s.counted.retried s.counted.rolled (λ is. cc);
+  begun = λ row lane s lt. in_state row (Running lane) s lt (λ is. cc);
   committed = sound_committed;
-  rolled = λ row end s lt to room.
-      unfinished row (max row.redo end) (row.retries + 1) (row.counts.rollback + 1) Waiting s lt (omega (arith, s.placed.redo_from)) (omega (arith, s.placed.redo_to, to)) (omega (arith, s.counted.retried)) (omega (arith, room)) (λ is. cc);
+  rolled = λ row end s to room.
+      changed row (max row.redo end) (row.retries + 1) (row.counts.rollback + 1) row.state s (omega (arith, s.placed.redo_from)) (omega (arith, s.placed.redo_to, to)) (omega (arith, s.counted.retried)) (omega (arith, room)) s.finished;
   failed = λ row s lt room.
-      unfinished row row.redo row.retries (row.counts.rollback + 1) Failed s lt s.placed.redo_from s.placed.redo_to (omega (arith, s.counted.retried)) (omega (arith, room)) (λ is. cc);
-  dropped = λ row s lt. unfinished row row.redo row.retries row.counts.rollback Waiting s lt s.placed.redo_from s.placed.redo_to s.counted.retried s.counted.rolled (λ is. cc);
+      changed row row.redo row.retries (row.counts.rollback + 1) Failed s s.placed.redo_from s.placed.redo_to (omega (arith, s.counted.retried)) (omega (arith, room)) (before_end row.at row.hi Failed lt (λ is. cc));
+  dropped = λ row s lt. in_state row Waiting s lt (λ is. cc);
 }

@@ -46,20 +46,19 @@ committed_row row at delta = record row {
   state = state_at at row.hi;
 }
 
--- the row after a chunk that ends at `end` was rolled back and is to be retried record by record
+-- the row after a chunk that ends at `end` was rolled back and is to be retried record by record; its state stays
 abbrev pub rolled_row : Row → (end : ℕ) → Row
 rolled_row row end = record row {
   redo = max row.redo end;
   retries = row.retries + 1;
   counts = rolled_counts row.counts;
-  state = Waiting;
 }
 
 -- the row after a chunk failed, which is rolled back too
 abbrev pub failed_row : Row → Row
 failed_row row = record row { counts = rolled_counts row.counts; state = Failed }
 
--- the row after a chunk was given up, of which nothing was done
+-- the row that waits again, after a chunk was given up of which nothing was done
 abbrev pub dropped_row : Row → Row
 dropped_row row = record row { state = Waiting }
 

@@ -1,7 +1,6 @@
 -- The rules that the row of a partition keeps (this project's own choice, but for the meaning of the counts).
 use Rattle.std.specs.Prelude.{◌≡◌, ◌+◌, ◌-◌, ◌≤◌, ◌<◌, ◌↔◌}
-use Rattle.jb_plan.specs.declared.limits.TheConstants.{MAX_RECORDS}
-use Rattle.jb_rules.specs.declared.row.TheConstants.{MAX_ROLLBACKS}
+use Rattle.jb_job.specs.Limits.{max_records, max_rollbacks}
 use Rattle.jb_rules.specs.declared.row.Row.{Row}
 use Rattle.jb_rules.specs.declared.row.RowState.TheVariants.{Finished}
 
@@ -11,7 +10,7 @@ pub record IsPlaced (r : Row) : Type 0 where
   pub at_to : r.at ≤ r.hi
   pub redo_from : r.lo ≤ r.redo
   pub redo_to : r.redo ≤ r.hi
-  pub records : r.hi ≤ MAX_RECORDS
+  pub records : r.hi ≤ max_records
 
 -- The counts account for the records up to the checkpoint: each was read or its read skipped; of the items read, each had
 -- its process call skipped, was filtered, was written, or was dropped by a skipped write call; each commit passed a record.
@@ -24,7 +23,7 @@ pub record IsCounted (r : Row) : Type 0 where
   pub commits : r.counts.commit ≤ r.at - r.lo
   pub committed : r.lo < r.at → 1 ≤ r.counts.commit
   pub retried : r.retries ≤ r.counts.rollback
-  pub rolled : r.counts.rollback ≤ MAX_ROLLBACKS
+  pub rolled : r.counts.rollback ≤ max_rollbacks
 
 -- the row rules
 pub record IsSoundRow (r : Row) : Type 0 where

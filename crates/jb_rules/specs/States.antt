@@ -11,7 +11,15 @@ abbrev pub is_running : RowState → Bool
 is_running (Running lane) = true
 is_running _ = false
 
--- no chunk of the partition is begun any more
+abbrev pub is_finished : RowState → Bool
+is_finished Finished = true
+is_finished _ = false
+
+abbrev pub is_failed : RowState → Bool
+is_failed Failed = true
+is_failed _ = false
+
+-- no chunk of the partition is begun any more: it is finished, or it has failed
 abbrev pub has_ended : RowState → Bool
 has_ended Finished = true
 has_ended Failed = true

@@ -14,4 +14,4 @@ mod row;
 pub use choice::{Choice, decide};
 pub use counts::{Counts, deltas_are_tested};
 pub use life::rows_stay_sound;
-pub use row::{MAX_ROLLBACKS, Row, RowState};
+pub use row::{Row, RowState, rows_are_tested, unfinished_rows_go_on};

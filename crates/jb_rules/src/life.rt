@@ -1,22 +1,23 @@
 //! The life of a row: its next chunk, and what becomes of it when the chunk is begun and when it ends.
 
 ghost use Rattle.std.specs.Prelude.{◌≡◌, ◌≤◌, ◌-◌, ◌*◌, ◌<◌};
+ghost use Rattle.jb_job.specs.Limits.{max_item_count, max_records, max_rollbacks};
 ghost use Rattle.jb_rules.specs.Counts.{IsDelta};
 ghost use Rattle.jb_rules.specs.Laws.{RowsStaySound};
 ghost use Rattle.jb_rules.specs.Rows.{row_block, begun_row, committed_row, skips_of, rolled_row, failed_row, dropped_row};
 ghost use Rattle.jb_rules.specs.Sound.{IsSoundRow};
 
 use crate::counts::Counts;
-use crate::row::{MAX_ROLLBACKS, Row, RowState};
+use crate::row::{Row, RowState};
 use jb_job::Range;
-use jb_plan::{MAX_ITEM_COUNT, MAX_RECORDS, next_chunk};
+use jb_plan::next_chunk;
 
 impl Row {
     /// The row's next chunk; where none is left, no record from its `at` on.
     pub fn block(&self, item_count: u64) -> Range
         requires sound { IsSoundRow self.now }
         requires some_items { 1 ≤ item_count }
-        requires few_items { item_count ≤ MAX_ITEM_COUNT }
+        requires few_items { item_count ≤ max_item_count }
         ensures block { result ≡ row_block item_count self.now }
         ensures from { result.lo ≡ self.now.at }
         ensures forward { result.lo ≤ result.hi }
@@ -69,17 +70,17 @@ impl Row {
     pub fn skips(&self) -> u64
         requires { IsSoundRow self.now }
         ensures value { result ≡ skips_of self.now }
-        ensures few { result ≤ 2 * MAX_RECORDS }
+        ensures few { result ≤ 2 * max_records }
     {
         self.counts.read_skip + self.counts.process_skip + self.counts.write_skip
     }
 
-    /// The row after its chunk, which ends at record `end`, was rolled back to be retried.
+    /// The row after its chunk, which ends at record `end`, was rolled back to be retried. Its state stays: where a lane
+    /// ran it, `dropped` makes it wait again.
     pub fn rolled(&self, end: u64) -> Row
         requires sound { IsSoundRow self.now }
-        requires unfinished { self.now.at < self.now.hi }
         requires end { end ≤ self.now.hi }
-        requires room { self.now.counts.rollback < MAX_ROLLBACKS }
+        requires room { self.now.counts.rollback < max_rollbacks }
         ensures row { result ≡ rolled_row self.now end }
         ensures sound { IsSoundRow result }
     {
@@ -91,7 +92,7 @@ impl Row {
             redo: self.redo.max(end),
             retries: self.retries + 1,
             counts,
-            ..self.dropped()
+            ..*self
         }
     }
 
@@ -99,7 +100,7 @@ impl Row {
     pub fn failed(&self) -> Row
         requires sound { IsSoundRow self.now }
         requires unfinished { self.now.at < self.now.hi }
-        requires room { self.now.counts.rollback < MAX_ROLLBACKS }
+        requires room { self.now.counts.rollback < max_rollbacks }
         ensures row { result ≡ failed_row self.now }
         ensures sound { IsSoundRow result }
     {

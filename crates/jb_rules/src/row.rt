@@ -2,15 +2,13 @@
 
 ghost use Rattle.std.specs.Prelude.{◌≡◌, ◌↔◌, ◌≤◌, IsTrue};
 ghost use Rattle.jb_rules.specs.Rows.{fresh_row, range_of};
-ghost use Rattle.jb_rules.specs.States.{is_running, has_ended};
+ghost use Rattle.jb_rules.specs.Laws.{RowsAreTested, UnfinishedRowsGoOn};
+ghost use Rattle.jb_rules.specs.RowTest.{is_sound};
+ghost use Rattle.jb_rules.specs.States.{is_waiting, is_running, is_finished, is_failed, has_ended};
 ghost use Rattle.jb_rules.specs.Sound.{IsCounted, IsPlaced, IsSoundRow};
 
 use crate::counts::Counts;
-use jb_job::Range;
-use jb_plan::MAX_RECORDS;
-
-/// The most rollbacks of a partition, over all restarts.
-pub const MAX_ROLLBACKS: u64 = 1_000_000_000_000;
+use jb_job::{MAX_RECORDS, MAX_ROLLBACKS, Range};
 
 /// Where a partition stands.
 #[derive(Clone, Copy, Debug, PartialEq, Eq)]
@@ -26,11 +24,32 @@ pub enum RowState {
 }
 
 impl RowState {
+    /// Whether some chunk is left, and none is being done.
+    pub fn is_waiting(&self) -> bool
+        ensures { result ≡ is_waiting self.now }
+    {
+        matches!(*self, RowState::Waiting)
+    }
+
     /// Whether a lane does the partition's next chunk.
     pub fn is_running(&self) -> bool
         ensures { result ≡ is_running self.now }
     {
         matches!(*self, RowState::Running(_))
+    }
+
+    /// Whether no record is left.
+    pub fn is_finished(&self) -> bool
+        ensures { result ≡ is_finished self.now }
+    {
+        matches!(*self, RowState::Finished)
+    }
+
+    /// Whether a fault was neither skipped nor retried.
+    pub fn is_failed(&self) -> bool
+        ensures { result ≡ is_failed self.now }
+    {
+        matches!(*self, RowState::Failed)
     }
 
     /// Whether no chunk of the partition is begun any more: it is finished, or it has failed.
@@ -130,9 +149,21 @@ impl Row {
 
     /// Whether the row keeps the row rules, which every row that a run leaves does.
     pub fn sound(&self) -> bool
-        ensures { IsTrue result ↔ IsSoundRow self.now }
+        ensures rules { IsTrue result ↔ IsSoundRow self.now }
+        ensures test { result ≡ is_sound self.now }
     {
+        rows_are_tested();
         let finished = matches!(self.state, RowState::Finished);
         self.is_placed() && self.is_counted() && finished == (self.at == self.hi)
     }
 }
+
+/// The law of `Row::sound`: the row rules as a test say what they do as a fact.
+pub fn rows_are_tested()
+    ensures { RowsAreTested }
+{}
+
+/// A row that keeps the row rules and isn't finished has a record left.
+pub fn unfinished_rows_go_on()
+    ensures { UnfinishedRowsGoOn }
+{}

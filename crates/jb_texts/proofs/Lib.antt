@@ -1,3 +1,4 @@
+pub mod Fronts
 pub mod Lanes
 pub mod Tokens
 pub mod Utf8

@@ -1,10 +1,12 @@
 -- What several writes in turn append.
-use Rattle.std.proofs.Common.{◌≡◌, ℕ, ◌+◌, List, [], ◌∷◌, ◌++◌, map, Option, Some, None, get_or, length, take, ◌<◌, zero, suc, ap, sym, ◌∙◌, append_assoc, append-nil, add-one, arith}
-use Rattle.std.specs.Io.KnownBytes.{Appends, Keeps, append_known}
+use Rattle.std.proofs.Common.{◌≡◌, ℕ, ◌+◌, List, [], ◌∷◌, ◌++◌, map, Option, Some, None, get_or, length, take, ◌<◌, zero, suc, refl, ap, sym, ◌∙◌, append_assoc, append-nil, add-one, arith}
+use Rattle.std.specs.Io.KnownBytes.{Appends, Keeps}
 use Rattle.std.specs.List.{concat, enumerate_from, range_with_len}
 use Rattle.jb_cert.specs.declared.plans.Slot.{Slot}
+use Rattle.jb_cert.specs.Load.{mcnaughton}
+use Rattle.jb_cert.specs.WrapAround.{slots_of_round, wrapped_rounds}
 use Rattle.jb_texts.specs.PlanText.{lines_of, round_line}
-use Rattle.std.proofs.lemmas.List.FromFn.{map-range_with_len_more}
+use Rattle.std.proofs.lemmas.List.FromFn.{get_or-map-range_with_len, map-range_with_len_more}
 
 -- one write and then another
 pub appends-both : (a b c : Option (List ℕ)) (xs ys : List ℕ) → Appends a b xs → Appends b c ys → Appends a c (xs ++ ys)
@@ -32,29 +34,31 @@ lines_last threads [] k round = append-nil (round_line threads k round)
 lines_last threads (p ∷ ps) k round =
     ap (λ zs. round_line threads p.0 p.1 ++ zs) (lines_last threads ps k round) ∙ sym (append_assoc (round_line threads p.0 p.1) (lines_of threads ps) (round_line threads k round))
 
-pub line_more : (threads k : ℕ) (rounds : List (List Slot)) (round : List Slot) → k < length rounds → get_or rounds k round ≡ round
+line_more : (threads k : ℕ) (rounds : List (List Slot)) (round : List Slot) → k < length rounds → get_or rounds k round ≡ round
     → lines_of threads (enumerate_from 0 (take (k + 1) rounds)) ≡ lines_of threads (enumerate_from 0 (take k rounds)) ++ round_line threads k round
 line_more threads k rounds round h is =
     rw (add-one k) (ap (lines_of threads) (numbered_more 0 rounds k k round (omega arith) h)) ∙ lines_last threads (enumerate_from 0 (take k rounds)) k (get_or rounds k round)
     ∙ ap (λ one. lines_of threads (enumerate_from 0 (take k rounds)) ++ round_line threads k one) is
 
--- bytes that wait in a block stand behind those that the writer holds
-pub appends-block : (a c : Option (List ℕ)) (block longer xs ys : List ℕ) → Appends a (append_known c block) xs → longer ≡ block ++ ys → Appends a (append_known c longer) (xs ++ ys)
-appends-block None c block longer xs ys before is = tt
-appends-block (Some us) None block longer xs ys before is = absurd before
-appends-block (Some us) (Some vs) block longer xs ys before is = rw is (sym (append_assoc vs block ys) ∙ ap (λ zs. zs ++ ys) before ∙ append_assoc us xs ys)
+-- one round of the wrap-around more
+pub line-on : (counts : List ℕ) (threads k : ℕ) → k < length (wrapped_rounds counts threads) → k < mcnaughton counts threads
+    → lines_of threads (enumerate_from 0 (take (k + 1) (wrapped_rounds counts threads))) ≡ lines_of threads (enumerate_from 0 (take k (wrapped_rounds counts threads))) ++ round_line threads k (slots_of_round counts threads k)
+line-on counts threads k within bound =
+    line_more threads k (wrapped_rounds counts threads) (slots_of_round counts threads k) within
+    (get_or-map-range_with_len (slots_of_round counts threads) 0 (mcnaughton counts threads) k k (slots_of_round counts threads k) bound (omega arith))
+
+-- the lines of the first rounds, and then those of the others
+pub lines-split : (threads n k : ℕ) (rounds : List (List Slot)) → (more : List ℕ) × (lines_of threads (enumerate_from n (take k rounds)) ++ more ≡ lines_of threads (enumerate_from n rounds))
+lines-split threads n zero rounds = (lines_of threads (enumerate_from n rounds), refl)
+lines-split threads n (suc k) [] = ([], refl)
+lines-split threads n (suc k) (x ∷ rounds) =
+    let rest = lines-split threads (n + 1) k rounds in
+    (rest.0, append_assoc (round_line threads n x) (lines_of threads (enumerate_from (n + 1) (take k rounds))) rest.0 ∙ ap (λ zs. round_line threads n x ++ zs) rest.1)
 
 pub appends-kept : (a b c : Option (List ℕ)) (xs : List ℕ) → Appends a b xs → Keeps b c → Appends a c xs
 appends-kept None b c xs first kept = tt
 appends-kept (Some us) None c xs first kept = absurd first
 appends-kept (Some us) (Some vs) None xs first kept = absurd kept
 appends-kept (Some us) (Some vs) (Some ws) xs first kept = kept ∙ first
-
--- a block is written
-pub appends-written : (a c d : Option (List ℕ)) (block xs : List ℕ) → Appends a (append_known c block) xs → Appends c d block → Appends a d xs
-appends-written None c d block xs before written = tt
-appends-written (Some us) None d block xs before written = absurd before
-appends-written (Some us) (Some vs) None block xs before written = absurd written
-appends-written (Some us) (Some vs) (Some ws) block xs before written = written ∙ before
 
 pub ruleset appends = (appends-both, appends-both)

@@ -1,4 +1,5 @@
 pub mod CheckText
+pub mod Front
 pub mod PlanText
 pub mod Report
 pub mod ReportTokens

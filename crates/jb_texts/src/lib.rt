@@ -4,14 +4,17 @@
 //! - `report`: the report of a run, which is written as JSON text while the job runs.
 //! - `plan`: the heading and the lines of a plan of rounds.
 //! - `judgement`: two lines on a plan and its certificate.
+//! - `whole`: writing a text, and what stands there where the writer fails.
 #![tactic(auto)]
 
 mod judgement;
 mod plan;
 mod report;
 mod status;
+mod whole;
 
 pub use judgement::Judgement;
 pub use plan::{BLOCK_ROOM, write_plan};
 pub use report::{ReportText, StepsText};
 pub use status::Status;
+pub use whole::write_whole;

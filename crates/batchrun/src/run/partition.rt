@@ -1,7 +1,7 @@
 //! One partition of a step, by itself.
 
 ghost use Rattle.std.specs.Prelude.{◌≡◌, ◌≤◌, ◌-◌, ◌++◌, [], length, option_map, IfOk};
-ghost use Rattle.jb_plan.specs.declared.limits.TheConstants.{MAX_RECORDS};
+ghost use Rattle.jb_job.specs.Limits.{max_records};
 ghost use Rattle.jb_artifacts.specs.Prefix.{prefixed};
 ghost use Rattle.jb_chunk.specs.Standing.{HasItemCount};
 ghost use Rattle.jb_texts.specs.Report.{PartitionReport, texts_tree};
@@ -88,7 +88,7 @@ pub fn run_partition(
     text: &mut StepsText,
 ) -> Result<Row, AllocError>
     requires order { range.lo ≤ range.hi }
-    requires most { range.hi ≤ MAX_RECORDS }
+    requires most { range.hi ≤ max_records }
     requires records { length records.items ≡ range.hi - range.lo }
     requires item_counted { HasItemCount step.now.item_count }
     ensures { IfOk result (λ row. (left : PartitionReport) × IsPartitionRun (first_task step.now records.items partition range) left

@@ -4,13 +4,14 @@ ghost use Rattle.std.specs.Prelude.{◌≡◌, ◌≤◌, ◌⊎◌, ◌++◌, �
 ghost use Rattle.std.specs.List.{list_any};
 ghost use Rattle.jb_plan.specs.Plans.{IsWithin};
 ghost use Rattle.jb_plan.specs.Ranges.{AreDisjoint};
-ghost use Rattle.jb_plan.specs.declared.limits.TheConstants.{MAX_PARTITIONS, MAX_RECORDS};
+ghost use Rattle.jb_job.specs.Limits.{max_partitions, max_records};
 ghost use Rattle.jb_plan.specs.declared.fault.PlanError.{PlanError};
 ghost use Rattle.jb_chunk.specs.Standing.{HasItemCount};
 ghost use Rattle.jb_texts.specs.Report.{PartitionReport, StepReport};
 ghost use Rattle.jb_texts.specs.ReportTokens.{outputs_tokens, step_tokens};
 ghost use Rattle.batchrun.specs.PartitionRun.{ArePartitionRuns};
-ghost use Rattle.batchrun.specs.JobRun.{IsPlanRefused, IsStepRun, begun_with, is_failed, settings_of, status_of};
+ghost use Rattle.batchrun.specs.JobRun.{IsPlanRefused, IsStepRun, begun_with, settings_of, status_of};
+ghost use Rattle.jb_rules.specs.States.{is_failed};
 
 use crate::run::partition::run_partition;
 use crate::run::plan::step_plan;
@@ -20,7 +21,7 @@ use crate::streams::Failure;
 use jb_documents::StepData;
 use jb_job::{Range, Step, Text};
 use jb_plan::checked;
-use jb_rules::{Row, RowState};
+use jb_rules::Row;
 use jb_texts::{Status, StepsText};
 use std::alloc::{AllocError, Global};
 
@@ -33,8 +34,8 @@ fn run_partitions(
     ranges: &[Range],
     text: &mut StepsText,
 ) -> Result<Vec<Row>, AllocError>
-    requires few { length ranges.now ≤ MAX_PARTITIONS }
-    requires few_records { length records.old ≤ MAX_RECORDS }
+    requires few { length ranges.now ≤ max_partitions }
+    requires few_records { length records.old ≤ max_records }
     requires item_counted { HasItemCount settings.now.item_count }
     requires within { All (IsWithin (length records.old)) ranges.now }
     requires disjoint { AreDisjoint ranges.now }
@@ -52,10 +53,7 @@ fn run_partitions(
 fn has_failed(row: &Row) -> bool
     ensures { result ≡ is_failed row.now.state }
 {
-    match row.state {
-        RowState::Failed => true,
-        RowState::Waiting | RowState::Running(_) | RowState::Finished => false,
-    }
+    row.state.is_failed()
 }
 
 fn has_any_failed(rows: &[Row]) -> bool

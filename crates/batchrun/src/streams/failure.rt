@@ -1,14 +1,16 @@
 //! Why the program gives no report.
 
-ghost use Rattle.std.specs.Prelude.{◌≡◌, ◌≤◌};
+ghost use Rattle.std.specs.Prelude.{◌≡◌, ◌≤◌, OnOk};
+ghost use Rattle.std.specs.Io.KnownBytes.{Appends};
+ghost use Rattle.batchrun.specs.FailureText.{failure_text};
 ghost use Rattle.batchrun.specs.Statuses.{failure_code};
 
 use crate::words::LineFault;
 use jb_job::JobError;
 use jb_plan::PlanError;
 use std::alloc::{AllocError, AllocFailed};
-use std::io;
 use std::io::Write;
+use std::{fmt, io};
 
 /// What the words do, what they read and what they print.
 const HELP: &str = "usage: batchrun WORD < DOCUMENT
@@ -51,6 +53,25 @@ impl Failure {
             Failure::Document(_) | Failure::Plan(_) => 3,
             Failure::Memory | Failure::Stream => 4,
             Failure::Usage => 5,
+        }
+    }
+}
+
+/// One line on why there is no answer, or the help where the words are wrong.
+impl fmt::Display for Failure {
+    ghost use Rattle.std.specs.Prelude.{Some};
+    ghost use Rattle.batchrun.specs.FailureText.{failure_text};
+
+    ghost output = { λ failure. Some (failure_text failure) };
+
+    #[tactic(auto, unfolding(crate::specs::FailureText::refusal, crate::specs::Help::help))]
+    fn fmt<W: fmt::Write>(&self, f: &mut fmt::Formatter<W>) -> fmt::Result {
+        match self {
+            Failure::Usage => f.write_str(HELP),
+            Failure::Document(fault) => write!(f, "refused: {fault}\n"),
+            Failure::Plan(error) => write!(f, "refused: {error}\n"),
+            Failure::Memory => f.write_str("no memory\n"),
+            Failure::Stream => f.write_str("stream failed\n"),
         }
     }
 }
@@ -130,14 +151,10 @@ impl From<PlanError> for Failure {
     }
 }
 
-/// Writes one line on why there is no report, or the help where the words are wrong.
-pub fn write_failure<W: Write>(failure: Failure, writer: &mut W) -> io::Result<()> {
-    match failure {
-        Failure::Usage => writer.write_all(HELP.as_bytes())?,
-        Failure::Document(fault) => writeln!(writer, "refused: {fault}")?,
-        Failure::Plan(fault) => writeln!(writer, "refused: {fault}")?,
-        Failure::Memory => writeln!(writer, "no memory")?,
-        Failure::Stream => writeln!(writer, "stream failed")?,
-    }
+/// Writes one line on why there is no answer, or the help where the words are wrong.
+pub fn write_failure<W: Write>(failure: Failure, writer: &mut W) -> io::Result<()>
+    ensures { OnOk result (Appends (W.contents writer.old) (W.contents writer.new) (failure_text failure)) }
+{
+    write!(writer, "{failure}")?;
     writer.flush()
 }

@@ -1,6 +1,6 @@
 //! Each read and each write of each word fails in turn.
 
-use super::streams::{FailingReader, FailingWriter};
+use super::streams::{FailingReader, FailingWriter, arguments};
 use crate::perform::perform;
 
 /// A word, its document, what it prints and its status.
@@ -36,7 +36,8 @@ fn failing_reads(rt: HostRuntime) {
             let mut reader = FailingReader::new(document.as_bytes(), fails_at);
             let mut written = Vec::new(alloc);
             let mut faults = Vec::new(alloc);
-            let code = perform(&rt, &[word], &mut reader, &mut written, &mut faults);
+            let args = arguments(alloc, word);
+            let code = perform(alloc, args, &mut reader, &mut written, &mut faults);
             let fails = fails_at < length + 2;
             assert_eq!(rt; code, if fails { 4 } else { status }, "{word} {fails_at}");
             let wanted = if fails { "" } else { output };
@@ -61,7 +62,8 @@ fn failing_writes(rt: HostRuntime) {
             let mut writer = FailingWriter::new(alloc, fails_at);
             let mut faults = Vec::new(alloc);
             let mut reader = document.as_bytes();
-            let code = perform(&rt, &[word], &mut reader, &mut writer, &mut faults);
+            let args = arguments(alloc, word);
+            let code = perform(alloc, args, &mut reader, &mut writer, &mut faults);
             let fails = fails_at < length + 1;
             assert_eq!(rt; code, if fails { 4 } else { status }, "{word} {fails_at}");
             assert!(rt;
@@ -81,14 +83,29 @@ fn failing_fault_writer(rt: HostRuntime) {
     let alloc = rt.alloc();
     let mut output = Vec::new(alloc);
     let mut writer = FailingWriter::new(alloc, 1);
-    let status = perform(
-        &rt,
-        &["run"],
-        &mut "[]".as_bytes(),
-        &mut output,
-        &mut writer,
-    );
+    let args = arguments(alloc, "run");
+    let mut reader = "[]".as_bytes();
+    let status = perform(alloc, args, &mut reader, &mut output, &mut writer);
     assert_eq!(rt; status, 4);
     assert!(rt; output.is_empty());
     assert!(rt; writer.bytes().is_empty());
+}
+
+// A document of more than 2,000,000 bytes, one at each read: none is lost, and no number of reads is too many.
+#[test]
+fn long_document_in_small_reads(rt: HostRuntime) {
+    let alloc = rt.alloc();
+    let (word, document, output, _) = ROWS[1];
+    let mut bytes = Vec::new(alloc);
+    bytes.resize(2_000_000, b' ').expect(&rt, "memory");
+    bytes
+        .extend_from_slice(document.as_bytes())
+        .expect(&rt, "memory");
+    let mut reader = FailingReader::new(&bytes, 0);
+    let mut written = Vec::new(alloc);
+    let mut faults = Vec::new(alloc);
+    let args = arguments(alloc, word);
+    let status = perform(alloc, args, &mut reader, &mut written, &mut faults);
+    assert_eq!(rt; status, 0);
+    assert_eq!(rt; written.as_slice(), output.as_bytes());
 }

@@ -1,10 +1,19 @@
-//! Streams that fail.
+//! Arguments, and streams that fail.
 
 use std::alloc::Global;
+use std::env::Args;
 use std::io;
 use std::io::{Read, Write};
 
-/// Gives one byte at each call, and fails at one of them.
+/// The arguments of the program with this word.
+pub fn arguments(alloc: Global, word: &str) -> io::Result<Args> {
+    let mut args = Vec::new(alloc);
+    args.push("batchrun".to_string(alloc)?)?;
+    args.push(word.to_string(alloc)?)?;
+    Ok(args.into_iter())
+}
+
+/// Gives one byte at each call, and fails at one of them, counted from 1.
 #[derive(Drop)]
 pub struct FailingReader<'a> {
     bytes: &'a [u8],

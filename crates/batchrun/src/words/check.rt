@@ -1,16 +1,16 @@
 //! The word `check`: whether a plan is lawful, and whether its certificate holds.
 
-ghost use Rattle.std.specs.Prelude.{◌≡◌, ◌≢◌, IfOk, IfErr, IfSome, ◌⊎◌};
+ghost use Rattle.std.specs.Prelude.{◌≡◌, ◌≢◌, IfOk, IfErr, IfSome, OnErr, ◌⊎◌};
 ghost use Rattle.std.specs.Io.KnownBytes.{Keeps};
 ghost use Rattle.jb_job.specs.declared.error.JobError.{JobError};
 ghost use Rattle.jb_documents.specs.CheckDocument.{IsRefusedClaim, claim_of};
-ghost use Rattle.batchrun.specs.CheckWord.{IsCheckAnswer, IsClaimAnswer, IsJudgementOf};
+ghost use Rattle.batchrun.specs.CheckWord.{IsCheckAnswer, IsCheckFront, IsClaimAnswer, IsClaimFront, IsJudgementOf};
 ghost use Rattle.batchrun.specs.Refusals.{IsFailure};
 
 use crate::streams::{Failure, read_all};
 use jb_cert::{PlanFault, check_certificate, check_plan};
 use jb_documents::{PlanClaim, read_claim};
-use jb_texts::Judgement;
+use jb_texts::{Judgement, write_whole};
 use std::alloc::Global;
 use std::io::{Read, Write};
 
@@ -31,15 +31,16 @@ fn judge(alloc: Global, claim: &PlanClaim) -> Result<Judgement, Failure>
     Ok(Judgement { fault, certified })
 }
 
-// Judges a claim, and writes what was found.
+// Judges a claim, and writes what was found. All memory is taken before the first byte is written.
 #[tactic(auto, using(crate::proofs::Least::least))]
 fn answer_claim<W: Write>(alloc: Global, claim: &PlanClaim, writer: &mut W) -> Result<u8, Failure>
     ensures answered { IfOk result (IsClaimAnswer (claim_of claim.now) (W.contents writer.old) (W.contents writer.new)) }
-    ensures err { IfErr result (λ e. (e ≡ Failure.Memory × Keeps (W.contents writer.old) (W.contents writer.new)) ⊎ (e ≡ Failure.Stream)) }
+    ensures err { IfErr result (λ e. (e ≡ Failure.Memory × Keeps (W.contents writer.old) (W.contents writer.new))
+        ⊎ (e ≡ Failure.Stream × IsClaimFront (claim_of claim.now) (W.contents writer.old) (W.contents writer.new))) }
 {
     let judgement = judge(alloc, claim)?;
-    write!(writer, "{judgement}")?;
-    writer.flush()?;
+    let text = format!(in alloc; "{judgement}")?;
+    write_whole(text.as_bytes(), writer)?;
     Ok(judgement.status())
 }
 
@@ -58,6 +59,7 @@ pub fn run_check<R: Read, W: Write>(
     ensures refused { IfErr result (λ e. (fault : JobError) → e ≡ Failure.Document fault → IfSome (R.remaining reader.old) (IsRefusedClaim fault)) }
     ensures failures { IfErr result IsFailure }
     ensures silent { IfErr result (λ e. e ≢ Failure.Stream → Keeps (W.contents writer.old) (W.contents writer.new)) }
+    ensures cut { OnErr result (Keeps (W.contents writer.old) (W.contents writer.new) ⊎ IsCheckFront (R.remaining reader.old) (W.contents writer.old) (W.contents writer.new)) }
 {
     let bytes = read_all(alloc, reader)?;
     let claim = read_claim(alloc, bytes)?;

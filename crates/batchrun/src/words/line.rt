@@ -1,10 +1,10 @@
 //! The command line: the words after the program's name.
 
-ghost use Rattle.std.specs.Prelude.{◌≡◌, true, map, Some, IfOk, IfErr};
+ghost use Rattle.std.specs.Prelude.{◌≡◌, true, map, [], IfOk, IfErr};
 ghost use Rattle.clap.specs.Values.{kind_of};
 ghost use Rattle.clap.specs.declared.error.kind.ErrorKind.TheVariants.{OutOfMemory};
-ghost use Rattle.clap.specs.Words.{app_of, subcommand_of, subcommand_rows_of, takes, with_subcommand};
-ghost use Rattle.batchrun.specs.CommandLine.{app, asked_by, program as program_app, word_app, word_in, AreUnknown};
+ghost use Rattle.clap.specs.Words.{app_of, fault_of as faults_of, subcommand_of, subcommand_rows_of, takes, with_subcommand};
+ghost use Rattle.batchrun.specs.CommandLine.{app, program as program_app, word_app, word_in, Asks, AreUnknown};
 
 use clap::error::ErrorKind;
 use clap::{ArgMatches, Command, Error};
@@ -94,6 +94,7 @@ fn command<'a>(alloc: Global) -> Result<Command<'a>, AllocError>
 /// What `clap` finds in the words.
 fn matches_of<'a>(alloc: Global, words: &'a [&'a str]) -> Result<ArgMatches<'a>, LineFault>
     ensures ok { IfOk result (λ m. subcommand_rows_of m ≡ subcommand_of app (map (λ w. w.now) words.now)) }
+    ensures taken { IfOk result (λ _. faults_of app (map (λ w. w.now) words.now) ≡ []) }
     ensures err { IfErr result (λ e. takes app (map (λ w. w.now) words.now) ≡ true → e ≡ LineFault.Memory) }
 {
     let command = command(alloc)?;
@@ -117,7 +118,7 @@ fn word_of(name: &str) -> Option<Word>
 /// What the words after the program's name ask for. They are refused as `Usage` where `clap` doesn't take them, or where
 /// its matches of them ask for nothing.
 pub fn line_of<'a>(alloc: Global, words: &'a [&'a str]) -> Result<Line, LineFault>
-    ensures ok { IfOk result (λ line. asked_by (map (λ w. w.now) words.now) ≡ Some line) }
+    ensures ok { IfOk result (Asks (map (λ w. w.now) words.now)) }
     ensures err { IfErr result (λ e. e ≡ LineFault.Usage → AreUnknown (map (λ w. w.now) words.now)) }
 {
     let matches = matches_of(alloc, words)?;

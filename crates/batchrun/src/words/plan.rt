@@ -1,10 +1,12 @@
 //! The word `plan`: a plan of the fewest rounds for counts of chunks and a number of threads.
 
-ghost use Rattle.std.specs.Prelude.{◌≡◌, ◌≢◌, IfOk, IfErr, IfSome, OnOk, ◌⊎◌};
+ghost use Rattle.std.specs.Prelude.{◌≡◌, ◌≢◌, IfOk, IfErr, IfSome, OnErr, OnOk, ◌⊎◌};
 ghost use Rattle.std.specs.Io.KnownBytes.{Keeps};
 ghost use Rattle.jb_job.specs.declared.error.JobError.{JobError};
 ghost use Rattle.jb_documents.specs.PlanDocument.{IsRefusedLoad};
-ghost use Rattle.batchrun.specs.PlanWord.{IsPlanned, IsPlannedFor};
+ghost use Rattle.jb_texts.specs.Front.{AppendsFront};
+ghost use Rattle.jb_texts.specs.PlanText.{text_of_load};
+ghost use Rattle.batchrun.specs.PlanWord.{IsPlanFront, IsPlanned, IsPlannedFor};
 ghost use Rattle.batchrun.specs.Refusals.{IsFailure};
 
 use crate::streams::{Failure, read_all};
@@ -18,7 +20,8 @@ use std::io::{Read, Write};
 fn answer_load<W: Write>(alloc: Global, load: &ChunkLoad, writer: &mut W) -> Result<u8, Failure>
     ensures status { IfOk result (λ status. status ≡ 0) }
     ensures planned { OnOk result (IsPlannedFor load.now (W.contents writer.old) (W.contents writer.new)) }
-    ensures err { IfErr result (λ e. (e ≡ Failure.Memory × Keeps (W.contents writer.old) (W.contents writer.new)) ⊎ (e ≡ Failure.Stream)) }
+    ensures err { IfErr result (λ e. (e ≡ Failure.Memory × Keeps (W.contents writer.old) (W.contents writer.new))
+        ⊎ (e ≡ Failure.Stream × AppendsFront (W.contents writer.old) (W.contents writer.new) (text_of_load load.now))) }
 {
     let cursor = RoundCursor::new(alloc, load.counts(), load.threads())?;
     // They say why the plan is a least one.
@@ -44,6 +47,7 @@ pub fn run_plan<R: Read, W: Write>(
     ensures refused { IfErr result (λ e. (fault : JobError) → e ≡ Failure.Document fault → IfSome (R.remaining reader.old) (IsRefusedLoad fault)) }
     ensures failures { IfErr result IsFailure }
     ensures silent { IfErr result (λ e. e ≢ Failure.Stream → Keeps (W.contents writer.old) (W.contents writer.new)) }
+    ensures cut { OnErr result (Keeps (W.contents writer.old) (W.contents writer.new) ⊎ IsPlanFront (R.remaining reader.old) (W.contents writer.old) (W.contents writer.new)) }
 {
     let bytes = read_all(alloc, reader)?;
     let load = read_load(alloc, bytes)?;

@@ -1,13 +1,14 @@
 //! The word `run`: a job is run, and its report is written.
 
-ghost use Rattle.std.specs.Prelude.{◌≡◌, ◌≢◌, ◌⊎◌, IfErr, IfOk, IfSome};
+ghost use Rattle.std.specs.Prelude.{◌≡◌, ◌≢◌, ◌⊎◌, IfErr, IfOk, IfSome, OnErr};
 ghost use Rattle.std.specs.Io.KnownBytes.{Appends, Keeps};
 ghost use Rattle.jb_job.specs.declared.error.JobError.{JobError};
 ghost use Rattle.jb_plan.specs.declared.fault.PlanError.{PlanError};
 ghost use Rattle.jb_documents.specs.RunDocument.{IsRefusedDocument};
+ghost use Rattle.jb_texts.specs.Front.{AppendsFront};
 ghost use Rattle.jb_texts.specs.Statuses.{status_code};
 ghost use Rattle.batchrun.specs.Refusals.{IsRunFailure};
-ghost use Rattle.batchrun.specs.RunWord.{IsRefusedPlan, IsRun};
+ghost use Rattle.batchrun.specs.RunWord.{IsRefusedPlan, IsRun, IsRunFront};
 
 use crate::run::run_job;
 use crate::streams::{Failure, read_all};
@@ -16,14 +17,14 @@ use jb_texts::{ReportText, Status};
 use std::alloc::Global;
 use std::io::{Read, Write};
 
-/// Writes the report whole, and gives the exit status.
+/// Writes the report whole, and gives the exit status. Where the writer fails, it holds the front of the report.
 fn write_report<W: Write>(
     status: Status,
     report: &ReportText,
     writer: &mut W,
 ) -> Result<u8, Failure>
     ensures ok { IfOk result (λ code. (code ≡ status_code status) × Appends (W.contents writer.old) (W.contents writer.new) report.now) }
-    ensures err { IfErr result (λ e. e ≡ Failure.Stream) }
+    ensures err { IfErr result (λ e. (e ≡ Failure.Stream) × AppendsFront (W.contents writer.old) (W.contents writer.new) report.now) }
 {
     report.write_to(writer)?;
     Ok(status.code())
@@ -31,6 +32,9 @@ fn write_report<W: Write>(
 
 /// Reads a document of `run`, runs its job and writes the report. The exit status is 0 where the job is completed, and 1
 /// where it failed.
+///
+/// Where the reader or the writer fails, the writer may hold the front of the report; where anything else is wrong, it holds
+/// nothing more.
 #[tactic(auto, using(crate::proofs::Refusals::refusals))]
 pub fn run<R: Read, W: Write>(alloc: Global, reader: &mut R, writer: &mut W) -> Result<u8, Failure>
     ensures ok { IfOk result (IsRun (R.remaining reader.old) (W.contents writer.old) (W.contents writer.new)) }
@@ -38,6 +42,7 @@ pub fn run<R: Read, W: Write>(alloc: Global, reader: &mut R, writer: &mut W) -> 
     ensures unplanned { IfErr result (λ e. (fault : PlanError) → e ≡ Failure.Plan fault → IfSome (R.remaining reader.old) (IsRefusedPlan fault)) }
     ensures failures { IfErr result IsRunFailure }
     ensures silent { IfErr result (λ e. e ≢ Failure.Stream → Keeps (W.contents writer.old) (W.contents writer.new)) }
+    ensures cut { OnErr result (Keeps (W.contents writer.old) (W.contents writer.new) ⊎ IsRunFront (R.remaining reader.old) (W.contents writer.old) (W.contents writer.new)) }
 {
     let bytes = read_all(alloc, reader)?;
     let document = read_document(alloc, bytes)?;

@@ -1,6 +1,7 @@
 -- What the functions that read and process a block keep, record by record.
 use Rattle.std.specs.Prelude.{ℕ, ◌≡◌, ◌+◌, ◌≤◌, ◌++◌, ◌⊎◌, length, false, Option, Some, None, option_to_list}
 use Rattle.jb_job.specs.declared.class.ClassId.{ClassId}
+use Rattle.jb_job.specs.Limits.{max_records}
 use Rattle.jb_rules.specs.declared.row.Row.{Row}
 use Rattle.jb_job.specs.Records.{RulesRecord}
 use Rattle.jb_artifacts.specs.Faults.{Plans, live, used_at}
@@ -61,20 +62,20 @@ IsWorn w k now =
     (now ≡ w)
     ⊎ (now ≡ record w { reader = record w.reader { place = k + 1; faults = used_at w.reader.faults k } })
 
--- reader and processor may have worked on, and nothing else
-pub record IsWornTo (w now : Workplace) : Type 0 where
+-- reader and processor may have worked on the records from `lo` to `hi - 1`, and nothing else
+pub record IsWornTo (lo hi : ℕ) (w now : Workplace) : Type 0 where
   pub reader : now.reader ≡ record w.reader { place = now.reader.place; faults = now.reader.faults }
   pub processor : now.processor ≡ record w.processor { faults = now.processor.faults }
   pub writer : now.writer ≡ w.writer
   pub collector : now.collector ≡ w.collector
-  pub read_plans : MayBeUsed w.reader.faults now.reader.faults
-  pub process_plans : MayBeUsed w.processor.faults now.processor.faults
+  pub read_plans : MayBeUsed lo hi w.reader.faults now.reader.faults
+  pub process_plans : MayBeUsed lo hi w.processor.faults now.processor.faults
 
 -- the numbers of a tally are far from a limit
 pub record IsSmallTally (t : Tally) : Type 0 where
-  pub read_skips : t.read_skips ≤ 10000000
-  pub process_skips : t.process_skips ≤ 10000000
-  pub filtered : t.filtered ≤ 10000000
+  pub read_skips : t.read_skips ≤ max_records
+  pub process_skips : t.process_skips ≤ max_records
+  pub filtered : t.filtered ≤ max_records
 
 -- the tally has one more record, with this entry
 pub record IsCountedUp (number : ℕ) (e : Entry) (old new : Tally) : Type 0 where

@@ -46,13 +46,13 @@ IsCommitted Unwritten = Unit {0}
 IsCommitted (Rolled class) = ⊥
 IsCommitted (Failed class) = ⊥
 
--- reader and processor may have worked on, and something may be written past what was there
-pub record IsTorn (w now : Workplace) : Type 0 where
+-- reader and processor may have worked on the records from `lo` to `hi - 1`, and something may be written past what was there
+pub record IsTorn (lo hi : ℕ) (w now : Workplace) : Type 0 where
   pub reader : now.reader ≡ record w.reader { place = now.reader.place; faults = now.reader.faults }
   pub processor : now.processor ≡ record w.processor { faults = now.processor.faults }
   pub collector : now.collector ≡ w.collector
-  pub read_plans : MayBeUsed w.reader.faults now.reader.faults
-  pub process_plans : MayBeUsed w.processor.faults now.processor.faults
+  pub read_plans : MayBeUsed lo hi w.reader.faults now.reader.faults
+  pub process_plans : MayBeUsed lo hi w.processor.faults now.processor.faults
   pub write_plans : now.writer.faults ≡ w.writer.faults
   pub written : take (length w.writer.written) now.writer.written ≡ w.writer.written
   pub longer : length w.writer.written ≤ length now.writer.written

@@ -3,7 +3,7 @@
 ghost use Rattle.std.specs.Prelude.{◌≡◌};
 ghost use Rattle.serde_json.specs.View.{view};
 ghost use Rattle.jb_job.specs.declared.field.Field.TheVariants as field;
-ghost use Rattle.jb_job.specs.Reading.{Gives, required};
+ghost use Rattle.jb_job.specs.Reading.{Gives, GivesExactly, required};
 ghost use Rattle.jb_cert.specs.Plans.{rounds_of};
 ghost use Rattle.jb_documents.specs.CheckDocument.{certificate_at, named_certificate, round_at, rounds_at, slot_at};
 
@@ -20,7 +20,7 @@ const MAX_PLACE: u64 = 4_294_967_295;
 // A triple of lane, partition and chunk: its kind and its length, the kinds of its members, and then their ranges.
 #[tactic(auto, unfolding(crate::specs::CheckDocument::slot_at))]
 fn slot(tree: &Value) -> Result<Slot, JobError>
-    ensures { Gives (λ s. s) result (slot_at field.Rounds (view tree.now)) }
+    ensures { GivesExactly (λ s. s) result (slot_at field.Rounds (view tree.now)) }
 {
     let (lane, partition, chunk) = triple(Field::Rounds, tree)?;
     let lane = whole(Field::Rounds, lane)?;
@@ -61,7 +61,7 @@ pub fn claimed_plan(alloc: Global, document: &Value) -> Result<Plan, JobError>
 
 // The certificate of a name. That of the longest partition has none.
 fn named_certificate(name: &str) -> Result<Certificate, JobError>
-    ensures { Gives (λ c. c) result (named_certificate field.Certificate name.now) }
+    ensures { GivesExactly (λ c. c) result (named_certificate field.Certificate name.now) }
 {
     match name {
         "Nothing" => Ok(Certificate::Nothing),
@@ -74,7 +74,7 @@ fn named_certificate(name: &str) -> Result<Certificate, JobError>
 /// `WrongShape`), which is below 4,294,967,296 (else `OutOfRange`). Whether there is such a partition is no matter here.
 #[tactic(auto, unfolding(crate::specs::CheckDocument::certificate_at, jb_job::specs::Reading::required))]
 pub fn claimed_certificate(document: &Value) -> Result<Certificate, JobError>
-    ensures { Gives (λ c. c) result (required certificate_at field.Certificate (view document.now)) }
+    ensures { GivesExactly (λ c. c) result (required certificate_at field.Certificate (view document.now)) }
 {
     let tree = required(Field::Certificate, document)?;
     match tree.as_str() {

@@ -3,21 +3,15 @@
 ghost use Rattle.std.specs.Prelude.{◌≡◌, ◌*◌, ◌≤◌, length, sum, nat_le, IfOk};
 ghost use Rattle.serde_json.specs.View.{view, items_view};
 ghost use Rattle.jb_job.specs.declared.field.Field.TheVariants as field;
-ghost use Rattle.jb_job.specs.Reading.{Gives, each_at, number_at, required};
-ghost use Rattle.jb_cert.specs.Load.{max_chunks, max_partitions, max_threads};
+ghost use Rattle.jb_job.specs.Limits.{max_chunks, max_load_partitions, max_threads};
+ghost use Rattle.jb_job.specs.Reading.{Gives, GivesExactly, each_at, number_at, required};
 ghost use Rattle.jb_documents.specs.PlanDocument.{counts_at};
 
 use jb_job::kinds::{each, list, number, required};
-use jb_job::{Field, JobError};
+use jb_job::{Field, JobError, MAX_CHUNKS, MAX_LOAD_PARTITIONS, MAX_THREADS};
 use serde_json::Value;
 use std::alloc::Global;
 use std::marker::Brand;
-
-const MAX_PARTITIONS: usize = 4_096;
-
-const MAX_CHUNKS: u64 = 10_000_000;
-
-const MAX_THREADS: u64 = 64;
 
 // All counts, each checked before the next.
 fn count_list(alloc: Global, items: &Vec<Value>) -> Result<Vec<u64>, JobError>
@@ -31,7 +25,7 @@ fn count_list(alloc: Global, items: &Vec<Value>) -> Result<Vec<u64>, JobError>
 
 // Whether there are no more chunks in all than can be planned.
 fn are_few(counts: &[u64]) -> bool
-    requires { sum counts.now ≤ max_partitions * max_chunks }
+    requires { sum counts.now ≤ max_load_partitions * max_chunks }
     ensures { result ≡ nat_le (sum counts.now) max_chunks }
 {
     let total: u64 = counts.iter().sum();
@@ -43,12 +37,12 @@ fn are_few(counts: &[u64]) -> bool
 #[tactic(auto, unfolding(crate::specs::PlanDocument::counts_at, jb_job::specs::Reading::required))]
 pub fn counts(alloc: Global, document: &Value) -> Result<Vec<u64>, JobError>
     ensures value { Gives (λ v. v.items) result (required counts_at field.Counts (view document.now)) }
-    ensures few_counts { IfOk result (λ v. length v.items ≤ max_partitions) }
+    ensures few_counts { IfOk result (λ v. length v.items ≤ max_load_partitions) }
     ensures few_chunks { IfOk result (λ v. sum v.items ≤ max_chunks) }
 {
     let items = list(
         0,
-        MAX_PARTITIONS,
+        MAX_LOAD_PARTITIONS,
         Field::Counts,
         required(Field::Counts, document)?,
     )?;
@@ -63,13 +57,13 @@ pub fn counts(alloc: Global, document: &Value) -> Result<Vec<u64>, JobError>
 /// The field `threads` of a document: 1 to 64.
 #[tactic(auto, unfolding(jb_job::specs::Reading::required))]
 pub fn threads(document: &Value) -> Result<u32, JobError>
-    ensures value { Gives (λ n. n) result (required (number_at 1 max_threads) field.Threads (view document.now)) }
+    ensures value { GivesExactly (λ n. n) result (required (number_at 1 max_threads) field.Threads (view document.now)) }
     ensures some { IfOk result (λ n. 1 ≤ n) }
     ensures few { IfOk result (λ n. n ≤ max_threads) }
 {
     let threads = number(
         1,
-        MAX_THREADS,
+        u64::from(MAX_THREADS),
         Field::Threads,
         required(Field::Threads, document)?,
     )?;

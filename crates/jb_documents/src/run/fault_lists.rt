@@ -3,7 +3,7 @@
 ghost use Rattle.std.specs.Prelude.{◌≡◌, [], option_copied};
 ghost use Rattle.serde_json.specs.View.{view};
 ghost use Rattle.jb_job.specs.declared.field.Field.TheVariants as field;
-ghost use Rattle.jb_job.specs.Reading.{Gives, optional};
+ghost use Rattle.jb_job.specs.Reading.{Gives, GivesExactly, optional};
 ghost use Rattle.jb_documents.specs.FaultLists.{class_named, fault_kind, fault_number, form_at, is_past, named_class_at, planned_fault_at, planned_faults_at, shaky_classes_at, step_faults_at};
 ghost use Rattle.jb_documents.specs.inside.Forms.{form_of};
 
@@ -16,7 +16,7 @@ use std::marker::Brand;
 
 const MAX_ENTRIES: usize = 10_000_000;
 
-const MAX_CLASSES: usize = 1_000;
+const MAX_ENTRY_CLASSES: usize = 1_000;
 
 /// What follows the word of an entry: the name of a class, or the list of their names.
 #[derive(Drop)]
@@ -27,7 +27,7 @@ enum EntryForm<'a> {
 
 #[tactic(auto, unfolding(crate::specs::FaultLists::form_at))]
 fn entry_form<'a>(field: Field, word: &str, tree: &'a Value) -> Result<EntryForm<'a>, JobError>
-    ensures { Gives form_of result (form_at field word.now (view tree.now)) }
+    ensures { GivesExactly form_of result (form_at field word.now (view tree.now)) }
 {
     match word {
         "bad" => {
@@ -59,7 +59,7 @@ fn fault_number(
     earlier: &[PlannedFault],
     number: u64,
 ) -> Result<u64, JobError>
-    ensures { Gives (λ n. n) result (fault_number field records earlier.now number) }
+    ensures { GivesExactly (λ n. n) result (fault_number field records earlier.now number) }
 {
     if !is_past(earlier.last(), number) {
         Err(JobError::WrongShape(field))
@@ -72,7 +72,7 @@ fn fault_number(
 
 /// The class of a name that the job declares.
 fn declared_class(job: &Job, name: &str) -> Result<ClassId, JobError>
-    ensures { Gives (λ c. c) result (class_named job.now.classes name.now) }
+    ensures { GivesExactly (λ c. c) result (class_named job.now.classes name.now) }
 {
     match job.class(name) {
         None => Err(JobError::UnknownClass),
@@ -82,7 +82,7 @@ fn declared_class(job: &Job, name: &str) -> Result<ClassId, JobError>
 
 #[tactic(auto, unfolding(crate::specs::FaultLists::named_class_at))]
 fn named_class(job: &Job, field: Field, tree: &Value) -> Result<ClassId, JobError>
-    ensures { Gives (λ c. c) result (named_class_at job.now.classes field (view tree.now)) }
+    ensures { GivesExactly (λ c. c) result (named_class_at job.now.classes field (view tree.now)) }
 {
     let name = tree.as_str().ok_or(JobError::WrongShape(field))?;
     declared_class(job, name)
@@ -92,7 +92,7 @@ fn named_class(job: &Job, field: Field, tree: &Value) -> Result<ClassId, JobErro
 fn shaky_classes(alloc: Global, job: &Job, field: Field, tree: &Value) -> Result<ClassIds, JobError>
     ensures { Gives (λ cs. cs) result (shaky_classes_at job.now.classes field (view tree.now)) }
 {
-    let names = list(1, MAX_CLASSES, field, tree)?;
+    let names = list(1, MAX_ENTRY_CLASSES, field, tree)?;
     let classes = each::<Brand, ClassId, _>(alloc, names, |_, tree| named_class(job, field, tree))?;
     Ok(ClassIds::new(classes))
 }

@@ -4,9 +4,9 @@ ghost use Rattle.std.specs.Prelude.{◌≡◌, [], None, option_map};
 ghost use Rattle.serde_json.specs.Find.{get};
 ghost use Rattle.serde_json.specs.View.{view};
 ghost use Rattle.jb_job.specs.declared.field.Field.TheVariants as field;
+ghost use Rattle.jb_job.specs.Limits.{max_affix};
 ghost use Rattle.jb_job.specs.Names.{name_of};
 ghost use Rattle.jb_job.specs.Reading.{Gives, optional, text_at};
-ghost use Rattle.jb_documents.specs.Limits.{max_affix};
 ghost use Rattle.jb_documents.specs.FaultLists.{no_faults, step_faults_at};
 ghost use Rattle.jb_documents.specs.StepFields.{data_at, drop_at, records_at};
 
@@ -16,12 +16,10 @@ use super::records::Records;
 use super::step_data::StepData;
 use crate::taken::{take_field, take_list, take_object, take_text};
 use jb_job::kinds::{each_by_value, text};
-use jb_job::{Field, Job, JobError, Text};
+use jb_job::{Field, Job, JobError, MAX_RECORDS, Text};
 use serde_json::Value;
 use std::alloc::Global;
 use std::marker::Brand;
-
-const MAX_RECORDS: usize = 10_000_000;
 
 /// In bytes.
 const MAX_RECORD: usize = 4_096;
@@ -33,7 +31,7 @@ const MAX_AFFIX: usize = 64;
 fn records(alloc: Global, tree: Value) -> Result<Records, JobError>
     ensures { Gives (λ r. r) result (records_at field.Records (view tree)) }
 {
-    let items = take_list(0, MAX_RECORDS, Field::Records, tree)?;
+    let items = take_list(0, MAX_RECORDS as usize, Field::Records, tree)?;
     let records = each_by_value::<Brand, Text, _>(alloc, items, |_, tree| {
         take_text(0, MAX_RECORD, Field::Records, tree)
     })?;

@@ -2,18 +2,20 @@
 
 ghost use Rattle.std.specs.Prelude.{◌≡◌, ◌≤◌, ◌<◌, ◌++◌, ◌∷◌, decimal, length, OnOk};
 ghost use Rattle.std.specs.Io.KnownBytes.{Appends};
+ghost use Rattle.jb_job.specs.Limits.{max_threads};
 ghost use Rattle.jb_cert.specs.WrapAround.{slots_of_round};
 ghost use Rattle.jb_texts.specs.PlanText.{lane_text, lanes_text};
 ghost use Rattle.jb_texts.specs.inside.Idle.{idle_text};
 
 use itoa::Buffer;
 use jb_cert::lanes_are_found;
+use jb_job::MAX_THREADS;
 use jb_rounds::RoundCursor;
 use std::io;
 use std::io::Write;
 
 /// The largest number of lanes.
-pub const MAX_LANES: usize = 64;
+pub const MAX_LANES: usize = MAX_THREADS as usize;
 
 /// What as many idle lanes have.
 const IDLE: &[u8; 128] =
@@ -77,7 +79,7 @@ pub fn write_lanes<W: Write>(
 
 /// Writes what so many idle lanes have.
 pub fn write_idle<W: Write>(writer: &mut W, lanes: u32) -> io::Result<()>
-    requires { lanes ≤ 64 }
+    requires { lanes ≤ max_threads }
     ensures { OnOk result (Appends (W.contents writer.old) (W.contents writer.new) (idle_text lanes)) }
 {
     writer.write_all(&IDLE[..2 * lanes as usize])

@@ -1,12 +1,14 @@
 //! The heading of a plan, and a line for each round.
 
-ghost use Rattle.std.specs.Prelude.{◌≡◌, ◌≤◌, [], ◌++◌, length, OnOk};
-ghost use Rattle.std.specs.Io.KnownBytes.{Appends, Keeps, append_known};
+ghost use Rattle.std.specs.Prelude.{◌≡◌, ◌≤◌, ℕ, List, [], ◌++◌, length, OnErr, OnOk};
+ghost use Rattle.std.specs.Io.KnownBytes.{Appends};
 ghost use Rattle.std.specs.List.{enumerate_from};
 ghost use Rattle.jb_cert.specs.WrapAround.{slots_of_round, wrapped_rounds};
+ghost use Rattle.jb_texts.specs.Front.{AppendsFront};
 ghost use Rattle.jb_texts.specs.PlanText.{lines_of, round_line, text_of_load};
 
 use super::lanes::{MAX_LANES, write_idle, write_lanes};
+use crate::whole::{write_bytes, write_whole};
 use jb_cert::lanes_are_found;
 use jb_rounds::RoundCursor;
 use std::io;
@@ -40,10 +42,11 @@ fn write_round<W: Write>(
 
 /// Hands a block on once it is full.
 fn pass_on<W: Write>(block: &mut Vec<u8>, writer: &mut W) -> io::Result<()>
-    ensures { OnOk result (Keeps (append_known (W.contents writer.old) block.old.items) (append_known (W.contents writer.new) block.new.items)) }
+    ensures passed { OnOk result ((passed : List ℕ) × Appends (W.contents writer.old) (W.contents writer.new) passed × (block.old.items ≡ passed ++ block.new.items)) }
+    ensures front { OnErr result (AppendsFront (W.contents writer.old) (W.contents writer.new) block.old.items) }
 {
     if block.len() >= FULL_BLOCK {
-        writer.write_all(block)?;
+        write_bytes(block, writer)?;
         block.clear();
     }
     Ok(())
@@ -51,7 +54,9 @@ fn pass_on<W: Write>(block: &mut Vec<u8>, writer: &mut W) -> io::Result<()>
 
 /// Writes the block, and then a line for each round, in blocks.
 fn write_lines<W: Write>(mut block: Vec<u8>, cursor: &RoundCursor, writer: &mut W) -> io::Result<()>
-    ensures { OnOk result (Appends (W.contents writer.old) (W.contents writer.new)
+    ensures whole { OnOk result (Appends (W.contents writer.old) (W.contents writer.new)
+        (block.items ++ lines_of cursor.now.threads (enumerate_from 0 (wrapped_rounds cursor.now.counts cursor.now.threads)))) }
+    ensures front { OnErr result (AppendsFront (W.contents writer.old) (W.contents writer.new)
         (block.items ++ lines_of cursor.now.threads (enumerate_from 0 (wrapped_rounds cursor.now.counts cursor.now.threads)))) }
 {
     let _lanes = cursor.threads();
@@ -60,12 +65,11 @@ fn write_lines<W: Write>(mut block: Vec<u8>, cursor: &RoundCursor, writer: &mut 
         write_round(&mut block, cursor, round, &mut near)?;
         pass_on(&mut block, writer)?;
     }
-    writer.write_all(&block)?;
-    writer.flush()
+    write_whole(&block, writer)
 }
 
 /// Writes the wrap-around plan of the cursor's load by way of an empty block: the heading, and a line for each round. It
-/// takes no memory where the block has `BLOCK_ROOM` bytes of it.
+/// takes no memory where the block has `BLOCK_ROOM` bytes of it. Where the writer fails, it holds the front of the plan.
 #[tactic(auto, unfolding(crate::specs::PlanText::plan_text, crate::specs::PlanText::heading))]
 pub fn write_plan<W: Write>(
     mut block: Vec<u8>,
@@ -73,7 +77,8 @@ pub fn write_plan<W: Write>(
     writer: &mut W,
 ) -> io::Result<()>
     requires { block.items ≡ [] }
-    ensures { OnOk result (Appends (W.contents writer.old) (W.contents writer.new) (text_of_load cursor.now)) }
+    ensures whole { OnOk result (Appends (W.contents writer.old) (W.contents writer.new) (text_of_load cursor.now)) }
+    ensures front { OnErr result (AppendsFront (W.contents writer.old) (W.contents writer.new) (text_of_load cursor.now)) }
 {
     let certificate = cursor.certificate();
     writeln!(block, "rounds {} {certificate}", cursor.rounds())?;

@@ -1,14 +1,16 @@
 //! The whole report.
 
-ghost use Rattle.std.specs.Prelude.{◌≡◌, ◌++◌, ◌∷◌, [], List, IfOk, OnOk};
+ghost use Rattle.std.specs.Prelude.{◌≡◌, ◌++◌, ◌∷◌, [], List, IfOk, OnErr, OnOk};
 ghost use Rattle.std.specs.Io.KnownBytes.{Appends};
 ghost use Rattle.serde_json.specs.Written.{compact_text};
+ghost use Rattle.jb_texts.specs.Front.{AppendsFront};
 ghost use Rattle.jb_texts.specs.Report.{StepReport, report_text, steps_tree};
 ghost use Rattle.jb_texts.specs.ReportTokens.{steps_tokens};
 ghost use Rattle.jb_texts.specs.inside.Head.{head_text};
 
 use crate::report::steps::StepsText;
 use crate::status::Status;
+use crate::whole::{write_bytes, write_whole};
 use json::Writer;
 use std::alloc::{AllocError, Global};
 use std::io;
@@ -72,12 +74,12 @@ impl ReportText {
         Ok(ReportText { head, steps })
     }
 
-    /// Writes the text. It takes no memory.
+    /// Writes the text. It takes no memory. Where the writer fails, it holds the front of the text.
     pub fn write_to<W: Write>(&self, writer: &mut W) -> io::Result<()>
-        ensures { OnOk result (Appends (W.contents writer.old) (W.contents writer.new) self.now) }
+        ensures whole { OnOk result (Appends (W.contents writer.old) (W.contents writer.new) self.now) }
+        ensures front { OnErr result (AppendsFront (W.contents writer.old) (W.contents writer.new) self.now) }
     {
-        writer.write_all(&self.head)?;
-        writer.write_all(&self.steps)?;
-        writer.flush()
+        write_bytes(&self.head, writer)?;
+        write_whole(&self.steps, writer)
     }
 }

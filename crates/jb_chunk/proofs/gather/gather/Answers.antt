@@ -21,7 +21,7 @@ loop-number-init g c =
 pub returns-in-Err-clause-err : goal.returns-in-Err-clause-err
 returns-in-Err-clause-err g c =
     let meaning = g.A.Meaning.workplace in
-    worn-step (meaning c.args.artifacts.now) (meaning c.loop-number.artifacts) (meaning c.settle_record.new.artifacts) _ _ (omega arith) c.loop-number.invariant.moved c.in-Err.ensures.err
+    worn-step (meaning c.args.artifacts.now) (meaning c.loop-number.artifacts) (meaning c.settle_record.new.artifacts) _ _ _ (omega arith) (omega arith) c.loop-number.invariant.moved c.in-Err.ensures.err
 
 pub returns-in-Ok-Some-clause-ok : goal.returns-in-Ok-Some-clause-ok
 returns-in-Ok-Some-clause-ok g c =

@@ -40,7 +40,7 @@ returns-clause-ran c =
       record { id = c.id.result.now; status = c.ended-status.result; partitions = left.0 },
       record {
         runnable = subst (λ n. R n (plan_of_step step supply)) count (subst (λ plan. R given plan) planned runnable);
-        id = c.id.ensures;
+        id = c.id.ensures.value;
         partitions = subst (λ rs. P (settings_of step supply) supply.records rs) ranges (subst (λ all. P (settings_of step supply) all c.ranges-2.result.now) lent (subst (λ s. P s c.deref_mut.result.now c.ranges-2.result.now) settings left.1));
         ended = c.ended-status.ensures ∙ ap status_of rows;
       },

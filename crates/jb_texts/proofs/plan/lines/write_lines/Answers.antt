@@ -1,21 +1,43 @@
-use Rattle.std.proofs.Common.{◌≡◌, ◌<◌, length, get_or, take, sym, append_assoc, arith}
-use Rattle.std.specs.List.{enumerate_from}
-use Rattle.std.proofs.lemmas.List.FromFn.{get_or-map-range_with_len}
-use Rattle.jb_cert.specs.Load.{mcnaughton}
-use Rattle.jb_cert.specs.WrapAround.{slots_of_round, wrapped_rounds}
-use Rattle.jb_texts.specs.PlanText.{lines_of, round_line}
-use Rattle.jb_texts.proofs.Writing.{line_more, appends-block, appends-kept}
+use Rattle.std.proofs.Common.{◌++◌, ◌+◌, sym, ◌∙◌, ap, append_assoc}
+use Rattle.std.proofs.lemmas.Result.{on_err_weaker}
+use Rattle.jb_cert.specs.WrapAround.{wrapped_rounds}
+use Rattle.jb_texts.proofs.Writing.{appends-both, line-on, lines-split}
+use Rattle.jb_texts.proofs.Fronts.{front-passing, front-waiting, on-err, waits-more}
 use Rattle.jb_texts.proofs.plan.lines.write_lines.Goals as goal
+
+pub returns-in_err-write_round-clause-front : goal.returns-in_err-write_round-clause-front
+returns-in_err-write_round-clause-front g c =
+    let load = c.args.cursor.now in
+    let before = c.loop-round.invariant in
+    let rest = lines-split load.threads 0 c.loop-round.round (wrapped_rounds load.counts load.threads) in
+    on-err c.from_residual.result (front-waiting _ _ before.0 _ c.args.block.items _ rest.0 _ before.1 before.2 rest.1)
+
+pub returns-in_err-pass_on-clause-front : goal.returns-in_err-pass_on-clause-front
+returns-in_err-pass_on-clause-front g c =
+    let load = c.args.cursor.now in
+    let k = c.loop-round.round in
+    let before = c.loop-round.invariant in
+    let next = line-on load.counts load.threads k (rw c.rounds-round-end.ensures.length c.loop-round-test.true) (rw (sym c.rounds-round-end.ensures.bound) c.loop-round-test.true) in
+    let rest = lines-split load.threads 0 (k + 1) (wrapped_rounds load.counts load.threads) in
+    let waits = waits-more before.0 c.loop-round.block.items c.write_round.new.writer.items _ c.args.block.items _ _ before.2 c.in_ok-write_round.ensures.line next in
+    on-err c.from_residual-in_err-pass_on.result (front-passing _ _ _ before.0 _ c.args.block.items _ rest.0 _ before.1 c.in_err-pass_on.ensures.front waits rest.1)
 
 pub loop-round-preserved : goal.loop-round-preserved
 loop-round-preserved g c =
     let load = c.args.cursor.now in
-    let rounds = wrapped_rounds load.counts load.threads in
     let k = c.loop-round.round in
-    let round = slots_of_round load.counts load.threads k in
-    let h : k < length rounds = rw c.rounds-round-end.ensures.length c.loop-round-test.true in
-    let bound : k < mcnaughton load.counts load.threads = rw (sym c.rounds-round-end.ensures.bound) c.loop-round-test.true in
-    let is : get_or rounds k round ≡ round = get_or-map-range_with_len (slots_of_round load.counts load.threads) 0 (mcnaughton load.counts load.threads) k k round bound (omega arith) in
-    rw (line_more load.threads k rounds round h is)
-    (rw (sym (append_assoc c.args.block.items (lines_of load.threads (enumerate_from 0 (take k rounds))) (round_line load.threads k round)))
-    (appends-kept _ _ _ _ (appends-block _ _ _ _ _ _ c.loop-round.invariant c.in_ok-write_round.ensures.line) c.in_ok-pass_on.ensures))
+    let before = c.loop-round.invariant in
+    let next = line-on load.counts load.threads k (rw c.rounds-round-end.ensures.length c.loop-round-test.true) (rw (sym c.rounds-round-end.ensures.bound) c.loop-round-test.true) in
+    let on = c.in_ok-pass_on.ensures.passed in
+    let waits = waits-more before.0 c.loop-round.block.items c.write_round.new.writer.items _ c.args.block.items _ _ before.2 c.in_ok-write_round.ensures.line next in (
+      before.0 ++ on.0,
+      appends-both _ _ _ before.0 on.0 before.1 on.1,
+      append_assoc before.0 on.0 c.pass_on.new.block.items ∙ ap (λ zs. before.0 ++ zs) (sym on.2) ∙ waits,
+    )
+
+pub returns-clause-front : goal.returns-clause-front
+returns-clause-front g c =
+    let load = c.args.cursor.now in
+    let before = c.loop-round.invariant in
+    let rest = lines-split load.threads 0 c.loop-round.round (wrapped_rounds load.counts load.threads) in
+    on_err_weaker c.write_whole.result (λ front. front-passing _ _ _ before.0 _ c.args.block.items _ rest.0 _ before.1 (rw c.deref.ensures.value at front) before.2 rest.1) c.write_whole.ensures.front

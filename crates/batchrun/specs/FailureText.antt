@@ -1,0 +1,19 @@
+-- What is written where there is no answer (own choice).
+use Rattle.std.specs.Prelude.{ℕ, List, [], ◌∷◌, ◌++◌, codes}
+use Rattle.jb_job.specs.Names.{fault_text}
+use Rattle.jb_plan.specs.Texts.{error_text}
+use Rattle.batchrun.specs.Help.{help}
+use Rattle.batchrun.specs.declared.streams.failure.Failure.{Failure}
+use Rattle.batchrun.specs.declared.streams.failure.Failure.TheVariants as failure
+
+-- the first fault of the document, or of a step's partition plan
+unfoldable pub refusal : List ℕ → List ℕ
+refusal fault = codes "refused: " ++ (fault ++ 10 ∷ [])
+
+-- one line, or the help where the words are wrong
+abbrev pub failure_text : Failure → List ℕ
+failure_text failure.Usage = help
+failure_text (failure.Document fault) = refusal (fault_text fault)
+failure_text (failure.Plan error) = refusal (error_text error)
+failure_text failure.Memory = codes "no memory\n"
+failure_text failure.Stream = codes "stream failed\n"

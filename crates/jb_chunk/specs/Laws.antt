@@ -1,0 +1,82 @@
+-- What holds of a task's attempts, wherever they lead.
+use Rattle.std.specs.Prelude.{ℕ, ◌≡◌, ◌≤◌, ◌-◌, ◌↔◌, ◌⊎◌, true, List, ◌∷◌, length}
+use Rattle.jb_job.specs.declared.job.Range.{Range}
+use Rattle.jb_plan.specs.Blocks.{blocks}
+use Rattle.jb_rules.specs.declared.counts.Counts.{Counts}
+use Rattle.jb_rules.specs.declared.row.Row.{Row}
+use Rattle.jb_rules.specs.declared.row.RowState.TheVariants as state
+use Rattle.jb_job.specs.Limits.{max_rollbacks}
+use Rattle.jb_rules.specs.Counts.{IsDelta}
+use Rattle.jb_rules.specs.Rows.{committed_row, rolled_row, failed_row}
+use Rattle.jb_rules.specs.States.{has_ended}
+use Rattle.jb_chunk.specs.declared.outcome.Outcome.{Outcome}
+use Rattle.jb_chunk.specs.declared.outcome.Outcome.TheVariants.{Committed, Rolled, Failed, NoMemory}
+use Rattle.jb_chunk.specs.Alone.{IsRunOf, IsOnTheWay, IsAlone, attempts_left}
+use Rattle.jb_chunk.specs.Attempt.{Ending, IsAttempt, attempt_of, block_of}
+use Rattle.jb_chunk.specs.Plain.{IsCalm, IsPlain}
+use Rattle.jb_chunk.specs.Standing.{TaskState, IsReady, taken_up}
+
+-- ONE END
+
+-- a task that runs alone ends in one place
+abbrev pub OneEnd : Type 0
+OneEnd = (t one other : TaskState) → IsAlone t one → IsAlone t other → one ≡ other
+
+-- and where no call in its range fails, that is the place of its Plain run
+abbrev pub CalmRunsArePlain : Type 0
+CalmRunsArePlain =
+    (t s : TaskState) → IsReady t → (t.row.state ≡ state.Waiting) ⊎ (t.row.state ≡ state.Finished)
+    → IsCalm t.work t.row.at t.row.hi → IsAlone t s → IsPlain t s
+
+-- THE WAY THERE
+
+-- no run has more attempts than there are retries and records left
+abbrev pub RunsAreShort : Type 0
+RunsAreShort = (t s : TaskState) (attempts : List Ending) → IsReady t → IsRunOf t attempts s → length attempts ≤ attempts_left t
+
+-- two ways, one behind the other, are one
+abbrev pub WaysJoin : Type 0
+WaysJoin = (t between s : TaskState) → IsOnTheWay t between → IsOnTheWay between s → IsOnTheWay t s
+
+-- a way to an end is a run alone
+abbrev pub WaysEnd : Type 0
+WaysEnd = (t s : TaskState) → IsReady t → IsOnTheWay t s → has_ended s.row.state ≡ true → IsAlone t s
+
+-- wherever its attempts lead, a task is ready, unless its rollbacks are beyond their limit
+abbrev pub TasksStayReady : Type 0
+TasksStayReady = (t s : TaskState) → IsReady t → IsOnTheWay t s → s.row.counts.rollback ≤ max_rollbacks → IsReady s
+
+-- TAKING UP AGAIN
+
+-- taken up again where some of its attempts left it, a task is where it was
+abbrev pub SamePlace : Type 0
+SamePlace = (t s : TaskState) → IsReady t → IsOnTheWay t s → taken_up s ≡ s
+
+-- and alone it ends where it would have ended without the break, and nowhere else
+abbrev pub SameEnd : Type 0
+SameEnd = (t s end : TaskState) → IsReady t → IsOnTheWay t s → IsAlone t end ↔ IsAlone (taken_up s) end
+
+-- ONE ATTEMPT
+
+-- the chunks that are left of a task's range
+abbrev pub blocks_of : TaskState → List Range
+blocks_of t = blocks t.row.at t.row.redo t.row.hi t.item_count
+
+-- wherever a task's attempts led it, an attempt that commits takes just the first of the chunks that are left
+abbrev pub CommitsTakeOneChunk : Type 0
+CommitsTakeOneChunk =
+    (t s : TaskState) (delta : Counts) → IsReady t → IsOnTheWay t s → s.row.state ≡ state.Waiting → (attempt_of s).outcome ≡ Committed delta
+    → blocks_of s ≡ block_of s ∷ blocks_of (attempt_of s).task
+
+-- what an attempt at the chunk that ends at `hi` does to its row, by its outcome
+abbrev pub IsStepOfLife : Outcome → (row : Row) → (hi : ℕ) → (after : Row) → Type 0
+IsStepOfLife (Committed delta) row hi after = IsDelta (hi - row.at) delta × (after ≡ committed_row row hi delta)
+IsStepOfLife (Rolled class) row hi after = after ≡ rolled_row row hi
+IsStepOfLife (Failed class) row hi after = after ≡ failed_row row
+IsStepOfLife NoMemory row hi after = after ≡ row
+
+-- each attempt takes the row a step further in its life
+abbrev pub RowsLiveOn : Type 0
+RowsLiveOn =
+    (t : TaskState) (e : Ending) → IsReady t → t.row.state ≡ state.Waiting → IsAttempt t e
+    → IsStepOfLife e.outcome t.row (block_of t).hi e.task.row

@@ -1,0 +1,50 @@
+//! The laws of a task's attempts. The functions do nothing: their contracts are the laws.
+
+ghost use Rattle.jb_chunk.specs.Laws.{OneEnd, CalmRunsArePlain, RunsAreShort, WaysJoin, WaysEnd, TasksStayReady, SamePlace, SameEnd, CommitsTakeOneChunk, RowsLiveOn};
+
+use jb_plan::chunks_follow_one_another;
+use jb_rules::rows_stay_sound;
+
+/// A task that runs alone ends in one place, so the place depends on no thread and no other partition. Where no call
+/// fails, it is the place of its Plain run.
+pub fn runs_end_alike()
+    ensures one { OneEnd }
+    ensures plain { CalmRunsArePlain }
+{
+    chunks_follow_one_another();
+}
+
+/// A run has no more attempts than there are retries and records left; two runs, one behind the other, are one; and one to
+/// an end is a run alone.
+pub fn runs_lead_to_an_end()
+    ensures short { RunsAreShort }
+    ensures join { WaysJoin }
+    ensures end { WaysEnd }
+{
+    chunks_follow_one_another();
+}
+
+/// A task that is taken up again after any of its attempts is where it was, and ends where it would have ended.
+pub fn tasks_go_on()
+    ensures place { SamePlace }
+    ensures end { SameEnd }
+{
+    chunks_follow_one_another();
+}
+
+/// Wherever its attempts lead, a task is ready, unless its rollbacks are beyond their limit.
+pub fn tasks_stay_ready()
+    ensures { TasksStayReady }
+{
+    chunks_follow_one_another();
+    rows_stay_sound();
+}
+
+/// Each attempt takes the row a step further in its life, and one that commits takes just the first of the chunks that
+/// are left.
+pub fn attempts_are_steps()
+    ensures chunk { CommitsTakeOneChunk }
+    ensures row { RowsLiveOn }
+{
+    chunks_follow_one_another();
+}
