@@ -18,7 +18,7 @@ use Rattle.jb_repo.specs.Table.{Journal, refusal, AcceptedPast, is_good_commit, 
 use Rattle.jb_repo.specs.Openable.{IsOpenable}
 use Rattle.jb_repo.specs.inside.Below.{LawsBelow}
 use Rattle.jb_repo.specs.inside.Steps.{step, CanStep, IsCommit}
-use Rattle.jb_rules.specs.declared.row.TheConstants.{MAX_ROLLBACKS}
+use Rattle.jb_job.specs.Limits.{max_rollbacks}
 use Rattle.jb_repo.proofs.RowLemmas.{own-yes, own-no, own-none, owner-yes, owner-no, replayed_row-step, plus_counts-zero}
 use Rattle.jb_repo.proofs.Stepping.{sound-step, waiting-before-end, running-before-end}
 use Rattle.jb_repo.proofs.Passing.{BeginPasses, begin_passes, commit_passes, roll_passes, fail_passes, drop_passes, round_passes, row_of-is, leb_false}
@@ -38,7 +38,7 @@ pub record Consistent (j : Journal) (past : List Event) : Type 0 where
   pub lanes : (l p : ℕ) → owner l past ≡ Some p → IsLane j past l p
   pub states : (l p : ℕ) (r : Row) → owner l past ≡ Some p → slice_get j.opening p ≡ Some r → (replayed_row j.item_count r (own p past)).state ≡ Running l
   pub owners : (l p : ℕ) (r : Row) → slice_get j.opening p ≡ Some r → (replayed_row j.item_count r (own p past)).state ≡ Running l → owner l past ≡ Some p
-  pub below : (p : ℕ) (r : Row) → slice_get j.opening p ≡ Some r → is_running (replayed_row j.item_count r (own p past)).state ≡ true → (replayed_row j.item_count r (own p past)).counts.rollback < MAX_ROLLBACKS
+  pub below : (p : ℕ) (r : Row) → slice_get j.opening p ≡ Some r → is_running (replayed_row j.item_count r (own p past)).state ≡ true → (replayed_row j.item_count r (own p past)).counts.rollback < max_rollbacks
 
 -- MARKS
 
@@ -107,7 +107,7 @@ module _ (j : Journal) (past : List Event) (old : Consistent j past) where
 
   module _ (l p : ℕ) (ok : BeginPasses (at_past j past) l p) where
     -- the lane doesn't run yet, and no lane runs the partition
-    lane_free : (q : ℕ) → owner l past ≡ Some q → ⊥
+    pub lane_free : (q : ℕ) → owner l past ≡ Some q → ⊥
     lane_free q h = let m = (old.lanes l q h).lane_marked in let u = ok.lane_unmarked in cc
 
     partition_free : (k : ℕ) → owner k past ≡ Some p → ⊥
@@ -169,13 +169,13 @@ module _ (j : Journal) (past : List Event) (old : Consistent j past) where
     begin_open : (r : Row) → slice_get j.opening p ≡ Some r → has_ended (replayed_row j.item_count r (own p past)).state ≡ false
     begin_open r o = rw (row_of-is (at_past j past) p r o) at ok.not_over
 
-    begin_below : (r : Row) → slice_get j.opening p ≡ Some r → (replayed_row j.item_count r (own p past)).counts.rollback < MAX_ROLLBACKS
+    begin_below : (r : Row) → slice_get j.opening p ≡ Some r → (replayed_row j.item_count r (own p past)).counts.rollback < max_rollbacks
     begin_below r o = let h = rw (row_of-is (at_past j past) p r o) at ok.below_limit in leb_false _ _ h
 
-    begin_below_all : (q : ℕ) (r : Row) → slice_get j.opening q ≡ Some r → is_running (replayed_row j.item_count r (own q (Begin l p ∷ past))).state ≡ true → (p ≡ q) ⊎ (p ≢ q) → (replayed_row j.item_count r (own q (Begin l p ∷ past))).counts.rollback < MAX_ROLLBACKS
+    begin_below_all : (q : ℕ) (r : Row) → slice_get j.opening q ≡ Some r → is_running (replayed_row j.item_count r (own q (Begin l p ∷ past))).state ≡ true → (p ≡ q) ⊎ (p ≢ q) → (replayed_row j.item_count r (own q (Begin l p ∷ past))).counts.rollback < max_rollbacks
     begin_below_all q r o s (inl e) =
         let o' : slice_get j.opening p ≡ Some r = rw e o in
-        let b = subst (λ (x : ℕ). (replayed_row j.item_count r (own x past)).counts.rollback < MAX_ROLLBACKS) e (begin_below r o') in
+        let b = subst (λ (x : ℕ). (replayed_row j.item_count r (own x past)).counts.rollback < max_rollbacks) e (begin_below r o') in
         rw (own-yes q (Begin l p) past (ap Some e)) (omega (arith, b))
     begin_below_all q r o s (inr ne) =
         let s' = rw (begin_own_other q ne) at s in
@@ -238,7 +238,7 @@ module _ (j : Journal) (past : List Event) (old : Consistent j past) where
         let not_l : l ≢ k = λ same. let h' : owner l past ≡ Some q = rw same h in ne cc in
         outcome_owner_other k not_l ∙ h
 
-    outcome_below : (q : ℕ) (r : Row) → slice_get j.opening q ≡ Some r → is_running (replayed_row j.item_count r (own q (e ∷ past))).state ≡ true → (p ≡ q) ⊎ (p ≢ q) → (replayed_row j.item_count r (own q (e ∷ past))).counts.rollback < MAX_ROLLBACKS
+    outcome_below : (q : ℕ) (r : Row) → slice_get j.opening q ≡ Some r → is_running (replayed_row j.item_count r (own q (e ∷ past))).state ≡ true → (p ≡ q) ⊎ (p ≢ q) → (replayed_row j.item_count r (own q (e ∷ past))).counts.rollback < max_rollbacks
     outcome_below q r o s (inl same) = let i = outcome_idle q r same in absurd cc
     outcome_below q r o s (inr ne) =
         let s' = rw (outcome_own_other q ne) at s in

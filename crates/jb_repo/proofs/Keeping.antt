@@ -1,85 +1,91 @@
 -- The fields keep what they stand for.
-use Rattle.std.proofs.Common.{◌≡◌, ℕ, zero, suc, ◌+◌, ◌≤◌, List, [], ◌∷◌, ◌++◌, length, take, reverse, None, refl, sym, ◌∙◌, ap, subst, arith, length-append, vec_capacity, Result, Ok, Err, is_err, false, OnOk}
-use Rattle.jb_rules.specs.declared.row.RowState.TheVariants.{Finished}
-use Rattle.jb_rules.specs.Counts.{no_counts}
-use Rattle.std.proofs.lemmas.List.{reverse-append}
+use Rattle.std.proofs.Common.{◌≡◌, ℕ, suc, ◌+◌, ◌≤◌, List, [], ◌∷◌, ◌++◌, length, reverse, Option, None, refl, sym, ◌∙◌, ap, subst, arith, vec_len, vec_capacity, Result, Ok, Err, is_err, false, OnOk}
+use Rattle.std.proofs.lemmas.List.{reverse-append, length-reverse}
 use Rattle.jb_rules.specs.declared.row.Row.{Row}
 use Rattle.jb_repo.specs.declared.events.Event.{Event}
+use Rattle.jb_repo.specs.declared.refused.Refused.{Refused}
 use Rattle.jb_repo.specs.declared.repository.Repo.TheInside.{Inside}
-use Rattle.jb_repo.specs.History.{partition_of, running}
-use Rattle.jb_repo.specs.Rows.{rows_from}
-use Rattle.jb_repo.specs.Table.{Journal, Accepted, refusal, after, rows_of, reserved}
-use Rattle.jb_repo.specs.Answers.{places_of}
+use Rattle.jb_repo.specs.declared.standing.Standing.{Standing}
+use Rattle.jb_repo.specs.Table.{Journal, Accepted, AcceptedPast, refusal, after, with_room, reserved}
+use Rattle.jb_repo.specs.Answers.{needed, places_of}
 use Rattle.jb_repo.specs.Openable.{IsOpenable, IsReplayable, opened_journal}
-use Rattle.jb_repo.specs.inside.Steps.{stepped_rows}
+use Rattle.jb_repo.specs.inside.Standing.{Shows, CanEnter}
 use Rattle.jb_repo.specs.Kept.{journal_of, IsKept}
-use Rattle.jb_repo.proofs.Consistent.{row_eq_opening}
-use Rattle.jb_repo.proofs.Tables.{table_after, places_enough}
+use Rattle.jb_repo.proofs.Noting.{running-opening}
+use Rattle.jb_repo.proofs.Opened.{still_openable}
+use Rattle.jb_repo.proofs.Places.{places_after, needed_few}
 
--- what a repository is opened_journal with doesn't change
-pub ready_after : (j : Journal) (e : Event) → IsOpenable j → IsOpenable (after j e)
-ready_after j e r = record {
-  some_rows = r.some_rows;
-  few_rows = r.few_rows;
-  idle = r.idle;
-  disjoint = r.disjoint;
-  some_threads = r.some_threads;
-  few_threads = r.few_threads;
-  some_items = r.some_items;
-  few_items = r.few_items;
+-- an accepted history stays one, whatever the room
+accepted-room : (j : Journal) (room : ℕ) (past : List Event) → AcceptedPast j past → AcceptedPast (with_room j room) past
+accepted-room j room past ok = ok
+
+shows-room : (j : Journal) (room : ℕ) (s : Standing) → Shows j s → Shows (with_room j room) s
+shows-room j room s h = record {
+  table = h.table;
+  own_events = h.own_events;
+  totals = h.totals;
+  reserved = h.reserved;
+  owners = h.owners;
+  marks = h.marks;
+  plans = h.plans;
 }
 
-rows_from-opening : (c first : ℕ) (rows : List Row) → rows_from c [] first rows ≡ rows
-rows_from-opening c first [] = refl
-rows_from-opening c first (r ∷ rows) =
-    let t = rows_from-opening c (first + 1) rows in
-    let u = row_eq_opening c r in
-    rw (u, t) refl
+same_journal : (opening : List Row) (threads item_count : ℕ) {past other : List Event} {room more : ℕ} → past ≡ other → room ≡ more
+    → ◌≡◌ {A = Journal} (record { opening = opening; threads = threads; item_count = item_count; past = past; room = room }) (record { opening = opening; threads = threads; item_count = item_count; past = other; room = more })
+same_journal opening threads item_count same_past same_room = rw (same_past, same_room) refl
 
-running-opening : (n : ℕ) → running n [] ≡ 0
-running-opening zero = refl
-running-opening (suc n) = omega (arith, running-opening n)
+pub past_len : (a : Inside) → length (journal_of a).past ≡ length a.history.items
+past_len a = length-reverse a.history.items
 
-pub kept_opened : (a : Inside) → a.history.items ≡ [] → IsOpenable (opened_journal a.opening.items a.threads a.item_count) → take (length a.opening.items) a.rows ≡ a.opening.items → IsKept a
-kept_opened a empty ready table =
-    let e : journal_of a ≡ opened_journal a.opening.items a.threads a.item_count = rw empty refl in
+pub kept_opened : (a : Inside) → a.history.items ≡ [] → vec_capacity a.history ≡ 0 → IsOpenable (opened_journal a.opening.items a.threads a.item_count)
+    → Shows (opened_journal a.opening.items a.threads a.item_count) a.standing → IsKept a
+kept_opened a empty none ready shows =
+    let j = opened_journal a.opening.items a.threads a.item_count in
+    let eq : journal_of a ≡ j = same_journal a.opening.items a.threads a.item_count (ap reverse empty) none in
+    let past : length (journal_of a).past ≡ 0 = ap (λ (x : Journal). length x.past) eq in
+    let places : reserved (journal_of a) ≡ 0 = ap reserved eq ∙ running-opening a.threads in
     record {
-      ready = subst (λ (x : Journal). IsOpenable x) (sym e) ready;
-      accepted = subst (λ (x : Journal). Accepted x) (sym e) tt;
-      table = table ∙ sym (rows_from-opening a.item_count 0 a.opening.items) ∙ ap rows_of (sym e);
-      room =
-          let l : length a.history.items ≡ 0 = ap length empty in
-          let r : reserved (journal_of a) ≡ 0 = ap reserved e ∙ running-opening a.threads in
-          omega (arith, l, r);
+      ready = subst (λ (x : Journal). IsOpenable x) (sym eq) ready;
+      accepted = subst (λ (x : Journal). Accepted x) (sym eq) tt;
+      places = omega (arith, past, places);
+      few = omega (arith, past, places);
+      shows = subst (λ (x : Journal). Shows x a.standing) (sym eq) shows;
     }
 
-pub kept_after : (a b : Inside) (e : Event) (d : Row) → IsKept a → refusal (journal_of a) e ≡ None
-    → b.opening.items ≡ a.opening.items → b.threads ≡ a.threads → b.item_count ≡ a.item_count
-    → b.history.items ≡ a.history.items ++ e ∷ []
-    → b.rows ≡ stepped_rows a.item_count a.rows (partition_of e (journal_of a).past) e d
-    → length a.history.items + reserved (journal_of a) + places_of e ≤ vec_capacity b.history
-    → IsKept b
-kept_after a b e d kept passes same_opening same_threads same_items items rows room =
+pub kept_after : (a b : Inside) (e : Event) → IsKept a → refusal (journal_of a) e ≡ None
+    → b.opening.items ≡ a.opening.items → b.threads ≡ a.threads → b.item_count ≡ a.item_count → b.history.items ≡ a.history.items ++ e ∷ []
+    → needed (journal_of a) e ≤ vec_capacity b.history → Shows (after (journal_of a) e) b.standing → IsKept b
+kept_after a b e kept passes same_opening same_threads same_items items room shows =
     let j = journal_of a in
     let past : reverse b.history.items ≡ e ∷ reverse a.history.items = ap reverse items ∙ reverse-append a.history.items (e ∷ []) in
-    let eq : journal_of b ≡ after j e = rw (same_opening, same_threads, same_items, past) refl in
+    let eq : journal_of b ≡ with_room (after j e) (vec_capacity b.history) = rw (same_opening, same_threads, same_items, past) refl in
+    let places = places_after j kept.ready kept.accepted e passes in
+    let l : length (journal_of b).past ≡ suc (length j.past) = ap (λ (x : Journal). length x.past) eq in
+    let r : reserved (journal_of b) ≡ reserved (after j e) = ap reserved eq in
     record {
-      ready = subst (λ (x : Journal). IsOpenable x) (sym eq) (ready_after j e kept.ready);
-      accepted = subst (λ (x : Journal). Accepted x) (sym eq) (passes, kept.accepted);
-      table =
-          ap (λ (x : List Row). take (length x) b.rows) same_opening
-          ∙ ap (λ (x : List Row). take (length a.opening.items) x) rows
-          ∙ table_after j kept.ready kept.accepted e passes a.rows d (partition_of e j.past) kept.table refl
-          ∙ ap rows_of (sym eq);
-      room =
-          let l : length b.history.items ≡ length a.history.items + 1 = ap length items ∙ length-append a.history.items (e ∷ []) in
-          let r : reserved (journal_of b) ≡ reserved (after j e) = ap reserved eq in
-          omega (arith, l, r, places_enough j kept.ready kept.accepted e passes);
+      ready = subst (λ (x : Journal). IsOpenable x) (sym eq) (still_openable j (e ∷ j.past) (vec_capacity b.history) kept.ready);
+      accepted = subst (λ (x : Journal). Accepted x) (sym eq) (accepted-room (after j e) (vec_capacity b.history) (e ∷ j.past) (passes, kept.accepted));
+      places = omega (arith, l, r, places, room);
+      few = omega (arith, l, r, places, needed_few j e passes kept.few);
+      shows = subst (λ (x : Journal). Shows x b.standing) (sym eq) (shows-room (after j e) (vec_capacity b.history) b.standing shows);
     }
 
--- any row, for the places of a list that are past its end
-abbrev pub any_row : Row
-any_row = record { lo = 0; hi = 0; at = 0; redo = 0; retries = 0; written = 0; counts = no_counts; state = Finished }
+-- an accepted event can enter what is kept
+pub can_enter : (a : Inside) (j : Journal) (e : Event) (r : Option Refused) → IsKept a → journal_of a ≡ j → r ≡ refusal j e → r ≡ None → CanEnter (journal_of a) a.standing e a.item_count
+can_enter a j e r kept is answer none =
+    let passes : refusal (journal_of a) e ≡ None = ap (λ (x : Journal). refusal x e) is ∙ sym answer ∙ none in
+    record {
+      ready = kept.ready;
+      accepted = kept.accepted;
+      passes = passes;
+      few = needed_few (journal_of a) e passes kept.few;
+      items = refl;
+      shows = kept.shows;
+    }
+
+-- the room that was made is enough
+pub enough : (a : Inside) (e : Event) (len places room : ℕ) → IsKept a → len ≡ vec_len a.history → places ≡ places_of e → len + (a.standing.reserved + places) ≤ room → needed (journal_of a) e ≤ room
+enough a e len places room kept same asked made = omega (arith, same, asked, made, past_len a, kept.shows.reserved)
 
 pub on_ok : {T E : Type 0} (r : Result T E) (P : Type 0) → is_err r ≡ false → OnOk r P → P
 on_ok (Ok x) P h p = p

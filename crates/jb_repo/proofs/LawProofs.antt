@@ -1,6 +1,7 @@
 -- The laws of accepted histories.
 use Rattle.std.proofs.Common.{◌≡◌, ℕ, suc, ◌+◌, ◌<◌, ◌≤◌, Bool, true, false, cond, not, ◌&&◌, ◌||◌, nat_eq, nat_lt, List, [], ◌∷◌, ◌++◌, map, slice_get, Option, Some, None, refl, sym, ◌∙◌, ap, subst, arith}
 use Rattle.std.proofs.lemmas.Bool.{ltb-true}
+use Rattle.std.specs.List.{list_all}
 use Rattle.jb_rules.specs.declared.counts.Counts.{Counts}
 use Rattle.jb_rules.specs.declared.row.Row.{Row}
 use Rattle.jb_rules.specs.declared.row.RowState.{RowState}
@@ -18,7 +19,7 @@ use Rattle.jb_cert.specs.Laws.{LeastPlanMeans}
 use Rattle.jb_rules.specs.Rows.{row_block}
 use Rattle.jb_repo.specs.Table.{Journal, refusal, after, AcceptedPast, row_of, rows_of, reserved}
 use Rattle.jb_repo.specs.Openable.{IsOpenable, IsReplayable}
-use Rattle.jb_repo.specs.Laws.{with_past, RunsOn, OneLane, OnePartition, RowsShowLanes, RowsAreSound, next_row, RowsLiveOn, committed_blocks, AreConsecutive, CommitsAreConsecutive, without_lane, OrderIsFree, PlansAreLeast, RoundsArePlanned, PlansAreRunWhole}
+use Rattle.jb_repo.specs.Laws.{with_past, RunsOn, OneLane, OnePartition, RowsShowLanes, LanesAreKnown, RowsAreSound, next_row, RowsLiveOn, committed_blocks, AreConsecutive, CommitsAreConsecutive, without_lane, OrderIsFree, PlansAreLeast, RoundsArePlanned, goes_well, PlansAreRunWhole}
 use Rattle.jb_repo.proofs.RowLemmas.{replayed_row-step}
 use Rattle.jb_repo.proofs.Stepping.{and_parts, commit_facts, passed-block, commit-is, running-before-end}
 use Rattle.jb_repo.proofs.Passing.{row_of-is, commit_passes, plan_passes, round_passes, or_false, ltb_false}
@@ -63,6 +64,9 @@ one_partition j law l p q a b =
 
 pub rows_show_lanes : RowsShowLanes
 rows_show_lanes j law l p = (row_from_owner j law l p, owner_from_row j law l p)
+
+pub lanes_are_known : LanesAreKnown
+lanes_are_known j law l p owned = let k = (known j law).lanes l p owned in (k.lane, k.partition)
 
 pub rows_are_sound : LawsBelow → RowsAreSound
 rows_are_sound laws j law p row is = row_sound laws j law.ready law.accepted p row is
@@ -196,7 +200,7 @@ not_running Finished h = refl
 not_running Failed h = refl
 
 -- where no lane runs, no row runs
-none_runs : (j : Journal) → IsReplayable j → reserved j ≡ 0 → (p : ℕ) (r : Row) → slice_get j.opening p ≡ Some r → is_running (replayed_row j.item_count r (own p j.past)).state ≡ false
+pub none_runs : (j : Journal) → IsReplayable j → reserved j ≡ 0 → (p : ℕ) (r : Row) → slice_get j.opening p ≡ Some r → is_running (replayed_row j.item_count r (own p j.past)).state ≡ false
 none_runs j law none p r opens =
     let k = known j law in
     not_running _ (λ l s. let h = k.owners l p r opens s in none_owns j.threads j.past l p none (k.lanes l p h).lane h)
@@ -282,12 +286,33 @@ not_closed (e ∷ later) none =
     let h = not_closed later f.1 in
     rw (f.1, h) (elim (is_round e) as (λ b. ((b && false) || false) ≡ false) [ true ↦ refl | false ↦ refl ])
 
+-- where all goes well, nothing stands there that begins or ends a plan
+no_plan : (e : Event) → goes_well e ≡ true → (is_plan e ≡ false) × (ends_plan e ≡ false)
+no_plan (Plan n k) well = absurd cc
+no_plan (Begin l p) well = (refl, refl)
+no_plan (Commit l d w) well = (refl, refl)
+no_plan (Roll l k) well = absurd cc
+no_plan (Fail l k) well = absurd cc
+no_plan (Drop l) well = absurd cc
+no_plan Round well = (refl, refl)
+no_plan Stop well = absurd cc
+
+no_plans : (events : List Event) → list_all goes_well events ≡ true → (some is_plan events ≡ false) × (some ends_plan events ≡ false)
+no_plans [] well = (refl, refl)
+no_plans (e ∷ events) well =
+    let both = and_parts (goes_well e) (list_all goes_well events) well in
+    let here = no_plan e both.0 in
+    let there = no_plans events both.1 in
+    (rw (here.0, there.0) refl, rw (here.1, there.1) refl)
+
 and_true : (a : Bool) → (a && true) ≡ false → a ≡ false
 and_true true h = h
 and_true false h = refl
 
 pub plans_are_run_whole : PlansAreRunWhole
-plans_are_run_whole j law between past m n next k is none quiet =
+plans_are_run_whole j law between past m n next k is well =
+    let none = (no_plans between well).0 in
+    let quiet = (no_plans between well).1 in
     let ok = subst (λ (x : List Event). AcceptedPast j x) is law.accepted in
     let q = (plan_passes (at_past j (between ++ Plan n k ∷ past)) m next ok.0).no_plan in
     let s = since-plan between past n k none in

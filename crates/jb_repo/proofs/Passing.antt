@@ -6,7 +6,7 @@ use Rattle.jb_rules.specs.declared.row.Row.{Row}
 use Rattle.jb_cert.specs.declared.certificates.Certificate.{Certificate}
 use Rattle.jb_job.specs.declared.class.ClassId.{ClassId}
 use Rattle.jb_repo.specs.declared.events.Event.TheVariants.{Plan, Begin, Commit, Roll, Fail, Drop, Round, Stop}
-use Rattle.jb_repo.specs.declared.events.TheConstants.{MAX_EVENTS}
+use Rattle.jb_job.specs.Limits.{max_events}
 use Rattle.jb_repo.specs.History.{own, owner, is_lane_marked, is_partition_marked, is_plan_open, is_stopping}
 use Rattle.jb_repo.specs.Rows.{replayed_row}
 use Rattle.jb_repo.specs.Table.{Journal, Condition, conditions, first_refusal, refusal, row_of, reserved, is_full, is_good_plan, is_good_commit, is_ended, is_at_limit}
@@ -40,7 +40,7 @@ leb_false a b h = grind (arith, nat_tests)
 pub ltb_false : (a b : ℕ) → nat_lt a b ≡ false → b ≤ a
 ltb_false a b h = grind (arith, nat_tests)
 
-pub full_false : (j : Journal) (n : ℕ) → is_full j n ≡ false → length j.past + reserved j + n ≤ MAX_EVENTS
+pub full_false : (j : Journal) (n : ℕ) → is_full j n ≡ false → length j.past + reserved j + n ≤ max_events
 full_false j n h = ltb_false _ _ h
 
 pub record BeginPasses (j : Journal) (l p : ℕ) : Type 0 where
@@ -51,7 +51,7 @@ pub record BeginPasses (j : Journal) (l p : ℕ) : Type 0 where
   pub partition_unmarked : is_partition_marked p j.past ≡ false
   pub not_over : is_ended (row_of j p) ≡ false
   pub open_plan : is_plan_open j.past ≡ true
-  pub room : length j.past + reserved j + 2 ≤ MAX_EVENTS
+  pub room : length j.past + reserved j + 2 ≤ max_events
   pub below_limit : is_at_limit (row_of j p) ≡ false
 
 pub begin_passes : (j : Journal) (l p : ℕ) → refusal j (Begin l p) ≡ None → BeginPasses j l p
@@ -82,7 +82,7 @@ pub record PlanPasses (j : Journal) (n : ℕ) (k : Certificate) : Type 0 where
   pub none_runs : reserved j ≡ 0
   pub no_plan : is_plan_open j.past ≡ false
   pub good : is_good_plan j n k ≡ true
-  pub room : length j.past + reserved j + 1 ≤ MAX_EVENTS
+  pub room : length j.past + reserved j + 1 ≤ max_events
 
 none_below : (n : ℕ) → nat_lt 0 n ≡ false → n ≡ 0
 none_below n h = grind (arith, nat_tests)
@@ -133,7 +133,7 @@ drop_passes j l h =
 pub record RoundPasses (j : Journal) : Type 0 where
   pub none_runs : reserved j ≡ 0
   pub open_plan : is_plan_open j.past ≡ true
-  pub room : length j.past + reserved j + 1 ≤ MAX_EVENTS
+  pub room : length j.past + reserved j + 1 ≤ max_events
 
 pub round_passes : (j : Journal) → refusal j Round ≡ None → RoundPasses j
 round_passes j h =
@@ -142,7 +142,7 @@ round_passes j h =
     let c = b.1 in
     record { none_runs = none_below _ a.0; open_plan = not_false _ b.0; room = full_false j 1 c.0 }
 
-pub stop_passes : (j : Journal) → refusal j Stop ≡ None → length j.past + reserved j + 1 ≤ MAX_EVENTS
+pub stop_passes : (j : Journal) → refusal j Stop ≡ None → length j.past + reserved j + 1 ≤ max_events
 stop_passes j h = full_false j 1 (passes (conditions j Stop) h).0
 
 -- the row of a partition, from its opening row

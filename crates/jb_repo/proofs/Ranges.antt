@@ -12,7 +12,7 @@ use Rattle.std.proofs.lemmas.List.{length-map}
 use Rattle.std.proofs.lemmas.Option.{slice_get_within}
 use Rattle.std.proofs.lemmas.List.Sums.{sum_by-cons}
 use Rattle.jb_repo.specs.inside.Below.{LawsBelow}
-use Rattle.jb_plan.specs.declared.limits.TheConstants.{MAX_RECORDS}
+use Rattle.jb_job.specs.Limits.{max_records}
 use Rattle.jb_plan.specs.Ranges.{HaveNoneInCommon, AreDisjoint}
 use Rattle.jb_rules.specs.Rows.{range_of}
 use Rattle.jb_repo.specs.History.{own}
@@ -101,17 +101,17 @@ remaining_of-le laws c row (Running l) some s = omega arith
 remaining_of-le laws c row Finished some s = omega arith
 remaining_of-le laws c row Failed some s = omega arith
 
-below-all : (r : Row) → r.hi ≤ MAX_RECORDS → r.hi - r.lo ≤ below MAX_RECORDS r
+below-all : (r : Row) → r.hi ≤ max_records → r.hi - r.lo ≤ below max_records r
 unfolding below
 below-all r small = omega arith
 
-remaining-below : LawsBelow → (c : ℕ) (past : List Event) (first : ℕ) (rows : List Row) → 1 ≤ c → ((i : ℕ) (r : Row) → slice_get rows i ≡ Some r → IsSoundRow (replayed_row c r (own (first + i) past))) → sum (remaining c (rows_from c past first rows)) ≤ all_below MAX_RECORDS rows
+remaining-below : LawsBelow → (c : ℕ) (past : List Event) (first : ℕ) (rows : List Row) → 1 ≤ c → ((i : ℕ) (r : Row) → slice_get rows i ≡ Some r → IsSoundRow (replayed_row c r (own (first + i) past))) → sum (remaining c (rows_from c past first rows)) ≤ all_below max_records rows
 remaining-below laws c past first [] some sound = omega arith
 remaining-below laws c past first (r ∷ rows) some sound =
     let z : first + 0 ≡ first = omega arith in
     let s : IsSoundRow (replayed_row c r (own first past)) = subst (λ (x : ℕ). IsSoundRow (replayed_row c r (own x past))) z (sound 0 r refl) in
     let head = remaining_of-le laws c (replayed_row c r (own first past)) (replayed_row c r (own first past)).state some s in
-    let here : r.hi - r.lo ≤ below MAX_RECORDS r = below-all r s.placed.records in
+    let here : r.hi - r.lo ≤ below max_records r = below-all r s.placed.records in
     let tail = remaining-below laws c past (first + 1) rows some (λ i t o.
     let e : first + suc i ≡ first + 1 + i = omega arith in
     subst (λ (x : ℕ). IsSoundRow (replayed_row c t (own x past))) e (sound (suc i) t o)) in
@@ -119,7 +119,7 @@ remaining-below laws c past first (r ∷ rows) some sound =
     omega (arith, one, head, here, tail)
 
 -- no more blocks are left than records may stand in the ranges
-pub remaining-small : LawsBelow → (c : ℕ) (past : List Event) (rows : List Row) → 1 ≤ c → AreDisjoint (map range_of rows) → ((i : ℕ) (r : Row) → slice_get rows i ≡ Some r → IsSoundRow (replayed_row c r (own i past))) → sum (remaining c (rows_from c past 0 rows)) ≤ MAX_RECORDS
+pub remaining-small : LawsBelow → (c : ℕ) (past : List Event) (rows : List Row) → 1 ≤ c → AreDisjoint (map range_of rows) → ((i : ℕ) (r : Row) → slice_get rows i ≡ Some r → IsSoundRow (replayed_row c r (own i past))) → sum (remaining c (rows_from c past 0 rows)) ≤ max_records
 remaining-small laws c past rows some disjoint sound =
     let a = remaining-below laws c past 0 rows some (λ i r o. let z : i ≡ 0 + i = omega arith in subst (λ (x : ℕ). IsSoundRow (replayed_row c r (own x past))) z (sound i r o)) in
-    omega (arith, a, all_below-le MAX_RECORDS rows (apart rows disjoint))
+    omega (arith, a, all_below-le max_records rows (apart rows disjoint))

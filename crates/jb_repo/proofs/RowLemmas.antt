@@ -25,6 +25,11 @@ pub plus_counts-zero : (a : Counts) → plus_counts a no_counts ≡ a
 plus_counts-zero a =
     counts_eq _ _ _ _ _ _ _ _ _ _ _ _ _ _ _ _ (omega arith) (omega arith) (omega arith) (omega arith) (omega arith) (omega arith) (omega arith) (omega arith)
 
+-- what is added to the first of two sums is added to both
+pub plus_counts-swap : (a g d t : Counts) → plus_counts (plus_counts a (plus_counts g d)) t ≡ plus_counts (plus_counts (plus_counts a g) t) d
+plus_counts-swap a g d t =
+    counts_eq _ _ _ _ _ _ _ _ _ _ _ _ _ _ _ _ (omega arith) (omega arith) (omega arith) (omega arith) (omega arith) (omega arith) (omega arith) (omega arith)
+
 pub plus_counts-rollback : (a b : Counts) → plus_counts a (plus_counts b one_rollback) ≡ rolled_counts (plus_counts a b)
 plus_counts-rollback a b =
     counts_eq _ _ _ _ _ _ _ _ _ _ _ _ _ _ _ _ (omega arith) (omega arith) (omega arith) (omega arith) (omega arith) (omega arith) (omega arith) (omega arith)
@@ -94,7 +99,7 @@ rows_from-none c e past first (r ∷ rs) h =
     rw (t, u) refl
 
 -- a partition before the first one changes none of them
-rows_from-before : (c : ℕ) (e : Event) (past : List Event) (p first : ℕ) (rs : List Row) → partition_of e past ≡ Some p → p < first → rows_from c (e ∷ past) first rs ≡ rows_from c past first rs
+pub rows_from-before : (c : ℕ) (e : Event) (past : List Event) (p first : ℕ) (rs : List Row) → partition_of e past ≡ Some p → p < first → rows_from c (e ∷ past) first rs ≡ rows_from c past first rs
 rows_from-before c e past p first [] h lt = refl
 rows_from-before c e past p first (r ∷ rs) h lt =
     let t = own-no p first e past h (omega arith) in

@@ -5,7 +5,7 @@ use Rattle.jb_rules.specs.declared.counts.Counts.{Counts}
 use Rattle.jb_rules.specs.declared.row.Row.{Row}
 use Rattle.jb_rules.specs.declared.row.RowState.TheVariants.{Running, Finished}
 use Rattle.jb_rules.specs.Counts.{IsDelta}
-use Rattle.jb_rules.specs.Rows.{row_block, committed_row}
+use Rattle.jb_rules.specs.Rows.{row_block, committed_row, rolled_row}
 use Rattle.jb_rules.specs.Sound.{IsSoundRow}
 use Rattle.jb_rules.specs.States.{has_ended}
 use Rattle.jb_repo.specs.declared.events.Event.{Event}
@@ -74,7 +74,8 @@ sound-step laws c row some (Plan n k) can = can.sound
 sound-step laws c row some (Begin l p) can = laws.rows.begun row l can.sound can.unfinished
 sound-step laws c row some (Commit l d w) can = sound-commit laws c row some can.sound can.unfinished l d w (commit_facts laws c row d w can.commit)
 sound-step laws c row some (Roll l k) can =
-    laws.rows.rolled row (row_block c row).hi can.sound can.unfinished (block_within laws c row some can.sound can.unfinished) (can.below_limit tt)
+    let rolled = laws.rows.rolled row (row_block c row).hi can.sound (block_within laws c row some can.sound can.unfinished) (can.below_limit tt) in
+    laws.rows.dropped (rolled_row row (row_block c row).hi) rolled can.unfinished
 sound-step laws c row some (Fail l k) can = laws.rows.failed row can.sound can.unfinished (can.below_limit tt)
 sound-step laws c row some (Drop l) can = laws.rows.dropped row can.sound can.unfinished
 sound-step laws c row some Round can = can.sound

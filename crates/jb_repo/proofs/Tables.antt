@@ -1,32 +1,29 @@
 -- The kept table of rows and the definition's rows.
-use Rattle.std.proofs.Common.{◌≡◌, ◌≢◌, ℕ, zero, suc, ◌+◌, ◌<◌, ◌≤◌, Bool, true, false, cond, nat_eq, is_some, inl, inr, List, [], ◌∷◌, ◌++◌, length, take, set, get_or, slice_get, Option, Some, None, option_map, refl, sym, ◌∙◌, ap, subst, eq-eqb, arith, IfSome}
-use Rattle.std.proofs.lemmas.Bool.{ne_eqb, cases_eq}
+use Rattle.std.proofs.Common.{◌≡◌, ℕ, zero, suc, ◌+◌, ◌<◌, ◌≤◌, List, [], ◌∷◌, ◌++◌, length, take, set, get_or, slice_get, Option, Some, None, option_map, refl, sym, ◌∙◌, ap, subst, arith, IfSome}
 use Rattle.std.proofs.lemmas.Option.{slice_get-get_or, slice_get_past, get_or_from_slice_get}
 use Rattle.std.proofs.lemmas.List.{get_or-take}
 use Rattle.std.proofs.Math.Seq.{take-set-lt}
 use Rattle.jb_rules.specs.declared.row.Row.{Row}
 use Rattle.jb_rules.specs.declared.row.RowState.TheVariants.{Waiting}
 use Rattle.jb_repo.specs.declared.events.Event.{Event}
-use Rattle.jb_repo.specs.declared.events.Event.TheVariants.{Plan, Begin, Commit, Roll, Fail, Drop, Round, Stop}
 use Rattle.jb_rules.specs.Sound.{IsSoundRow}
 use Rattle.jb_rules.specs.Rows.{range_of}
 use Rattle.jb_plan.specs.Ranges.{AreDisjoint}
-use Rattle.jb_plan.specs.declared.limits.TheConstants.{MAX_RECORDS, MAX_PARTITIONS}
+use Rattle.jb_job.specs.Limits.{max_partitions, max_records}
 use Rattle.jb_rules.specs.Counts.{no_counts}
 use Rattle.std.specs.Prelude.{sum, map}
 use Rattle.jb_job.specs.declared.job.Range.{Range}
-use Rattle.jb_repo.specs.History.{own, owner, names_lane, begun_by, partition_of, running, runs}
+use Rattle.jb_repo.specs.History.{own, owner, partition_of}
 use Rattle.jb_repo.specs.Rows.{replayed_row, rows_from, remaining, remaining_of, total_counts}
-use Rattle.jb_repo.specs.Table.{Journal, Accepted, refusal, after, rows_of, row_of, reserved}
-use Rattle.jb_repo.specs.Answers.{places_of}
+use Rattle.jb_repo.specs.Table.{Journal, Accepted, refusal, after, rows_of, row_of}
 use Rattle.jb_repo.specs.Openable.{IsOpenable}
 use Rattle.jb_repo.specs.Sound.{IsTable}
 use Rattle.jb_repo.specs.inside.Below.{LawsBelow}
 use Rattle.jb_repo.specs.inside.Steps.{step, stepped_rows, CanStep}
-use Rattle.jb_repo.proofs.RowLemmas.{length-rows_from, slice_get-rows_from, rows_from-none, rows_from-some, owner-yes, owner-no}
+use Rattle.jb_repo.proofs.RowLemmas.{length-rows_from, slice_get-rows_from, rows_from-none, rows_from-some}
 use Rattle.jb_repo.proofs.Consistent.{consistent, about, can, rows-sound}
 use Rattle.jb_repo.proofs.Stepping.{running-before-end}
-use Rattle.jb_repo.proofs.Passing.{row_of-is, begin_passes, OutcomePasses, commit_passes, roll_passes, fail_passes, drop_passes}
+use Rattle.jb_repo.proofs.Passing.{row_of-is}
 use Rattle.jb_repo.proofs.Ranges.{remaining-small}
 
 -- OPENING ROWS
@@ -73,7 +70,7 @@ row_unfinished laws j ready ok l p row owned is =
     let s = (consistent j ready j.past ok).states l p o.opening owned o.opens in
     running-before-end row l (row_sound laws j ready ok p row is) (ap (λ (x : Row). x.state) o.becomes ∙ s)
 
-pub remaining_fits : LawsBelow → (j : Journal) → IsOpenable j → Accepted j → sum (remaining j.item_count (rows_of j)) ≤ MAX_RECORDS
+pub remaining_fits : LawsBelow → (j : Journal) → IsOpenable j → Accepted j → sum (remaining j.item_count (rows_of j)) ≤ max_records
 remaining_fits laws j ready ok =
     remaining-small laws j.item_count j.past j.opening ready.some_items ready.disjoint (λ p r opens. rows-sound laws j ready p r opens j.past ok)
 
@@ -114,72 +111,6 @@ module _ (j : Journal) (ready : IsOpenable j) (ok : Accepted j) (e : Event) (pas
       ∙ ap (λ (x : List Row). set x p (step j.item_count (get_or rows p d) e)) table
       ∙ sym r
 
--- RESERVED PLACES
-
-abbrev one : Bool → ℕ
-one b = cond b 1 0
-
-one_le : (b : Bool) → one b ≤ 1
-one_le true = omega arith
-one_le false = omega arith
-
-running-same : (n : ℕ) (e : Event) (past : List Event) → ((k : ℕ) → names_lane k e ≡ false) → running n (e ∷ past) ≡ running n past
-running-same zero e past silent = refl
-running-same (suc n) e past silent =
-    let t = owner-no n e past (silent n) in
-    let u = running-same n e past silent in
-    rw (t, u) refl
-
--- only lane l changes
-module _ (l : ℕ) (e : Event) (past : List Event) (names : (k : ℕ) → names_lane k e ≡ nat_eq l k) where
-  others : (k : ℕ) → l ≢ k → runs k (e ∷ past) ≡ runs k past
-  others k ne = ap is_some (owner-no k e past (names k ∙ ne_eqb l k ne))
-
-  running-above : (n : ℕ) → n ≤ l → running n (e ∷ past) ≡ running n past
-  running-above zero le = refl
-  running-above (suc n) le =
-      let t = others n (λ h. absurd (omega arith)) in
-      let u = running-above n (omega arith) in
-      rw (t, u) refl
-
-  running-one : (n : ℕ) → l < n → running n (e ∷ past) + one (runs l past) ≡ running n past + one (runs l (e ∷ past))
-  running-one zero lt = absurd (omega arith)
-  running-one (suc n) lt =
-      elim (cases_eq l n) [
-        | inl same ↦
-            let u = running-above n (omega arith) in
-            let a : one (runs l past) ≡ one (runs n past) = ap (λ (x : ℕ). one (runs x past)) same in
-            let b : one (runs l (e ∷ past)) ≡ one (runs n (e ∷ past)) = ap (λ (x : ℕ). one (runs x (e ∷ past))) same in
-            omega (arith, u, a, b)
-        | inr ne ↦
-            let t : one (runs n (e ∷ past)) ≡ one (runs n past) = ap one (others n ne) in
-            let u = running-one n (omega arith) in
-            omega (arith, t, u)
-      ]
-
--- the places that an accepted event asks for are enough for it and for the outcomes that are still to come
-module _ (j : Journal) (ready : IsOpenable j) (ok : Accepted j) where
-  outcome_places : (e : Event) (l : ℕ) → ((k : ℕ) → names_lane k e ≡ nat_eq l k) → begun_by e ≡ None → OutcomePasses j l → 1 + running j.threads (e ∷ j.past) ≤ running j.threads j.past
-  outcome_places e l names begins q =
-      let a = running-one l e j.past names j.threads q.lane in
-      let b : one (runs l j.past) ≡ 1 = rw q.owned refl in
-      let c : one (runs l (e ∷ j.past)) ≡ 0 = rw (owner-yes l e j.past (names l ∙ eq-eqb l l refl), begins) refl in
-      omega (arith, a, b, c)
-
-  pub places_enough : (e : Event) → refusal j e ≡ None → 1 + reserved (after j e) ≤ reserved j + places_of e
-  places_enough (Plan n k) passes = let a = running-same j.threads (Plan n k) j.past (λ _. refl) in omega (arith, a)
-  places_enough (Begin l p) passes =
-      let q = begin_passes j l p passes in
-      let a = running-one l (Begin l p) j.past (λ _. refl) j.threads q.lane in
-      let c : one (runs l (Begin l p ∷ j.past)) ≤ 1 = one_le (runs l (Begin l p ∷ j.past)) in
-      omega (arith, a, c)
-  places_enough (Commit l d w) passes = let a = outcome_places (Commit l d w) l (λ _. refl) refl (commit_passes j l d w passes).0 in omega (arith, a)
-  places_enough (Roll l k) passes = let a = outcome_places (Roll l k) l (λ _. refl) refl (roll_passes j l k passes) in omega (arith, a)
-  places_enough (Fail l k) passes = let a = outcome_places (Fail l k) l (λ _. refl) refl (fail_passes j l k passes) in omega (arith, a)
-  places_enough (Drop l) passes = let a = outcome_places (Drop l) l (λ _. refl) refl (drop_passes j l passes) in omega (arith, a)
-  places_enough Round passes = let a = running-same j.threads Round j.past (λ _. refl) in omega (arith, a)
-  places_enough Stop passes = let a = running-same j.threads Stop j.past (λ _. refl) in omega (arith, a)
-
 -- WHAT THE CODE NEEDS
 
 -- what a read past the end of a list of rows gives
@@ -197,7 +128,7 @@ pub kept_get : (j : Journal) (rows : List Row) (p : ℕ) (row : Row) → take (l
 kept_get j rows p row table lt h = kept_row j rows p row table lt ∙ ap Some (get_or_from_slice_get rows p row row h)
 
 module _ (j : Journal) (ready : IsOpenable j) (ok : Accepted j) (e : Event) (passes : refusal j e ≡ None) where
-  pub inside_all : (o : Option ℕ) → partition_of e j.past ≡ o → IfSome o (λ p. p < MAX_PARTITIONS)
+  pub inside_all : (o : Option ℕ) → partition_of e j.past ≡ o → IfSome o (λ p. p < max_partitions)
   inside_all None part = tt
   inside_all (Some p) part = omega (arith, about_row j ready ok e passes p part, ready.few_rows)
 

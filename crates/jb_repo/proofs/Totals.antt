@@ -5,8 +5,7 @@ use Rattle.jb_rules.specs.declared.row.Row.{Row}
 use Rattle.jb_rules.specs.Sound.{IsSoundRow}
 use Rattle.jb_repo.specs.inside.Fit.{CountsFit}
 use Rattle.jb_repo.specs.Rows.{total_counts}
-use Rattle.jb_rules.specs.declared.row.TheConstants.{MAX_ROLLBACKS}
-use Rattle.jb_plan.specs.declared.limits.TheConstants.{MAX_PARTITIONS}
+use Rattle.jb_job.specs.Limits.{max_partitions, max_rollbacks}
 
 -- each of the eight numbers is at most n
 record UpTo (c : Counts) (n : ℕ) : Type 0 where
@@ -19,7 +18,7 @@ record UpTo (c : Counts) (n : ℕ) : Type 0 where
   filter : c.filter ≤ n
   write_skip : c.write_skip ≤ n
 
-row_counts : (r : Row) → IsSoundRow r → UpTo r.counts MAX_ROLLBACKS
+row_counts : (r : Row) → IsSoundRow r → UpTo r.counts max_rollbacks
 row_counts r sound =
     let p = sound.placed in
     let c = sound.counted in
@@ -34,7 +33,7 @@ row_counts r sound =
       write_skip = omega (arith, c.write_skips, c.commits, p.at_to, p.records);
     }
 
-counts_up_to : (rows : List Row) → ((i : ℕ) (r : Row) → slice_get rows i ≡ Some r → IsSoundRow r) → UpTo (total_counts rows) (MAX_ROLLBACKS * length rows)
+counts_up_to : (rows : List Row) → ((i : ℕ) (r : Row) → slice_get rows i ≡ Some r → IsSoundRow r) → UpTo (total_counts rows) (max_rollbacks * length rows)
 counts_up_to [] sound = record {
   read = omega arith;
   write = omega arith;
@@ -59,7 +58,7 @@ counts_up_to (r ∷ rows) sound =
       write_skip = omega (arith, h.write_skip, t.write_skip);
     }
 
-pub totals_fit : (rows : List Row) → length rows ≤ MAX_PARTITIONS → ((i : ℕ) (r : Row) → slice_get rows i ≡ Some r → IsSoundRow r) → CountsFit (total_counts rows)
+pub totals_fit : (rows : List Row) → length rows ≤ max_partitions → ((i : ℕ) (r : Row) → slice_get rows i ≡ Some r → IsSoundRow r) → CountsFit (total_counts rows)
 totals_fit rows few sound =
     let u = counts_up_to rows sound in
     record {

@@ -3,12 +3,13 @@ use Rattle.std.proofs.Common.{◌≡◌, [], ◌∷◌, Some, None, refl}
 use Rattle.jb_cert.specs.declared.certificates.Certificate.TheVariants.{Longest}
 use Rattle.jb_job.specs.declared.class.ClassId.{ClassId}
 use Rattle.jb_repo.specs.declared.events.Event.TheVariants.{Plan, Begin}
-use Rattle.jb_repo.specs.declared.refused.Refused.TheVariants.{NotIdle, LaneBusy, PastPlan, BadPlan, Full}
+use Rattle.jb_repo.specs.declared.refused.Refused.TheVariants.{NotIdle, LaneBusy, BadDelta, PastPlan, BadPlan, Full}
 use Rattle.jb_plan.specs.Blocks.{blocks}
 use Rattle.jb_repo.specs.Rows.{total_counts}
 use Rattle.jb_repo.specs.Table.{rows_of}
 use Rattle.jb_repo.specs.Worked.{table_answers, journal_after}
 use Rattle.jb_repo.specs.Worked.{fresh, two_partitions, walk, answered, finished, four_records, rollback, given_up, one_record, tries, tried_out, at_limit}
+use Rattle.jb_repo.specs.Worked.{EndedPlans, skipped_writes}
 
 pub answers_in_order : table_answers two_partitions (walk 0 1) ≡ answered
 unfolding blocks
@@ -49,3 +50,22 @@ row_after_tries class = refl
 pub answers_at_limit : table_answers at_limit (Plan 1 (Longest 0) ∷ Begin 0 0 ∷ []) ≡ None ∷ Some Full ∷ []
 unfolding blocks
 answers_at_limit = refl
+
+pub ended_plans : EndedPlans
+unfolding blocks
+ended_plans = record {
+  rolled = λ class. refl;
+  failed = λ class. refl;
+  dropped = refl;
+  stopped = refl;
+  committed = refl;
+  later_rolled = λ class. refl;
+  later_failed = λ class. refl;
+  later_dropped = refl;
+  later_stopped = refl;
+  later_committed = refl;
+}
+
+pub answers_to_skipped_writes : table_answers two_partitions skipped_writes ≡ None ∷ None ∷ Some BadDelta ∷ Some BadDelta ∷ Some BadDelta ∷ None ∷ []
+unfolding blocks
+answers_to_skipped_writes = refl

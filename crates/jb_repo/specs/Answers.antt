@@ -1,10 +1,10 @@
 -- The answers to events.
-use Rattle.std.specs.Prelude.{◌≡◌, ℕ, ◌<◌, List, [], ◌∷◌, Option, Some, None, ◌⊎◌}
+use Rattle.std.specs.Prelude.{◌≡◌, ℕ, ◌+◌, ◌<◌, ◌≤◌, List, [], ◌∷◌, length, Option, Some, None, ◌⊎◌}
 use Rattle.jb_repo.specs.declared.events.Event.{Event}
 use Rattle.jb_repo.specs.declared.events.Event.TheVariants.{Plan, Begin, Round, Stop}
 use Rattle.jb_repo.specs.declared.refused.Refused.{Refused}
 use Rattle.jb_repo.specs.declared.refused.Refused.TheVariants.{Memory}
-use Rattle.jb_repo.specs.Table.{Journal, refusal, after}
+use Rattle.jb_repo.specs.Table.{Journal, refusal, after, with_room, reserved}
 
 -- the places that an event asks for: a Begin its own and its outcome's, and an outcome none, since its Begin reserved it
 abbrev pub places_of : Event → ℕ
@@ -14,14 +14,27 @@ places_of Round = 1
 places_of Stop = 1
 places_of _ = 0
 
--- the first refusal of the table; or Memory, where there is none and the event asks for a place
+-- the places that the history needs for the event and for the outcomes that are still to come
+abbrev pub needed : Journal → Event → ℕ
+needed j e = length j.past + reserved j + places_of e
+
+-- each lane that runs has the place of its outcome
+abbrev pub HasPlaces : Journal → Type 0
+HasPlaces j = length j.past + reserved j ≤ j.room
+
+-- the first refusal of the table; or Memory, where there is none and there was less room than the event needs
 abbrev pub IsRefusal : Journal → Event → Refused → Type 0
 IsRefusal j e refused =
-    (refusal j e ≡ Some refused) ⊎ ((refused ≡ Memory) × (refusal j e ≡ None) × (0 < places_of e))
+    (refusal j e ≡ Some refused) ⊎ ((refused ≡ Memory) × (refusal j e ≡ None) × (0 < places_of e) × (j.room < needed j e))
+
+-- the event stands in the journal; the room is another one only where there was too little
+pub record Enters (old : Journal) (e : Event) (new : Journal) : Type 0 where
+  pub entered : new ≡ after (with_room old new.room) e
+  pub in_place : needed old e ≤ old.room → new.room ≡ old.room
 
 -- one event: it is accepted and stands in the journal, or it is refused and changes nothing
 abbrev pub Applies : Journal → Event → Option Refused → Journal → Type 0
-Applies old e None new = (refusal old e ≡ None) × (new ≡ after old e)
+Applies old e None new = (refusal old e ≡ None) × Enters old e new
 Applies old e (Some refused) new = IsRefusal old e refused × (new ≡ old)
 
 -- the answers to events, one after another

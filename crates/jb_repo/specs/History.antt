@@ -26,6 +26,22 @@ abbrev pub is_plan : Event → Bool
 is_plan (Plan n certificate) = true
 is_plan _ = false
 
+abbrev pub is_begin : Event → Bool
+is_begin (Begin lane partition) = true
+is_begin _ = false
+
+-- the event ends a chunk
+abbrev pub is_outcome : Event → Bool
+is_outcome (Commit lane delta written) = true
+is_outcome (Roll lane class) = true
+is_outcome (Fail lane class) = true
+is_outcome (Drop lane) = true
+is_outcome _ = false
+
+abbrev pub is_commit : Event → Bool
+is_commit (Commit lane delta written) = true
+is_commit _ = false
+
 abbrev pub is_round : Event → Bool
 is_round Round = true
 is_round _ = false

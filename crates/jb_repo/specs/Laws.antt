@@ -1,23 +1,66 @@
 -- What holds of every accepted history of a repository.
-use Rattle.std.specs.Prelude.{◌≡◌, ℕ, ◌<◌, ◌≤◌, ◌↔◌, false, List, [], ◌∷◌, ◌++◌, map, length, slice_get, Option, Some, None, if◌then◌else◌}
+use Rattle.std.specs.Prelude.{◌≡◌, ℕ, ◌+◌, ◌-◌, ◌<◌, ◌≤◌, ◌↔◌, Bool, true, false, List, [], ◌∷◌, ◌++◌, map, length, slice_get, Option, Some, None, if◌then◌else◌}
+use Rattle.std.specs.List.{list_all}
+use Rattle.jb_rules.specs.declared.counts.Counts.{Counts}
 use Rattle.jb_rules.specs.declared.row.Row.{Row}
-use Rattle.jb_rules.specs.declared.row.RowState.TheVariants.{Running}
+use Rattle.jb_rules.specs.declared.row.RowState.TheVariants.{Waiting, Running}
+use Rattle.jb_job.specs.declared.class.ClassId.{ClassId}
 use Rattle.jb_cert.specs.declared.certificates.Certificate.{Certificate}
 use Rattle.jb_repo.specs.declared.events.Event.{Event}
-use Rattle.jb_repo.specs.declared.events.Event.TheVariants.{Plan, Begin, Commit, Roll, Fail, Drop}
+use Rattle.jb_repo.specs.declared.events.Event.TheVariants.{Plan, Begin, Commit, Roll, Fail, Drop, Round, Stop}
+use Rattle.jb_job.specs.Limits.{max_events}
+use Rattle.jb_repo.specs.declared.refused.Refused.TheVariants.{BadDelta, BadPlan}
+use Rattle.jb_plan.specs.Blocks.{blocks}
+use Rattle.jb_rules.specs.Counts.{IsDelta}
 use Rattle.jb_rules.specs.Sound.{IsSoundRow}
 use Rattle.jb_rules.specs.Rows.{row_block, begun_row, committed_row, rolled_row, failed_row, dropped_row}
 use Rattle.jb_job.specs.declared.job.Range.{Range}
+use Rattle.jb_cert.specs.Load.{IsWithinLimits}
 use Rattle.jb_cert.specs.Lawful.{IsLeastNumber}
 use Rattle.jb_cert.specs.Certificates.{Holds}
-use Rattle.jb_repo.specs.History.{owner, own, partition_of, is_some_of, some, number, is_plan, is_round, ends_plan}
-use Rattle.jb_repo.specs.Rows.{replayed_row, at_after, remaining}
+use Rattle.jb_repo.specs.History.{owner, own, partition_of, is_some_of, some, number, is_begin, is_commit, is_outcome, is_plan, is_plan_open, is_round, is_stop, is_stopping}
+use Rattle.jb_repo.specs.Rows.{replayed_row, at_after, remaining, remaining_of, total_counts}
 use Rattle.jb_repo.specs.Table.{Journal, refusal, after, rows_of, row_of, reserved}
-use Rattle.jb_repo.specs.Openable.{IsReplayable}
+use Rattle.jb_repo.specs.Openable.{IsOpenable, IsReplayable, opened_journal}
 
 -- the same repository with another history
 abbrev pub with_past : Journal → List Event → Journal
 with_past j past = record j { past = past }
+
+-- OPENING AND LENGTH
+
+-- What may be opened is a repository with an accepted history, the empty one, and its rows are the opening rows
+pub record IsOpened (j : Journal) : Type 0 where
+  pub replayable : IsReplayable j
+  pub rows : rows_of j ≡ j.opening
+
+abbrev pub OpeningsAreAccepted : Type 0
+OpeningsAreAccepted =
+    (rows : List Row) (threads item_count : ℕ) → IsOpenable (opened_journal rows threads item_count)
+    → IsOpened (opened_journal rows threads item_count)
+
+-- where no lane runs, the rows now are rows with which a repository may be opened
+abbrev pub RowsMayBeOpenedAgain : Type 0
+RowsMayBeOpenedAgain =
+    (j : Journal) → IsReplayable j → reserved j ≡ 0 → IsOpenable (opened_journal (rows_of j) j.threads j.item_count)
+
+-- at most 1,000,000,000 events and reserved places
+abbrev pub EventsAreFew : Type 0
+EventsAreFew = (j : Journal) → IsReplayable j → length j.past + reserved j ≤ max_events
+
+-- and no more events of a kind than events
+abbrev pub KindsAreFew : Type 0
+KindsAreFew = (j : Journal) → IsReplayable j → (test : Event → Bool) → number test j.past ≤ length j.past
+
+-- as many chunks were ended as begun, but for those that run
+abbrev pub ChunksAreEnded : Type 0
+ChunksAreEnded = (j : Journal) → IsReplayable j → number is_begin j.past ≡ number is_outcome j.past + reserved j
+
+-- and each event is a Plan, a Begin, the end of a chunk, a Round or a Stop
+abbrev pub EventsAddUp : Type 0
+EventsAddUp =
+    (past : List Event)
+    → length past ≡ number is_plan past + number is_begin past + number is_outcome past + number is_round past + number is_stop past
 
 -- LANES
 
@@ -32,6 +75,20 @@ OneLane = (j : Journal) → IsReplayable j → (k l p : ℕ) → owner k j.past 
 abbrev pub OnePartition : Type 0
 OnePartition = (j : Journal) → IsReplayable j → (l p q : ℕ) → RunsOn (row_of j p) l → RunsOn (row_of j q) l → p ≡ q
 
+-- a lane that runs is one of the repository's, and runs one of its partitions
+abbrev pub LanesAreKnown : Type 0
+LanesAreKnown =
+    (j : Journal) → IsReplayable j → (l p : ℕ) → owner l j.past ≡ Some p → (l < j.threads) × (p < length j.opening)
+
+-- it may end its chunk: a rollback, a failure and a drop are accepted
+pub record LanesMayEnd (j : Journal) (l : ℕ) : Type 0 where
+  pub rolled : (class : ClassId) → refusal j (Roll l class) ≡ None
+  pub failed : (class : ClassId) → refusal j (Fail l class) ≡ None
+  pub dropped : refusal j (Drop l) ≡ None
+
+abbrev pub RunningLanesMayEnd : Type 0
+RunningLanesMayEnd = (j : Journal) → IsReplayable j → (l p : ℕ) → owner l j.past ≡ Some p → LanesMayEnd j l
+
 -- the rows and the history agree on which lane runs what
 abbrev pub RowsShowLanes : Type 0
 RowsShowLanes = (j : Journal) → IsReplayable j → (l p : ℕ) → (owner l j.past ≡ Some p) ↔ RunsOn (row_of j p) l
@@ -45,7 +102,7 @@ RowsAreSound = (j : Journal) → IsReplayable j → (p : ℕ) (row : Row) → ro
 abbrev pub next_row : ℕ → Row → Event → Row
 next_row item_count row (Begin lane partition) = begun_row row lane
 next_row item_count row (Commit lane delta written) = committed_row row (row_block item_count row).hi delta
-next_row item_count row (Roll lane class) = rolled_row row (row_block item_count row).hi
+next_row item_count row (Roll lane class) = dropped_row (rolled_row row (row_block item_count row).hi)
 next_row item_count row (Fail lane class) = failed_row row
 next_row item_count row (Drop lane) = dropped_row row
 next_row item_count row _ = row
@@ -79,6 +136,49 @@ CommitsAreConsecutive =
     (j : Journal) → IsReplayable j → (p : ℕ) (opening : Row) → slice_get j.opening p ≡ Some opening
     → AreConsecutive opening.at (committed_blocks j.item_count opening (own p j.past)) (at_after opening (own p j.past))
 
+-- The Commit takes the first of the blocks that its partition had left: all its records, of which there is one at least
+pub record TakesFirstBlock (j : Journal) (lane : ℕ) (delta : Counts) : Type 0 where
+  pub partition : ℕ
+  pub owned : owner lane j.past ≡ Some partition
+  pub row : Row
+  pub row_is : row_of j partition ≡ Some row
+  pub block : Range
+  pub first : blocks row.at row.redo row.hi j.item_count ≡ block ∷ blocks block.hi row.redo row.hi j.item_count
+  pub from : block.lo ≡ row.at
+  pub some : block.lo < block.hi
+  pub passed : block.lo + (delta.read + delta.read_skip) ≡ block.hi
+
+abbrev pub CommitsTakeFirstBlocks : Type 0
+CommitsTakeFirstBlocks =
+    (j : Journal) → IsReplayable j → (later past : List Event) (lane : ℕ) (delta : Counts) (written : ℕ)
+    → j.past ≡ later ++ Commit lane delta written ∷ past → TakesFirstBlock (with_past j past) lane delta
+
+-- COMMITS
+
+-- the delta is one of the row's next block, and the number of results is the row's with those of the delta
+abbrev pub IsCommitOfNext : ℕ → Row → Counts → ℕ → Type 0
+IsCommitOfNext item_count row delta written =
+    IsDelta ((row_block item_count row).hi - row.at) delta × (written ≡ row.written + delta.write)
+
+-- a lane's Commit is accepted exactly where it is one of the row's next block ..
+abbrev pub GoodCommitsAreAccepted : Type 0
+GoodCommitsAreAccepted =
+    (j : Journal) → IsReplayable j → (lane p : ℕ) (row : Row) → owner lane j.past ≡ Some p → row_of j p ≡ Some row
+    → (delta : Counts) (written : ℕ) → (refusal j (Commit lane delta written) ≡ None) ↔ IsCommitOfNext j.item_count row delta written
+
+-- .. and is BadDelta exactly where it isn't
+abbrev pub BadCommitsAreRefused : Type 0
+BadCommitsAreRefused =
+    (j : Journal) → IsReplayable j → (lane p : ℕ) (row : Row) → owner lane j.past ≡ Some p → row_of j p ≡ Some row
+    → (delta : Counts) (written : ℕ)
+    → (refusal j (Commit lane delta written) ≡ Some BadDelta) ↔ (IsCommitOfNext j.item_count row delta written → ⊥)
+
+-- the rows count as many commits as there are Commits, beside those that they were opened with
+abbrev pub CommitsAreCounted : Type 0
+CommitsAreCounted =
+    (j : Journal) → IsReplayable j
+    → (total_counts (rows_of j)).commit ≡ (total_counts j.opening).commit + number is_commit j.past
+
 -- ORDER
 
 -- the event on lane 0
@@ -102,12 +202,17 @@ OrderIsFree =
 
 -- PLANS
 
--- Each Plan has as many rounds as a least lawful plan for the chunks that were left, and its certificate holds
+-- n is the number of rounds of a least lawful plan for the chunks that are left, and the certificate holds
+abbrev pub IsCertified : Journal → ℕ → Certificate → Type 0
+IsCertified j n certificate =
+    IsLeastNumber (remaining j.item_count (rows_of j)) j.threads n
+    × Holds (remaining j.item_count (rows_of j)) j.threads n certificate
+
+-- each Plan was certified when it was opened
 abbrev pub PlansAreLeast : Type 0
 PlansAreLeast =
     (j : Journal) → IsReplayable j → (later past : List Event) (n : ℕ) (certificate : Certificate) → j.past ≡ later ++ Plan n certificate ∷ past
-    → IsLeastNumber (remaining j.item_count (rows_of (with_past j past))) j.threads n
-    × Holds (remaining j.item_count (rows_of (with_past j past))) j.threads n certificate
+    → IsCertified (with_past j past) n certificate
 
 -- at most as many Rounds as the Plan has stand before the next Plan
 abbrev pub RoundsArePlanned : Type 0
@@ -115,8 +220,68 @@ RoundsArePlanned =
     (j : Journal) → IsReplayable j → (later past : List Event) (n : ℕ) (certificate : Certificate) → j.past ≡ later ++ Plan n certificate ∷ past
     → some is_plan later ≡ false → number is_round later ≤ n
 
--- and exactly as many where no Roll, Fail, Drop or Stop stands between
+-- a chunk is begun or committed, or a round is over
+abbrev pub goes_well : Event → Bool
+goes_well (Begin lane partition) = true
+goes_well (Commit lane delta written) = true
+goes_well Round = true
+goes_well _ = false
+
+-- and exactly as many where all goes well, without a Roll, Fail, Drop or Stop
 abbrev pub PlansAreRunWhole : Type 0
 PlansAreRunWhole =
-    (j : Journal) → IsReplayable j → (between past : List Event) (m n : ℕ) (next certificate : Certificate) → j.past ≡ Plan m next ∷ (between ++ Plan n certificate ∷ past)
-    → some is_plan between ≡ false → some ends_plan between ≡ false → number is_round between ≡ n
+    (j : Journal) → IsReplayable j → (between past : List Event) (m n : ℕ) (next certificate : Certificate)
+    → j.past ≡ Plan m next ∷ (between ++ Plan n certificate ∷ past) → list_all goes_well between ≡ true → number is_round between ≡ n
+
+-- the event begins a chunk, or ends a round
+abbrev pub goes_on : Event → Bool
+goes_on (Begin lane partition) = true
+goes_on Round = true
+goes_on _ = false
+
+-- after the event and a Round no Begin and no Round stands before the next Plan
+abbrev pub EndsPlan : Event → Type 0
+EndsPlan e =
+    (j : Journal) → IsReplayable j → (later between past : List Event) → j.past ≡ later ++ Round ∷ (between ++ e ∷ past)
+    → some is_plan later ≡ false → some is_plan between ≡ false → some goes_on later ≡ false
+
+-- a rollback, a failure, a chunk that was given up and a stop each end the plan with their round
+pub record PlansEnd : Type 0 where
+  pub rolled : (lane : ℕ) (class : ClassId) → EndsPlan (Roll lane class)
+  pub failed : (lane : ℕ) (class : ClassId) → EndsPlan (Fail lane class)
+  pub dropped : (lane : ℕ) → EndsPlan (Drop lane)
+  pub stopped : EndsPlan Stop
+
+-- WHICH PLANS ARE ACCEPTED
+
+-- no stop was asked for, no lane runs, and no plan is open
+pub record MayPlan (j : Journal) : Type 0 where
+  pub not_stopping : is_stopping j.past ≡ false
+  pub none_runs : reserved j ≡ 0
+  pub none_open : is_plan_open j.past ≡ false
+
+-- a Plan is accepted exactly where there may be one, it is certified, and it has a place ..
+abbrev pub GoodPlansAreAccepted : Type 0
+GoodPlansAreAccepted =
+    (j : Journal) → IsReplayable j → (n : ℕ) (certificate : Certificate)
+    → (refusal j (Plan n certificate) ≡ None) ↔ (MayPlan j × IsCertified j n certificate × (length j.past < max_events))
+
+-- .. and is BadPlan exactly where there may be one and it isn't certified
+abbrev pub BadPlansAreRefused : Type 0
+BadPlansAreRefused =
+    (j : Journal) → IsReplayable j → (n : ℕ) (certificate : Certificate)
+    → (refusal j (Plan n certificate) ≡ Some BadPlan) ↔ (MayPlan j × (IsCertified j n certificate → ⊥))
+
+-- what is left is a load that can be planned
+abbrev pub LoadsFit : Type 0
+LoadsFit = (j : Journal) → IsReplayable j → IsWithinLimits (remaining j.item_count (rows_of j)) j.threads
+
+-- also of rows with which a repository may be opened
+abbrev pub OpeningLoadsFit : Type 0
+OpeningLoadsFit = (j : Journal) → IsOpenable j → IsWithinLimits (remaining j.item_count j.opening) j.threads
+
+-- a waiting row has a chunk left
+abbrev pub WaitingRowsHaveChunks : Type 0
+WaitingRowsHaveChunks =
+    (item_count : ℕ) (row : Row) → 1 ≤ item_count → IsSoundRow row → row.state ≡ Waiting
+    → 1 ≤ remaining_of item_count row row.state

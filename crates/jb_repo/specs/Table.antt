@@ -11,17 +11,18 @@ use Rattle.jb_rules.specs.States.{has_ended}
 use Rattle.jb_rules.specs.Counts.{is_delta}
 use Rattle.jb_rules.specs.Rows.{row_block}
 use Rattle.jb_cert.specs.Certificates.{is_least_plan}
-use Rattle.jb_rules.specs.declared.row.TheConstants.{MAX_ROLLBACKS}
-use Rattle.jb_repo.specs.declared.events.TheConstants.{MAX_EVENTS}
-use Rattle.jb_repo.specs.History.{owner, running, is_lane_marked, is_partition_marked, is_plan_open, is_stopping}
+use Rattle.jb_job.specs.Limits.{max_events, max_rollbacks}
+use Rattle.jb_repo.specs.History.{own, owner, running, is_lane_marked, is_partition_marked, is_plan_open, is_stopping}
 use Rattle.jb_repo.specs.Rows.{rows_from, remaining}
 
--- what a repository holds: what it was opened_journal with, and its events, the newest first
+-- what a repository holds: what it was opened with, its events, the newest first, and its room: how many events there is
+-- memory for, those of the history among them
 pub record Journal : Type 0 where
   pub opening : List Row
   pub threads : ℕ
   pub item_count : ℕ
   pub past : List Event
+  pub room : ℕ
 
 -- the rows now
 abbrev pub rows_of : Journal → List Row
@@ -30,13 +31,17 @@ rows_of j = rows_from j.item_count j.past 0 j.opening
 abbrev pub row_of : Journal → ℕ → Option Row
 row_of j partition = slice_get (rows_of j) partition
 
+-- how many events are the partition's own; none where there is no such partition
+abbrev pub own_events : Journal → ℕ → ℕ
+own_events j partition = if nat_lt partition (length j.opening) then length (own partition j.past) else 0
+
 -- the places that are reserved for outcomes
 abbrev pub reserved : Journal → ℕ
 reserved j = running j.threads j.past
 
 -- there are not so many places left
 abbrev pub is_full : Journal → ℕ → Bool
-is_full j places = nat_lt MAX_EVENTS (length j.past + reserved j + places)
+is_full j places = nat_lt max_events (length j.past + reserved j + places)
 
 -- n is the least number of rounds for what is left, and the certificate holds
 abbrev pub is_good_plan : Journal → ℕ → Certificate → Bool
@@ -49,7 +54,7 @@ is_ended (Some row) = has_ended row.state
 
 abbrev pub is_at_limit : Option Row → Bool
 is_at_limit None = false
-is_at_limit (Some row) = nat_le MAX_ROLLBACKS row.counts.rollback
+is_at_limit (Some row) = nat_le max_rollbacks row.counts.rollback
 
 -- the delta and the number written are those of a commit of the row's next block
 abbrev pub is_commit_of : ℕ → Row → Counts → ℕ → Bool
@@ -116,9 +121,13 @@ first_refusal ((holds, refused) ∷ others) = if holds then Some refused else fi
 abbrev pub refusal : Journal → Event → Option Refused
 refusal j e = first_refusal (conditions j e)
 
--- the journal after one more event
+-- the journal after one more event, for which there was room
 abbrev pub after : Journal → Event → Journal
 after j e = record j { past = e ∷ j.past }
+
+-- the same journal with another room
+abbrev pub with_room : Journal → ℕ → Journal
+with_room j room = record j { room = room }
 
 -- ACCEPTED HISTORIES: each event passes the table after those before it
 

@@ -1,8 +1,8 @@
 -- Lists of events and their answers, on which the definitions are computed.
-use Rattle.std.specs.Prelude.{ℕ, List, [], ◌∷◌, ◌++◌, Option, Some, None, is_none, if◌then◌else◌}
+use Rattle.std.specs.Prelude.{ℕ, List, [], ◌∷◌, ◌++◌, replicate, ◌≡◌, Option, Some, None, is_none, if◌then◌else◌}
 use Rattle.jb_rules.specs.declared.counts.Counts.{Counts}
 use Rattle.jb_rules.specs.declared.row.Row.{Row}
-use Rattle.jb_rules.specs.declared.row.TheConstants.{MAX_ROLLBACKS}
+use Rattle.jb_job.specs.Limits.{max_rollbacks}
 use Rattle.jb_rules.specs.declared.row.RowState.TheVariants.{Waiting, Finished, Failed}
 use Rattle.jb_cert.specs.declared.certificates.Certificate.TheVariants.{Nothing, Longest, FullLoad}
 use Rattle.jb_job.specs.declared.class.ClassId.{ClassId}
@@ -12,13 +12,16 @@ use Rattle.jb_repo.specs.declared.refused.Refused.{Refused}
 use Rattle.jb_repo.specs.declared.refused.Refused.TheVariants.{Stopping, NoPartition, LaneRange, LaneBusy, NotIdle, NotRunning, BadDelta, StillRunning, PastPlan, BadPlan}
 use Rattle.jb_rules.specs.Counts.{no_counts}
 use Rattle.jb_repo.specs.Table.{Journal, refusal, after}
+use Rattle.jb_repo.specs.Openable.{opened_journal}
 
 abbrev pub fresh : ℕ → ℕ → Row
 fresh lo hi = record { lo = lo; hi = hi; at = lo; redo = lo; retries = 0; written = 0; counts = no_counts; state = Waiting }
 
+-- TWO PARTITIONS OF ONE CHUNK
+
 -- two partitions of two records each, two threads, chunks of two items
 abbrev pub two_partitions : Journal
-two_partitions = record { opening = fresh 0 2 ∷ fresh 2 4 ∷ []; threads = 2; item_count = 2; past = [] }
+two_partitions = opened_journal (fresh 0 2 ∷ fresh 2 4 ∷ []) 2 2
 
 -- what a chunk of two records adds that are both written
 abbrev pub two_records : Counts
@@ -49,7 +52,7 @@ finished lo hi = record { lo = lo; hi = hi; at = hi; redo = lo; retries = 0; wri
 
 -- one partition of four records, in one chunk
 abbrev pub four_records : Journal
-four_records = record { opening = fresh 0 4 ∷ []; threads = 1; item_count = 4; past = [] }
+four_records = opened_journal (fresh 0 4 ∷ []) 1 4
 
 -- a rollback ends the plan after its round, and the chunk is done again record by record
 abbrev pub rollback : ClassId → List Event
@@ -60,9 +63,60 @@ rollback class =
 abbrev pub given_up : List Event
 given_up = Plan 1 (Longest 0) ∷ Begin 0 0 ∷ Begin 1 1 ∷ Commit 0 two_records 2 ∷ Drop 1 ∷ Round ∷ []
 
+-- PLANS THAT ARE ENDED WITH ROUNDS LEFT
+
+-- two partitions of four records each, two threads, chunks of two items: two rounds
+abbrev pub two_rounds : Journal
+two_rounds = opened_journal (fresh 0 4 ∷ fresh 4 8 ∷ []) 2 2
+
+-- the other chunk of the first round is ended by `ends`; then the next round
+abbrev pub ended_at_first : List Event → List Event
+ended_at_first ends =
+    Plan 2 FullLoad ∷ Begin 0 0 ∷ Begin 1 1 ∷ Commit 1 two_records 2 ∷ (ends ++ Round ∷ Begin 1 1 ∷ Round ∷ [])
+
+-- two partitions of three records each, two threads, chunks of one item: three rounds
+abbrev pub three_rounds : Journal
+three_rounds = opened_journal (fresh 0 3 ∷ fresh 3 6 ∷ []) 2 1
+
+-- what a chunk of one record adds that is written
+abbrev pub one_record_written : Counts
+one_record_written = record no_counts { read = 1; write = 1; commit = 1 }
+
+-- the other chunk of the second round is ended by `ends`; then the third round
+abbrev pub ended_at_second : List Event → List Event
+ended_at_second ends =
+    Plan 3 (Longest 1) ∷ Begin 0 0 ∷ Begin 1 1 ∷ Commit 0 one_record_written 1 ∷ Commit 1 one_record_written 1 ∷ Round
+    ∷ Begin 0 1 ∷ Begin 1 0 ∷ Commit 0 one_record_written 2 ∷ (ends ++ Round ∷ Begin 0 1 ∷ Round ∷ [])
+
+-- so many events are accepted, and then no chunk is begun and no round ends
+abbrev pub no_further : ℕ → List (Option Refused)
+no_further n = replicate n None ++ Some PastPlan ∷ Some PastPlan ∷ []
+
+-- so many events are accepted, and then a round may not end since a chunk was begun
+abbrev pub further : ℕ → List (Option Refused)
+further n = replicate n None ++ Some StillRunning ∷ []
+
+-- so many events are accepted, and then no chunk is begun since a stop was asked for, and no round ends
+abbrev pub stopping : ℕ → List (Option Refused)
+stopping n = replicate n None ++ Some Stopping ∷ Some PastPlan ∷ []
+
+-- SKIPPED WRITE CALLS
+
+-- what a chunk of two records adds whose write call is skipped
+abbrev pub write_skipped : (written filtered : ℕ) → Counts
+write_skipped written filtered = record no_counts { read = 2; write = written; commit = 1; filter = filtered; write_skip = 1 }
+
+-- a skipped write call had results, writes none of them, and leaves the number of results
+abbrev pub skipped_writes : List Event
+skipped_writes =
+    Plan 1 (Longest 0) ∷ Begin 0 0 ∷ Commit 0 (write_skipped 1 0) 1 ∷ Commit 0 (write_skipped 0 2) 0 ∷ Commit 0 (write_skipped 0 0) 2
+    ∷ Commit 0 (write_skipped 0 1) 0 ∷ []
+
+-- OTHER ENDS
+
 -- one record that fails after two rollbacks
 abbrev pub one_record : Journal
-one_record = record { opening = fresh 0 1 ∷ []; threads = 1; item_count = 1; past = [] }
+one_record = opened_journal (fresh 0 1 ∷ []) 1 1
 
 abbrev pub tries : ClassId → List Event
 tries class =
@@ -74,7 +128,7 @@ tried_out = record (fresh 0 1) { redo = 1; retries = 2; counts = record no_count
 
 -- a partition at its limit of rollbacks
 abbrev pub at_limit : Journal
-at_limit = record one_record { opening = record (fresh 0 1) { counts = record no_counts { rollback = MAX_ROLLBACKS } } ∷ [] }
+at_limit = record one_record { opening = record (fresh 0 1) { counts = record no_counts { rollback = max_rollbacks } } ∷ [] }
 
 -- the table's answers where memory is ample
 abbrev pub table_answers : Journal → List Event → List (Option Refused)
@@ -84,3 +138,18 @@ table_answers j (e ∷ events) = refusal j e ∷ table_answers (if is_none (refu
 abbrev pub journal_after : Journal → List Event → Journal
 journal_after j [] = j
 journal_after j (e ∷ events) = journal_after (if is_none (refusal j e) then after j e else j) events
+
+-- VALUES
+
+-- A plan of two rounds that is ended in its first one, and a plan of three that is ended in its second; a Commit ends neither
+pub record EndedPlans : Type 0 where
+  pub rolled : (class : ClassId) → table_answers two_rounds (ended_at_first (Roll 0 class ∷ [])) ≡ no_further 6
+  pub failed : (class : ClassId) → table_answers two_rounds (ended_at_first (Fail 0 class ∷ [])) ≡ no_further 6
+  pub dropped : table_answers two_rounds (ended_at_first (Drop 0 ∷ [])) ≡ no_further 6
+  pub stopped : table_answers two_rounds (ended_at_first (Commit 0 two_records 2 ∷ Stop ∷ [])) ≡ stopping 7
+  pub committed : table_answers two_rounds (ended_at_first (Commit 0 two_records 2 ∷ [])) ≡ further 7
+  pub later_rolled : (class : ClassId) → table_answers three_rounds (ended_at_second (Roll 1 class ∷ [])) ≡ no_further 11
+  pub later_failed : (class : ClassId) → table_answers three_rounds (ended_at_second (Fail 1 class ∷ [])) ≡ no_further 11
+  pub later_dropped : table_answers three_rounds (ended_at_second (Drop 1 ∷ [])) ≡ no_further 11
+  pub later_stopped : table_answers three_rounds (ended_at_second (Stop ∷ Commit 1 one_record_written 2 ∷ [])) ≡ stopping 12
+  pub later_committed : table_answers three_rounds (ended_at_second (Commit 1 one_record_written 2 ∷ [])) ≡ further 12

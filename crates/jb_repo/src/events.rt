@@ -1,16 +1,18 @@
 //! What may happen to the partitions of a step.
 
+ghost use Rattle.std.specs.Prelude.{◌≡◌};
+ghost use Rattle.jb_repo.specs.History.{lane_of, begun_by};
+ghost use Rattle.jb_repo.specs.Answers.{places_of};
+ghost use Rattle.jb_repo.specs.Rows.{gain};
+
 use jb_cert::Certificate;
 use jb_job::ClassId;
 use jb_rules::Counts;
 
-/// The most events of a history, with the places that are reserved for outcomes.
-pub const MAX_EVENTS: usize = 1_000_000_000;
-
 /// An event of a step. Lanes and partitions are numbered from 0; a lane stands for a thread of the step.
 #[derive(Clone, Copy, Debug, PartialEq, Eq)]
 pub enum Event {
-    /// A plan of so many rounds is opened_journal, with the certificate that no plan has fewer.
+    /// A plan of so many rounds is opened, with the certificate that no plan has fewer.
     Plan(u64, Certificate),
     /// The lane begins the next chunk of the partition.
     Begin(u32, u32),
@@ -24,6 +26,58 @@ pub enum Event {
     Drop(u32),
     /// A round is over.
     Round,
-    /// No plan is opened_journal and no chunk begun from now on.
+    /// No plan is opened and no chunk begun from now on.
     Stop,
+}
+
+impl Event {
+    /// The lane that the event names.
+    pub(crate) fn lane(&self) -> Option<u32>
+        ensures { result ≡ lane_of self.now }
+    {
+        match *self {
+            Event::Begin(lane, _)
+            | Event::Commit(lane, _, _)
+            | Event::Roll(lane, _)
+            | Event::Fail(lane, _)
+            | Event::Drop(lane) => Some(lane),
+            Event::Plan(_, _) | Event::Round | Event::Stop => None,
+        }
+    }
+
+    /// The partition that a Begin names.
+    pub(crate) fn partition_begun(&self) -> Option<u32>
+        ensures { result ≡ begun_by self.now }
+    {
+        match *self {
+            Event::Begin(_, partition) => Some(partition),
+            _ => None,
+        }
+    }
+
+    /// How many places of the history the event asks for: a Begin its own and its outcome's, an outcome none.
+    pub(crate) fn places(&self) -> usize
+        ensures { result ≡ places_of self.now }
+    {
+        match *self {
+            Event::Begin(_, _) => 2,
+            Event::Plan(_, _) | Event::Round | Event::Stop => 1,
+            Event::Commit(_, _, _) | Event::Roll(_, _) | Event::Fail(_, _) | Event::Drop(_) => 0,
+        }
+    }
+
+    /// What the event adds to the counts of its partition.
+    pub(crate) fn gain(&self) -> Counts
+        ensures { result ≡ gain self.now }
+    {
+        match *self {
+            Event::Commit(_, delta, _) => delta,
+            Event::Roll(_, _) | Event::Fail(_, _) => Counts {
+                rollback: 1,
+                ..Counts::ZERO
+            },
+            Event::Begin(_, _) | Event::Drop(_) | Event::Plan(_, _) | Event::Round | Event::Stop =>
+                Counts::ZERO,
+        }
+    }
 }

@@ -4,27 +4,32 @@
 //! them. An event is accepted, or it is refused by the first reason of a fixed order and changes nothing.
 //!
 //! - `events`: what may happen, and `refused`: why an event is refused.
-//! - `repository`: the repository itself; `snapshot`: what it shows of itself; `opening`: what it may be opened_journal with.
+//! - `repository`: the repository itself; `snapshot`: what it shows of itself; `opening`: what it may be opened with.
 //! - `laws`: what holds of every list of events.
 //! - `run`: the answers to a whole list of events.
-//! - `walks`, `table`, `steps`: the questions about a history, the table of rows, and the change of a row.
+//! - `standing`: what the history says now, kept beside it: `lanes`, `marks`, `plans`, and the rows by `table` and `steps`.
 #![tactic(auto)]
 
 mod events;
+mod lanes;
 mod laws;
+mod marks;
 mod opening;
+mod plans;
 mod refused;
 mod repository;
 mod run;
 mod snapshot;
+mod standing;
 mod steps;
 mod table;
-mod walks;
 
-pub use events::{Event, MAX_EVENTS};
+pub use events::Event;
 pub use laws::{
-    commits_are_consecutive, one_lane_each, order_is_free, plans_are_least, rows_are_sound,
-    rows_live_on,
+    commits_are_consecutive, commits_are_counted, commits_are_judged, commits_take_first_blocks,
+    events_add_up, events_are_few, loads_fit, one_lane_each, openings_are_accepted, order_is_free,
+    plans_are_judged, plans_are_least, plans_end, rows_are_sound, rows_live_on,
+    running_lanes_may_end,
 };
 pub use opening::can_open;
 pub use refused::Refused;

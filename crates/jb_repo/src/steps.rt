@@ -1,20 +1,20 @@
 //! What an event of a partition changes in its row.
 
 ghost use Rattle.std.specs.Prelude.{◌≡◌, ◌<◌, ◌≤◌};
+ghost use Rattle.jb_job.specs.Limits.{max_item_count};
 ghost use Rattle.jb_rules.specs.Sound.{IsSoundRow};
 ghost use Rattle.jb_repo.specs.inside.Steps.{step, CanStep};
 ghost use Rattle.jb_repo.specs.Table.{is_commit_of};
 
 use crate::events::Event;
 use crate::laws::laws_below;
-use jb_plan::MAX_ITEM_COUNT;
 use jb_rules::{Counts, Row};
 
 /// Whether the delta and the number written are those of a commit of the row's next chunk.
 pub fn is_commit(row: Row, delta: Counts, written: u64, item_count: u64) -> bool
     requires sound { IsSoundRow row }
     requires some_items { 1 ≤ item_count }
-    requires items { item_count ≤ MAX_ITEM_COUNT }
+    requires items { item_count ≤ max_item_count }
     ensures { result ≡ is_commit_of item_count row delta written }
 {
     let block = row.block(item_count);
@@ -26,14 +26,14 @@ pub fn is_commit(row: Row, delta: Counts, written: u64, item_count: u64) -> bool
 pub fn stepped(row: Row, event: Event, item_count: u64) -> Row
     requires can { CanStep item_count row event }
     requires some_items { 1 ≤ item_count }
-    requires items { item_count ≤ MAX_ITEM_COUNT }
+    requires items { item_count ≤ max_item_count }
     ensures { result ≡ step item_count row event }
 {
     laws_below();
     match event {
         Event::Begin(lane, _) => row.begun(lane),
         Event::Commit(_, delta, _) => row.committed(row.block(item_count).hi, &delta),
-        Event::Roll(_, _) => row.rolled(row.block(item_count).hi),
+        Event::Roll(_, _) => row.rolled(row.block(item_count).hi).dropped(),
         Event::Fail(_, _) => row.failed(),
         Event::Drop(_) => row.dropped(),
         Event::Plan(_, _) | Event::Round | Event::Stop => row,

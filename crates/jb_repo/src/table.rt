@@ -1,13 +1,15 @@
 //! Questions about rows, and counts over the table of rows.
 
 ghost use Rattle.std.specs.Prelude.{◌≡◌, ◌≤◌, ℕ, length, take, slice_get, Some};
+ghost use Rattle.jb_job.specs.Limits.{max_item_count};
 ghost use Rattle.jb_rules.specs.Sound.{IsSoundRow};
 ghost use Rattle.jb_repo.specs.inside.Fit.{CountsFit};
 ghost use Rattle.jb_repo.specs.Rows.{remaining, remaining_of, total_counts};
 ghost use Rattle.jb_repo.specs.Table.{is_ended, is_at_limit};
 
-use jb_plan::{MAX_ITEM_COUNT, chunks_left};
-use jb_rules::{Counts, MAX_ROLLBACKS, Row, RowState};
+use jb_job::MAX_ROLLBACKS;
+use jb_plan::chunks_left;
+use jb_rules::{Counts, Row, RowState};
 
 /// Whether no chunk of the partition is begun any more.
 pub fn is_ended(row: Option<Row>) -> bool
@@ -32,7 +34,7 @@ pub fn is_at_limit(row: Option<Row>) -> bool
 fn remaining_of(row: Row, item_count: u64) -> u64
     requires sound { IsSoundRow row }
     requires some_items { 1 ≤ item_count }
-    requires few_items { item_count ≤ MAX_ITEM_COUNT }
+    requires few_items { item_count ≤ max_item_count }
     ensures { result ≡ remaining_of item_count row row.state }
 {
     match row.state {
@@ -46,7 +48,7 @@ pub fn remaining_counts(rows: &[Row], item_count: u64, counts: &mut [u64])
     requires sound { (i : ℕ) (r : Row) → slice_get rows.now i ≡ Some r → IsSoundRow r }
     requires room { length rows.now ≤ length counts.old }
     requires some_items { 1 ≤ item_count }
-    requires few_items { item_count ≤ MAX_ITEM_COUNT }
+    requires few_items { item_count ≤ max_item_count }
     ensures { take (length rows.now) counts.new ≡ remaining item_count rows.now }
 {
     for i in 0..rows.len() {

@@ -1,7 +1,7 @@
 -- What one own event changes in a partition's row, by the life of a row.
 use Rattle.std.specs.Prelude.{◌≡◌, ℕ, ◌+◌, ◌<◌, true, List, Option, Some, None, slice_set, slice_index_or}
 use Rattle.jb_rules.specs.declared.row.Row.{Row}
-use Rattle.jb_rules.specs.declared.row.TheConstants.{MAX_ROLLBACKS}
+use Rattle.jb_job.specs.Limits.{max_rollbacks}
 use Rattle.jb_rules.specs.Rows.{row_block, begun_row, committed_row, rolled_row, failed_row, dropped_row}
 use Rattle.jb_rules.specs.Sound.{IsSoundRow}
 use Rattle.jb_repo.specs.declared.events.Event.{Event}
@@ -13,7 +13,7 @@ abbrev pub step : ℕ → Row → Event → Row
 step item_count row (Begin lane partition) = begun_row row lane
 step item_count row (Commit lane delta written) =
     record (committed_row row (row.at + (delta.read + delta.read_skip)) delta) { written = written }
-step item_count row (Roll lane class) = rolled_row row (row_block item_count row).hi
+step item_count row (Roll lane class) = dropped_row (rolled_row row (row_block item_count row).hi)
 step item_count row (Fail lane class) = failed_row row
 step item_count row (Drop lane) = dropped_row row
 step item_count row _ = row
@@ -35,7 +35,7 @@ IsCommit item_count row _ = Unit {0}
 pub record CanStep (item_count : ℕ) (row : Row) (e : Event) : Type 0 where
   pub sound : IsSoundRow row
   pub unfinished : row.at < row.hi
-  pub below_limit : IsOutcome e → row.counts.rollback < MAX_ROLLBACKS
+  pub below_limit : IsOutcome e → row.counts.rollback < max_rollbacks
   pub commit : IsCommit item_count row e
 
 -- the rows after an event that is about one partition, or about none; d is any row

@@ -1,67 +1,50 @@
-use Rattle.std.proofs.Common.{◌≡◌, ◌+◌, ◌≤◌, None, Option, ℕ, ◌++◌, ◌∷◌, [], List, sym, ◌∙◌, ap, subst, refl, reverse, vec_len, vec_capacity, arith}
+use Rattle.std.proofs.Common.{◌++◌, ◌∷◌, [], List, ◌∙◌, ap, refl, sym, arith}
 use Rattle.jb_repo.specs.declared.events.Event.{Event}
-use Rattle.jb_repo.specs.Kept.{journal_of}
 use Rattle.jb_repo.specs.declared.repository.Repo.TheInside.{Inside}
-use Rattle.jb_repo.specs.Table.{Journal, refusal, reserved}
-use Rattle.jb_repo.specs.Answers.{places_of}
-use Rattle.jb_repo.specs.History.{partition_of}
-use Rattle.jb_repo.specs.inside.Steps.{stepped_rows}
-use Rattle.jb_repo.proofs.Tables.{inside_all, can_all, places_enough}
-use Rattle.jb_repo.proofs.Keeping.{kept_after, replayable, any_row, on_ok}
+use Rattle.jb_repo.specs.Kept.{journal_of, IsKept}
+use Rattle.jb_repo.proofs.Keeping.{kept_after, can_enter, past_len, enough, replayable, on_ok}
+use Rattle.jb_repo.proofs.Places.{places_after}
 use Rattle.jb_repo.proofs.repository.Repo.apply.Goals as goal
-use Rattle.jb_repo.proofs.repository.Repo.apply.Goals.{After-partition_of-partition}
+use Rattle.jb_repo.proofs.repository.Repo.apply.Goals.{After-put_last}
 
-passes : (c : After-partition_of-partition) → refusal (journal_of c.self.inside) c.args.event ≡ None
-passes c = subst (λ (x : Journal). refusal x c.args.event ≡ None) (sym c.self.view_is) (sym c.refusal.ensures ∙ c.in_default.is)
+pub note-requires : goal.note-requires
+note-requires c = (journal_of c.self.inside, can_enter c.self.inside _ c.args.event _ c.self.invariant c.self.view_is c.refusal.ensures c.in_default.is)
 
-about : (c : After-partition_of-partition) → partition_of c.args.event (journal_of c.self.inside).past ≡ c.partition_of-partition.result
-about c =
-    ap (λ (x : List Event). partition_of c.args.event (reverse x)) (sym (c.as_slice.ensures.value ∙ c.make_room.ensures.items))
-    ∙ sym c.partition_of-partition.ensures
+pub put_last-requires : goal.put_last-requires
+put_last-requires c =
+    let can = can_enter c.self.inside _ c.args.event _ c.self.invariant c.self.view_is c.refusal.ensures c.in_default.is in
+    let made = on_ok c.make_room.result _ (sym c.is_err.ensures.value ∙ c.if-is_err.false) c.make_room.ensures.room in
+    let room = enough c.self.inside c.args.event _ _ _ c.self.invariant c.make_room.ensures.len c.places.ensures made in
+    let some = places_after (journal_of c.self.inside) can.ready can.accepted c.args.event can.passes in
+    omega (arith, room, some, past_len c.self.inside, c.make_room.ensures.len)
 
--- there is room for the event and the outcomes that are still to come
-room : (c : After-partition_of-partition) → vec_len c.make_room.new.history + reserved (journal_of c.self.inside) + places_of c.args.event ≤ vec_capacity c.make_room.new.history
-room c = on_ok c.make_room.result _ (sym c.is_err.ensures.value ∙ c.if-is_err.false) c.make_room.ensures.room
+-- the fields that are left
+abbrev left : After-put_last → Inside
+left c = record {
+  opening = c.self.inside.opening;
+  threads = c.self.inside.threads;
+  item_count = c.self.inside.item_count;
+  history = c.put_last.new.history;
+  standing = c.note.new.self;
+}
 
-pub step_rows-requires-clause-inside : goal.step_rows-requires-clause-inside
-step_rows-requires-clause-inside c =
-    let k = (goal.at.step_rows-requires-clause-inside c).After-partition_of-partition in
-    inside_all (journal_of c.self.inside) c.self.invariant.ready c.self.invariant.accepted c.args.event (passes k) c.partition_of-partition.result (about k)
-
-pub step_rows-requires-clause-can : goal.step_rows-requires-clause-can
-step_rows-requires-clause-can c =
-    let k = (goal.at.step_rows-requires-clause-can c).After-partition_of-partition in
-    can_all (journal_of c.self.inside) c.self.invariant.ready c.self.invariant.accepted c.args.event (passes k) c.laws_below.ensures c.self.inside.rows c.partition_of-partition.result c.self.invariant.table (about k)
-
-pub unreachable-requires : goal.unreachable-requires
-unreachable-requires c =
-    let k = (goal.at.unreachable-requires c).After-partition_of-partition in
-    let some = places_enough (journal_of c.self.inside) c.self.invariant.ready c.self.invariant.accepted c.args.event (passes k) in
-    let enough = room k in
-    omega (arith, some, enough, c.in-Err.ensures.full)
+kept : (c : After-put_last) → IsKept (left c)
+kept c =
+    let can = can_enter c.self.inside _ c.args.event _ c.self.invariant c.self.view_is c.refusal.ensures c.in_default.is in
+    let made = on_ok c.make_room.result _ (sym c.is_err.ensures.value ∙ c.if-is_err.false) c.make_room.ensures.room in
+    let room = enough c.self.inside c.args.event _ _ _ c.self.invariant c.make_room.ensures.len c.places.ensures made in
+    kept_after c.self.inside (left c) c.args.event c.self.invariant can.passes refl refl refl
+    (c.put_last.ensures.items ∙ ap (λ (x : List Event). x ++ c.args.event ∷ []) c.make_room.ensures.items)
+    (omega (arith, room, c.put_last.ensures.room))
+    (c.note.ensures (journal_of c.self.inside) can)
 
 pub invariant_of-self-2 : goal.invariant_of-self-2
-invariant_of-self-2 c =
-    let k = (goal.at.invariant_of-self-2 c).After-partition_of-partition in
-    let enough = room k in
-    kept_after c.self.inside _ c.args.event any_row c.self.invariant (passes k) refl refl refl
-    (c.in-Ok.ensures.items ∙ ap (λ (x : List Event). x ++ c.args.event ∷ []) c.make_room.ensures.items)
-    (c.step_rows.ensures.steps any_row ∙ ap (λ (o : Option ℕ). stepped_rows c.self.inside.item_count c.self.inside.rows o c.args.event any_row) (sym (about k)))
-    (omega (arith, enough, c.in-Ok.ensures.capacity, c.make_room.ensures.len))
+invariant_of-self-2 c = kept (goal.at.invariant_of-self-2 c).After-put_last
 
 pub returns-clause-replayable : goal.returns-clause-replayable
 returns-clause-replayable c =
-    let k = (goal.at.returns-clause-replayable c).After-partition_of-partition in
-    let enough = room k in
-    let left : Inside = record {
-      opening = c.self.inside.opening;
-      rows = c.step_rows.new.rows;
-      history = c.push.new.self;
-      threads = c.self.inside.threads;
-      item_count = c.self.inside.item_count;
-    } in
-    replayable left (journal_of left) refl
-    (kept_after c.self.inside left c.args.event any_row c.self.invariant (passes k) refl refl refl
-    (c.in-Ok.ensures.items ∙ ap (λ (x : List Event). x ++ c.args.event ∷ []) c.make_room.ensures.items)
-    (c.step_rows.ensures.steps any_row ∙ ap (λ (o : Option ℕ). stepped_rows c.self.inside.item_count c.self.inside.rows o c.args.event any_row) (sym (about k)))
-    (omega (arith, enough, c.in-Ok.ensures.capacity, c.make_room.ensures.len)))
+    let k = (goal.at.returns-clause-replayable c).After-put_last in
+    replayable (left k) (journal_of (left k)) refl (kept k)
+
+pub returns-clause-places : goal.returns-clause-places
+returns-clause-places c = (kept (goal.at.returns-clause-places c).After-put_last).places
