@@ -1,0 +1,5 @@
+pub mod Entering
+pub mod Rounds
+pub mod Rising
+pub mod Gathering
+pub mod Reporting

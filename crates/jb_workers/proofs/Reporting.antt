@@ -1,0 +1,49 @@
+-- What the reports of a round say of it.
+use Rattle.std.proofs.Common.{◌≡◌, ◌⊎◌, ◌++◌, ◌∷◌, [], List, false, inl, inr}
+use Rattle.jb_chunk.specs.Standing.{TaskState}
+use Rattle.jb_chunk.specs.declared.outcome.Done.{Done}
+use Rattle.jb_repo.specs.declared.events.Event.TheVariants.{Round}
+use Rattle.jb_repo.specs.declared.refused.Refused.{Refused}
+use Rattle.jb_workers.specs.declared.round.error.RoundError.{RoundError}
+use Rattle.jb_workers.specs.declared.round.error.RoundError.TheVariants as error
+use Rattle.jb_workers.specs.declared.worker.lane_work.Work.{Work}
+use Rattle.jb_workers.specs.declared.round.report.Report.{Report}
+use Rattle.jb_workers.specs.Works.{IsOrderOf}
+use Rattle.jb_workers.specs.Round.{AreDones, AreReports, AllAreDone, IsRefusedRound, IsReport, IsLowestRefusal, IsRoundError, is_refusal}
+use Rattle.jb_workers.specs.Lock.{IsRefused}
+use Rattle.jb_workers.specs.inside.Gathered.{AreAllDone}
+
+-- one report more, on one work more
+pub reports-snoc : {T : Type 0} (standing : T → TaskState) (ws : List (Work T)) (rs : List (Report T)) (w : Work T) (r : Report T) → AreReports standing ws rs → IsReport standing w r → AreReports standing (ws ++ w ∷ []) (rs ++ r ∷ [])
+reports-snoc standing [] [] w r h k = (k, tt)
+reports-snoc standing (x ∷ ws) (y ∷ rs) w r h k = (h.0, reports-snoc standing ws rs w r h.1 k)
+reports-snoc standing [] (y ∷ rs) w r h k = absurd h
+reports-snoc standing (x ∷ ws) [] w r h k = absurd h
+
+-- the attempts that all reports are of are those of the works
+pub dones-from-reports : {T : Type 0} (standing : T → TaskState) (ws : List (Work T)) (rs : List (Report T)) (ds : List (Done T)) → AreReports standing ws rs → AreAllDone rs ds → AreDones standing ws ds
+dones-from-reports standing [] [] [] h k = tt
+dones-from-reports standing (w ∷ ws) (r ∷ rs) (d ∷ ds) h k = ((rw k.0 at h.0.meets), dones-from-reports standing ws rs ds h.1 k.1)
+dones-from-reports standing [] (r ∷ rs) ds h k = absurd h
+dones-from-reports standing (w ∷ ws) [] ds h k = absurd h
+dones-from-reports standing [] [] (d ∷ ds) h k = absurd k
+dones-from-reports standing (w ∷ ws) (r ∷ rs) [] h k = absurd k
+
+-- what is no refusal of the desk needs no cause
+pub unrefused : {T : Type 0} (standing : T → TaskState) (ws : List (Work T)) (why : RoundError) → is_refusal why ≡ false → IsRoundError standing ws why
+unrefused standing ws (error.Refused refused) h = absurd cc
+unrefused standing ws error.WorkerNotStarted h = tt
+unrefused standing ws error.Memory h = tt
+
+-- no lane was refused, but Round was
+pub round-refused : {T : Type 0} (standing : T → TaskState) (ws ordered : List (Work T)) (rs : List (Report T)) (refused : Refused) → IsOrderOf standing ws ordered → AreReports standing ordered rs → AllAreDone rs → IsRefused Round refused → IsRefusedRound standing ws refused
+round-refused standing ws ordered rs refused order each all why = record { ordered = ordered; order = order; reports = rs; each = each; cause = inr (all, why) }
+
+-- why the works have no answer
+pub unanswered : {T : Type 0} (standing : T → TaskState) (ws ordered : List (Work T)) (rs : List (Report T)) (why : RoundError) → IsOrderOf standing ws ordered → AreReports standing ordered rs → (why ≡ error.Memory) ⊎ IsLowestRefusal rs why → IsRoundError standing ws why
+unanswered standing ws ordered rs (error.Refused refused) order each (inl e) = absurd cc
+unanswered standing ws ordered rs error.WorkerNotStarted order each (inl e) = tt
+unanswered standing ws ordered rs error.Memory order each (inl e) = tt
+unanswered standing ws ordered rs (error.Refused refused) order each (inr lowest) = record { ordered = ordered; order = order; reports = rs; each = each; cause = inl lowest }
+unanswered standing ws ordered rs error.WorkerNotStarted order each (inr lowest) = tt
+unanswered standing ws ordered rs error.Memory order each (inr lowest) = tt

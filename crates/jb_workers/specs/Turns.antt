@@ -1,0 +1,45 @@
+-- What a worker's turns of the lock say of its work: its Begin first, and last the event of what came of it.
+use Rattle.std.specs.Prelude.{◌≡◌, ◌≤◌, ◌⊎◌, Result, MatchResult}
+use Rattle.jb_job.specs.Limits.{max_rollbacks}
+use Rattle.jb_chunk.specs.Standing.{TaskState}
+use Rattle.jb_chunk.specs.declared.outcome.Done.{Done}
+use Rattle.jb_repo.specs.declared.events.Event.TheVariants.{Begin}
+use Rattle.jb_repo.specs.declared.refused.Refused.{Refused}
+use Rattle.jb_repo.specs.declared.refused.Refused.TheVariants.{Full}
+use Rattle.jb_workers.specs.declared.round.error.RoundError.{RoundError}
+use Rattle.jb_workers.specs.declared.round.error.RoundError.TheVariants as error
+use Rattle.jb_workers.specs.declared.worker.lane_work.Work.{Work}
+use Rattle.jb_workers.specs.Events.{event_of}
+use Rattle.jb_workers.specs.Lock.{IsAccepted, IsRefused}
+use Rattle.jb_workers.specs.Works.{IsAttemptOf}
+
+-- the table accepted the work's Begin, and the event of what came of it
+pub record IsEntered {T : Type 0} (standing : T → TaskState) (work : Work T) (done : Done T) : Type 0 where
+  pub begun : IsAccepted (Begin work.lane (standing work.task).partition)
+  pub ended : IsAccepted (event_of work.lane done.outcome (standing done.task).row.written)
+
+-- the work was done: its task was attempted, and what came of it was entered
+pub record IsDoneOf {T : Type 0} (standing : T → TaskState) (work : Work T) (done : Done T) : Type 0 where
+  pub attempted : IsAttemptOf standing work.task done
+  pub entered : IsEntered standing work done
+
+-- the task was attempted, and the table refused the event of what came of it
+pub record IsEndRefused {T : Type 0} (standing : T → TaskState) (work : Work T) (refused : Refused) : Type 0 where
+  pub done : Done T
+  pub attempted : IsAttemptOf standing work.task done
+  pub refuses : IsRefused (event_of work.lane done.outcome (standing done.task).row.written) refused
+
+-- the task is at its limit of rollbacks
+abbrev pub IsAtLimit : TaskState → Type 0
+IsAtLimit task = max_rollbacks ≤ task.row.counts.rollback
+
+-- why a work has no attempt in the history: its Begin was refused, or its task was at its limit, or its outcome was refused
+pub record IsKeptOut {T : Type 0} (standing : T → TaskState) (work : Work T) (why : RoundError) : Type 0 where
+  pub refused : Refused
+  pub is : why ≡ error.Refused refused
+  pub cause : IsRefused (Begin work.lane (standing work.task).partition) refused ⊎ ((IsAtLimit (standing work.task) × (refused ≡ Full)) ⊎ IsEndRefused standing work refused)
+
+-- what came of a work
+abbrev pub MeetsWork : {T : Type 0} → (T → TaskState) → Work T → Result (Done T) RoundError → Type 0
+MeetsWork standing work result =
+    MatchResult result (λ done. IsDoneOf standing work done) (λ why. IsKeptOut standing work why)

@@ -1,0 +1,122 @@
+//! A repository under one lock.
+
+ghost use Rattle.std.specs.Prelude.{◌≡◌, ◌+◌, ◌<◌, ◌||◌, [], true, false, OnOk, OnErr, IfOk, IfErr, IfSome};
+ghost use Rattle.jb_repo.specs.declared.events.Event.TheVariants.{Begin, Round};
+ghost use Rattle.jb_repo.specs.History.{is_plan, is_stop, is_round};
+ghost use Rattle.jb_workers.specs.Events.{commit_in};
+ghost use Rattle.jb_workers.specs.Lock.{IsSeen, IsAccepted, IsRefused};
+
+pub(crate) mod kept;
+pub(crate) mod parts;
+
+use crate::desk::kept::Kept;
+use crate::desk::parts::Parts;
+use jb_repo::{Event, Refused, Repo, Snapshot};
+use std::alloc::AllocError;
+use std::sync::atomic::{AtomicBool, Ordering};
+use std::sync::ledger::{Blank, Ledger, Share};
+use std::sync::{Mutex, Wait};
+
+/// A repository under one lock, with the book of its commits, and a stop flag beside it.
+///
+/// Each time that the lock is got, the history is accepted, the rows are those after it, and the book's number is its
+/// number of Commits.
+#[derive(Drop)]
+pub struct Desk<L: Ledger> {
+    kept: Mutex<Kept<L>>,
+    stopping: AtomicBool,
+}
+
+impl<L: Ledger> Desk<L> {
+    /// A desk over a repository with no event yet, and the ledger of its commits, which has 1,000,000,000,000 parts.
+    pub fn new(repo: Repo, blank: Blank) -> Desk<L>
+        requires name { blank.name ≡ L.name }
+        requires parts { blank.parts ≡ L.parts }
+        requires all { blank.parts ≡ 1000000000000 }
+        requires empty { repo.past ≡ [] }
+    {
+        let (book, share) = blank.open::<L>();
+        let spare = Parts::new(share, 1_000_000_000_000);
+        Desk {
+            kept: Mutex::new(Kept::new(repo, book, spare)),
+            stopping: AtomicBool::new(false),
+        }
+    }
+
+    /// Asks for a stop. It waits for nobody: it stores one flag.
+    pub fn request_stop(&self) {
+        self.stopping.store(true, Ordering::SeqCst);
+    }
+
+    /// Whether a stop was asked for.
+    pub fn is_stopping(&self) -> bool {
+        self.stopping.load(Ordering::SeqCst)
+    }
+
+    /// The table at some moment. The only error is want of memory for its rows.
+    pub fn status<R: Wait>(&self, rt: &R) -> Result<Snapshot, AllocError>
+        ensures { IfOk result (λ snapshot. IsSeen snapshot) }
+    {
+        self.kept.lock(rt).snapshot()
+    }
+
+    /// Applies a Plan or a Stop.
+    pub fn apply<R: Wait>(&self, rt: &R, event: Event) -> Result<(), Refused>
+        requires { is_plan event || is_stop event ≡ true }
+        ensures accepted { OnOk result (IsAccepted event) }
+        ensures refused { IfErr result (λ refused. IsRefused event refused) }
+    {
+        self.kept.lock(rt).apply(event)
+    }
+
+    /// So many of the parts that no worker holds, where there are as many.
+    pub(crate) fn take_parts<R: Wait>(&self, rt: &R, number: u64) -> Option<Parts<L>>
+        ensures { IfSome result (λ parts. parts.number ≡ number) }
+    {
+        self.kept.lock(rt).spare.take(number)
+    }
+
+    pub(crate) fn put_back<R: Wait>(&self, rt: &R, parts: Parts<L>) {
+        self.kept.lock(rt).spare.merge(parts);
+    }
+
+    /// Begins the partition's next chunk on the lane, and answers the number of the round.
+    pub(crate) fn begin<R: Wait>(&self, rt: &R, lane: u32, partition: u32) -> Result<u64, Refused>
+        ensures accepted { OnOk result (IsAccepted (Begin lane partition)) }
+        ensures refused { IfErr result (λ refused. IsRefused (Begin lane partition) refused) }
+    {
+        self.kept.lock(rt).begin(lane, partition)
+    }
+
+    /// Gives the lane's chunk up.
+    pub(crate) fn give_up<R: Wait>(&self, rt: &R, lane: u32) {
+        let _ = self.kept.lock(rt).apply(Event::Drop(lane));
+    }
+
+    /// Applies the event of the lane's attempt, or Drop where it is refused.
+    pub(crate) fn end<R: Wait>(
+        &self,
+        rt: &R,
+        lane: u32,
+        event: Event,
+        mine: &mut Share<L>,
+    ) -> Result<(), Refused>
+        requires part { 0 < mine.old.parts }
+        requires no_round { is_round event ≡ false }
+        ensures parts { mine.new.parts ≡ mine.old.parts }
+        ensures ok { OnOk result (mine.new.amount ≡ mine.old.amount + commit_in event) }
+        ensures err { OnErr result (mine.new.amount ≡ mine.old.amount) }
+        ensures accepted { OnOk result (IsAccepted event) }
+        ensures refused { IfErr result (λ refused. IsRefused event refused) }
+    {
+        self.kept.lock(rt).end(lane, event, mine)
+    }
+
+    /// Applies Round.
+    pub(crate) fn close_round<R: Wait>(&self, rt: &R) -> Result<(), Refused>
+        ensures accepted { OnOk result (IsAccepted Round) }
+        ensures refused { IfErr result (λ refused. IsRefused Round refused) }
+    {
+        self.kept.lock(rt).close_round()
+    }
+}

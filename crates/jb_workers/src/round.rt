@@ -1,0 +1,56 @@
+//! A round of works.
+
+ghost use Rattle.std.specs.Prelude.{◌≡◌, IfOk, IfErr, OnOk};
+ghost use Rattle.jb_repo.specs.declared.events.Event.TheVariants.{Round};
+ghost use Rattle.jb_workers.specs.Lock.{IsAccepted};
+ghost use Rattle.jb_workers.specs.Works.{AllCanBegin, Rise};
+ghost use Rattle.jb_workers.specs.Round.{AreDones, AreRoundOf, IsRoundError};
+
+mod error;
+mod order;
+mod report;
+mod threads;
+
+use crate::desk::Desk;
+use crate::gate::Gate;
+pub use crate::round::error::RoundError;
+use crate::round::order::in_order;
+use crate::round::report::all_done;
+use crate::round::threads::in_threads;
+use crate::worker::lane_work::Work;
+use jb_chunk::{Done, PartitionTask};
+use std::alloc::Global;
+use std::sync::Wait;
+use std::sync::ledger::Ledger;
+use std::thread::Threads;
+
+impl<L: Ledger + Send + Sync + 'static> Desk<L> {
+    /// Does each work in a thread of its own, but one in the caller's, and then applies Round. The attempts come by
+    /// rising partition; those of works that come so, place by place.
+    pub fn run_round<T: PartitionTask + Send + 'static, G: Gate + Sync, R: Threads + Wait + Sync>(
+        &self,
+        rt: &R,
+        alloc: Global,
+        gate: &G,
+        works: Vec<Work<T>>,
+    ) -> Result<Vec<Done<T>>, RoundError>
+        requires { AllCanBegin T.standing works.items }
+        ensures round { IfOk result (λ dones. AreRoundOf T.standing works.items dones.items) }
+        ensures in_order { Rise T.standing works.items → IfOk result (λ dones. AreDones T.standing works.items dones.items) }
+        ensures closed { OnOk result (IsAccepted Round) }
+        ensures error { IfErr result (λ error. IsRoundError T.standing works.items error) }
+    {
+        let works = in_order(works)?;
+        let Some(mut parts) = self.take_parts(rt, works.len() as u64) else {
+            return Err(RoundError::WorkerNotStarted);
+        };
+        let reports = in_threads(self, rt, alloc, gate, works, &mut parts);
+        self.put_back(rt, parts);
+        let reports = reports?;
+        let dones = all_done(alloc, reports)?;
+        match self.close_round(rt) {
+            Ok(()) => Ok(dones),
+            Err(refused) => Err(RoundError::Refused(refused)),
+        }
+    }
+}

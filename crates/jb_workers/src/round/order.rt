@@ -1,0 +1,56 @@
+//! The works of a round by rising partition.
+
+ghost use Rattle.std.specs.Prelude.{◌≡◌, ◌≤◌, ◌↔◌, IsTrue, IfOk, IfErr, OnOk};
+ghost use Rattle.std.specs.List.Sorted.{IsPermutation};
+ghost use Rattle.jb_workers.specs.Works.{AllCanBegin, Rise, IsOrderOf};
+ghost use Rattle.jb_workers.specs.declared.round.error.RoundError.TheVariants.{Memory};
+
+use crate::round::RoundError;
+use crate::worker::lane_work::Work;
+use jb_chunk::PartitionTask;
+
+/// The same works by rising partition: as they are, if they come so.
+pub(crate) fn in_order<T: PartitionTask>(works: Vec<Work<T>>) -> Result<Vec<Work<T>>, RoundError>
+    requires { AllCanBegin T.standing works.items }
+    ensures can { IfOk result (λ ordered. AllCanBegin T.standing ordered.items) }
+    ensures order { IfOk result (λ ordered. IsOrderOf T.standing works.items ordered.items) }
+    ensures err { IfErr result (λ error. error ≡ Memory) }
+    ensures same { Rise T.standing works.items → IfOk result (λ ordered. ordered.items ≡ works.items) }
+{
+    if rise(works.as_slice()) {
+        return Ok(works);
+    }
+    let mut works = works;
+    sort_works(&mut works)?;
+    Ok(works)
+}
+
+/// Whether the works come by rising partition.
+fn rise<T: PartitionTask>(works: &[Work<T>]) -> bool
+    ensures { IsTrue result ↔ Rise T.standing works.now }
+{
+    for i in 1..works.len() {
+        if !is_next(&works[i - 1], &works[i]) {
+            return false;
+        }
+    }
+    true
+}
+
+/// Whether the later work's partition is no lower than the earlier one's.
+fn is_next<T: PartitionTask>(earlier: &Work<T>, later: &Work<T>) -> bool
+    ensures { IsTrue result ↔ ((T.standing earlier.now.task).partition ≤ (T.standing later.now.task).partition) }
+{
+    earlier.task.partition() <= later.task.partition()
+}
+
+fn sort_works<T: PartitionTask>(works: &mut Vec<Work<T>>) -> Result<(), RoundError>
+    ensures permutation { IsPermutation works.old.items works.new.items }
+    ensures rising { OnOk result (Rise T.standing works.new.items) }
+    ensures err { IfErr result (λ error. error ≡ Memory) }
+{
+    match works.sort_by_key(|work| work.task.partition()) {
+        Ok(()) => Ok(()),
+        Err(_) => Err(RoundError::Memory),
+    }
+}

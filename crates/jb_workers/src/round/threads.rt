@@ -1,0 +1,138 @@
+//! Works done at once: each in a thread of its own, but the first, which the caller's thread does.
+
+ghost use Rattle.std.specs.Prelude.{◌≡◌, ◌≤◌, false, IfOk, IfErr, IfSome, vec_len};
+ghost use denote.Param.Send.{IsSync, IsSend};
+ghost use Rattle.jb_workers.specs.Works.{CanBegin, AllCanBegin};
+ghost use Rattle.jb_workers.specs.Turns.{MeetsWork};
+ghost use Rattle.jb_workers.specs.Round.{AreReports, is_refusal};
+
+use crate::desk::Desk;
+use crate::desk::parts::Parts;
+use crate::gate::Gate;
+use crate::round::RoundError;
+use crate::round::report::{Report, with_report};
+use crate::worker::lane_work::Work;
+use crate::worker::work;
+use jb_chunk::{Done, PartitionTask};
+use std::alloc::Global;
+use std::snapshot::Snapshot;
+use std::sync::Wait;
+use std::sync::ledger::{Ledger, Share};
+use std::thread;
+use std::thread::{Promise, PromisedHandle, Scope, Threads};
+
+/// That a worker reports on its work, and gives back its part.
+#[derive(Drop)]
+struct Reports<T> {
+    work: Snapshot<Work<T>>,
+}
+
+impl<T: PartitionTask, L: Ledger> Promise<(Result<Done<T>, RoundError>, Share<L>)> for Reports<T> {
+    ghost kept_by = { λ p r. MeetsWork T.standing p.work.value r.0 × (r.1.parts ≡ 1) };
+}
+
+type Answer<T, L> = (Result<Done<T>, RoundError>, Share<L>);
+
+/// Starts a worker for one work, where a thread can be made.
+fn start<
+    's,
+    E,
+    L: Ledger + Send + Sync + 's,
+    T: PartitionTask + Send + 's,
+    G: Gate + Sync + 's,
+    R: Threads + Wait + Sync + 's,
+>(
+    scope: &Scope<'s, E>,
+    desk: &'s Desk<L>,
+    rt: &'s R,
+    alloc: Global,
+    gate: &'s G,
+    next: Work<T>,
+    share: Share<L>,
+) -> Option<PromisedHandle<Answer<T, L>, Reports<T>>>
+    requires can { CanBegin (T.standing next.task) }
+    requires part { share.parts ≡ 1 }
+    ensures { IfSome result (λ worker. worker.promise.work.value ≡ next) }
+{
+    let promise = Reports {
+        work: Snapshot::of(&next),
+    };
+    let job = move || -> (Result<Done<T>, RoundError>, Share<L>)
+        requires { IsSync R.row × IsSync G.row × IsSend T.row × CanBegin (T.standing next.task) × (share.parts ≡ 1) }
+        ensures { MeetsWork T.standing next result.0 × (result.1.parts ≡ 1) }
+    { work(&*desk, &*rt, alloc, &*gate, next, share) };
+    scope.spawn_with(promise, job).ok()
+}
+
+/// Starts a worker for each work but the first, the last work's first; does the first work itself; and joins the workers.
+fn run_all<
+    's,
+    E,
+    L: Ledger + Send + Sync + 's,
+    T: PartitionTask + Send + 's,
+    G: Gate + Sync + 's,
+    R: Threads + Wait + Sync + 's,
+>(
+    scope: &Scope<'s, E>,
+    desk: &'s Desk<L>,
+    rt: &'s R,
+    alloc: Global,
+    gate: &'s G,
+    mut works: Vec<Work<T>>,
+    parts: &mut Parts<L>,
+) -> Result<Vec<Report<T>>, RoundError>
+    requires can { AllCanBegin T.standing works.items }
+    requires parts { vec_len works ≤ parts.old.number }
+    ensures reports { IfOk result (λ reports. AreReports T.standing works.items reports.items) }
+    ensures err { IfErr result (λ error. is_refusal error ≡ false) }
+{
+    let Some(next) = works.pop() else {
+        return Ok(Vec::new(alloc));
+    };
+    let lane = next.lane;
+    let share = parts.take_one();
+    if works.is_empty() {
+        let (done, share) = work(&*desk, &*rt, alloc, &*gate, next, share);
+        parts.put_back(share);
+        let reports = with_report(Vec::new(alloc), lane, done)?;
+        return Ok(reports);
+    }
+    let Some(worker) = start(&*scope, &*desk, &*rt, alloc, &*gate, next, share) else {
+        return Err(RoundError::WorkerNotStarted);
+    };
+    let reports = run_all(&*scope, &*desk, &*rt, alloc, &*gate, works, parts);
+    let (done, share) = worker.join(&*rt);
+    parts.put_back(share);
+    let before = reports?;
+    let reports = with_report(before, lane, done)?;
+    Ok(reports)
+}
+
+/// Does the works in a scope of their own: none of them is left running.
+pub(crate) fn in_threads<
+    L: Ledger + Send + Sync + 'static,
+    T: PartitionTask + Send + 'static,
+    G: Gate + Sync,
+    R: Threads + Wait + Sync,
+>(
+    desk: &Desk<L>,
+    rt: &R,
+    alloc: Global,
+    gate: &G,
+    works: Vec<Work<T>>,
+    parts: &mut Parts<L>,
+) -> Result<Vec<Report<T>>, RoundError>
+    requires can { AllCanBegin T.standing works.items }
+    requires parts { vec_len works ≤ parts.old.number }
+    ensures reports { IfOk result (λ reports. AreReports T.standing works.items reports.items) }
+    ensures err { IfErr result (λ error. is_refusal error ≡ false) }
+{
+    thread::scope(
+        thread::scope_env(),
+        rt,
+        |scope| -> Result<Vec<Report<T>>, RoundError>
+            requires { AllCanBegin T.standing works.items × (vec_len works ≤ parts.now.number) }
+            ensures { IfOk result (λ reports. AreReports T.standing works.items reports.items) × IfErr result (λ error. is_refusal error ≡ false) }
+        { run_all(scope, desk, rt, alloc, gate, works, parts) },
+    )
+}
