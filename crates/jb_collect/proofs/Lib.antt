@@ -1,0 +1,4 @@
+pub mod Taking
+pub mod Delivering
+pub mod Listing
+pub mod Apart

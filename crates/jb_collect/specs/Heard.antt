@@ -1,0 +1,51 @@
+-- Heard: what an analyzer is called with (Jakarta Batch 2.1, "Partition Analyzer"; the number, order and place of the calls
+-- are this project's choice).
+use Rattle.std.specs.Prelude.{ℕ, ◌==◌, Bool, true, false, List, [], ◌∷◌, ◌++◌, map}
+use Rattle.std.specs.List.{filter, flat_map, enumerate_from}
+use Rattle.jb_rules.specs.declared.row.Row.{Row}
+use Rattle.jb_rules.specs.declared.row.RowState.{RowState}
+use Rattle.jb_rules.specs.declared.row.RowState.TheVariants as state
+use Rattle.jb_rules.specs.States.{is_waiting}
+use Rattle.jb_chunk.specs.Attempt.{Ending, ending_of}
+use Rattle.jb_chunk.specs.Standing.{TaskState}
+use Rattle.jb_chunk.specs.declared.outcome.Done.{Done}
+use Rattle.jb_collect.specs.declared.calls.Status.TheVariants.{Stopped, Failed, Completed}
+use Rattle.jb_collect.specs.declared.calls.AnalyzerCall.{AnalyzerCall}
+use Rattle.jb_collect.specs.declared.calls.AnalyzerCall.TheVariants as call
+
+-- the texts of a partition's collector
+abbrev pub collected_calls : ℕ → List (List ℕ) → List AnalyzerCall
+collected_calls partition texts = map (λ text. call.Collected partition text) texts
+
+-- the status of a partition that has ended
+abbrev pub ended_calls : ℕ → RowState → List AnalyzerCall
+ended_calls partition state.Waiting = []
+ended_calls partition (state.Running lane) = []
+ended_calls partition state.Finished = call.Status partition Completed ∷ []
+ended_calls partition state.Failed = call.Status partition Failed ∷ []
+
+-- of one attempt: the texts, and then the partition's status where it ended
+abbrev pub heard_of : Ending → List AnalyzerCall
+heard_of e = collected_calls e.task.partition e.values ++ ended_calls e.task.partition e.task.row.state
+
+-- of attempts, as those of a round by rising partition, or of all rounds one after another
+abbrev pub heard_in : List Ending → List AnalyzerCall
+heard_in attempts = flat_map heard_of attempts
+
+-- before the first round: the partitions with an empty range are completed, where the step begins them; where its rows are
+-- those of an earlier run they were told of then
+abbrev pub heard_first : (begun_anew : Bool) → List Row → List AnalyzerCall
+heard_first false rows = []
+heard_first true rows = map (λ n. call.Status n.0 Completed) (filter (λ n. n.1.lo == n.1.hi) (enumerate_from 0 rows))
+
+-- after the last round: the partitions that a stop left unfinished are stopped
+abbrev pub heard_last : List TaskState → List AnalyzerCall
+heard_last tasks = map (λ t. call.Status t.partition Stopped) (filter (λ t. is_waiting t.row.state) tasks)
+
+-- of a whole run of a step: by the rows that it begins with, all its attempts, and the tasks as they were left
+abbrev pub heard_by : (begun_anew : Bool) → List Row → List Ending → List TaskState → List AnalyzerCall
+heard_by begun_anew rows attempts tasks = heard_first begun_anew rows ++ heard_in attempts ++ heard_last tasks
+
+-- how attempts ended, of which these tasks, outcomes and texts came back
+abbrev pub endings_of : {T : Type 0} → (T → TaskState) → List (Done T) → List Ending
+endings_of standing dones = map (λ d. ending_of (standing d.task) d.outcome d.values.items) dones

@@ -1,0 +1,72 @@
+//! What an analyzer is told of a round.
+
+ghost use Rattle.std.specs.Prelude.{map};
+ghost use Rattle.jb_chunk.specs.Attempt.{ending_of};
+ghost use Rattle.jb_collect.specs.Heard.{heard_of, heard_in, endings_of, collected_calls, ended_calls};
+ghost use Rattle.jb_collect.specs.Taken.{TakesCalls};
+
+use crate::calls::Status;
+use crate::interfaces::Analyzer;
+use jb_artifacts::Item;
+use jb_chunk::{Done, PartitionTask};
+use jb_job::ArtifactError;
+use jb_rules::RowState;
+
+/// Tells the analyzer of the attempts of one round, given by rising partition (Jakarta Batch 2.1, "Partition Analyzer"; the
+/// order is this project's choice): of each attempt its collected texts, and then, where the partition ended with it,
+/// COMPLETED or FAILED.
+///
+/// # Errors
+/// The analyzer's first fault, after which it is called no more; or `Memory`, where it had none for a call.
+pub fn deliver<T: PartitionTask>(
+    dones: &[Done<T>],
+    analyzer: &mut dyn Analyzer,
+) -> Result<(), ArtifactError>
+    ensures { TakesCalls (analyzed analyzer.old) (heard_in (endings_of T.standing dones.now)) result (analyzed analyzer.new) }
+{
+    for done in dones {
+        tell_done(done, analyzer)?;
+    }
+    Ok(())
+}
+
+// Of one attempt.
+fn tell_done<T: PartitionTask>(
+    done: &Done<T>,
+    analyzer: &mut dyn Analyzer,
+) -> Result<(), ArtifactError>
+    ensures { TakesCalls (analyzed analyzer.old) (heard_of (ending_of (T.standing done.now.task) done.now.outcome done.now.values.items)) result (analyzed analyzer.new) }
+{
+    let partition = done.task.partition();
+    tell_texts(partition, done.values.as_slice(), analyzer)?;
+    tell_end(partition, done.task.row().state, analyzer)
+}
+
+// A partition's texts.
+fn tell_texts(
+    partition: u32,
+    texts: &[Item],
+    analyzer: &mut dyn Analyzer,
+) -> Result<(), ArtifactError>
+    ensures { TakesCalls (analyzed analyzer.old) (collected_calls partition texts.now) result (analyzed analyzer.new) }
+{
+    for text in texts {
+        analyzer.collected(partition, text.as_slice())?;
+    }
+    Ok(())
+}
+
+// How a partition ended, where it has.
+fn tell_end(
+    partition: u32,
+    state: RowState,
+    analyzer: &mut dyn Analyzer,
+) -> Result<(), ArtifactError>
+    ensures { TakesCalls (analyzed analyzer.old) (ended_calls partition state) result (analyzed analyzer.new) }
+{
+    match state {
+        RowState::Finished => analyzer.status(partition, Status::Completed),
+        RowState::Failed => analyzer.status(partition, Status::Failed),
+        RowState::Waiting | RowState::Running(_) => Ok(()),
+    }
+}
