@@ -1,0 +1,86 @@
+-- Partitions that begin anew, and the reducer's calls before them.
+use Rattle.std.proofs.Common.{◌≡◌, ℕ, suc, zero, ◌<◌, ◌≤◌, Bool, true, false, cond, List, [], ◌∷◌, ◌++◌, length, map, Some, refl, ap, sym, ◌∙◌, subst, arith, inl, inr, append_assoc}
+use Rattle.std.specs.Prelude.{slice_get, slice_index_or, All, ◌⊎◌, ◌==◌}
+use Rattle.std.proofs.lemmas.List.{length-map}
+use Rattle.jb_job.specs.declared.job.Range.{Range}
+use Rattle.jb_job.specs.Limits.{max_records, max_retry_limit}
+use Rattle.jb_job.specs.Records.{StepRecord}
+use Rattle.jb_plan.specs.Plans.{CheckedPlan, IsCheckedPlan, IsWithin}
+use Rattle.jb_plan.specs.Ranges.{AreDisjoint}
+use Rattle.jb_rules.specs.Laws.{RowsStaySound}
+use Rattle.jb_rules.specs.Rows.{fresh_row, range_of}
+use Rattle.jb_rules.specs.Sound.{IsSoundRow}
+use Rattle.jb_rules.specs.States.{is_running}
+use Rattle.jb_rules.specs.declared.row.Row.{Row}
+use Rattle.jb_rules.specs.declared.row.RowState.TheVariants as state
+use Rattle.jb_chunk.specs.Standing.{HasItemCount}
+use Rattle.jb_collect.specs.declared.calls.ReducerCall.{ReducerCall}
+use Rattle.jb_collect.specs.declared.calls.ReducerCall.TheVariants.{Begin}
+use Rattle.jb_collect.specs.Reduced.{calls_before, rolled_back}
+use Rattle.jb_collect.specs.Taken.{Taken, calls_of, well}
+use Rattle.jb_step.specs.Reduced.{since}
+use Rattle.jb_step.specs.Setup.{IsSetup}
+use Rattle.jb_step.specs.inside.Fresh.{fresh_setup}
+use Rattle.jb_step.specs.inside.Reducing.{IsReducing}
+use Rattle.jb_step.proofs.Reduced.{since-is}
+
+abbrev IsFreshAt : List Range → ℕ → Row → Type 0
+IsFreshAt ranges i row = (x : Range) × (i < length ranges) × (slice_index_or ranges i x ≡ x) × (row ≡ fresh_row x)
+
+fresh-at : (ranges : List Range) (i : ℕ) (row : Row) → slice_get (map fresh_row ranges) i ≡ Some row → IsFreshAt ranges i row
+fresh-at [] i row e = let never : ⊥ = cc in absurd never
+fresh-at (x ∷ xs) zero row e = (x, omega arith, refl, cc)
+fresh-at (x ∷ xs) (suc i) row e =
+    let more = fresh-at xs i row e in
+    let lt = more.1 in
+    (more.0, omega (arith, lt), more.2, more.3)
+
+within-at : (ranges : List Range) (i : ℕ) (x : Range) → All (IsWithin max_records) ranges → i < length ranges → slice_index_or ranges i x ≡ x → IsWithin max_records x
+within-at ranges i x all lt is = subst (λ (r : Range). IsWithin max_records r) is (all i x lt)
+
+idle-by : (b : Bool) → is_running (cond b state.Finished state.Waiting) ≡ false
+idle-by true = refl
+idle-by false = refl
+
+begun-by : (b : Bool) → (cond b state.Finished state.Waiting ≡ state.Waiting) ⊎ (cond b state.Finished state.Waiting ≡ state.Finished)
+begun-by true = inr refl
+begun-by false = inl refl
+
+ranges-back : (ranges : List Range) → map range_of (map fresh_row ranges) ≡ ranges
+ranges-back [] = refl
+ranges-back (x ∷ xs) = ap (λ rs. x ∷ rs) (ranges-back xs)
+
+pub fresh-is : RowsStaySound → (plan : CheckedPlan) (step : StepRecord) → IsCheckedPlan plan → step.rules.retry_limit ≤ max_retry_limit → HasItemCount step.item_count → IsSetup (fresh_setup plan step)
+fresh-is law plan step checked retried items =
+    let long = length-map plan.ranges fresh_row in
+    let some = checked.some in
+    let few = checked.few in
+    record {
+      openable = record {
+        some_rows = omega (arith, long, some);
+        few_rows = omega (arith, long, few);
+        idle = λ i row e.
+            let at = fresh-at plan.ranges i row e in
+            let within = within-at plan.ranges i at.0 checked.within at.1 at.2 in
+            subst (λ (r : Row). IsSoundRow r × (is_running r.state ≡ false)) (sym at.3) (law.fresh at.0 within.0 within.1, idle-by (at.0.lo == at.0.hi));
+        disjoint = subst (λ (rs : List Range). AreDisjoint rs) (sym (ranges-back plan.ranges)) checked.disjoint;
+        some_threads = checked.some_threads;
+        few_threads = checked.few_threads;
+        some_items = items.some;
+        few_items = items.few;
+      };
+      begun = λ i row e.
+          let at = fresh-at plan.ranges i row e in
+          subst (λ (r : Row). (r.state ≡ state.Waiting) ⊎ (r.state ≡ state.Finished)) (sym at.3) (begun-by (at.0.lo == at.0.hi));
+      retried = retried;
+    }
+
+-- THE REDUCER'S CALLS
+
+pub begin-calls : (before after : List (Taken ReducerCall)) → after ≡ before ++ well Begin ∷ [] → calls_of (since before after) ≡ calls_before false false
+begin-calls before after e = ap calls_of (since-is before after (well Begin ∷ []) e)
+
+pub undone-calls : (before mid after : List (Taken ReducerCall)) (failed : Bool) → mid ≡ before ++ well Begin ∷ [] → IsReducing mid rolled_back failed false after → calls_of (since before after) ≡ calls_before false false ++ rolled_back
+undone-calls before mid after failed e one =
+    let grown : after ≡ before ++ (well Begin ∷ one.next) = one.after_is ∙ (ap (λ xs. xs ++ one.next) e ∙ append_assoc before (well Begin ∷ []) one.next) in
+    ap calls_of (since-is before after (well Begin ∷ one.next) grown) ∙ ap (λ cs. Begin ∷ cs) one.calls_are

@@ -1,0 +1,85 @@
+-- Rounds lead each partition along its own attempts.
+use Rattle.std.proofs.Common.{◌≡◌, Bool, true, false, cond, List, [], ◌∷◌, ◌++◌, refl, ap₂, sym, subst, inl}
+use Rattle.std.specs.List.{list_all}
+use Rattle.jb_rules.specs.declared.row.RowState.TheVariants as state
+use Rattle.jb_rules.specs.States.{is_waiting, has_ended}
+use Rattle.jb_cert.specs.Lawful.{Pair}
+use Rattle.jb_chunk.specs.Alone.{IsOnTheWay}
+use Rattle.jb_chunk.specs.Attempt.{attempt_of}
+use Rattle.jb_chunk.specs.Laws.{OneEnd, CalmRunsArePlain, WaysEnd}
+use Rattle.jb_chunk.specs.Standing.{TaskState}
+use Rattle.jb_step.specs.Laws.{StepsAreOnTheWay, StepsEndAlone, AloneIsOnePlace, CalmStepsArePlain}
+use Rattle.jb_step.specs.Rounds.{has_partition, tasks_in, after_round, after_rounds, CanRunAll}
+use Rattle.jb_step.specs.Runs.{table_after, rounds_of}
+use Rattle.jb_step.specs.Ways.{AreOnTheWay, AreAlone, AreReady, have_ended}
+use Rattle.jb_step.proofs.Adding.{after_rounds-append}
+use Rattle.jb_step.proofs.Apart.{left-of, right-of, run-more}
+use Rattle.jb_step.proofs.Steady.{waits}
+
+abbrev row_waits : TaskState → Bool
+row_waits t = is_waiting t.row.state
+
+-- the first task waits, if it is in the set
+first-waits : (b : Bool) (s : TaskState) (rest : List TaskState) → list_all row_waits (cond b (s ∷ rest) rest) ≡ true → b ≡ true → s.row.state ≡ state.Waiting
+first-waits true s rest all e = waits s.row.state (left-of (row_waits s) (list_all row_waits rest) all)
+first-waits false s rest all e = cc
+
+others-wait : (b : Bool) (s : TaskState) (rest : List TaskState) → list_all row_waits (cond b (s ∷ rest) rest) ≡ true → list_all row_waits rest ≡ true
+others-wait true s rest all = right-of (row_waits s) (list_all row_waits rest) all
+others-wait false s rest all = all
+
+way-one : (b : Bool) (t s : TaskState) → IsOnTheWay t s → (b ≡ true → s.row.state ≡ state.Waiting) → IsOnTheWay t (cond b (attempt_of s).task s)
+way-one true t s way waiting = record { attempts = way.attempts ++ attempt_of s ∷ []; run = run-more t way.attempts s way.run (waiting refl) }
+way-one false t s way waiting = way
+
+way-round : (set : List Pair) (ts ss : List TaskState) → AreOnTheWay ts ss → list_all row_waits (tasks_in set ss) ≡ true → AreOnTheWay ts (after_round set ss)
+way-round set [] [] way waiting = tt
+way-round set [] (s ∷ ss) way waiting = absurd way
+way-round set (t ∷ ts) [] way waiting = absurd way
+way-round set (t ∷ ts) (s ∷ ss) way waiting =
+    let b = has_partition set s.partition in
+    (way-one b t s way.0 (first-waits b s (tasks_in set ss) waiting), way-round set ts ss way.1 (others-wait b s (tasks_in set ss) waiting))
+
+way-none : (ts : List TaskState) → AreOnTheWay ts ts
+way-none [] = tt
+way-none (t ∷ ts) = (record { attempts = []; run = refl }, way-none ts)
+
+way-rounds : (rounds : List (List Pair)) (ts ss : List TaskState) → AreOnTheWay ts ss → CanRunAll rounds ss → AreOnTheWay ts (after_rounds rounds ss)
+way-rounds [] ts ss way can = way
+way-rounds (set ∷ older) ts ss way can = way-round set ts (after_rounds older ss) (way-rounds older ts ss way can.0) can.1.waiting
+
+pub steps_are_on_the_way : StepsAreOnTheWay
+steps_are_on_the_way s start [] runs = way-none start
+steps_are_on_the_way s start (plan ∷ older) runs =
+    let before = steps_are_on_the_way s start older runs.0 in
+    subst (λ ts. AreOnTheWay start ts) (sym (after_rounds-append plan.rounds (rounds_of older) start))
+    (way-rounds plan.rounds start (table_after older start) before runs.2.run)
+
+-- WHERE THEY END
+
+alone-all : WaysEnd → (ts ss : List TaskState) → AreReady ts → AreOnTheWay ts ss → have_ended ss ≡ true → AreAlone ts ss
+alone-all law [] [] ready way ended = tt
+alone-all law [] (s ∷ ss) ready way ended = absurd way
+alone-all law (t ∷ ts) [] ready way ended = absurd way
+alone-all law (t ∷ ts) (s ∷ ss) ready way ended =
+    (law t s ready.0 way.0 (left-of (has_ended s.row.state) (have_ended ss) ended), alone-all law ts ss ready.1 way.1 (right-of (has_ended s.row.state) (have_ended ss) ended))
+
+pub steps_end_alone : WaysEnd → StepsEndAlone
+steps_end_alone law s start plans ready runs ended = alone-all law start (table_after plans start) ready (steps_are_on_the_way s start plans runs) ended
+
+pub alone_is_one_place : OneEnd → AloneIsOnePlace
+alone_is_one_place law [] [] [] one other = refl
+alone_is_one_place law [] (s ∷ ss) us one other = absurd one
+alone_is_one_place law [] [] (u ∷ us) one other = absurd other
+alone_is_one_place law (t ∷ ts) [] us one other = absurd one
+alone_is_one_place law (t ∷ ts) (s ∷ ss) [] one other = absurd other
+alone_is_one_place law (t ∷ ts) (s ∷ ss) (u ∷ us) one other = ap₂ ◌∷◌ (law t s u one.0 other.0) (alone_is_one_place law ts ss us one.1 other.1)
+
+pub calm_steps_are_plain : CalmRunsArePlain → CalmStepsArePlain
+calm_steps_are_plain law [] [] ready waiting calm alone = tt
+calm_steps_are_plain law [] (s ∷ ss) ready waiting calm alone = absurd alone
+calm_steps_are_plain law (t ∷ ts) [] ready waiting calm alone = absurd alone
+calm_steps_are_plain law (t ∷ ts) (s ∷ ss) ready waiting calm alone = (
+  law t s ready.0 (inl (waits t.row.state (left-of (row_waits t) (list_all row_waits ts) waiting))) calm.0 alone.0,
+  calm_steps_are_plain law ts ss ready.1 (right-of (row_waits t) (list_all row_waits ts) waiting) calm.1 alone.1,
+)

@@ -1,0 +1,30 @@
+use Rattle.jb_step.proofs.Going.{next_can_run, runs_in_order, runs_all}
+use Rattle.jb_step.proofs.Holding.{begins_with_table, partitions_stay}
+use Rattle.jb_step.proofs.Whole.{ends_whole}
+use Rattle.jb_step.proofs.Starting.{begins_with_rows}
+use Rattle.jb_step.proofs.Listing.{chunks_are_blocks}
+use Rattle.jb_step.proofs.laws.plans_can_be_run.Goals as goal
+
+pub returns-clause-next : goal.returns-clause-next
+returns-clause-next c = next_can_run c.chunks_follow_one_another.ensures
+
+pub returns-clause-order : goal.returns-clause-order
+returns-clause-order c = runs_in_order c.chunks_follow_one_another.ensures
+
+pub returns-clause-all : goal.returns-clause-all
+returns-clause-all c = runs_all c.chunks_follow_one_another.ensures
+
+pub returns-clause-begins : goal.returns-clause-begins
+returns-clause-begins c = begins_with_table
+
+pub returns-clause-stay : goal.returns-clause-stay
+returns-clause-stay c = partitions_stay
+
+pub returns-clause-whole : goal.returns-clause-whole
+returns-clause-whole c = ends_whole c.chunks_follow_one_another.ensures
+
+pub returns-clause-rows : goal.returns-clause-rows
+returns-clause-rows c = begins_with_rows
+
+pub returns-clause-blocks : goal.returns-clause-blocks
+returns-clause-blocks c = chunks_are_blocks c.chunks_follow_one_another.ensures

@@ -1,0 +1,68 @@
+use Rattle.std.proofs.Common.{◌≡◌, ◌+◌, length, map, rules, List, true, false, sym, ap, ◌∙◌, subst}
+use Rattle.jb_cert.specs.Lawful.{Pair}
+use Rattle.jb_cert.specs.Plans.{slot_pair}
+use Rattle.jb_chunk.specs.Standing.{TaskState}
+use Rattle.jb_step.specs.Rounds.{CanRun, attempts_in}
+use Rattle.jb_step.specs.Ways.{have_ended}
+use Rattle.jb_step.specs.inside.Head.{set_of_round, IsNextPlan, IsFinished}
+use Rattle.jb_step.specs.inside.Telling.{moment}
+use Rattle.jb_step.proofs.Turning.{begins, turns, ends, can-run, head-ready, head-rises, room}
+use Rattle.jb_step.proofs.run.run_rounds.Goals as goal
+
+pub loop-init : goal.loop-init
+loop-init g c = (
+  rw c.new-notes.ensures.items
+      (begins c.args.prepared.now (map g.T.PartitionTask.standing c.args.tasks.items) _ (moment _ c.in_ok-fault.fault) c.requires c.in_ok-fault.ensures),
+  search rules,
+)
+
+pub loop-preserved : goal.loop-preserved
+loop-preserved g c =
+    let start : List TaskState = map g.T.PartitionTask.standing c.args.tasks.items in
+    let set : List Pair = map slot_pair c.as_slice-in-loop-2.result.now in
+    let table : List TaskState = map g.T.PartitionTask.standing c.loop.held.items in
+    let after : List TaskState = map g.T.PartitionTask.standing c.in_ok-turn.turn.held.items in
+    let next : IsNextPlan c.args.prepared.now table c.loop.plan c.in_ok-next.next = rw (← c.as_slice-in-loop.ensures.value) c.in_ok-next.ensures in
+    let sets : set ≡ set_of_round c.in_ok-next.next.cursor c.in_ok-next.next.ran = ap (map slot_pair) (c.as_slice-in-loop-2.ensures.value ∙ c.in_ok-slots.ensures) in
+    let more_is : c.in-Some-checked_add.more ≡ c.loop.ran + 1 = search rules in
+    let added : c.in-Some-checked_add-2.attempts ≡ c.loop.tried + c.in_ok-turn.turn.attempts = search rules in
+    let tried_is : c.in-Some-checked_add-2.attempts ≡ c.loop.tried + length (attempts_in set table) = added ∙ ap (λ n. c.loop.tried + n) c.in_ok-turn.ensures.attempts in (
+      turns c.laws_below.ensures c.args.prepared.now start _ (moment _ c.loop.fault) (moment _ c.in_ok-turn.turn.fault) table after (c.loop.ran, c.loop.tried) c.loop.notes.items c.closed.new.notes.items c.loop.plan c.in_ok-plan.plan c.in_ok-next.next set c.in_ok-turn.turn.breaks (c.in-Some-checked_add.more, c.in-Some-checked_add-2.attempts)
+          c.loop.invariant.0 next sets c.in_ok-turn.ensures.table c.in_ok-turn.ensures.ready c.in_ok-turn.ensures.breaks c.in_ok-turn.ensures.told (λ i. (more_is i, tried_is i)) c.in_ok-plan.ensures,
+      rw more_is (c.at_limit.ensures c.if-at_limit.false),
+    )
+
+pub one_round-requires-clause-rise : goal.one_round-requires-clause-rise
+one_round-requires-clause-rise g c κs bounds =
+    head-rises c.args.prepared.now (map g.T.PartitionTask.standing c.args.tasks.items) _ (moment _ c.loop.fault) (map g.T.PartitionTask.standing c.loop.held.items) (c.loop.ran, c.loop.tried) c.loop.notes.items c.loop.plan c.loop.invariant.0
+
+pub one_round-requires-clause-ready : goal.one_round-requires-clause-ready
+one_round-requires-clause-ready g c κs bounds =
+    head-ready c.args.prepared.now (map g.T.PartitionTask.standing c.args.tasks.items) _ (moment _ c.loop.fault) (map g.T.PartitionTask.standing c.loop.held.items) (c.loop.ran, c.loop.tried) c.loop.notes.items c.loop.plan c.loop.invariant.0
+
+pub one_round-requires-clause-can_run : goal.one_round-requires-clause-can_run
+one_round-requires-clause-can_run g c κs bounds =
+    let table : List TaskState = map g.T.PartitionTask.standing c.loop.held.items in
+    let next : IsNextPlan c.args.prepared.now table c.loop.plan c.in_ok-next.next = rw (← c.as_slice-in-loop.ensures.value) c.in_ok-next.ensures in
+    let sets : map slot_pair c.as_slice-in-loop-2.result.now ≡ set_of_round c.in_ok-next.next.cursor c.in_ok-next.next.ran = ap (map slot_pair) (c.as_slice-in-loop-2.ensures.value ∙ c.in_ok-slots.ensures) in
+    subst (λ (xs : List Pair). CanRun xs table) (sym sets)
+    (can-run c.laws_below.ensures c.args.prepared.now (map g.T.PartitionTask.standing c.args.tasks.items) _ (moment _ c.loop.fault) table (c.loop.ran, c.loop.tried) c.loop.notes.items c.loop.plan c.in_ok-next.next c.loop.invariant.0 next)
+
+pub closed-requires : goal.closed-requires
+closed-requires g c =
+    let table : List TaskState = map g.T.PartitionTask.standing c.loop.held.items in
+    let next : IsNextPlan c.args.prepared.now table c.loop.plan c.in_ok-next.next = rw (← c.as_slice-in-loop.ensures.value) c.in_ok-next.ensures in
+    room c.args.prepared.now (map g.T.PartitionTask.standing c.args.tasks.items) _ (moment _ c.loop.fault) table (c.loop.ran, c.loop.tried) c.loop.notes.items c.loop.plan c.in_ok-next.next c.loop.invariant.0 next
+
+pub returns-then-all_ended : goal.returns-then-all_ended
+returns-then-all_ended g c =
+    let table : List TaskState = map g.T.PartitionTask.standing c.loop.held.items in
+    let ended : have_ended table ≡ true = rw (← c.as_slice.ensures.value) (sym c.all_ended.ensures ∙ c.if-all_ended.true) in
+    let noted : IsFinished c.loop.plan c.loop.notes.items c.finish_notes.new.notes.items = search rules in
+    ends c.laws_below.ensures c.args.prepared.now (map g.T.PartitionTask.standing c.args.tasks.items) _ (moment _ c.loop.fault) table (c.loop.ran, c.loop.tried) c.loop.notes.items c.finish_notes.new.notes.items c.loop.plan c.args.round_limit false c.loop.invariant.0 noted c.loop.invariant.1 (λ u. ended)
+
+pub returns-then-is_stopping : goal.returns-then-is_stopping
+returns-then-is_stopping g c =
+    let table : List TaskState = map g.T.PartitionTask.standing c.loop.held.items in
+    let noted : IsFinished c.loop.plan c.loop.notes.items c.finish_notes-then-is_stopping.new.notes.items = search rules in
+    ends c.laws_below.ensures c.args.prepared.now (map g.T.PartitionTask.standing c.args.tasks.items) _ (moment _ c.loop.fault) table (c.loop.ran, c.loop.tried) c.loop.notes.items c.finish_notes-then-is_stopping.new.notes.items c.loop.plan c.args.round_limit true c.loop.invariant.0 noted c.loop.invariant.1 (λ u. let never : ⊥ = cc in absurd never)

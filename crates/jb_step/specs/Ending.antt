@@ -1,0 +1,70 @@
+-- What `run_step` answers.
+use Rattle.std.specs.Prelude.{◌≡◌, ℕ, ◌≤◌, true, false, ◌||◌, MatchOption, Option, List, map, length, slice_index_or}
+use Rattle.jb_rules.specs.Rows.{fresh_row}
+use Rattle.jb_artifacts.specs.Meaning.{Workplace}
+use Rattle.jb_chunk.specs.Standing.{TaskState}
+use Rattle.jb_repo.specs.declared.snapshot.Snapshot.{Snapshot}
+use Rattle.jb_collect.specs.declared.calls.AnalyzerCall.{AnalyzerCall}
+use Rattle.jb_collect.specs.declared.calls.ReducerCall.{ReducerCall}
+use Rattle.jb_collect.specs.declared.calls.Status.{Status}
+use Rattle.jb_step.specs.declared.error.StepError.{StepError}
+use Rattle.jb_step.specs.declared.error.StepError.TheVariants.{Memory}
+use Rattle.jb_step.specs.declared.notes.PlanNote.{PlanNote}
+use Rattle.jb_collect.specs.Reduced.{calls_after, rolled_back}
+use Rattle.jb_collect.specs.Taken.{Taken, calls_of}
+use Rattle.jb_step.specs.Heard.{heard, HasHeard}
+use Rattle.jb_step.specs.Reduced.{has_fault, before_failed}
+use Rattle.jb_step.specs.Runs.{PlanRun, ArePlanRuns, IsLastOver, notes_of, rounds_of, table_after, events_of}
+use Rattle.jb_step.specs.Setup.{Setup, first_tasks, rows_now}
+use Rattle.jb_step.specs.Statuses.{status_of, went_well}
+use Rattle.jb_step.specs.Ways.{have_ended}
+
+-- the artifacts that came back, each with its partition
+abbrev pub given_back : {A : Type 0} → (A → Workplace) → List (ℕ × A) → List (ℕ × Workplace)
+given_back workplace left = map (λ a. (a.0, workplace a.1)) left
+
+-- the tasks as they were left: the artifacts that came back, each with its partition, and the rows
+abbrev pub tasks_left : Setup → Snapshot → List (ℕ × Workplace) → List TaskState
+tasks_left s snapshot left =
+    map
+    (λ a. record {
+      partition = a.0;
+      row = slice_index_or snapshot.rows.items a.0 (fresh_row (record { lo = 0; hi = 0 }));
+      rules = s.rules;
+      item_count = s.item_count;
+      work = a.1;
+    })
+    left
+
+-- what holds where nothing stopped the run: all partitions ended, and so is the last plan; and the history's numbers
+pub record IsUnstopped (start : List TaskState) (plans : List PlanRun) (snapshot : Snapshot) : Type 0 where
+  pub ended : have_ended (table_after plans start) ≡ true
+  pub over : IsLastOver plans start
+  pub plans_number : snapshot.plans ≡ length plans
+  pub events_number : snapshot.events ≡ events_of plans start
+
+-- Run of a step: some plans were run, one after another, each a least one for what was left; these are its notes, its
+-- rows, its artifacts, and what the analyzer was told
+pub record IsRunOfStep (s : Setup) (works : List Workplace) (round_limit : Option ℕ) (before after : List (Taken AnalyzerCall)) (notes : List PlanNote) (snapshot : Snapshot) (left : List (ℕ × Workplace)) : Type 0 where
+  pub plans : List PlanRun
+  pub run : ArePlanRuns s (first_tasks s works) plans
+  pub notes_are : notes ≡ notes_of plans
+  pub few : MatchOption round_limit (Unit {0}) (λ limit. length (rounds_of plans) ≤ limit)
+  pub rows : snapshot.rows.items ≡ rows_now s.rows (table_after plans (first_tasks s works))
+  pub tasks : tasks_left s snapshot left ≡ table_after plans (first_tasks s works)
+  pub heard_is : HasHeard before (heard s (first_tasks s works) plans) after
+  pub unstopped : snapshot.stopping ≡ false → IsUnstopped (first_tasks s works) plans snapshot
+
+-- the status, by the rows and by whether a callback answered a fault
+abbrev pub IsStatus : Snapshot → List (Taken AnalyzerCall) → List (Taken ReducerCall) → Status → Type 0
+IsStatus snapshot told reduced status = status ≡ status_of snapshot.rows.items (has_fault told || has_fault reduced)
+
+-- the reducer's calls at the end, by whether all went well before them and what `before_completion` answered
+abbrev pub AreCallsAfter : Snapshot → List (Taken AnalyzerCall) → List (Taken ReducerCall) → Type 0
+AreCallsAfter snapshot told reduced =
+    calls_of reduced ≡ calls_after (went_well snapshot.rows.items (has_fault told)) (before_failed reduced)
+
+-- the reducer's calls after an error; where memory lacked, that is left open
+abbrev pub AreCallsUndone : StepError → List (Taken ReducerCall) → Type 0
+AreCallsUndone Memory reduced = Unit {0}
+AreCallsUndone _ reduced = calls_of reduced ≡ rolled_back

@@ -1,0 +1,29 @@
+-- What holds of every run of a step.
+use Rattle.std.specs.Prelude.{◌≡◌, true, List}
+use Rattle.std.specs.List.{list_all}
+use Rattle.jb_rules.specs.States.{is_waiting}
+use Rattle.jb_chunk.specs.Standing.{TaskState}
+use Rattle.jb_step.specs.Runs.{PlanRun, ArePlanRuns, table_after}
+use Rattle.jb_step.specs.Setup.{Setup}
+use Rattle.jb_step.specs.Ways.{AreOnTheWay, AreAlone, ArePlain, AreCalm, AreReady, have_ended}
+
+-- at each moment each partition stands after some of its attempts alone
+abbrev pub StepsAreOnTheWay : Type 0
+StepsAreOnTheWay =
+    (s : Setup) (start : List TaskState) (plans : List PlanRun) → ArePlanRuns s start plans → AreOnTheWay start (table_after plans start)
+
+-- where no partition is left unfinished, each stands where its attempts alone end
+abbrev pub StepsEndAlone : Type 0
+StepsEndAlone =
+    (s : Setup) (start : List TaskState) (plans : List PlanRun) → AreReady start → ArePlanRuns s start plans
+    → have_ended (table_after plans start) ≡ true → AreAlone start (table_after plans start)
+
+-- that is one place, whatever the threads and the rounds
+abbrev pub AloneIsOnePlace : Type 0
+AloneIsOnePlace = (start one other : List TaskState) → AreAlone start one → AreAlone start other → one ≡ other
+
+-- and where no call fails, the place of their Plain runs
+abbrev pub CalmStepsArePlain : Type 0
+CalmStepsArePlain =
+    (start end : List TaskState) → AreReady start → list_all (λ t. is_waiting t.row.state) start ≡ true → AreCalm start
+    → AreAlone start end → ArePlain start end

@@ -1,0 +1,14 @@
+pub mod Setup
+pub mod Rounds
+pub mod Runs
+pub mod Heard
+pub mod Reduced
+pub mod Statuses
+pub mod Ways
+pub mod Parts
+pub mod Prepare
+pub mod Ending
+pub mod Laws
+pub mod Going
+pub mod Worked
+pub mod inside

@@ -1,0 +1,25 @@
+-- What the callbacks of a step answered (this project's choice).
+use Rattle.std.specs.Prelude.{◌≡◌, Bool, true, false, ◌&&◌, List, ◌++◌, drop, length, is_some}
+use Rattle.std.specs.List.{list_any}
+use Rattle.jb_collect.specs.declared.calls.ReducerCall.{ReducerCall}
+use Rattle.jb_collect.specs.declared.calls.ReducerCall.TheVariants.{Before}
+use Rattle.jb_collect.specs.Taken.{Taken}
+
+-- some call was answered with a fault
+abbrev pub has_fault : {C : Type 0} → List (Taken C) → Bool
+has_fault calls = list_any (λ t. is_some t.fault) calls
+
+abbrev pub is_before : ReducerCall → Bool
+is_before Before = true
+is_before _ = false
+
+-- `before_completion` was answered with a fault
+abbrev pub before_failed : List (Taken ReducerCall) → Bool
+before_failed calls = list_any (λ t. is_before t.call && is_some t.fault) calls
+
+-- the calls since then; what was there before stays
+abbrev pub since : {C : Type 0} → (before after : List (Taken C)) → List (Taken C)
+since before after = drop (length before) after
+
+abbrev pub Grew : {C : Type 0} → (before after : List (Taken C)) → Type 0
+Grew before after = after ≡ before ++ since before after

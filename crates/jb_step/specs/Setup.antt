@@ -1,0 +1,70 @@
+-- What a step begins with: the rows of all its partitions, and tasks for those that aren't finished.
+use Rattle.std.specs.Prelude.{ℕ, ◌≡◌, ◌≤◌, ◌⊎◌, nat_eq, Bool, not, if◌then◌else◌, List, [], ◌∷◌, map, filter, slice_get, Some}
+use Rattle.std.specs.List.{enumerate_from, zip}
+use Rattle.jb_job.specs.declared.job.Range.{Range}
+use Rattle.jb_job.specs.Limits.{max_retry_limit}
+use Rattle.jb_job.specs.Records.{RulesRecord}
+use Rattle.jb_rules.specs.declared.row.Row.{Row}
+use Rattle.jb_rules.specs.declared.row.RowState.{RowState}
+use Rattle.jb_rules.specs.declared.row.RowState.TheVariants.{Waiting, Finished, Failed}
+use Rattle.jb_rules.specs.Rows.{fresh_row}
+use Rattle.jb_artifacts.specs.Meaning.{Workplace}
+use Rattle.jb_chunk.specs.Standing.{TaskState, started}
+use Rattle.jb_repo.specs.Openable.{IsOpenable, opened_journal}
+use Rattle.jb_repo.specs.Rows.{remaining}
+use Rattle.jb_rules.specs.States.{is_finished}
+
+-- the prepared rows, one for each partition, what the step says of chunks, and the number of threads
+pub record Setup : Type 0 where
+  pub rows : List Row
+  pub rules : RulesRecord
+  pub item_count : ℕ
+  pub threads : ℕ
+  -- the rows are new ones, and not those of an earlier run
+  pub begun_anew : Bool
+
+-- a failed partition that is taken up again waits at its checkpoint
+abbrev pub again : RowState → RowState
+again Failed = Waiting
+again state = state
+
+-- the rows that a run begins with: new ones of the ranges, or an earlier run's
+abbrev pub fresh_rows : List Range → List Row
+fresh_rows ranges = map fresh_row ranges
+
+abbrev pub taken_up : Row → Row
+taken_up row = record row { state = again row.state }
+
+abbrev pub saved_rows : List Row → List Row
+saved_rows rows = map taken_up rows
+
+-- what a step may begin with: a repository may be opened with its rows, each partition waits or is finished, and the retry
+-- limit is one of a job's
+pub record IsSetup (s : Setup) : Type 0 where
+  pub openable : IsOpenable (opened_journal s.rows s.threads s.item_count)
+  pub begun : (p : ℕ) (row : Row) → slice_get s.rows p ≡ Some row → (row.state ≡ Waiting) ⊎ (row.state ≡ Finished)
+  pub retried : s.rules.retry_limit ≤ max_retry_limit
+
+-- the partitions that aren't finished, rising, with their rows
+abbrev pub unfinished : List Row → List (ℕ × Row)
+unfinished rows = filter (λ n. not (is_finished n.1.state)) (enumerate_from 0 rows)
+
+abbrev pub needs : List Row → List ℕ
+needs rows = map (λ n. n.0) (unfinished rows)
+
+-- their tasks, each with its artifacts
+abbrev pub first_tasks : Setup → List Workplace → List TaskState
+first_tasks s works = map (λ n. started n.0.0 n.0.1 s.rules s.item_count n.1) (zip (unfinished s.rows) works)
+
+-- the row of a partition now: its task's, or the prepared one where it has no task
+abbrev pub row_now : List TaskState → ℕ → Row → Row
+row_now [] p row = row
+row_now (t ∷ ts) p row = if nat_eq t.partition p then t.row else row_now ts p row
+
+-- the rows of all partitions now
+abbrev pub rows_now : List Row → List TaskState → List Row
+rows_now rows ts = map (λ n. row_now ts n.0 n.1) (enumerate_from 0 rows)
+
+-- how many chunks each partition has left
+abbrev pub counts_now : Setup → List TaskState → List ℕ
+counts_now s ts = remaining s.item_count (rows_now s.rows ts)

@@ -1,0 +1,11 @@
+pub mod Adding
+pub mod Below
+pub mod Finish
+pub mod Fresh
+pub mod Head
+pub mod Loop
+pub mod Preparing
+pub mod Reducing
+pub mod Round
+pub mod Starting
+pub mod Telling

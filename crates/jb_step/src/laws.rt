@@ -1,0 +1,56 @@
+//! What holds of every run of a step. Nothing is done here: the clauses are the laws.
+
+ghost use Rattle.jb_step.specs.Going.{BeginsWithRows, BeginsWithTable, ChunksAreBlocks, EndsWhole, NextCanRun, PartitionsStay, RunsAll, RunsInOrder};
+ghost use Rattle.jb_step.specs.Laws.{StepsAreOnTheWay, StepsEndAlone, AloneIsOnePlace, CalmStepsArePlain};
+ghost use Rattle.jb_step.specs.inside.Below.{LawsBelow};
+ghost use Rattle.jb_step.specs.Parts.{AttemptsAreAlone, HeardOfPartition, OthersDontCount};
+
+use jb_cert::{bound_is_least, wrap_around_is_least};
+use jb_chunk::{runs_end_alike, runs_lead_to_an_end};
+use jb_collect::{calls_end_at_a_fault, partitions_are_heard_apart};
+use jb_plan::chunks_follow_one_another;
+
+/// What a run of a step does to each partition.
+pub fn partitions_run_alone()
+    ensures on_the_way { StepsAreOnTheWay }
+    ensures alone { StepsEndAlone }
+    ensures one_place { AloneIsOnePlace }
+    ensures plain { CalmStepsArePlain }
+{
+    runs_lead_to_an_end();
+    runs_end_alike();
+}
+
+/// What a run of a step is to one partition.
+pub fn others_dont_count()
+    ensures others { OthersDontCount }
+    ensures heard { HeardOfPartition }
+    ensures attempts { AttemptsAreAlone }
+{
+    partitions_are_heard_apart();
+}
+
+/// A plan can be run to its end, while no round has a rollback or a failure.
+pub fn plans_can_be_run()
+    ensures next { NextCanRun }
+    ensures order { RunsInOrder }
+    ensures blocks { ChunksAreBlocks }
+    ensures all { RunsAll }
+    ensures whole { EndsWhole }
+    ensures begins { BeginsWithTable }
+    ensures rows { BeginsWithRows }
+    ensures stay { PartitionsStay }
+{
+    chunks_follow_one_another();
+}
+
+/// What the crates below say of chunks, of plans, and of calls that may be answered with a fault.
+pub(crate) fn laws_below()
+    ensures { LawsBelow }
+{
+    chunks_follow_one_another();
+    wrap_around_is_least();
+    bound_is_least();
+    calls_end_at_a_fault();
+    runs_lead_to_an_end();
+}

@@ -1,0 +1,189 @@
+//! The plan whose rounds are run.
+
+ghost use Rattle.std.specs.Prelude.{◌≡◌, ◌+◌, ◌++◌, ◌∷◌, ◌≤◌, [], None, IfOk, OnOk, map, length};
+ghost use Rattle.std.specs.List.{enumerate_from};
+ghost use Rattle.jb_cert.specs.Load.{mcnaughton};
+ghost use Rattle.jb_repo.specs.Rows.{remaining, remaining_of};
+ghost use Rattle.jb_step.specs.Setup.{row_now, counts_now};
+ghost use Rattle.jb_step.specs.inside.Head.{IsNextPlan, IsAfterRound, note_at};
+
+use crate::error::RunError;
+use crate::lanes::Lanes;
+use crate::notes::PlanNote;
+use crate::prepared::Prepared;
+use crate::round::refusal;
+use jb_cert::fits;
+use jb_chunk::PartitionTask;
+use jb_job::MAX_ITEM_COUNT;
+use jb_plan::chunks_left;
+use jb_rounds::RoundCursor;
+use jb_rules::{Row, RowState};
+use jb_workers::Gate;
+use std::alloc::Global;
+use std::sync::Wait;
+use std::sync::ledger::Ledger;
+use std::thread::Threads;
+
+/// A plan that is being run.
+#[derive(Drop)]
+pub(crate) struct Open {
+    /// Its rounds.
+    pub cursor: RoundCursor,
+    /// How many of them were run.
+    pub ran: u64,
+}
+
+// The row of a partition now.
+pub(crate) fn row_of<T: PartitionTask>(held: &[T], partition: u32, row: Row) -> Row
+    ensures { result ≡ row_now (map T.standing held.now) partition row }
+{
+    if let Some((first, rest)) = held.split_first() {
+        if first.partition() == partition {
+            return *first.row();
+        }
+        return row_of(rest, partition, row);
+    }
+    row
+}
+
+// How many chunks the row has left.
+fn count_of(row: &Row, item_count: u64) -> Result<u64, RunError>
+    ensures { IfOk result (λ count. count ≡ remaining_of item_count row.now row.now.state) }
+{
+    match row.state {
+        RowState::Waiting => {
+            if item_count < 1 || MAX_ITEM_COUNT < item_count || !row.sound() {
+                return Err(RunError::Repository(0));
+            }
+            Ok(chunks_left(row.at, row.redo, row.hi, item_count))
+        }
+        RowState::Running(_) | RowState::Finished | RowState::Failed => Ok(0),
+    }
+}
+
+// Adds the counts of these partitions.
+fn add_counts<T: PartitionTask>(
+    counts: &mut Vec<u64>,
+    first: u32,
+    rows: &[Row],
+    held: &[T],
+    item_count: u64,
+) -> Result<(), RunError>
+    requires { first + length rows.now ≤ 4096 }
+    ensures { OnOk result (counts.new.items ≡ counts.old.items ++ remaining item_count (map (λ n. row_now (map T.standing held.now) n.0 n.1) (enumerate_from first rows.now))) }
+{
+    if let Some((row, rest)) = rows.split_first() {
+        let now = row_of(held, first, *row);
+        let count = count_of(&now, item_count)?;
+        if counts.push(count).is_err() {
+            return Err(RunError::Memory);
+        }
+        return add_counts(counts, first + 1, rest, held, item_count);
+    }
+    Ok(())
+}
+
+// How many chunks each partition has left.
+fn counts_of<T: PartitionTask>(
+    alloc: Global,
+    prepared: &Prepared,
+    held: &[T],
+) -> Result<Vec<u64>, RunError>
+    ensures { IfOk result (λ counts. counts.items ≡ counts_now prepared.now (map T.standing held.now)) }
+{
+    let rows = prepared.rows();
+    if rows.len() > 4096 {
+        return Err(RunError::Repository(0));
+    }
+    let mut counts = Vec::new(alloc);
+    add_counts(&mut counts, 0, rows, held, prepared.item_count())?;
+    Ok(counts)
+}
+
+// A plan for what is left.
+fn new_plan<
+    T: PartitionTask + Send + 'static,
+    L: Ledger + Send + Sync + 'static,
+    G: Gate + Sync,
+    R: Threads + Wait + Sync,
+>(lanes: &Lanes<L, G, R>, alloc: Global, prepared: &Prepared, held: &[T]) -> Result<Open, RunError>
+    ensures { IfOk result (λ plan. IsNextPlan prepared.now (map T.standing held.now) None plan) }
+{
+    let counts = counts_of(alloc, prepared, held)?;
+    let threads = prepared.threads();
+    if !fits(counts.as_slice(), threads) {
+        return Err(RunError::Repository(0));
+    }
+    let Ok(cursor) = RoundCursor::new(alloc, counts.as_slice(), threads) else {
+        return Err(RunError::Memory);
+    };
+    let rounds = cursor.rounds();
+    if rounds < 1 {
+        return Err(RunError::Repository(0));
+    }
+    if let Err(refused) = lanes.plan(rounds, cursor.certificate()) {
+        return Err(refusal(refused, prepared.rows().len() as u32));
+    }
+    Ok(Open { cursor, ran: 0 })
+}
+
+/// The open plan, or a new one for what is left.
+pub(crate) fn next_plan<
+    T: PartitionTask + Send + 'static,
+    L: Ledger + Send + Sync + 'static,
+    G: Gate + Sync,
+    R: Threads + Wait + Sync,
+>(
+    lanes: &Lanes<L, G, R>,
+    alloc: Global,
+    prepared: &Prepared,
+    held: &[T],
+    plan: Option<Open>,
+) -> Result<Open, RunError>
+    ensures { IfOk result (λ next. IsNextPlan prepared.now (map T.standing held.now) plan next) }
+{
+    match plan {
+        Some(plan) => Ok(plan),
+        None => new_plan(lanes, alloc, prepared, held),
+    }
+}
+
+/// The plan after its next round, if it goes on; else its note is taken.
+pub(crate) fn closed(
+    plan: Open,
+    breaks: bool,
+    notes: &mut Vec<PlanNote>,
+) -> Result<Option<Open>, RunError>
+    requires { plan.ran + 1 ≤ mcnaughton plan.cursor.counts plan.cursor.threads }
+    ensures { IfOk result (λ after. IsAfterRound plan breaks notes.old.items after notes.new.items) }
+{
+    let rounds = plan.cursor.rounds();
+    let ran = plan.ran + 1;
+    if breaks || ran == rounds {
+        take_note(&plan.cursor, ran, notes)?;
+        return Ok(None);
+    }
+    Ok(Some(Open {
+        cursor: plan.cursor,
+        ran,
+    }))
+}
+
+/// Notes a plan of which so many rounds were run.
+pub(crate) fn take_note(
+    cursor: &RoundCursor,
+    ran: u64,
+    notes: &mut Vec<PlanNote>,
+) -> Result<(), RunError>
+    ensures { OnOk result (notes.new.items ≡ notes.old.items ++ note_at cursor.now ran ∷ []) }
+{
+    let note = PlanNote {
+        certificate: cursor.certificate(),
+        planned: cursor.rounds(),
+        ran,
+    };
+    if notes.push(note).is_err() {
+        return Err(RunError::Memory);
+    }
+    Ok(())
+}

@@ -1,0 +1,161 @@
+//! What a step begins with.
+
+ghost use Rattle.std.specs.Prelude.{◌≡◌, ◌↔◌, ◌+◌, ◌++◌, ◌≤◌, length, map, slice_get, option_copied, IfOk, IsTrue, OnOk};
+ghost use Rattle.jb_chunk.specs.Standing.{HasItemCount};
+ghost use Rattle.jb_step.specs.Setup.{IsSetup, fresh_rows, needs};
+ghost use Rattle.jb_step.specs.inside.Fresh.{fresh_setup};
+ghost use Rattle.jb_step.specs.inside.Starting.{AreBegun, unfinished_from};
+
+use jb_job::{Range, Rules, Step};
+use jb_plan::Checked;
+use jb_repo::Repo;
+use jb_rules::{Row, rows_stay_sound};
+use jb_workers::Desk;
+use std::alloc::{AllocError, Global};
+use std::marker::Model;
+use std::sync::ledger::{Blank, Ledger};
+
+/// The rows of a step's partitions, and which of them are to be run.
+#[derive(Drop)]
+pub struct Prepared {
+    rows: Vec<Row>,
+    needs: Vec<u32>,
+    rules: Rules,
+    item_count: u64,
+    threads: u32,
+    begun_anew: bool,
+}
+
+impl Model for Prepared {
+    ghost use Rattle.jb_step.specs.Setup.{Setup};
+
+    ghost Value = { Setup };
+
+    ghost use Rattle.jb_step.specs.inside.Preparing.{setup_of, IsPrepared};
+
+    ghost view = { setup_of };
+
+    ghost invariant = { IsPrepared };
+}
+
+impl Prepared {
+    /// The rows of partitions that begin anew on the ranges of a checked plan. The only error is want of memory.
+    pub(crate) fn fresh(alloc: Global, plan: &Checked, step: &Step) -> Result<Prepared, AllocError>
+        ensures { IfOk result (λ prepared. prepared ≡ fresh_setup plan.now step.now) }
+    {
+        rows_stay_sound();
+        let rules = step.rules();
+        // Reading the limit tells the proof how high it may be.
+        let _limit = rules.retry_limit;
+        let mut rows = Vec::new(alloc);
+        add_rows(&mut rows, plan.ranges())?;
+        let mut needs = Vec::new(alloc);
+        add_needs(&mut needs, 0, rows.as_slice())?;
+        Ok(Prepared {
+            rows,
+            needs,
+            rules,
+            item_count: step.item_count(),
+            threads: plan.threads(),
+            begun_anew: true,
+        })
+    }
+
+    /// The partitions that aren't finished, rising.
+    pub fn needs(&self) -> &[u32]
+        ensures { result.now ≡ needs self.now.rows }
+    {
+        self.needs.as_slice()
+    }
+
+    /// The prepared row of a partition.
+    pub fn row(&self, partition: u32) -> Option<&Row>
+        ensures { option_copied result ≡ slice_get self.now.rows partition }
+    {
+        self.rows.get(partition as usize)
+    }
+
+    /// A new desk for the step: it has the prepared rows, and no event yet. `blank` is a ledger's with 1,000,000,000,000 parts.
+    /// The only error is want of memory for the rows.
+    pub fn desk<L: Ledger>(&self, alloc: Global, blank: Blank) -> Result<Desk<L>, AllocError>
+        requires name { blank.name ≡ L.name }
+        requires parts { blank.parts ≡ L.parts }
+        requires all { blank.parts ≡ 1000000000000 }
+    {
+        let rows = Vec::from_slice(alloc, self.rows())?;
+        let repo = Repo::new(rows, self.threads(), self.item_count());
+        Ok(Desk::new(repo, blank))
+    }
+
+    /// The prepared rows.
+    pub(crate) fn rows(&self) -> &[Row]
+        ensures value { result.now ≡ self.now.rows }
+        ensures setup { IsSetup self.now }
+    {
+        self.rows.as_slice()
+    }
+
+    /// The same rows: each is sound, and its partition waits or is finished; there are at most 256.
+    pub(crate) fn begun_rows(&self) -> &[Row]
+        ensures value { result.now ≡ self.now.rows }
+        ensures begun { AreBegun result.now }
+        ensures few { length result.now ≤ 256 }
+        ensures setup { IsSetup self.now }
+    {
+        self.rows.as_slice()
+    }
+
+    /// The step's rules.
+    pub(crate) fn rules(&self) -> Rules
+        ensures { result ≡ self.now.rules }
+    {
+        self.rules
+    }
+
+    /// The number of records in a chunk, 1 to 1,000,000.
+    pub(crate) fn item_count(&self) -> u64
+        ensures value { result ≡ self.now.item_count }
+        ensures limits { HasItemCount result }
+    {
+        self.item_count
+    }
+
+    /// The number of threads, 1 to 64.
+    pub(crate) fn threads(&self) -> u32
+        ensures { result ≡ self.now.threads }
+    {
+        self.threads
+    }
+
+    /// Whether the rows are new ones, and not those of an earlier run.
+    pub(crate) fn begun_anew(&self) -> bool
+        ensures { result ≡ self.now.begun_anew }
+    {
+        self.begun_anew
+    }
+}
+
+// Adds the rows of these ranges.
+fn add_rows(rows: &mut Vec<Row>, ranges: &[Range]) -> Result<(), AllocError>
+    ensures { OnOk result (rows.new.items ≡ rows.old.items ++ fresh_rows ranges.now) }
+{
+    if let Some((first, rest)) = ranges.split_first() {
+        rows.push(Row::fresh(*first))?;
+        return add_rows(rows, rest);
+    }
+    Ok(())
+}
+
+// Adds the partitions of some of the rows that aren't finished; the first row has this number.
+fn add_needs(needs: &mut Vec<u32>, first: u32, rows: &[Row]) -> Result<(), AllocError>
+    requires { first + length rows.now ≤ 256 }
+    ensures { OnOk result (needs.new.items ≡ needs.old.items ++ map (λ n. n.0) (unfinished_from first rows.now)) }
+{
+    if let Some((row, rest)) = rows.split_first() {
+        if !row.state.is_finished() {
+            needs.push(first)?;
+        }
+        return add_needs(needs, first + 1, rest);
+    }
+    Ok(())
+}

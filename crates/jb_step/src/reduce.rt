@@ -1,0 +1,168 @@
+//! The reducer's calls at a step's end, and the step's status.
+
+ghost use Rattle.std.specs.Prelude.{◌≡◌, ◌||◌, true, false, not, IfOk, [], ◌∷◌};
+ghost use Rattle.std.specs.List.{list_any};
+ghost use Rattle.jb_rules.specs.States.{is_finished, is_failed};
+ghost use Rattle.jb_collect.specs.declared.calls.ReducerCall.TheVariants as act;
+ghost use Rattle.jb_collect.specs.Reduced.{rolled_back};
+ghost use Rattle.jb_step.specs.Ending.{AreCallsUndone};
+ghost use Rattle.jb_step.specs.Reduced.{since};
+ghost use Rattle.jb_step.specs.Statuses.{status_of, is_completed, went_well};
+ghost use Rattle.jb_step.specs.declared.error.StepError.TheVariants.{WrongArtifacts};
+ghost use Rattle.jb_step.specs.inside.Reducing.{IsReducing, IsEnding};
+
+use crate::error::{RunError, StepError};
+use jb_collect::{PartitionStatus, Reducer, Status};
+use jb_job::ArtifactError;
+use jb_rules::Row;
+
+// Whether some partition failed.
+fn some_failed(rows: &[Row]) -> bool
+    ensures { result ≡ list_any (λ row. is_failed row.state) rows.now }
+{
+    if let Some((first, rest)) = rows.split_first() {
+        return first.state.is_failed() || some_failed(rest);
+    }
+    false
+}
+
+// Whether some partition is unfinished.
+fn some_unfinished(rows: &[Row]) -> bool
+    ensures { result ≡ list_any (λ row. not (is_finished row.state)) rows.now }
+{
+    if let Some((first, rest)) = rows.split_first() {
+        return !first.state.is_finished() || some_unfinished(rest);
+    }
+    false
+}
+
+/// How the step stands.
+fn status_now(rows: &[Row], callback_failed: bool) -> Status
+    ensures { result ≡ status_of rows.now callback_failed }
+{
+    if callback_failed || some_failed(rows) {
+        return Status::Failed;
+    }
+    if some_unfinished(rows) {
+        return Status::Stopped;
+    }
+    Status::Completed
+}
+
+fn is_completed(status: Status) -> bool
+    ensures { result ≡ is_completed status }
+{
+    matches!(status, Status::Completed)
+}
+
+// Calls `before_completion`.
+fn call_before(reducer: &mut dyn Reducer) -> Result<bool, RunError>
+    ensures { IfOk result (λ faulted. IsReducing (reduced reducer.old) (act.Before ∷ []) faulted faulted (reduced reducer.new)) }
+{
+    match reducer.before_completion() {
+        Ok(()) => Ok(false),
+        Err(ArtifactError::Fault(_)) => Ok(true),
+        Err(ArtifactError::Memory) => Err(RunError::Memory),
+    }
+}
+
+// Calls `rollback`.
+fn call_rollback(reducer: &mut dyn Reducer) -> Result<bool, RunError>
+    ensures { IfOk result (λ faulted. IsReducing (reduced reducer.old) (act.Rollback ∷ []) faulted false (reduced reducer.new)) }
+{
+    match reducer.rollback() {
+        Ok(()) => Ok(false),
+        Err(ArtifactError::Fault(_)) => Ok(true),
+        Err(ArtifactError::Memory) => Err(RunError::Memory),
+    }
+}
+
+// Calls `after`.
+fn call_after(status: PartitionStatus, reducer: &mut dyn Reducer) -> Result<bool, RunError>
+    ensures { IfOk result (λ faulted. IsReducing (reduced reducer.old) (act.After status ∷ []) faulted false (reduced reducer.new)) }
+{
+    match reducer.after(status) {
+        Ok(()) => Ok(false),
+        Err(ArtifactError::Fault(_)) => Ok(true),
+        Err(ArtifactError::Memory) => Err(RunError::Memory),
+    }
+}
+
+fn either(one: bool, other: bool) -> bool
+    ensures { result ≡ (one || other) }
+{
+    one || other
+}
+
+/// Rolls the step back: both calls are made, whatever the first one answers.
+pub(crate) fn undo(reducer: &mut dyn Reducer) -> Result<bool, RunError>
+    ensures { IfOk result (λ faulted. IsReducing (reduced reducer.old) rolled_back faulted false (reduced reducer.new)) }
+{
+    let rolled = call_rollback(reducer);
+    let ended = call_after(PartitionStatus::Rollback, reducer);
+    let first = rolled?;
+    let second = ended?;
+    let both = either(first, second);
+    Ok(both)
+}
+
+/// Rolls the step back for this error. Where the reducer finds no memory for it, that is the error.
+pub(crate) fn undone(error: StepError, reducer: &mut dyn Reducer) -> StepError
+    ensures calls { AreCallsUndone result (since (reduced reducer.old) (reduced reducer.new)) }
+    ensures wrong { result ≡ WrongArtifacts → error ≡ WrongArtifacts }
+{
+    match undo(reducer) {
+        Ok(_) => error,
+        Err(_) => StepError::Memory,
+    }
+}
+
+// Calls `before_completion`; where it finds no memory, the step is rolled back.
+fn begin_completion(reducer: &mut dyn Reducer) -> Result<bool, RunError>
+    ensures { IfOk result (λ faulted. IsReducing (reduced reducer.old) (act.Before ∷ []) faulted faulted (reduced reducer.new)) }
+{
+    match call_before(reducer) {
+        Ok(failed) => Ok(failed),
+        Err(error) => {
+            let _ = undo(reducer);
+            Err(error)
+        }
+    }
+}
+
+// The calls where each partition is completed and no callback failed.
+fn complete(rows: &[Row], reducer: &mut dyn Reducer) -> Result<Status, RunError>
+    requires { went_well rows.now false ≡ true }
+    ensures { IfOk result (λ status. IsEnding rows.now false (reduced reducer.old) status (reduced reducer.new)) }
+{
+    let before = begin_completion(reducer)?;
+    if before {
+        let undone = undo(reducer)?;
+        let failed = either(before, undone);
+        let status = status_now(rows, failed);
+        return Ok(status);
+    }
+    let failed = call_after(PartitionStatus::Commit, reducer)?;
+    let status = status_now(rows, failed);
+    Ok(status)
+}
+
+/// The reducer's calls at the step's end, and how the step stands then; `faulted` where the analyzer answered a fault. The
+/// only error is want of memory.
+pub(crate) fn end_step(
+    rows: &[Row],
+    faulted: bool,
+    reducer: &mut dyn Reducer,
+) -> Result<Status, RunError>
+    ensures { IfOk result (λ status. IsEnding rows.now faulted (reduced reducer.old) status (reduced reducer.new)) }
+{
+    let well = is_completed(status_now(rows, faulted));
+    if well {
+        let status = complete(rows, reducer)?;
+        return Ok(status);
+    }
+    let failed = undo(reducer)?;
+    let any = either(faulted, failed);
+    let status = status_now(rows, any);
+    Ok(status)
+}

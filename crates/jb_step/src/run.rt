@@ -1,0 +1,142 @@
+//! All rounds of a step.
+
+ghost use Rattle.std.specs.Prelude.{◌≡◌, ◌+◌, ◌≤◌, ◌==◌, true, false, IfOk, OnOk, List, [], ◌∷◌, map, filter, length, MatchOption};
+ghost use Rattle.jb_step.specs.Going.{IsTable};
+ghost use Rattle.jb_step.specs.Ways.{have_ended};
+ghost use Rattle.jb_step.specs.inside.Head.{AreRounds, IsFinished};
+ghost use Rattle.jb_step.specs.inside.Telling.{moment};
+
+use crate::error::RunError;
+use crate::lanes::Lanes;
+use crate::laws::laws_below;
+use crate::notes::PlanNote;
+use crate::plan::{Open, closed, next_plan, take_note};
+use crate::prepared::Prepared;
+use crate::round::{one_round, refusal, slots_of};
+use crate::tell::tell_first;
+use jb_chunk::PartitionTask;
+use jb_collect::Analyzer;
+use jb_job::ClassId;
+use jb_workers::Gate;
+use std::alloc::Global;
+use std::sync::Wait;
+use std::sync::ledger::Ledger;
+use std::thread::Threads;
+
+/// The tasks after all rounds.
+#[derive(Drop)]
+pub(crate) struct Ran<T> {
+    /// The tasks.
+    pub held: Vec<T>,
+    /// The plans, the first one first.
+    pub notes: Vec<PlanNote>,
+    /// The fault that the analyzer answered, if it did.
+    pub fault: Option<ClassId>,
+    /// How many rounds were run.
+    pub rounds: u64,
+    /// How many attempts were made.
+    pub attempts: u64,
+    /// Whether the rounds ended before the tasks.
+    pub stopped: bool,
+}
+
+// True where each task has ended.
+fn all_ended<T: PartitionTask>(held: &[T]) -> bool
+    ensures { result ≡ have_ended (map T.standing held.now) }
+{
+    if let Some((first, rest)) = held.split_first() {
+        return first.row().state.has_ended() && all_ended(rest);
+    }
+    true
+}
+
+// True where no round more may be run.
+fn at_limit(limit: Option<u64>, ran: u64) -> bool
+    ensures { result ≡ false → MatchOption limit (Unit {0}) (λ l. ran + 1 ≤ l) }
+{
+    match limit {
+        Some(limit) => limit <= ran,
+        None => false,
+    }
+}
+
+// Notes the plan that is still open, if there is one.
+fn finish_notes(plan: &Option<Open>, notes: &mut Vec<PlanNote>) -> Result<(), RunError>
+    ensures { OnOk result (IsFinished plan.now notes.old.items notes.new.items) }
+{
+    match plan {
+        Some(plan) => take_note(&plan.cursor, plan.ran, notes),
+        None => Ok(()),
+    }
+}
+
+/// Runs the tasks in rounds, each of a least plan for what is left, until all have ended, or a stop, or the limit.
+pub(crate) fn run_rounds<
+    T: PartitionTask + Send + 'static,
+    L: Ledger + Send + Sync + 'static,
+    G: Gate + Sync,
+    R: Threads + Wait + Sync,
+>(
+    lanes: &Lanes<L, G, R>,
+    alloc: Global,
+    prepared: &Prepared,
+    tasks: Vec<T>,
+    analyzer: &mut dyn Analyzer,
+    round_limit: Option<u64>,
+) -> Result<Ran<T>, RunError>
+    requires { IsTable prepared.now (map T.standing tasks.items) }
+    ensures { IfOk result (λ ran. AreRounds prepared.now (map T.standing tasks.items) round_limit (analyzed analyzer.old) (moment (analyzed analyzer.new) ran.fault) ran.notes.items (map T.standing ran.held.items) (ran.rounds, ran.attempts) ran.stopped) }
+{
+    laws_below();
+    let rows = prepared.rows().len() as u32;
+    let mut held = tasks;
+    let mut notes = Vec::new(alloc);
+    let mut plan: Option<Open> = None;
+    let mut ran: u64 = 0;
+    let mut tried: u64 = 0;
+    let mut fault = tell_first(prepared, analyzer)?;
+    for _ in lanes.rt.forever() {
+        if all_ended(held.as_slice()) {
+            finish_notes(&plan, &mut notes)?;
+            let stopped = false;
+            return Ok(Ran {
+                held,
+                notes,
+                fault,
+                rounds: ran,
+                attempts: tried,
+                stopped,
+            });
+        }
+        if lanes.is_stopping() || at_limit(round_limit, ran) {
+            if let Err(refused) = lanes.stop() {
+                return Err(refusal(refused, rows));
+            }
+            finish_notes(&plan, &mut notes)?;
+            let stopped = true;
+            return Ok(Ran {
+                held,
+                notes,
+                fault,
+                rounds: ran,
+                attempts: tried,
+                stopped,
+            });
+        }
+        let next = next_plan(lanes, alloc, prepared, held.as_slice(), plan)?;
+        let slots = slots_of(alloc, &next.cursor, next.ran)?;
+        let turn = one_round(lanes, alloc, held, rows, slots.as_slice(), fault, analyzer)?;
+        let Some(more) = ran.checked_add(1) else {
+            return Err(RunError::Repository(rows));
+        };
+        let Some(attempts) = tried.checked_add(turn.attempts) else {
+            return Err(RunError::Repository(rows));
+        };
+        plan = closed(next, turn.breaks, &mut notes)?;
+        held = turn.held;
+        fault = turn.fault;
+        ran = more;
+        tried = attempts;
+    }
+    unreachable!()
+}

@@ -1,0 +1,251 @@
+//! A step, from its artifacts to its end.
+
+ghost use Rattle.std.specs.Prelude.{◌≡◌, ◌+◌, ◌*◌, true, false, IfOk, IfErr, is_some, map};
+ghost use Rattle.jb_step.specs.inside.Finish.{works_of};
+ghost use Rattle.jb_step.specs.Ending.{given_back, AreCallsAfter, AreCallsUndone, IsRunOfStep, IsStatus, tasks_left};
+ghost use Rattle.jb_step.specs.Prepare.{DoFit};
+ghost use Rattle.jb_step.specs.Reduced.{has_fault, since};
+ghost use Rattle.jb_step.specs.Setup.{first_tasks};
+ghost use Rattle.jb_step.specs.Ways.{AreAlone, AreOnTheWay};
+ghost use Rattle.jb_step.specs.declared.error.StepError.TheVariants.{WrongArtifacts};
+
+use crate::error::{RunError, StepError, step_error};
+use crate::finish::{Ended, rows_shown, run_to_end};
+use crate::lanes::Lanes;
+use crate::notes::PlanNote;
+use crate::prepared::Prepared;
+use crate::reduce::{end_step, undone};
+use crate::start::start_all;
+use jb_artifacts::Meaning;
+use jb_chunk::PartitionTask;
+use jb_collect::{Analyzer, Reducer, Status};
+use jb_job::ClassId;
+use jb_repo::Snapshot;
+use jb_workers::{Desk, Gate};
+use std::alloc::Global;
+use std::sync::Wait;
+use std::sync::ledger::Ledger;
+use std::thread::Threads;
+
+/// How a step ended, with the artifacts of the partitions that it ran.
+#[derive(Drop)]
+pub struct StepEnd<A> {
+    /// How the step stands.
+    pub status: Status,
+    /// The repository's rows and numbers.
+    pub snapshot: Snapshot,
+    /// Its plans, the first one first.
+    pub plans: Vec<PlanNote>,
+    /// The artifacts, each with the number of its partition.
+    pub artifacts: Vec<(u32, A)>,
+}
+
+/// What a step's rounds left, before the reducer is told.
+#[derive(Drop)]
+pub(crate) struct Left<A> {
+    pub fault: Option<ClassId>,
+    pub snapshot: Snapshot,
+    pub plans: Vec<PlanNote>,
+    pub artifacts: Vec<(u32, A)>,
+}
+
+// The artifacts of the tasks, each with its partition.
+fn give_back<T: PartitionTask>(
+    alloc: Global,
+    held: Vec<T>,
+) -> Result<Vec<(u32, T::Artifacts)>, RunError>
+    ensures { IfOk result (λ left. given_back T.Artifacts.workplace left.items ≡ works_of (map T.standing held.items)) }
+{
+    let mut left = Vec::new(alloc);
+    for task in held {
+        let partition = task.partition();
+        if left.push((partition, task.into_artifacts())).is_err() {
+            return Err(RunError::Memory);
+        }
+    }
+    Ok(left)
+}
+
+// Whether the history's numbers are those of the run, unless it was stopped.
+fn are_numbers(snapshot: &Snapshot, stopped: bool, plans: u64, rounds: u64, attempts: u64) -> bool
+    ensures { result ≡ true → snapshot.now.stopping ≡ false → (stopped ≡ false) × (snapshot.now.plans ≡ plans) × (snapshot.now.events ≡ plans + rounds + 2 * attempts) }
+{
+    if snapshot.stopping {
+        return true;
+    }
+    let events = u128::from(plans) + u128::from(rounds) + 2 * u128::from(attempts);
+    !stopped && snapshot.plans == plans && u128::from(snapshot.events) == events
+}
+
+// The desk has the prepared rows, and no event yet.
+fn is_new<
+    T: PartitionTask + Send + 'static,
+    L: Ledger + Send + Sync + 'static,
+    G: Gate + Sync,
+    R: Threads + Wait + Sync,
+>(lanes: &Lanes<L, G, R>, alloc: Global, prepared: &Prepared) -> Result<(), RunError> {
+    let none: Vec<T> = Vec::new(alloc);
+    let snapshot = rows_shown(lanes, prepared, none.as_slice())?;
+    if snapshot.events != 0 {
+        return Err(RunError::Repository(prepared.rows().len() as u32));
+    }
+    Ok(())
+}
+
+// The rounds of a step whose artifacts fit.
+fn run_tasks<
+    T: PartitionTask + Send + 'static,
+    L: Ledger + Send + Sync + 'static,
+    G: Gate + Sync,
+    R: Threads + Wait + Sync,
+>(
+    lanes: &Lanes<L, G, R>,
+    alloc: Global,
+    prepared: &Prepared,
+    artifacts: Vec<T::Artifacts>,
+    analyzer: &mut dyn Analyzer,
+    round_limit: Option<u64>,
+) -> Result<Left<T::Artifacts>, RunError>
+    requires { DoFit prepared.now (map T.Artifacts.workplace artifacts.items) }
+    ensures run { IfOk result (λ left. let back = given_back T.Artifacts.workplace left.artifacts.items in
+        IsRunOfStep prepared.now (map T.Artifacts.workplace artifacts.items) round_limit (analyzed analyzer.old) (analyzed analyzer.new) left.plans.items left.snapshot back) }
+    ensures alone { IfOk result (λ left. left.snapshot.stopping ≡ false →
+        AreAlone (first_tasks prepared.now (map T.Artifacts.workplace artifacts.items)) (tasks_left prepared.now left.snapshot (given_back T.Artifacts.workplace left.artifacts.items))) }
+    ensures on_the_way { IfOk result (λ left.
+        AreOnTheWay (first_tasks prepared.now (map T.Artifacts.workplace artifacts.items)) (tasks_left prepared.now left.snapshot (given_back T.Artifacts.workplace left.artifacts.items))) }
+    ensures fault { IfOk result (λ left. is_some left.fault ≡ has_fault (since (analyzed analyzer.old) (analyzed analyzer.new))) }
+{
+    is_new::<T, L, G, R>(lanes, alloc, prepared)?;
+    let tasks = start_all::<T>(alloc, prepared, artifacts)?;
+    let ended = run_to_end(lanes, alloc, prepared, tasks, analyzer, round_limit)?;
+    let Ended {
+        held,
+        notes,
+        fault,
+        rounds,
+        attempts,
+        stopped,
+        snapshot,
+    } = ended;
+    let plans = notes.as_slice().len() as u64;
+    let agree = are_numbers(&snapshot, stopped, plans, rounds, attempts);
+    if !agree {
+        return Err(RunError::Repository(prepared.rows().len() as u32));
+    }
+    let artifacts = give_back(alloc, held)?;
+    Ok(Left {
+        fault,
+        snapshot,
+        plans: notes,
+        artifacts,
+    })
+}
+
+/// A step over whatever runs its rounds.
+pub(crate) fn run_over<
+    T: PartitionTask + Send + 'static,
+    L: Ledger + Send + Sync + 'static,
+    G: Gate + Sync,
+    R: Threads + Wait + Sync,
+>(
+    lanes: &Lanes<L, G, R>,
+    alloc: Global,
+    prepared: &Prepared,
+    artifacts: Vec<T::Artifacts>,
+    analyzer: &mut dyn Analyzer,
+    reducer: &mut dyn Reducer,
+    round_limit: Option<u64>,
+) -> Result<StepEnd<T::Artifacts>, StepError>
+    ensures run { IfOk result (λ end. let back = given_back T.Artifacts.workplace end.artifacts.items in
+        IsRunOfStep prepared.now (map T.Artifacts.workplace artifacts.items) round_limit (analyzed analyzer.old) (analyzed analyzer.new) end.plans.items end.snapshot back) }
+    ensures alone { IfOk result (λ end. end.snapshot.stopping ≡ false →
+        AreAlone (first_tasks prepared.now (map T.Artifacts.workplace artifacts.items)) (tasks_left prepared.now end.snapshot (given_back T.Artifacts.workplace end.artifacts.items))) }
+    ensures on_the_way { IfOk result (λ end.
+        AreOnTheWay (first_tasks prepared.now (map T.Artifacts.workplace artifacts.items)) (tasks_left prepared.now end.snapshot (given_back T.Artifacts.workplace end.artifacts.items))) }
+    ensures status { IfOk result (λ end. IsStatus end.snapshot (since (analyzed analyzer.old) (analyzed analyzer.new)) (since (reduced reducer.old) (reduced reducer.new)) end.status) }
+    ensures reducer { IfOk result (λ end. AreCallsAfter end.snapshot (since (analyzed analyzer.old) (analyzed analyzer.new)) (since (reduced reducer.old) (reduced reducer.new))) }
+    ensures undone { IfErr result (λ e. AreCallsUndone e (since (reduced reducer.old) (reduced reducer.new))) }
+    ensures wrong { IfErr result (λ e. e ≡ WrongArtifacts → DoFit prepared.now (map T.Artifacts.workplace artifacts.items) → ⊥) }
+{
+    if !prepared.fits::<T>(artifacts.as_slice()) {
+        return Err(undone(StepError::WrongArtifacts, reducer));
+    }
+    let left = match run_tasks::<T, L, G, R>(
+        lanes,
+        alloc,
+        prepared,
+        artifacts,
+        analyzer,
+        round_limit,
+    ) {
+        Ok(left) => left,
+        Err(error) => return Err(undone(step_error(error), reducer)),
+    };
+    let Left {
+        fault,
+        snapshot,
+        plans,
+        artifacts,
+    } = left;
+    let faulted = fault.is_some();
+    match end_step(snapshot.rows.as_slice(), faulted, reducer) {
+        Ok(status) => Ok(StepEnd {
+            status,
+            snapshot,
+            plans,
+            artifacts,
+        }),
+        Err(_) => Err(StepError::Memory),
+    }
+}
+
+/// Runs each unfinished partition to its end, in rounds of least plans, each round over the desk's threads. The desk must be
+/// the step's own and new. `round_limit` is the greatest number of rounds.
+///
+/// # Errors
+/// `WrongArtifacts` where `Prepared::fits` is false. `Repository(p)` where the desk's row `p` isn't the step's own, at the start
+/// or after the last round, or, with the number of rows, where the desk was used by another or refused an event. `Workers`,
+/// where a worker could not be started. `Memory`. The reducer was rolled back then, unless it found no memory for it, and the
+/// artifacts are dropped.
+pub fn run_step<
+    T: PartitionTask + Send + 'static,
+    L: Ledger + Send + Sync + 'static,
+    G: Gate + Sync,
+    R: Threads + Wait + Sync,
+>(
+    rt: &R,
+    alloc: Global,
+    desk: &Desk<L>,
+    prepared: Prepared,
+    artifacts: Vec<T::Artifacts>,
+    analyzer: &mut dyn Analyzer,
+    reducer: &mut dyn Reducer,
+    round_limit: Option<u64>,
+    gate: &G,
+) -> Result<StepEnd<T::Artifacts>, StepError>
+    ensures run { IfOk result (λ end. let back = given_back T.Artifacts.workplace end.artifacts.items in
+        IsRunOfStep prepared (map T.Artifacts.workplace artifacts.items) round_limit (analyzed analyzer.old) (analyzed analyzer.new) end.plans.items end.snapshot back) }
+
+    // Where nothing stopped it, each partition ends where it ends alone; else it stands on its way there.
+    ensures alone { IfOk result (λ end. end.snapshot.stopping ≡ false →
+        AreAlone (first_tasks prepared (map T.Artifacts.workplace artifacts.items)) (tasks_left prepared end.snapshot (given_back T.Artifacts.workplace end.artifacts.items))) }
+    ensures on_the_way { IfOk result (λ end.
+        AreOnTheWay (first_tasks prepared (map T.Artifacts.workplace artifacts.items)) (tasks_left prepared end.snapshot (given_back T.Artifacts.workplace end.artifacts.items))) }
+
+    // How the step stands, and what the reducer was called with.
+    ensures status { IfOk result (λ end. IsStatus end.snapshot (since (analyzed analyzer.old) (analyzed analyzer.new)) (since (reduced reducer.old) (reduced reducer.new)) end.status) }
+    ensures reducer { IfOk result (λ end. AreCallsAfter end.snapshot (since (analyzed analyzer.old) (analyzed analyzer.new)) (since (reduced reducer.old) (reduced reducer.new))) }
+    ensures undone { IfErr result (λ e. AreCallsUndone e (since (reduced reducer.old) (reduced reducer.new))) }
+    ensures wrong { IfErr result (λ e. e ≡ WrongArtifacts → DoFit prepared (map T.Artifacts.workplace artifacts.items) → ⊥) }
+{
+    let lanes = Lanes { desk, gate, rt };
+    run_over::<T, L, G, R>(
+        &lanes,
+        alloc,
+        &prepared,
+        artifacts,
+        analyzer,
+        reducer,
+        round_limit,
+    )
+}

@@ -1,0 +1,124 @@
+//! What the analyzer is told, and the fault that it answers.
+
+ghost use Rattle.std.specs.Prelude.{◌≡◌, ◌+◌, ◌≤◌, IfOk, [], ◌∷◌, length, map};
+ghost use Rattle.jb_collect.specs.declared.calls.AnalyzerCall.TheVariants as call;
+ghost use Rattle.jb_collect.specs.Heard.{endings_of, heard_first, heard_in, heard_last};
+ghost use Rattle.jb_collect.specs.Taken.{HasTaken};
+ghost use Rattle.jb_step.specs.inside.Telling.{IsAnswer, IsHearing, empties, moment};
+
+use crate::error::RunError;
+use crate::prepared::Prepared;
+use jb_chunk::{Done, PartitionTask};
+use jb_collect::{Analyzer, Status, calls_end_at_a_fault, deliver};
+use jb_job::{ArtifactError, ClassId};
+use jb_rules::Row;
+
+/// The fault that a callback answered, if it did.
+pub(crate) fn fault_of(answer: Result<(), ArtifactError>) -> Result<Option<ClassId>, RunError>
+    ensures { IfOk result (λ fault. IsAnswer answer fault) }
+{
+    match answer {
+        Ok(()) => Ok(None),
+        Err(ArtifactError::Fault(class)) => Ok(Some(class)),
+        Err(ArtifactError::Memory) => Err(RunError::Memory),
+    }
+}
+
+/// Tells of a round, unless the analyzer answered a fault before.
+pub(crate) fn tell_round<T: PartitionTask>(
+    dones: &[Done<T>],
+    fault: Option<ClassId>,
+    analyzer: &mut dyn Analyzer,
+) -> Result<Option<ClassId>, RunError>
+    ensures { IfOk result (λ now. IsHearing fault (analyzed analyzer.old) (heard_in (endings_of T.standing dones.now)) (moment (analyzed analyzer.new) now)) }
+{
+    if fault.is_some() {
+        return Ok(fault);
+    }
+    let answer = deliver(dones, analyzer);
+    fault_of(answer)
+}
+
+// Tells one status.
+fn tell_status(
+    partition: u32,
+    status: Status,
+    analyzer: &mut dyn Analyzer,
+) -> Result<Option<ClassId>, RunError>
+    ensures { IfOk result (λ fault. HasTaken (analyzed analyzer.old) (call.Status partition status ∷ []) fault (analyzed analyzer.new)) }
+{
+    let answer = analyzer.status(partition, status);
+    fault_of(answer)
+}
+
+/// Tells what is known at first: which ranges are empty.
+pub(crate) fn tell_first(
+    prepared: &Prepared,
+    analyzer: &mut dyn Analyzer,
+) -> Result<Option<ClassId>, RunError>
+    ensures { IfOk result (λ fault. HasTaken (analyzed analyzer.old) (heard_first prepared.now.begun_anew prepared.now.rows) fault (analyzed analyzer.new)) }
+{
+    if !prepared.begun_anew() {
+        return Ok(None);
+    }
+    let rows = prepared.begun_rows();
+    tell_empties(0, rows, analyzer)
+}
+
+// Tells of the empty ranges of some of the rows, the first of which has this number.
+fn tell_empties(
+    first: u32,
+    rows: &[Row],
+    analyzer: &mut dyn Analyzer,
+) -> Result<Option<ClassId>, RunError>
+    requires { first + length rows.now ≤ 256 }
+    ensures { IfOk result (λ fault. HasTaken (analyzed analyzer.old) (empties first rows.now) fault (analyzed analyzer.new)) }
+{
+    calls_end_at_a_fault();
+    let Some((row, rest)) = rows.split_first() else {
+        return Ok(None);
+    };
+    if row.lo != row.hi {
+        return tell_empties(first + 1, rest, analyzer);
+    }
+    let fault = tell_status(first, Status::Completed, analyzer)?;
+    if fault.is_some() {
+        return Ok(fault);
+    }
+    tell_empties(first + 1, rest, analyzer)
+}
+
+/// Tells of the partitions that are left unfinished, unless the analyzer answered a fault before.
+pub(crate) fn tell_last<T: PartitionTask>(
+    held: &[T],
+    fault: Option<ClassId>,
+    analyzer: &mut dyn Analyzer,
+) -> Result<Option<ClassId>, RunError>
+    ensures { IfOk result (λ now. IsHearing fault (analyzed analyzer.old) (heard_last (map T.standing held.now)) (moment (analyzed analyzer.new) now)) }
+{
+    if fault.is_some() {
+        return Ok(fault);
+    }
+    tell_stopped(held, analyzer)
+}
+
+// Tells of the partitions that are left unfinished.
+fn tell_stopped<T: PartitionTask>(
+    held: &[T],
+    analyzer: &mut dyn Analyzer,
+) -> Result<Option<ClassId>, RunError>
+    ensures { IfOk result (λ fault. HasTaken (analyzed analyzer.old) (heard_last (map T.standing held.now)) fault (analyzed analyzer.new)) }
+{
+    calls_end_at_a_fault();
+    let Some((first, rest)) = held.split_first() else {
+        return Ok(None);
+    };
+    if !first.row().state.is_waiting() {
+        return tell_stopped(rest, analyzer);
+    }
+    let fault = tell_status(first.partition(), Status::Stopped, analyzer)?;
+    if fault.is_some() {
+        return Ok(fault);
+    }
+    tell_stopped(rest, analyzer)
+}
