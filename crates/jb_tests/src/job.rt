@@ -33,6 +33,7 @@ fn fixed_ranges(rt: HostRuntime) {
         Ok(job) => {
             let Job { id, steps, .. } = job;
             assert_eq!(rt; id.into_string().as_str(), "j");
+            assert!(rt; Steps::fit(steps.as_slice()));
             for step in steps.into_vec() {
                 let ranges = step.spec().ranges().map(|ranges| ranges.as_slice().len());
                 assert_eq!(rt; (step.item_count(), ranges), (2, Some(2)));

@@ -9,6 +9,8 @@ mod artifacts;
 #[cfg(test)]
 mod chunk;
 #[cfg(test)]
+mod collect;
+#[cfg(test)]
 mod documents;
 #[cfg(test)]
 mod job;
@@ -23,4 +25,8 @@ mod rounds;
 #[cfg(test)]
 mod rules;
 #[cfg(test)]
+mod step;
+#[cfg(test)]
 mod texts;
+#[cfg(test)]
+mod workers;

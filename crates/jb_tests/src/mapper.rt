@@ -60,6 +60,26 @@ fn fixed_plans(rt: HostRuntime) {
     assert!(rt; gives(&mut mapper, 0, &[(4, 6), (0, 3)], 5, true));
 }
 
+/// As many partitions as a mapper is asked for.
+#[test]
+fn plans_of_4_096_partitions(rt: HostRuntime) {
+    let mut even = EvenMapper::new(rt.alloc(), 4_096, 64, true);
+    let Ok(plan) = even.map(10_000_000) else {
+        assert!(rt; false, "an even plan");
+        return;
+    };
+    let mut fixed = FixedMapper::new(plan);
+    let Ok(plan) = fixed.map(0) else {
+        assert!(rt; false, "its copy");
+        return;
+    };
+    let ranges = plan.ranges.as_slice();
+    assert_eq!(rt; ranges.len(), 4_096);
+    assert_eq!(rt; ranges.first().map(|range| range.hi), Some(2_442));
+    assert_eq!(rt; ranges.last().map(|range| range.lo), Some(9_997_559));
+    assert_eq!(rt; ranges.last().map(|range| range.hi), Some(10_000_000));
+}
+
 #[test]
 fn an_even_plan_is_checked(rt: HostRuntime) {
     let mut mapper = EvenMapper::new(rt.alloc(), 256, 0, false);

@@ -3,7 +3,7 @@ ghost use Rattle.jb_plan.specs.Blocks.{blocks, left};
 ghost use Rattle.jb_plan.specs.Faults.{plan_errors, range_errors};
 ghost use Rattle.jb_plan.specs.Plans.{threads_of};
 
-use jb_job::{Range, Ranges};
+use jb_job::{MAX_RECORDS, Range, Ranges};
 use jb_plan::*;
 use std::alloc::Global;
 use std::test::Fail;

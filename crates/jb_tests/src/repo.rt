@@ -8,14 +8,17 @@ ghost use Rattle.jb_repo.specs.Rows.{total_counts};
 ghost use Rattle.jb_repo.specs.Table.{rows_of};
 ghost use Rattle.jb_repo.specs.Worked.{table_answers, journal_after};
 ghost use Rattle.jb_repo.specs.Worked.{fresh, two_partitions, walk, answered, finished, four_records, rollback, given_up, one_record, tries, tried_out, at_limit};
+ghost use Rattle.jb_repo.specs.Worked.{EndedPlans, skipped_writes};
 
 use jb_cert::Certificate;
-use jb_job::{ClassId, Range};
+use jb_job::{ClassId, MAX_ROLLBACKS, Range};
 use jb_repo::*;
-use jb_rules::{Counts, MAX_ROLLBACKS, Row, RowState};
+use jb_rules::{Counts, Row, RowState};
 use std::alloc::{AllocError, Global};
 use std::process::Abort;
 use std::test::Fail;
+
+mod kept;
 
 /// The definitions, computed on the worked lists of events.
 fn worked_lists()
@@ -29,6 +32,8 @@ fn worked_lists()
     ensures tries { (class : ClassId) → table_answers one_record (tries class) ≡ None ∷ None ∷ None ∷ None ∷ None ∷ None ∷ None ∷ None ∷ None ∷ None ∷ None ∷ None ∷ Some Refused.NotIdle ∷ None ∷ [] }
     ensures failed { (class : ClassId) → rows_of (journal_after one_record (tries class)) ≡ tried_out ∷ [] }
     ensures at_limit { table_answers at_limit (Event.Plan 1 (Certificate.Longest 0) ∷ Event.Begin 0 0 ∷ []) ≡ None ∷ Some Refused.Full ∷ [] }
+    ensures ended_plans { EndedPlans }
+    ensures skipped_writes { table_answers two_partitions skipped_writes ≡ None ∷ None ∷ Some Refused.BadDelta ∷ Some Refused.BadDelta ∷ Some Refused.BadDelta ∷ None ∷ [] }
 {}
 
 const TWO_RECORDS: Counts = Counts {
@@ -222,6 +227,117 @@ const ONE_RECORD: Counts = Counts {
     ..Counts::ZERO
 };
 
+fn accept_all(rt: &impl Abort, repo: &mut Repo, events: &[Event]) {
+    for event in events {
+        let answer = repo.apply(*event);
+        assert!(rt; answer.is_ok(), "{event:?}: {answer:?}");
+    }
+}
+
+/// Ends the round; then a chunk is begun and the next round ended, with these answers.
+fn end_round(rt: &impl Abort, repo: &mut Repo, begin: Event, next: [Option<Refused>; 2]) {
+    assert!(rt; repo.apply(Event::Round).is_ok());
+    assert!(rt; repo.apply(begin).err() == next[0]);
+    assert!(rt; repo.apply(Event::Round).err() == next[1]);
+}
+
+const NO_FURTHER: [Option<Refused>; 2] = [Some(Refused::PastPlan), Some(Refused::PastPlan)];
+
+const STOPPING: [Option<Refused>; 2] = [Some(Refused::Stopping), Some(Refused::PastPlan)];
+
+const FURTHER: [Option<Refused>; 2] = [None, Some(Refused::StillRunning)];
+
+#[test]
+fn plans_ended_in_the_first_of_two_rounds(rt: HostRuntime) -> Result<(), Fail> {
+    let class = ClassId::new(0);
+    let commit = Event::Commit(0, TWO_RECORDS, 2);
+    let cases: [(&[Event], [Option<Refused>; 2]); 5] = [
+        (&[Event::Roll(0, class)], NO_FURTHER),
+        (&[Event::Fail(0, class)], NO_FURTHER),
+        (&[Event::Drop(0)], NO_FURTHER),
+        (&[commit, Event::Stop], STOPPING),
+        (&[commit], FURTHER),
+    ];
+    for (ends, next) in cases {
+        let mut repo = opened(&rt, rows_of(rt.alloc(), &[(0, 4), (4, 8)])?, 2, 2);
+        let begun = [
+            Event::Plan(2, Certificate::FullLoad),
+            Event::Begin(0, 0),
+            Event::Begin(1, 1),
+            Event::Commit(1, TWO_RECORDS, 2),
+        ];
+        accept_all(&rt, &mut repo, &begun);
+        accept_all(&rt, &mut repo, ends);
+        end_round(&rt, &mut repo, Event::Begin(1, 1), next);
+    }
+    Ok(())
+}
+
+#[test]
+fn plans_ended_in_the_second_of_three_rounds(rt: HostRuntime) -> Result<(), Fail> {
+    let class = ClassId::new(0);
+    let commit = Event::Commit(1, ONE_RECORD, 2);
+    let cases: [(&[Event], [Option<Refused>; 2]); 5] = [
+        (&[Event::Roll(1, class)], NO_FURTHER),
+        (&[Event::Fail(1, class)], NO_FURTHER),
+        (&[Event::Drop(1)], NO_FURTHER),
+        (&[Event::Stop, commit], STOPPING),
+        (&[commit], FURTHER),
+    ];
+    for (ends, next) in cases {
+        let mut repo = opened(&rt, rows_of(rt.alloc(), &[(0, 3), (3, 6)])?, 2, 1);
+        let begun = [
+            Event::Plan(3, Certificate::Longest(1)),
+            Event::Begin(0, 0),
+            Event::Begin(1, 1),
+            Event::Commit(0, ONE_RECORD, 1),
+            Event::Commit(1, ONE_RECORD, 1),
+            Event::Round,
+            Event::Begin(0, 1),
+            Event::Begin(1, 0),
+            Event::Commit(0, ONE_RECORD, 2),
+        ];
+        accept_all(&rt, &mut repo, &begun);
+        accept_all(&rt, &mut repo, ends);
+        end_round(&rt, &mut repo, Event::Begin(0, 1), next);
+    }
+    Ok(())
+}
+
+#[test]
+fn skipped_write_calls(rt: HostRuntime) -> Result<(), Fail> {
+    let skipped = Counts {
+        read: 2,
+        commit: 1,
+        write_skip: 1,
+        ..Counts::ZERO
+    };
+    let one_written = Counts {
+        write: 1,
+        ..skipped
+    };
+    let all_filtered = Counts {
+        filter: 2,
+        ..skipped
+    };
+    let one_filtered = Counts {
+        filter: 1,
+        ..skipped
+    };
+    let mut repo = two_partitions(&rt, rt.alloc())?;
+    let bad = Some(Refused::BadDelta);
+    let events = [
+        (Event::Plan(1, Certificate::Longest(0)), None),
+        (Event::Begin(0, 0), None),
+        (Event::Commit(0, one_written, 1), bad),
+        (Event::Commit(0, all_filtered, 0), bad),
+        (Event::Commit(0, skipped, 2), bad),
+        (Event::Commit(0, one_filtered, 0), None),
+    ];
+    apply_all(&rt, &mut repo, &events);
+    Ok(())
+}
+
 #[test]
 fn many_partitions_and_threads(rt: HostRuntime) -> Result<(), Fail> {
     let mut rows = Vec::new(rt.alloc());
@@ -244,6 +360,35 @@ fn many_partitions_and_threads(rt: HostRuntime) -> Result<(), Fail> {
     }
     assert_eq!(rt; repo.totals().commit, 256);
     assert!(rt; repo.apply(Event::Plan(0, Certificate::Nothing)).is_ok());
+    Ok(())
+}
+
+/// The first round of as many partitions as a repository has, as one list of events.
+#[test]
+fn a_list_of_events_on_256_rows(rt: HostRuntime) -> Result<(), Fail> {
+    let mut rows = Vec::new(rt.alloc());
+    let mut events = Vec::new(rt.alloc());
+    for lo in 0..256 {
+        rows.push(Row::fresh(Range { lo, hi: lo + 1 }))?;
+    }
+    events.push(Event::Plan(4, Certificate::FullLoad))?;
+    for lane in 0..64 {
+        events.push(Event::Begin(lane, 255 - lane))?;
+    }
+    for lane in 0..64 {
+        events.push(Event::Commit(lane, ONE_RECORD, 1))?;
+    }
+    events.push(Event::Round)?;
+    let mut repo = opened(&rt, rows, 64, 1);
+    let answers = run_events(&mut repo, &events)?;
+    assert!(rt; answers.len() == 130 && answers.iter().all(|answer| answer.is_none()));
+    let shown = repo.snapshot()?;
+    assert!(rt; shown.rows.len() == 256 && shown.events == 130 && shown.totals.commit == 64);
+    let finished = shown
+        .rows
+        .iter()
+        .filter(|row| row.state == RowState::Finished);
+    assert_eq!(rt; finished.count(), 64);
     Ok(())
 }
 

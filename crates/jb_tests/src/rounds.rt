@@ -112,6 +112,21 @@ fn plans_the_most_partitions(rt: HostRuntime) -> Result<(), Fail> {
     Ok(())
 }
 
+// A long plan: as it was made, and without its last chunk.
+#[test]
+fn checks_a_plan_of_20_004_rounds(rt: HostRuntime) -> Result<(), Fail> {
+    let counts = [20_000, 20_000, 7];
+    assert!(rt; fits(&counts, 2));
+    let (mut made, certificate) = plan(rt.alloc(), &counts, 2)?;
+    assert_eq!(rt; made.rounds.len(), 20_004);
+    assert!(rt; is_least_plan(&counts, 2, 20_004, certificate));
+    assert_eq!(rt; check_plan(rt.alloc(), &counts, 2, &made), Ok(()));
+    let _last = made.rounds.pop();
+    let missing = Err(PlanFault::Missing);
+    assert_eq!(rt; check_plan(rt.alloc(), &counts, 2, &made), missing);
+    Ok(())
+}
+
 // In the plan of two rounds for the counts 2 and 1 on two threads, another slot in place of the last one of a round: the
 // round, the slot, and the fault.
 const WRONG_SLOTS: [(usize, (u32, u32, u64), PlanFault); 4] = [

@@ -4,7 +4,7 @@ ghost use Rattle.jb_rules.specs.Decide.{choice_by, is_below};
 ghost use Rattle.jb_rules.specs.Rows.{fresh_row, begun_row, committed_row, rolled_row, failed_row, dropped_row};
 ghost use Rattle.jb_rules.specs.Sound.{IsSoundRow};
 
-use jb_job::{ClassId, Range, Rules};
+use jb_job::{ClassId, MAX_ROLLBACKS, Range, Rules};
 use jb_rules::*;
 
 /// The numbers of a row in the order of a saved text: lo, hi, at, redo, retries, written, and the eight counts.
@@ -64,7 +64,7 @@ fn worked_rows()
     ensures empty { fresh_row (record { lo = 2; hi = 2 }) ≡ record { lo = 2; hi = 2; at = 2; redo = 2; retries = 0; written = 0; counts = no_counts; state = RowState.Finished } }
     ensures begun { begun_row (fresh_row (record { lo = 0; hi = 4 })) 3 ≡ record (fresh_row (record { lo = 0; hi = 4 })) { state = RowState.Running 3 } }
     ensures dropped { dropped_row (begun_row (fresh_row (record { lo = 0; hi = 4 })) 3) ≡ fresh_row (record { lo = 0; hi = 4 }) }
-    ensures rolled { rolled_row (begun_row (fresh_row (record { lo = 0; hi = 4 })) 3) 2 ≡ record { lo = 0; hi = 4; at = 0; redo = 2; retries = 1; written = 0; counts = record no_counts { rollback = 1 }; state = RowState.Waiting } }
+    ensures rolled { dropped_row (rolled_row (begun_row (fresh_row (record { lo = 0; hi = 4 })) 3) 2) ≡ record { lo = 0; hi = 4; at = 0; redo = 2; retries = 1; written = 0; counts = record no_counts { rollback = 1 }; state = RowState.Waiting } }
     ensures earlier { (rolled_row (record (fresh_row (record { lo = 0; hi = 4 })) { redo = 3 }) 2).redo ≡ 3 }
     ensures committed { committed_row (rolled_row (fresh_row (record { lo = 0; hi = 4 })) 2) 1 (record no_counts { read = 1; write = 1; commit = 1 }) ≡ record { lo = 0; hi = 4; at = 1; redo = 2; retries = 1; written = 1; counts = record no_counts { read = 1; write = 1; commit = 1; rollback = 1 }; state = RowState.Waiting } }
     ensures finished { (committed_row (record (fresh_row (record { lo = 0; hi = 4 })) { at = 2 }) 4 (record no_counts { read = 2; commit = 1; write_skip = 1 })).state ≡ RowState.Finished }
@@ -213,7 +213,8 @@ fn rows_of_a_partition(rt: HostRuntime) {
     assert_eq!(rt; fresh.begun(3).state, RowState::Running(3));
     assert!(rt; fresh.begun(3).state.is_running());
     assert_eq!(rt; fresh.begun(3).dropped(), fresh);
-    let rolled = fresh.begun(3).rolled(2);
+    assert_eq!(rt; fresh.begun(3).rolled(2).state, RowState::Running(3));
+    let rolled = fresh.begun(3).rolled(2).dropped();
     assert_eq!(rt;
         rolled,
         row_of(
@@ -234,7 +235,8 @@ fn rows_of_a_partition(rt: HostRuntime) {
     );
     assert_eq!(rt; last.skips(), 2);
     assert_eq!(rt; first.failed().counts.rollback, 2);
-    assert!(rt; first.failed().state.has_ended());
+    assert!(rt; first.state.is_waiting() && last.state.is_finished());
+    assert!(rt; first.failed().state.is_failed() && last.state.has_ended());
     let sum = counts_of([1, 2, 3, 4, 5, 6, 7, 8]).plus(&counts_of([8, 7, 6, 5, 4, 3, 2, 1]));
     assert_eq!(rt; sum, counts_of([9, 9, 9, 9, 9, 9, 9, 9]));
 }

@@ -3,7 +3,7 @@
 ghost use Rattle.std.specs.Prelude.{◌≡◌, ◌<◌, IfSome};
 ghost use denote.Param.Send.{IsSend};
 ghost use Rattle.jb_rules.specs.declared.row.RowState.TheVariants.{Waiting};
-ghost use Rattle.jb_rules.specs.declared.row.TheConstants.{MAX_ROLLBACKS};
+ghost use Rattle.jb_job.specs.Limits.{max_rollbacks};
 ghost use Rattle.jb_chunk.specs.Attempt.{IsAttempt, ending_of};
 ghost use Rattle.jb_chunk.specs.Standing.{IsReady};
 
@@ -36,7 +36,7 @@ fn attempt_in_thread<T: PartitionTask + Send + 'static>(
     task: T,
 ) -> Option<Done<T>>
     requires waiting { (T.standing task).row.state ≡ Waiting }
-    requires room { (T.standing task).row.counts.rollback < MAX_ROLLBACKS }
+    requires room { (T.standing task).row.counts.rollback < max_rollbacks }
     requires ready { IsReady (T.standing task) }
     ensures { IfSome result (λ d. IsAttempt (T.standing task) (ending_of (T.standing d.task) d.outcome d.values.items)) }
 {
@@ -44,7 +44,7 @@ fn attempt_in_thread<T: PartitionTask + Send + 'static>(
         task: Snapshot::of(&task),
     };
     let job = move || -> Done<T>
-        requires { IsSend T.row × ((T.standing task).row.state ≡ Waiting) × ((T.standing task).row.counts.rollback < MAX_ROLLBACKS) × IsReady (T.standing task) }
+        requires { IsSend T.row × ((T.standing task).row.state ≡ Waiting) × ((T.standing task).row.counts.rollback < max_rollbacks) × IsReady (T.standing task) }
         ensures { IsAttempt (T.standing task) (ending_of (T.standing result.task) result.outcome result.values.items) }
     { task.attempt(alloc) };
     match thread::spawn_with(rt, promise, job) {

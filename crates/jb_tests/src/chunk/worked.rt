@@ -1,6 +1,6 @@
 //! The definitions, computed on worked rows apart from the code.
 
-ghost use Rattle.jb_chunk.specs.Worked.{FirstRun, EverythingFiltered, NoRecord, RetryToSingles, SkipInRedo, OneFailed, TornWrite, RetryLimit, ReadSkip, RolledBackSkip, PlainRuns};
+ghost use Rattle.jb_chunk.specs.Worked.{FirstRun, EverythingFiltered, NoRecord, RetryToSingles, SkipInRedo, OneFailed, TornWrite, WriteRetried, WriteFailed, ShakyWrite, RetryLimit, ReadSkip, RolledBackSkip, PlainRuns};
 
 use std::test::*;
 
@@ -12,6 +12,9 @@ fn worked_rows()
     ensures skip_in_redo { SkipInRedo }
     ensures one_failed { OneFailed }
     ensures torn_write { TornWrite }
+    ensures write_retried { WriteRetried }
+    ensures write_failed { WriteFailed }
+    ensures shaky_write { ShakyWrite }
     ensures retry_limit { RetryLimit }
     ensures read_skip { ReadSkip }
     ensures rolled_back_skip { RolledBackSkip }

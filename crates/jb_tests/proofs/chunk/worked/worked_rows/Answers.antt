@@ -1,4 +1,4 @@
-use Rattle.jb_chunk.proofs.Worked.{first_run, everything_filtered, no_record, retry_to_singles, skip_in_redo, one_failed, torn_write, retry_limit, read_skip, rolled_back_skip, plain_runs}
+use Rattle.jb_chunk.proofs.Worked.{first_run, everything_filtered, no_record, retry_to_singles, skip_in_redo, one_failed, torn_write, write_retried, write_failed, shaky_write, retry_limit, read_skip, rolled_back_skip, plain_runs}
 use Rattle.jb_tests.proofs.chunk.worked.worked_rows.Goals as goal
 
 pub returns-clause-first_run : goal.returns-clause-first_run
@@ -21,6 +21,15 @@ returns-clause-one_failed c = one_failed
 
 pub returns-clause-torn_write : goal.returns-clause-torn_write
 returns-clause-torn_write c = torn_write
+
+pub returns-clause-write_retried : goal.returns-clause-write_retried
+returns-clause-write_retried c = write_retried
+
+pub returns-clause-write_failed : goal.returns-clause-write_failed
+returns-clause-write_failed c = write_failed
+
+pub returns-clause-shaky_write : goal.returns-clause-shaky_write
+returns-clause-shaky_write c = shaky_write
 
 pub returns-clause-retry_limit : goal.returns-clause-retry_limit
 returns-clause-retry_limit c = retry_limit

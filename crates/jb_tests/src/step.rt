@@ -1,0 +1,6 @@
+//! Steps over threads.
+
+mod given;
+mod meeting;
+mod refusals;
+mod rows;

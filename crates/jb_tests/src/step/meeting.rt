@@ -1,0 +1,64 @@
+//! Two lanes that wait for each other in a step: they run at once, and each commit stands in the table before the round is over.
+
+ghost use Rattle.std.specs.Prelude.{◌≡◌};
+
+use crate::step::given::{Given, Letters, all_works, begun, ended};
+use crate::workers::meeting::Meeting;
+use jb_collect::{ListAnalyzer, ListReducer, Status};
+use jb_job::Rules;
+use jb_mapper::FixedMapper;
+use std::alloc::Global;
+use std::marker::Brand;
+use std::process::Abort;
+use std::sync::ledger::{Blank, Ledger};
+use std::sync::{Arc, Wait};
+use std::test::*;
+use std::thread::Threads;
+use std::time::Clock;
+
+const RECORDS: &str = "ab/cd/";
+
+/// Two partitions of one chunk each meet in the one round of their step.
+fn meet<L: Ledger + Send + Sync + 'static, R: Threads + Wait + Clock + Abort + Copy + Send + Sync>(
+    rt: &R,
+    alloc: Global,
+    blank: Blank,
+) -> Result<(), Fail>
+    requires name { blank.name ≡ L.name }
+    requires parts { blank.parts ≡ L.parts }
+    requires all { blank.parts ≡ 1000000000000 }
+{
+    let rules = Rules {
+        skippable: 0,
+        retryable: 0,
+        skip_limit: None,
+        retry_limit: 0,
+    };
+    let mut analyzer = ListAnalyzer::new(alloc, None);
+    let mut reducer = ListReducer::new(alloc, None);
+    let mut mapper = FixedMapper::new(Given::read(alloc, RECORDS)?.plan(2));
+    let prepared = begun(alloc, 2, rules, 4, &mut mapper, &mut reducer)?;
+    let prepared = prepared.ok().ok_or("a start")?;
+    let desk = Arc::new(alloc, prepared.desk::<L>(alloc, blank)?)?;
+    let gate = Meeting::new(*rt, Arc::try_clone(&desk)?);
+    let artifacts = all_works(alloc, RECORDS, 2)?;
+    let end = ended::<Letters, L, Meeting<L, R>, R>(
+        rt,
+        alloc,
+        &desk,
+        prepared,
+        artifacts,
+        &mut analyzer,
+        &mut reducer,
+        &gate,
+    );
+    let end = end.ok().ok_or("an end")?;
+    assert_eq!(rt; gate.seen(), [0, 0, 1]);
+    assert_eq!(rt; (end.status, end.snapshot.events), (Status::Completed, 6));
+    Ok(())
+}
+
+#[test]
+fn two_lanes_meet_in_a_step(rt: HostRuntime) -> Result<(), Fail> {
+    meet::<Brand, _>(&rt, rt.alloc(), Blank::new(1_000_000_000_000))
+}

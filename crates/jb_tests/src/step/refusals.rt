@@ -1,0 +1,152 @@
+//! Why a step has no answer.
+
+ghost use Rattle.std.specs.Prelude.{◌≡◌, Err};
+ghost use Rattle.jb_mapper.specs.Mapping.{Mapping};
+
+use crate::step::given::{Given, Letters, all_works, begun, ended, works};
+use crate::workers::tasks::with_work;
+use jb_cert::Certificate;
+use jb_chunk::PartitionTask;
+use jb_collect::{ListAnalyzer, ListReducer, Reducer};
+use jb_job::{ArtifactError, ClassId, Range, Rules};
+use jb_mapper::{FixedMapper, PartitionMapper};
+use jb_plan::{PartitionPlan, PlanError};
+use jb_repo::Event;
+use jb_rules::Row;
+use jb_step::StepError;
+use jb_workers::{Desk, NoGate};
+use std::alloc::Global;
+use std::marker::Brand;
+use std::sync::Wait;
+use std::sync::ledger::{Blank, Ledger};
+use std::test::*;
+use std::thread::Threads;
+
+/// What is wrong with a step of two partitions.
+#[derive(Clone, Copy, PartialEq, Eq)]
+enum Wrong {
+    /// The mapper answers a fault.
+    Mapper,
+    /// The reducer's `begin` answers one.
+    Reducer,
+    /// The mapper asks for 5,000 threads.
+    Threads,
+    /// There are artifacts for one partition alone.
+    OneShort,
+    /// The caller ran a round of its own on the desk.
+    OwnRound,
+}
+
+const RECORDS: &str = "ab/c/";
+
+const RULES: Rules = Rules {
+    skippable: 0,
+    retryable: 0,
+    skip_limit: None,
+    retry_limit: 0,
+};
+
+/// A mapper that answers a fault of this class.
+#[derive(Drop)]
+struct Failing {
+    class: ClassId,
+}
+
+impl PartitionMapper for Failing {
+    ghost mapping = { λ m _. Err m.class };
+
+    fn map(&mut self, _records: u64) -> Result<PartitionPlan, ArtifactError> {
+        Err(ArtifactError::Fault(self.class))
+    }
+}
+
+/// Commits partition 0 on the desk.
+fn run_own<L: Ledger + Send + Sync + 'static, R: Threads + Wait + Sync>(
+    rt: &R,
+    alloc: Global,
+    desk: &Desk<L>,
+) -> Result<(), Fail> {
+    let row = Row::fresh(Range { lo: 0, hi: 2 });
+    let artifacts = works(alloc, RECORDS)?;
+    if !row.sound() || !row.state.is_waiting() || !Letters::fits(&artifacts, &row) {
+        return Err(Fail::from("a task"));
+    }
+    let task = Letters::start(0, row, RULES, 2, artifacts);
+    let round = with_work(Vec::new(alloc), 0, task).ok_or("a work")?;
+    let planned = desk.apply(rt, Event::Plan(1, Certificate::FullLoad));
+    planned.ok().ok_or("a plan")?;
+    let dones = desk.run_round(rt, alloc, &NoGate, round);
+    dones.ok().ok_or("a round")?;
+    Ok(())
+}
+
+/// Why the step has no answer, and how many calls its reducer took.
+fn refusal<L: Ledger + Send + Sync + 'static, R: Threads + Wait + Sync>(
+    rt: &R,
+    alloc: Global,
+    blank: Blank,
+    wrong: Wrong,
+) -> Result<(StepError, usize), Fail>
+    requires name { blank.name ≡ L.name }
+    requires parts { blank.parts ≡ L.parts }
+    requires all { blank.parts ≡ 1000000000000 }
+{
+    let class = ClassId::new(3);
+    let fault = if wrong == Wrong::Reducer {
+        Some((0, class))
+    } else {
+        None
+    };
+    let mut reducer = ListReducer::new(alloc, fault);
+    let mut analyzer = ListAnalyzer::new(alloc, None);
+    let mut failing = Failing { class };
+    let threads = if wrong == Wrong::Threads { 5_000 } else { 2 };
+    let mut mapper = FixedMapper::new(Given::read(alloc, RECORDS)?.plan(threads));
+    let answer = if wrong == Wrong::Mapper {
+        begun(alloc, 2, RULES, 3, &mut failing, &mut reducer)?
+    } else {
+        begun(alloc, 2, RULES, 3, &mut mapper, &mut reducer)?
+    };
+    let prepared = match answer {
+        Ok(prepared) => prepared,
+        Err(error) => return Ok((error, reducer.calls().len())),
+    };
+    let desk = prepared.desk::<L>(alloc, blank)?;
+    if wrong == Wrong::OwnRound {
+        run_own(rt, alloc, &desk)?;
+    }
+    let partitions = if wrong == Wrong::OneShort { 1 } else { 2 };
+    let artifacts = all_works(alloc, RECORDS, partitions)?;
+    let end = ended::<Letters, L, NoGate, R>(
+        rt,
+        alloc,
+        &desk,
+        prepared,
+        artifacts,
+        &mut analyzer,
+        &mut reducer,
+        &NoGate,
+    );
+    match end {
+        Ok(_) => Err(Fail::from("no answer")),
+        Err(error) => Ok((error, reducer.calls().len())),
+    }
+}
+
+#[test]
+fn refusals(rt: HostRuntime) -> Result<(), Fail> {
+    let class = ClassId::new(3);
+    let cases = [
+        (Wrong::Mapper, StepError::Mapper(class), 3),
+        (Wrong::Reducer, StepError::Reducer(class), 1),
+        (Wrong::Threads, StepError::Plan(PlanError::Threads), 3),
+        (Wrong::OneShort, StepError::WrongArtifacts, 3),
+        (Wrong::OwnRound, StepError::Repository(0), 3),
+    ];
+    for (wrong, error, calls) in cases {
+        let blank = Blank::new(1_000_000_000_000);
+        let answer = refusal::<Brand, _>(&rt, rt.alloc(), blank, wrong)?;
+        assert_eq!(rt; answer, (error, calls));
+    }
+    Ok(())
+}

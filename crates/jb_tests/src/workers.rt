@@ -1,0 +1,6 @@
+//! Rounds of tasks over threads.
+
+mod answers;
+pub(crate) mod meeting;
+mod memory;
+pub(crate) mod tasks;
