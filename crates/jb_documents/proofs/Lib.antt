@@ -1,3 +1,4 @@
 pub mod Classes
 pub mod Counts
+pub mod Resumed
 pub mod Trees

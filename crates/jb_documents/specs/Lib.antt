@@ -3,6 +3,8 @@ pub mod Classes
 pub mod FaultLists
 pub mod inside
 pub mod PlanDocument
+pub mod RestartDocument
+pub mod ResumeFields
 pub mod RunDocument
 pub mod StepFields
 pub mod Worked

@@ -1,6 +1,7 @@
 //! The documents of the program: what the JSON text of each stands for, or its first fault.
 //!
 //! - `run`: the document of `run`, a job record and the data of each of its steps.
+//! - `restart`: the document of `restart`, which says besides what the run before left.
 //! - `plan`: the document of `plan`, counts of chunks and a number of threads.
 //! - `check`: the document of `check`, a plan that someone made and its certificate.
 //! - `taken`: trees taken apart by value.
@@ -10,11 +11,13 @@
 
 mod check;
 mod plan;
+mod restart;
 mod run;
 mod taken;
 
 pub use check::{PlanClaim, read_claim};
 pub use plan::{ChunkLoad, read_load};
+pub use restart::{Outputs, RestartDocument, RestartFault, Resume, WriterTexts, read_restart};
 pub use run::{
     ClassIds, DataList, Document, FaultKind, PlannedFault, PlannedFaults, Records, StepData,
     StepFaults, read_document,

@@ -61,6 +61,13 @@ pub fn take_text(low: usize, high: usize, field: Field, tree: Value) -> Result<T
     }
 }
 
+/// A text of any length: another kind is WrongShape.
+pub fn take_text_of(field: Field, tree: Value) -> Result<Text, JobError>
+    ensures { GivesExactly (λ t. t) result (shaped field (as_str (view tree))) }
+{
+    Ok(Text::new(take_string(field, tree)?))
+}
+
 /// Takes a field out of an object: the field, where it is there, and the tree without it.
 pub fn take_field(field: Field, tree: Value) -> (Option<Value>, Value)
     ensures taken { option_map view result.0 ≡ get (name_of field) (view tree) }

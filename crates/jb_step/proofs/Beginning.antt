@@ -1,9 +1,9 @@
 -- Partitions that begin anew, and the reducer's calls before them.
-use Rattle.std.proofs.Common.{◌≡◌, ℕ, suc, zero, ◌<◌, ◌≤◌, Bool, true, false, cond, List, [], ◌∷◌, ◌++◌, length, map, Some, refl, ap, sym, ◌∙◌, subst, arith, inl, inr, append_assoc}
+use Rattle.std.proofs.Common.{◌≡◌, ◌≢◌, ℕ, suc, zero, ◌<◌, ◌≤◌, Bool, true, false, cond, List, [], ◌∷◌, ◌++◌, length, map, Some, refl, ap, sym, ◌∙◌, subst, arith, inl, inr, append_assoc}
 use Rattle.std.specs.Prelude.{slice_get, slice_index_or, All, ◌⊎◌, ◌==◌}
 use Rattle.std.proofs.lemmas.List.{length-map}
 use Rattle.jb_job.specs.declared.job.Range.{Range}
-use Rattle.jb_job.specs.Limits.{max_records, max_retry_limit}
+use Rattle.jb_job.specs.Limits.{max_records, max_retry_limit, max_threads}
 use Rattle.jb_job.specs.Records.{StepRecord}
 use Rattle.jb_plan.specs.Plans.{CheckedPlan, IsCheckedPlan, IsWithin}
 use Rattle.jb_plan.specs.Ranges.{AreDisjoint}
@@ -12,15 +12,19 @@ use Rattle.jb_rules.specs.Rows.{fresh_row, range_of}
 use Rattle.jb_rules.specs.Sound.{IsSoundRow}
 use Rattle.jb_rules.specs.States.{is_running}
 use Rattle.jb_rules.specs.declared.row.Row.{Row}
+use Rattle.jb_rules.specs.declared.row.RowState.{RowState}
 use Rattle.jb_rules.specs.declared.row.RowState.TheVariants as state
+use Rattle.jb_saved.specs.GoingOn.{AreUnfailed}
+use Rattle.jb_saved.specs.SavedRows.{SavedRows, IsSaved}
 use Rattle.jb_chunk.specs.Standing.{HasItemCount}
 use Rattle.jb_collect.specs.declared.calls.ReducerCall.{ReducerCall}
 use Rattle.jb_collect.specs.declared.calls.ReducerCall.TheVariants.{Begin}
 use Rattle.jb_collect.specs.Reduced.{calls_before, rolled_back}
 use Rattle.jb_collect.specs.Taken.{Taken, calls_of, well}
 use Rattle.jb_step.specs.Reduced.{since}
-use Rattle.jb_step.specs.Setup.{IsSetup}
-use Rattle.jb_step.specs.inside.Fresh.{fresh_setup}
+use Rattle.jb_step.specs.Setup.{IsSetup, fresh_rows}
+use Rattle.jb_step.specs.inside.Fresh.{setup_with}
+use Rattle.jb_step.specs.inside.Preparing.{MayOpen}
 use Rattle.jb_step.specs.inside.Reducing.{IsReducing}
 use Rattle.jb_step.proofs.Reduced.{since-is}
 
@@ -50,30 +54,57 @@ ranges-back : (ranges : List Range) → map range_of (map fresh_row ranges) ≡ 
 ranges-back [] = refl
 ranges-back (x ∷ xs) = ap (λ rs. x ∷ rs) (ranges-back xs)
 
-pub fresh-is : RowsStaySound → (plan : CheckedPlan) (step : StepRecord) → IsCheckedPlan plan → step.rules.retry_limit ≤ max_retry_limit → HasItemCount step.item_count → IsSetup (fresh_setup plan step)
-fresh-is law plan step checked retried items =
+-- new rows may open a step
+pub fresh-may-open : RowsStaySound → (plan : CheckedPlan) → IsCheckedPlan plan → MayOpen (fresh_rows plan.ranges)
+fresh-may-open law plan checked =
     let long = length-map plan.ranges fresh_row in
     let some = checked.some in
     let few = checked.few in
     record {
-      openable = record {
-        some_rows = omega (arith, long, some);
-        few_rows = omega (arith, long, few);
-        idle = λ i row e.
-            let at = fresh-at plan.ranges i row e in
-            let within = within-at plan.ranges i at.0 checked.within at.1 at.2 in
-            subst (λ (r : Row). IsSoundRow r × (is_running r.state ≡ false)) (sym at.3) (law.fresh at.0 within.0 within.1, idle-by (at.0.lo == at.0.hi));
-        disjoint = subst (λ (rs : List Range). AreDisjoint rs) (sym (ranges-back plan.ranges)) checked.disjoint;
-        some_threads = checked.some_threads;
-        few_threads = checked.few_threads;
-        some_items = items.some;
-        few_items = items.few;
-      };
+      some_rows = omega (arith, long, some);
+      few_rows = omega (arith, long, few);
+      idle = λ i row e.
+          let at = fresh-at plan.ranges i row e in
+          let within = within-at plan.ranges i at.0 checked.within at.1 at.2 in
+          subst (λ (r : Row). IsSoundRow r × (is_running r.state ≡ false)) (sym at.3) (law.fresh at.0 within.0 within.1, idle-by (at.0.lo == at.0.hi));
+      disjoint = subst (λ (rs : List Range). AreDisjoint rs) (sym (ranges-back plan.ranges)) checked.disjoint;
       begun = λ i row e.
           let at = fresh-at plan.ranges i row e in
           subst (λ (r : Row). (r.state ≡ state.Waiting) ⊎ (r.state ≡ state.Finished)) (sym at.3) (begun-by (at.0.lo == at.0.hi));
-      retried = retried;
     }
+
+begun-state : (s : RowState) → is_running s ≡ false → s ≢ state.Failed → (s ≡ state.Waiting) ⊎ (s ≡ state.Finished)
+begun-state state.Waiting still unfailed = inl refl
+begun-state (state.Running lane) still unfailed = let never : ⊥ = cc in absurd never
+begun-state state.Finished still unfailed = inr refl
+begun-state state.Failed still unfailed = absurd (unfailed refl)
+
+-- and so may saved ones, none of them failed
+pub saved-may-open : (saved : SavedRows) → IsSaved saved → AreUnfailed saved.rows → MayOpen saved.rows
+saved-may-open saved kept unfailed = record {
+  some_rows = kept.some_rows;
+  few_rows = kept.few_rows;
+  idle = kept.idle;
+  disjoint = kept.disjoint;
+  begun = λ i row e. begun-state row.state (kept.idle i row e).1 (unfailed i row e);
+}
+
+pub opened-is : (rows : List Row) (plan : CheckedPlan) (step : StepRecord) (begun_anew : Bool) → MayOpen rows → 1 ≤ plan.threads → plan.threads ≤ max_threads → step.rules.retry_limit ≤ max_retry_limit → HasItemCount step.item_count
+    → IsSetup (setup_with rows plan step begun_anew)
+opened-is rows plan step begun_anew open_ some few retried items = record {
+  openable = record {
+    some_rows = open_.some_rows;
+    few_rows = open_.few_rows;
+    idle = open_.idle;
+    disjoint = open_.disjoint;
+    some_threads = some;
+    few_threads = few;
+    some_items = items.some;
+    few_items = items.few;
+  };
+  begun = open_.begun;
+  retried = retried;
+}
 
 -- THE REDUCER'S CALLS
 

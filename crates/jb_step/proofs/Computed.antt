@@ -10,7 +10,7 @@ use Rattle.jb_cert.specs.Plans.{sets_of as slots_sets}
 use Rattle.jb_cert.specs.WrapAround.{wrapped_rounds}
 use Rattle.jb_chunk.specs.Attempt.{end_of, work_with}
 use Rattle.jb_chunk.specs.Block.{entry, results, count_of, settles, settling, used_between}
-use Rattle.jb_step.specs.Worked.{SevenRecords, SevenOnOneThread, StoppedAndRestarted, OneFailed, NoRecord, Retried, Skipped, Refused, WorkedRows, seven, seven_tasks, skipping, skipping_tasks, stopped_seven, plan_run, chunks}
+use Rattle.jb_step.specs.Worked.{SevenRecords, SevenOnOneThread, StoppedAndRestarted, OneRoundEach, OneFailed, NoRecord, Retried, Skipped, Refused, WorkedRows, seven, seven_tasks, skipping, skipping_tasks, stopped_seven, plan_run, chunks}
 use Rattle.jb_step.specs.Runs.{PlanRun, IsPlanRun, ArePlanRuns, sets_of}
 use Rattle.jb_step.specs.Setup.{counts_now}
 use Rattle.jb_step.proofs.Planning.{least-wrapped}
@@ -93,6 +93,85 @@ stopped_and_restarted law = record {
       tt,
       record {
         least = least-wrapped law (1 ∷ 0 ∷ 1 ∷ []) 2 (lit≤ tt);
+        certified = (lit< tt, refl);
+        some = lit≤ tt;
+        run = (tt, record { tasks = refl; waiting = refl });
+        quiet = tt;
+      },
+    );
+    notes_are = refl;
+    rows_are = refl;
+    calls_are = refl;
+    status_is = refl;
+    reduced_is = refl;
+  };
+  rows = refl;
+  outputs = refl;
+}
+
+one_round_each : WrapAroundIsLeast → OneRoundEach
+unfolding end_of settling settles entry results count_of work_with used_between used_at digits blocks
+one_round_each law = record {
+  first = record {
+    run = (
+      tt,
+      tt,
+      record {
+        least = least-wrapped law (2 ∷ 1 ∷ 1 ∷ []) 1 (lit≤ tt);
+        certified = (lit≤ tt, lit< tt);
+        some = lit≤ tt;
+        run = (tt, record { tasks = refl; waiting = refl });
+        quiet = tt;
+      },
+    );
+    notes_are = refl;
+    rows_are = refl;
+    calls_are = refl;
+    status_is = refl;
+    reduced_is = refl;
+  };
+  second = record {
+    run = (
+      tt,
+      tt,
+      record {
+        least = least-wrapped law (1 ∷ 1 ∷ 1 ∷ []) 1 (lit≤ tt);
+        certified = (lit≤ tt, lit< tt);
+        some = lit≤ tt;
+        run = (tt, record { tasks = refl; waiting = refl });
+        quiet = tt;
+      },
+    );
+    notes_are = refl;
+    rows_are = refl;
+    calls_are = refl;
+    status_is = refl;
+    reduced_is = refl;
+  };
+  third = record {
+    run = (
+      tt,
+      tt,
+      record {
+        least = least-wrapped law (0 ∷ 1 ∷ 1 ∷ []) 1 (lit≤ tt);
+        certified = (lit≤ tt, lit< tt);
+        some = lit≤ tt;
+        run = (tt, record { tasks = refl; waiting = refl });
+        quiet = tt;
+      },
+    );
+    notes_are = refl;
+    rows_are = refl;
+    calls_are = refl;
+    status_is = refl;
+    reduced_is = refl;
+  };
+  fourth = record {
+    run = (
+      tt,
+      tt,
+      record {
+        least = least-wrapped law (0 ∷ 0 ∷ 1 ∷ []) 1 (lit≤ tt);
         certified = (lit< tt, refl);
         some = lit≤ tt;
         run = (tt, record { tasks = refl; waiting = refl });
@@ -247,4 +326,4 @@ refused : WrapAroundIsLeast → Refused
 refused law = record { slow = too_slow law; kept = goes_on; dropped = left_open }
 
 pub worked : WrapAroundIsLeast → WorkedRows
-worked law = (seven_records law, seven_on_one_thread law, stopped_and_restarted law, one_failed law, no_record, retried law, skipped law, refused law)
+worked law = (seven_records law, seven_on_one_thread law, stopped_and_restarted law, one_round_each law, one_failed law, no_record, retried law, skipped law, refused law)

@@ -16,7 +16,7 @@ use Rattle.jb_step.specs.Going.{IsTable, AreTasksOf, BeginsWithTable, Partitions
 use Rattle.jb_step.specs.Parts.{tasks_at}
 use Rattle.jb_step.specs.Prepare.{FitRows}
 use Rattle.jb_step.specs.Rounds.{has_partition}
-use Rattle.jb_step.specs.Setup.{Setup, IsSetup, unfinished}
+use Rattle.jb_step.specs.Setup.{Setup, IsSetup, row_now, unfinished}
 use Rattle.jb_step.specs.inside.Starting.{AreBegun}
 use Rattle.jb_step.proofs.Apart.{stays}
 
@@ -187,3 +187,18 @@ begins_with_table s works setup fits = record {
       setup.retried fits;
   partitions = first-names s (unfinished s.rows) works fits;
 }
+
+-- THE ROWS NOW
+
+either-sound : (b : Bool) (own other : Row) → IsSoundRow own → IsSoundRow other → IsSoundRow (cond b own other)
+either-sound true own other one two = one
+either-sound false own other one two = two
+
+now-sound : (s : Setup) (ts : List TaskState) (p : ℕ) (row : Row) → AreTasksOf s ts → IsSoundRow row → IsSoundRow (row_now ts p row)
+now-sound s [] p row tasks sound = sound
+now-sound s (t ∷ ts) p row tasks sound = either-sound (nat_eq t.partition p) t.row (row_now ts p row) tasks.0.0.sound (now-sound s ts p row tasks.1 sound)
+
+-- they are sound
+pub rows-sound : (s : Setup) (ts : List TaskState) (first : ℕ) (rows : List Row) → AreTasksOf s ts → AreBegun rows → AllByRecursion IsSoundRow (map (λ (n : ℕ × Row). row_now ts n.0 n.1) (enumerate_from first rows))
+rows-sound s ts first [] tasks begun = tt
+rows-sound s ts first (row ∷ rows) tasks begun = (now-sound s ts first row tasks begun.0.sound, rows-sound s ts (first + 1) rows tasks begun.1)

@@ -57,7 +57,7 @@ steps_are_on_the_way s start (plan ∷ older) runs =
 
 -- WHERE THEY END
 
-alone-all : WaysEnd → (ts ss : List TaskState) → AreReady ts → AreOnTheWay ts ss → have_ended ss ≡ true → AreAlone ts ss
+pub alone-all : WaysEnd → (ts ss : List TaskState) → AreReady ts → AreOnTheWay ts ss → have_ended ss ≡ true → AreAlone ts ss
 alone-all law [] [] ready way ended = tt
 alone-all law [] (s ∷ ss) ready way ended = absurd way
 alone-all law (t ∷ ts) [] ready way ended = absurd way

@@ -22,8 +22,15 @@ use Rattle.jb_step.proofs.Steady.{same-rules}
 
 -- THE RULES STAY
 
-abbrev HaveRules : Setup → List TaskState → Type 0
+abbrev pub HaveRules : Setup → List TaskState → Type 0
 HaveRules s ts = AllByRecursion (λ (t : TaskState). t.rules ≡ s.rules) ts
+
+abbrev pub HaveCounts : Setup → List TaskState → Type 0
+HaveCounts s ts = AllByRecursion (λ (t : TaskState). t.item_count ≡ s.item_count) ts
+
+counts-of : (s : Setup) (ts : List TaskState) → AreTasksOf s ts → HaveCounts s ts
+counts-of s [] h = tt
+counts-of s (t ∷ ts) h = (h.0.1, counts-of s ts h.1)
 
 rules-one : (s : Setup) (b : Bool) (t : TaskState) → t.rules ≡ s.rules → (cond b (attempt_of t).task t).rules ≡ s.rules
 rules-one s true t e = same-rules t ∙ e
@@ -54,7 +61,7 @@ differ : (m n : ℕ) → m < n → nat_eq m n ≡ false
 differ m n lt = grind (arith, nat_tests)
 
 -- the row now of each task's partition is the task's
-abbrev AreRowsIn : List TaskState → List TaskState → Type 0
+abbrev pub AreRowsIn : List TaskState → List TaskState → Type 0
 AreRowsIn ts us = AllByRecursion (λ (u : TaskState). (row : Row) → row_now ts u.partition row ≡ u.row) us
 
 later : (t : TaskState) (ts us : List TaskState) (k : ℕ) → t.partition < k → RiseFrom k (partitions_of us) → AreRowsIn ts us → AreRowsIn (t ∷ ts) us
@@ -66,7 +73,7 @@ later t ts (u ∷ us) k lt rise h =
       later t ts us (u.partition + 1) (omega (arith, lt, from)) rise.1 h.1,
     )
 
-rows-are : (ts : List TaskState) (k : ℕ) → RiseFrom k (partitions_of ts) → AreRowsIn ts ts
+pub rows-are : (ts : List TaskState) (k : ℕ) → RiseFrom k (partitions_of ts) → AreRowsIn ts ts
 rows-are [] k rise = tt
 rows-are (t ∷ ts) k rise = (
   (λ row. ap (λ (w : Bool). cond w t.row (row_now ts t.partition row)) (itself t.partition)),
@@ -86,39 +93,39 @@ now-at ts (row ∷ rows) k (suc i) d lt =
 
 -- THE PARTITIONS ARE THERE
 
-abbrev AreBelow : ℕ → List ℕ → Type 0
+abbrev pub AreBelow : ℕ → List ℕ → Type 0
 AreBelow n ns = AllByRecursion (λ (p : ℕ). p < n) ns
 
 below-one : (b : Bool) (n k : ℕ) (row : Row) (xs : List (ℕ × Row)) → k < n → AreBelow n (map (λ (m : ℕ × Row). m.0) xs) → AreBelow n (map (λ (m : ℕ × Row). m.0) (cond b ((k, row) ∷ xs) xs))
 below-one true n k row xs lt h = (lt, h)
 below-one false n k row xs lt h = h
 
-needs-in : (n k : ℕ) (rows : List Row) → k + length rows ≡ n → AreBelow n (map (λ (m : ℕ × Row). m.0) (filter is_open (enumerate_from k rows)))
+pub needs-in : (n k : ℕ) (rows : List Row) → k + length rows ≡ n → AreBelow n (map (λ (m : ℕ × Row). m.0) (filter is_open (enumerate_from k rows)))
 needs-in n k [] e = tt
 needs-in n k (row ∷ rows) e = below-one (not (is_finished row.state)) n k row (filter is_open (enumerate_from (k + 1) rows)) (omega (arith, e)) (needs-in n (k + 1) rows (omega (arith, e)))
 
-below-named : (n : ℕ) (ts : List TaskState) → AreBelow n (map (λ (t : TaskState). t.partition) ts) → AllByRecursion (λ (t : TaskState). t.partition < n) ts
+pub below-named : (n : ℕ) (ts : List TaskState) → AreBelow n (map (λ (t : TaskState). t.partition) ts) → AllByRecursion (λ (t : TaskState). t.partition < n) ts
 below-named n [] h = tt
 below-named n (t ∷ ts) h = (h.0, below-named n ts h.1)
 
 -- PUT TOGETHER AGAIN
 
-abbrev no_row : Row
+abbrev pub no_row : Row
 no_row = fresh_row (record { lo = 0; hi = 0 })
 
-row-at : (s : Setup) (ts : List TaskState) (u : TaskState) → u.partition < length s.rows → ((row : Row) → row_now ts u.partition row ≡ u.row) → slice_index_or (rows_now s.rows ts) u.partition no_row ≡ u.row
+pub row-at : (s : Setup) (ts : List TaskState) (u : TaskState) → u.partition < length s.rows → ((row : Row) → row_now ts u.partition row ≡ u.row) → slice_index_or (rows_now s.rows ts) u.partition no_row ≡ u.row
 row-at s ts u lt is =
     let there = now-at ts s.rows 0 u.partition no_row lt in
     let zero_add : 0 + u.partition ≡ u.partition = omega arith in
     there.1 ∙ (ap (λ m. row_now ts m there.0) zero_add ∙ is there.0)
 
-all-again : (s : Setup) (rows : List Row) (ts us : List TaskState) → rows ≡ rows_now s.rows ts → AllByRecursion (λ (t : TaskState). t.partition < length s.rows) us → AreRowsIn ts us → HaveRules s us → AreTasksOf s us
+pub all-again : (s : Setup) (rows : List Row) (ts us : List TaskState) → rows ≡ rows_now s.rows ts → AllByRecursion (λ (t : TaskState). t.partition < length s.rows) us → AreRowsIn ts us → HaveRules s us → HaveCounts s us
     → map (λ (a : ℕ × Workplace). record { partition = a.0; row = slice_index_or rows a.0 no_row; rules = s.rules; item_count = s.item_count; work = a.1 }) (map (λ (t : TaskState). (t.partition, t.work)) us) ≡ us
 all-again s rows ts [] is below rows_are rules tasks = refl
 all-again s rows ts (u ∷ us) is below rows_are rules tasks =
     let row = ap (λ (rs : List Row). slice_index_or rs u.partition no_row) is ∙ row-at s ts u below.0 rows_are.0 in
     let rule = sym rules.0 in
-    let count = sym tasks.0.1 in
+    let count = sym tasks.0 in
     let one : record { partition = u.partition; row = slice_index_or rows u.partition no_row; rules = s.rules; item_count = s.item_count; work = u.work } ≡ u = λ i. record u { row = row i; rules = rule i; item_count = count i } in
     ap₂ ◌∷◌ one (all-again s rows ts us is below.1 rows_are.1 rules.1 tasks.1)
 
@@ -130,4 +137,4 @@ left-again s works plans snapshot left table is holds rise rows e =
     let below = below-named (length s.rows) table (subst (λ (ns : List ℕ). AreBelow (length s.rows) ns) (sym holds.partitions) (needs-in (length s.rows) 0 s.rows (omega arith))) in
     let rules = subst (λ (ts : List TaskState). HaveRules s ts) (sym is) (rules-after s works plans) in
     ap (λ (xs : List (ℕ × Workplace)). tasks_left s snapshot xs) e
-    ∙ (all-again s snapshot.rows.items table table rows below (rows-are table 0 rise) rules holds.tasks ∙ is)
+    ∙ (all-again s snapshot.rows.items table table rows below (rows-are table 0 rise) rules (counts-of s table holds.tasks) ∙ is)

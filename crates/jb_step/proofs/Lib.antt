@@ -2,8 +2,10 @@ mod Adding
 mod Apart
 mod Beginning
 mod Computed
+mod Filling
 mod Finishing
 mod Going
+mod Growing
 mod Hearing
 mod Holding
 mod Leading
@@ -12,6 +14,7 @@ mod Listing
 mod Looping
 mod Planning
 mod Reduced
+mod Restarting
 mod Splitting
 mod Starting
 mod Steady

@@ -8,8 +8,8 @@ use Rattle.jb_collect.specs.declared.calls.PartitionStatus.TheVariants as end
 use Rattle.jb_collect.specs.declared.calls.Status.{Status}
 use Rattle.jb_collect.specs.Reduced.{calls_after, rolled_back}
 use Rattle.jb_collect.specs.Taken.{Taken, calls_of}
-use Rattle.jb_step.specs.declared.error.StepError.{StepError}
-use Rattle.jb_step.specs.declared.error.StepError.TheVariants as error
+use Rattle.jb_saved.specs.declared.error.StepError.{StepError}
+use Rattle.jb_saved.specs.declared.error.StepError.TheVariants as error
 use Rattle.jb_step.specs.Ending.{AreCallsUndone}
 use Rattle.jb_step.specs.Reduced.{has_fault, before_failed, is_before, since}
 use Rattle.jb_step.specs.Statuses.{status_of, went_well}
@@ -92,6 +92,7 @@ since-is before after next e = ap (λ xs. drop (length before) xs) e ∙ drop-ap
 
 undone-by : (e : StepError) (taken : List (Taken ReducerCall)) → calls_of taken ≡ rolled_back → AreCallsUndone e taken
 undone-by (error.Plan fault) taken h = h
+undone-by (error.Saved fault) taken h = h
 undone-by (error.Mapper class) taken h = h
 undone-by (error.Reducer class) taken h = h
 undone-by error.WrongArtifacts taken h = h

@@ -16,7 +16,7 @@ use Rattle.jb_workers.specs.declared.worker.lane_work.Work.{Work}
 use Rattle.jb_step.specs.Rounds.{has_partition, tasks_in, after_round, attempts_in, breaks}
 use Rattle.jb_collect.specs.Heard.{endings_of, heard_in}
 use Rattle.jb_step.specs.inside.Adding.{heard_in_round}
-use Rattle.jb_step.specs.inside.Round.{tasks_of, RiseFrom, partitions_of, AreDonesOf, AreWhole, had_memory, taken, rest_of, merged, breaks_in}
+use Rattle.jb_step.specs.inside.Round.{tasks_of, RiseFrom, partitions_of, AreDonesOf, AreWhole, free_places, had_memory, taken, rest_of, merged, breaks_in}
 use Rattle.jb_step.specs.Ways.{AreReady}
 use Rattle.jb_step.proofs.Apart.{left-of, right-of}
 use Rattle.jb_step.proofs.Steady.{waits}
@@ -162,3 +162,22 @@ taken-rise standing set ts ws e h =
 -- and what comes of them are the attempts of these tasks
 pub taken-done : {T : Type 0} (standing : T → TaskState) (set : List Pair) (ts : List T) (ws : List (Work T)) (ds : List (Done T)) → tasks_of ws ≡ taken standing set ts → AreDones standing ws ds → AreDonesOf standing (taken standing set ts) ds
 taken-done standing set ts ws ds e h = subst (λ (us : List _). AreDonesOf standing us ds) e (done-by standing ws ds h)
+
+-- THE FREE PLACES
+
+free-one : {T : Type 0} (b : Bool) (t : T) (rest : List (Option T)) (us : List T) → free_places rest ≡ length us → free_places (cond b None (Some t) ∷ rest) ≡ length (cond b (t ∷ us) us)
+free-one true t rest us e = omega (arith, e)
+free-one false t rest us e = e
+
+free-taken : {T : Type 0} (standing : T → TaskState) (set : List Pair) (ts : List T) → free_places (rest_of standing set ts) ≡ length (taken standing set ts)
+free-taken standing set [] = refl
+free-taken standing set (t ∷ ts) = free-one (has_partition set (standing t).partition) t (rest_of standing set ts) (taken standing set ts) (free-taken standing set ts)
+
+dones-number : {T : Type 0} (standing : T → TaskState) (ts : List T) (ds : List (Done T)) → AreDonesOf standing ts ds → length ts ≡ length ds
+dones-number standing [] [] h = refl
+dones-number standing [] (d ∷ ds) h = absurd h
+dones-number standing (t ∷ ts) [] h = absurd h
+dones-number standing (t ∷ ts) (d ∷ ds) h = let rest = dones-number standing ts ds h.1 in omega (arith, rest)
+
+pub free-done : {T : Type 0} (standing : T → TaskState) (set : List Pair) (ts : List T) (ds : List (Done T)) → AreDonesOf standing (taken standing set ts) ds → free_places (rest_of standing set ts) ≡ length ds
+free-done standing set ts ds h = free-taken standing set ts ∙ dones-number standing (taken standing set ts) ds h

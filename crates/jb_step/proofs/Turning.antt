@@ -280,7 +280,7 @@ can-run below s start base m table ran notes None next b h =
 can-run below s start base m table ran notes (Some before) next b h =
     subst (λ (o : Open). CanRun (next_set o.cursor o.ran) table) (sym h) (open-can-run below s start base m table ran notes before.cursor before.ran b)
 
-table-of : (s : Setup) (start : List TaskState) (base : List (Taken AnalyzerCall)) (m : Moment) (table : List TaskState) (ran : ℕ × ℕ) (notes : List PlanNote) (plan : Option Open) → IsBetween s start base m table ran notes plan → IsTable s table
+pub table-of : (s : Setup) (start : List TaskState) (base : List (Taken AnalyzerCall)) (m : Moment) (table : List TaskState) (ran : ℕ × ℕ) (notes : List PlanNote) (plan : Option Open) → IsBetween s start base m table ran notes plan → IsTable s table
 table-of s start base m table ran notes None b = b.so_far.holds
 table-of s start base m table ran notes (Some plan) b = b.so_far.holds
 

@@ -7,8 +7,8 @@ use Rattle.jb_repo.specs.declared.snapshot.Snapshot.{Snapshot}
 use Rattle.jb_collect.specs.declared.calls.AnalyzerCall.{AnalyzerCall}
 use Rattle.jb_collect.specs.declared.calls.ReducerCall.{ReducerCall}
 use Rattle.jb_collect.specs.declared.calls.Status.{Status}
-use Rattle.jb_step.specs.declared.error.StepError.{StepError}
-use Rattle.jb_step.specs.declared.error.StepError.TheVariants.{Memory}
+use Rattle.jb_saved.specs.declared.error.StepError.{StepError}
+use Rattle.jb_saved.specs.declared.error.StepError.TheVariants.{WrongArtifacts, Repository, Workers, Memory}
 use Rattle.jb_step.specs.declared.notes.PlanNote.{PlanNote}
 use Rattle.jb_collect.specs.Reduced.{calls_after, rolled_back}
 use Rattle.jb_collect.specs.Taken.{Taken, calls_of}
@@ -68,3 +68,12 @@ AreCallsAfter snapshot told reduced =
 abbrev pub AreCallsUndone : StepError → List (Taken ReducerCall) → Type 0
 AreCallsUndone Memory reduced = Unit {0}
 AreCallsUndone _ reduced = calls_of reduced ≡ rolled_back
+
+-- the errors of a run: the artifacts don't fit the step, the desk isn't its own or refused an event, a worker could not be
+-- started, or memory lacked; plans, mappers and the reducer's `begin` belong to the preparation
+abbrev pub IsRunError : StepError → Type 0
+IsRunError WrongArtifacts = Unit {0}
+IsRunError (Repository partition) = Unit {0}
+IsRunError Workers = Unit {0}
+IsRunError Memory = Unit {0}
+IsRunError _ = ⊥

@@ -10,5 +10,7 @@ pub mod Prepare
 pub mod Ending
 pub mod Laws
 pub mod Going
+pub mod StepRuns
+pub mod Restarts
 pub mod Worked
 pub mod inside

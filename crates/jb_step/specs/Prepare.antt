@@ -1,5 +1,5 @@
 -- What `prepare` answers, and what it refuses.
-use Rattle.std.specs.Prelude.{◌≡◌, ℕ, true, false, Result, Ok, Err, List, [], ◌∷◌, ◌++◌}
+use Rattle.std.specs.Prelude.{◌≡◌, ℕ, true, false, Result, Ok, Err, List, [], ◌∷◌, ◌++◌, Option, Some, is_none, slice_get}
 use Rattle.jb_job.specs.declared.class.ClassId.{ClassId}
 use Rattle.jb_job.specs.Records.{StepRecord}
 use Rattle.jb_plan.specs.declared.plan.PartitionPlan.{PartitionPlan}
@@ -11,34 +11,40 @@ use Rattle.jb_collect.specs.declared.calls.ReducerCall.{ReducerCall}
 use Rattle.jb_collect.specs.declared.calls.ReducerCall.TheVariants.{Begin}
 use Rattle.jb_collect.specs.Reduced.{calls_before, rolled_back}
 use Rattle.jb_collect.specs.Taken.{Taken, calls_of, faulted}
-use Rattle.jb_step.specs.declared.error.StepError.{StepError}
-use Rattle.jb_step.specs.declared.error.StepError.TheVariants.{Plan, Mapper, Reducer, Memory}
-use Rattle.jb_step.specs.Setup.{Setup, fresh_rows, unfinished}
+use Rattle.jb_saved.specs.SavedRows.{SavedRows}
+use Rattle.jb_saved.specs.declared.error.StepError.{StepError}
+use Rattle.jb_saved.specs.declared.error.StepError.TheVariants.{Plan, Mapper, Reducer, Saved, Memory}
+use Rattle.jb_step.specs.Setup.{Setup, opening_rows, saved_faults, unfinished}
 
--- the mapper's plan can be run, and the partitions begin anew on its ranges
-pub record IsPreparation (step : StepRecord) (records : ℕ) (mapped : Result PartitionPlan ClassId) (s : Setup) : Type 0 where
+-- The mapper's plan can be run, and the partitions begin anew on its ranges; or nothing is wrong with the saved rows, the
+-- partitions go on from them, and of the plan only the thread number counts.
+pub record IsPreparation (step : StepRecord) (records : ℕ) (mapped : Result PartitionPlan ClassId) (saved : Option SavedRows) (s : Setup) : Type 0 where
   pub plan : PartitionPlan
   pub mapping : mapped ≡ Ok plan
   pub runnable : IsRunnable records plan
-  pub rows : s.rows ≡ fresh_rows plan.ranges
+  pub accepted : saved_faults step records plan.replace saved ≡ []
+  pub rows : s.rows ≡ opening_rows plan.ranges saved
   pub rules : s.rules ≡ step.rules
   pub item_count : s.item_count ≡ step.item_count
   pub threads : s.threads ≡ threads_of plan
-  pub begun_anew : s.begun_anew ≡ true
+  pub begun_anew : s.begun_anew ≡ is_none saved
 
--- the first refusal in the order: `begin`, the mapper, its plan; where memory lacked, nothing is said
-abbrev pub IsRefusal : ℕ → Result PartitionPlan ClassId → List (Taken ReducerCall) → StepError → Type 0
-IsRefusal records mapped taken (Reducer class) = taken ≡ faulted Begin class ∷ []
-IsRefusal records mapped taken (Mapper class) = mapped ≡ Err class
-IsRefusal records mapped taken (Plan fault) = (plan : PartitionPlan) × (mapped ≡ Ok plan) × IsFirst fault (plan_errors records plan)
-IsRefusal records mapped taken Memory = Unit {0}
-IsRefusal records mapped taken _ = ⊥
+-- the first refusal in the order: `begin`, the mapper, its plan, the saved rows; where memory lacked, nothing is said
+abbrev pub IsRefusal : StepRecord → ℕ → Result PartitionPlan ClassId → Option SavedRows → List (Taken ReducerCall) → StepError → Type 0
+IsRefusal step records mapped saved taken (Reducer class) = taken ≡ faulted Begin class ∷ []
+IsRefusal step records mapped saved taken (Mapper class) = mapped ≡ Err class
+IsRefusal step records mapped saved taken (Plan fault) = (plan : PartitionPlan) × (mapped ≡ Ok plan) × IsFirst fault (plan_errors records plan)
+IsRefusal step records mapped saved taken (Saved place) =
+    (plan : PartitionPlan) × (mapped ≡ Ok plan) × IsRunnable records plan × (slice_get (saved_faults step records plan.replace saved) 0 ≡ Some place)
+IsRefusal step records mapped saved taken Memory = Unit {0}
+IsRefusal step records mapped saved taken _ = ⊥
 
 -- what the reducer was called with where `prepare` refused so; where memory lacked, that is left open
 abbrev pub AreCallsAtRefusal : StepError → List (Taken ReducerCall) → Type 0
 AreCallsAtRefusal (Reducer class) taken = calls_of taken ≡ calls_before false true
 AreCallsAtRefusal (Mapper class) taken = calls_of taken ≡ calls_before false false ++ rolled_back
 AreCallsAtRefusal (Plan fault) taken = calls_of taken ≡ calls_before false false ++ rolled_back
+AreCallsAtRefusal (Saved place) taken = calls_of taken ≡ calls_before false false ++ rolled_back
 AreCallsAtRefusal Memory taken = Unit {0}
 AreCallsAtRefusal _ taken = ⊥
 

@@ -1,18 +1,20 @@
 -- What a step begins with: the rows of all its partitions, and tasks for those that aren't finished.
-use Rattle.std.specs.Prelude.{ℕ, ◌≡◌, ◌≤◌, ◌⊎◌, nat_eq, Bool, not, if◌then◌else◌, List, [], ◌∷◌, map, filter, slice_get, Some}
+use Rattle.std.specs.Prelude.{ℕ, ◌≡◌, ◌≤◌, ◌⊎◌, nat_eq, Bool, not, if◌then◌else◌, List, [], ◌∷◌, map, filter, slice_get, Option, Some, None}
 use Rattle.std.specs.List.{enumerate_from, zip}
 use Rattle.jb_job.specs.declared.job.Range.{Range}
 use Rattle.jb_job.specs.Limits.{max_retry_limit}
-use Rattle.jb_job.specs.Records.{RulesRecord}
+use Rattle.jb_job.specs.Records.{RulesRecord, StepRecord}
 use Rattle.jb_rules.specs.declared.row.Row.{Row}
-use Rattle.jb_rules.specs.declared.row.RowState.{RowState}
-use Rattle.jb_rules.specs.declared.row.RowState.TheVariants.{Waiting, Finished, Failed}
+use Rattle.jb_rules.specs.declared.row.RowState.TheVariants.{Waiting, Finished}
 use Rattle.jb_rules.specs.Rows.{fresh_row}
 use Rattle.jb_artifacts.specs.Meaning.{Workplace}
 use Rattle.jb_chunk.specs.Standing.{TaskState, started}
 use Rattle.jb_repo.specs.Openable.{IsOpenable, opened_journal}
 use Rattle.jb_repo.specs.Rows.{remaining}
 use Rattle.jb_rules.specs.States.{is_finished}
+use Rattle.jb_saved.specs.GoingOn.{rows_again, step_faults}
+use Rattle.jb_saved.specs.SavedRows.{SavedRows}
+use Rattle.jb_saved.specs.declared.place.SavedPlace.{SavedPlace}
 
 -- the prepared rows, one for each partition, what the step says of chunks, and the number of threads
 pub record Setup : Type 0 where
@@ -23,20 +25,18 @@ pub record Setup : Type 0 where
   -- the rows are new ones, and not those of an earlier run
   pub begun_anew : Bool
 
--- a failed partition that is taken up again waits at its checkpoint
-abbrev pub again : RowState → RowState
-again Failed = Waiting
-again state = state
-
--- the rows that a run begins with: new ones of the ranges, or an earlier run's
+-- the rows that a run begins with: new ones of the ranges, or an earlier run's, of which the failed ones wait again
 abbrev pub fresh_rows : List Range → List Row
 fresh_rows ranges = map fresh_row ranges
 
-abbrev pub taken_up : Row → Row
-taken_up row = record row { state = again row.state }
+abbrev pub opening_rows : List Range → Option SavedRows → List Row
+opening_rows ranges None = fresh_rows ranges
+opening_rows ranges (Some saved) = rows_again saved
 
-abbrev pub saved_rows : List Row → List Row
-saved_rows rows = map taken_up rows
+-- what is wrong with an earlier run's rows for a step of so many records; `replace` where a plan is to take their place
+abbrev pub saved_faults : StepRecord → (records : ℕ) → (replace : Bool) → Option SavedRows → List SavedPlace
+saved_faults step records replace None = []
+saved_faults step records replace (Some saved) = step_faults step.id records replace saved
 
 -- what a step may begin with: a repository may be opened with its rows, each partition waits or is finished, and the retry
 -- limit is one of a job's

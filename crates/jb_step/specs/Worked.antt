@@ -1,6 +1,6 @@
 -- Worked rows: what the definitions give for whole steps, computed apart from any code. Records are the letters a, b, c,
 -- .., the processor puts an x before each, and faults are of the class E.
-use Rattle.std.specs.Prelude.{◌≡◌, ℕ, true, false, List, [], ◌∷◌, codes, length, map}
+use Rattle.std.specs.Prelude.{◌≡◌, ℕ, true, false, List, [], ◌∷◌, Some, codes, length, map}
 use Rattle.jb_job.specs.declared.job.Range.{Range}
 use Rattle.jb_job.specs.Records.{RulesRecord}
 use Rattle.jb_artifacts.specs.declared.faults.FaultPlan.TheVariants.{Bad, Shaky}
@@ -22,8 +22,9 @@ use Rattle.jb_step.specs.declared.notes.PlanNote.{PlanNote}
 use Rattle.jb_step.specs.Heard.{heard}
 use Rattle.jb_collect.specs.Reduced.{reducer_calls}
 use Rattle.jb_step.specs.Runs.{PlanRun, IsPlanRun, sets_of, notes_of, table_after, events_of, ArePlanRuns, IsLastOver}
-use Rattle.jb_step.specs.Setup.{Setup, needs, first_tasks, fresh_rows, saved_rows, rows_now}
+use Rattle.jb_step.specs.Setup.{Setup, needs, first_tasks, fresh_rows, opening_rows, rows_now}
 use Rattle.jb_step.specs.Statuses.{status_of, went_well}
+use Rattle.jb_step.specs.StepRuns.{all_newer, works_again}
 
 -- THE STEPS
 
@@ -42,7 +43,22 @@ step rules item_count threads ranges = record {
 
 -- the step is taken up again where a run left it
 abbrev pub restarted : Setup → List TaskState → List PlanRun → Setup
-restarted s start plans = record s { rows = saved_rows (rows_now s.rows (table_after plans start)); begun_anew = false }
+restarted s start plans = record s {
+  rows = opening_rows [] (Some (record { step = codes "s"; rows = rows_now s.rows (table_after plans start) }));
+  begun_anew = false;
+}
+
+-- the artifacts as the run hands them back
+abbrev pub handed_back : List TaskState → List PlanRun → List (ℕ × Workplace)
+handed_back start plans = map (λ t. (t.partition, t.work)) (table_after plans start)
+
+abbrev pub outputs_of : List (ℕ × Workplace) → List (ℕ × List (List ℕ))
+outputs_of left = map (λ a. (a.0, a.1.writer.written)) left
+
+-- the tasks that it begins with then, with the artifacts that were handed back
+abbrev pub restarted_tasks : Setup → List TaskState → List PlanRun → List TaskState
+restarted_tasks s start plans =
+    first_tasks (restarted s start plans) (works_again (rows_now s.rows (table_after plans start)) (handed_back start plans))
 
 -- the artifacts of a partition that an earlier run wrote this of
 abbrev pub works_with : (lo : ℕ) → (processes : Plans) → (written : List (List ℕ)) → Workplace
@@ -107,6 +123,40 @@ rest_tasks = first_tasks rest_of_seven (works_with 0 sound (codes "xa" ∷ codes
 
 abbrev pub rest_run : List PlanRun
 rest_run = plan_run (Longest 0) (((0, 0) ∷ (2, 0) ∷ []) ∷ []) [] ∷ []
+
+-- on one thread, stopped after each round and taken up again
+abbrev pub rounds_of_one : List ℕ → List (List Pair)
+rounds_of_one partitions = map (λ p. (p, 0) ∷ []) partitions
+
+abbrev pub first_round : List PlanRun
+first_round = plan_run FullLoad (rounds_of_one (0 ∷ [])) (((0, 1) ∷ []) ∷ rounds_of_one (1 ∷ 2 ∷ [])) ∷ []
+
+abbrev pub second_round : List PlanRun
+second_round = plan_run FullLoad (rounds_of_one (0 ∷ [])) (rounds_of_one (1 ∷ 2 ∷ [])) ∷ []
+
+abbrev pub third_round : List PlanRun
+third_round = plan_run FullLoad (rounds_of_one (1 ∷ [])) (rounds_of_one (2 ∷ [])) ∷ []
+
+abbrev pub fourth_round : List PlanRun
+fourth_round = plan_run (Longest 2) (rounds_of_one (2 ∷ [])) [] ∷ []
+
+abbrev pub second_step : Setup
+second_step = restarted (seven 1) (seven_tasks 1) first_round
+
+abbrev pub second_tasks : List TaskState
+second_tasks = restarted_tasks (seven 1) (seven_tasks 1) first_round
+
+abbrev pub third_step : Setup
+third_step = restarted second_step second_tasks second_round
+
+abbrev pub third_tasks : List TaskState
+third_tasks = restarted_tasks second_step second_tasks second_round
+
+abbrev pub fourth_step : Setup
+fourth_step = restarted third_step third_tasks third_round
+
+abbrev pub fourth_tasks : List TaskState
+fourth_tasks = restarted_tasks third_step third_tasks third_round
 
 -- the partition that fails, and its restart with no faults
 abbrev pub whole_six : List PlanRun
@@ -205,6 +255,33 @@ pub record StoppedAndRestarted : Type 0 where
       (text 0 (codes "0:3:3") ∷ text 0 (codes "0:3:3:end") ∷ ended 0 status.Completed
       ∷ text 2 (codes "2:7:2") ∷ text 2 (codes "2:7:2:end") ∷ ended 2 status.Completed ∷ [])
       status.Completed committed
+  -- the rows are those of the run that nothing stopped, and so are the outputs
+  pub rows : rows_now rest_of_seven.rows (table_after rest_run rest_tasks) ≡ rows_now (seven 2).rows (table_after whole_seven (seven_tasks 2))
+  pub outputs :
+      outputs_of (all_newer (handed_back (restarted_tasks (seven 2) (seven_tasks 2) stopped_seven) rest_run) (handed_back (seven_tasks 2) stopped_seven))
+      ≡ (0, codes "xa" ∷ codes "xb" ∷ codes "xc" ∷ []) ∷ (1, codes "xd" ∷ codes "xe" ∷ []) ∷ (2, codes "xf" ∷ codes "xg" ∷ []) ∷ []
+
+-- on one thread, with a limit of one round, in four runs
+pub record OneRoundEach : Type 0 where
+  pub first :
+      Gives (seven 1) (seven_tasks 1) first_round (note FullLoad 4 1 ∷ [])
+      (row 2 0 0 2 2 2 1 0 0 ∷ row 3 3 0 0 0 0 0 0 0 ∷ row 5 5 0 0 0 0 0 0 0 ∷ [])
+      (text 0 (codes "0:2:2") ∷ ended 0 status.Stopped ∷ ended 1 status.Stopped ∷ ended 2 status.Stopped ∷ [])
+      status.Stopped undone
+  pub second :
+      Gives second_step second_tasks second_round (note FullLoad 3 1 ∷ [])
+      (row 3 0 0 3 3 3 2 0 0 ∷ row 3 3 0 0 0 0 0 0 0 ∷ row 5 5 0 0 0 0 0 0 0 ∷ [])
+      (text 0 (codes "0:3:3") ∷ text 0 (codes "0:3:3:end") ∷ ended 0 status.Completed ∷ ended 1 status.Stopped ∷ ended 2 status.Stopped ∷ [])
+      status.Stopped undone
+  pub third :
+      Gives third_step third_tasks third_round (note FullLoad 2 1 ∷ [])
+      (row 3 0 0 3 3 3 2 0 0 ∷ row 5 3 0 2 2 2 1 0 0 ∷ row 5 5 0 0 0 0 0 0 0 ∷ [])
+      (text 1 (codes "1:5:2") ∷ text 1 (codes "1:5:2:end") ∷ ended 1 status.Completed ∷ ended 2 status.Stopped ∷ [])
+      status.Stopped undone
+  pub fourth :
+      Gives fourth_step fourth_tasks fourth_round (note (Longest 2) 1 1 ∷ []) seven_rows
+      (text 2 (codes "2:7:2") ∷ text 2 (codes "2:7:2:end") ∷ ended 2 status.Completed ∷ [])
+      status.Completed committed
 
 -- one failed partition, and its restart
 pub record OneFailed : Type 0 where
@@ -252,4 +329,4 @@ pub record Refused : Type 0 where
   pub dropped : ArePlanRuns (seven 2) (seven_tasks 2) (plan_run FullLoad [] [] ∷ stopped_seven) → ⊥
 
 abbrev pub WorkedRows : Type 0
-WorkedRows = SevenRecords × SevenOnOneThread × StoppedAndRestarted × OneFailed × NoRecord × Retried × Skipped × Refused
+WorkedRows = SevenRecords × SevenOnOneThread × StoppedAndRestarted × OneRoundEach × OneFailed × NoRecord × Retried × Skipped × Refused

@@ -1,29 +1,10 @@
-//! Why a step has no answer.
+//! Why the rounds of a step have no end.
 
 ghost use Rattle.std.specs.Prelude.{◌≡◌};
-ghost use Rattle.jb_step.specs.declared.error.StepError.TheVariants.{WrongArtifacts};
+ghost use Rattle.jb_step.specs.Ending.{IsRunError};
+ghost use Rattle.jb_saved.specs.declared.error.StepError.TheVariants.{WrongArtifacts};
 
-use jb_job::ClassId;
-use jb_plan::PlanError;
-
-/// Why a step has no answer.
-#[derive(Clone, Copy, Debug, PartialEq, Eq)]
-pub enum StepError {
-    /// The mapper's plan can't be run.
-    Plan(PlanError),
-    /// The mapper answered a fault of this class.
-    Mapper(ClassId),
-    /// The reducer's `begin` did.
-    Reducer(ClassId),
-    /// The artifacts aren't those that the unfinished partitions need.
-    WrongArtifacts,
-    /// The desk's row of this partition isn't the step's own, or the desk was used by another, or it refused an event.
-    Repository(u32),
-    /// A worker could not be started.
-    Workers,
-    /// There was no memory.
-    Memory,
-}
+use jb_saved::StepError;
 
 /// Why the rounds of a step have no end.
 #[derive(Clone, Copy, Debug, PartialEq, Eq)]
@@ -38,7 +19,8 @@ pub(crate) enum RunError {
 
 /// The same, as the step answers it.
 pub(crate) fn step_error(error: RunError) -> StepError
-    ensures { result ≡ WrongArtifacts → ⊥ }
+    ensures wrong { result ≡ WrongArtifacts → ⊥ }
+    ensures causes { IsRunError result }
 {
     match error {
         RunError::Repository(partition) => StepError::Repository(partition),

@@ -2,7 +2,9 @@
 
 ghost use Rattle.std.specs.Prelude.{◌≡◌, ◌+◌, ◌≤◌, None, IfOk, map, length};
 ghost use Rattle.std.specs.List.{enumerate_from};
+ghost use Rattle.jb_job.specs.Limits.{max_partitions};
 ghost use Rattle.jb_step.specs.Going.{IsTable};
+ghost use Rattle.jb_step.specs.Reduced.{Grew};
 ghost use Rattle.jb_step.specs.Setup.{row_now, rows_now};
 ghost use Rattle.jb_step.specs.inside.Finish.{AreToldToEnd};
 ghost use Rattle.jb_step.specs.inside.Telling.{moment};
@@ -28,7 +30,7 @@ use std::thread::Threads;
 
 // The first partition whose row now isn't the one that is shown, among some of the rows, the first of which has this number.
 fn first_other<T: PartitionTask>(first: u32, rows: &[Row], held: &[T], shown: &[Row]) -> Option<u32>
-    requires { first + length rows.now ≤ 256 }
+    requires { first + length rows.now ≤ max_partitions }
     ensures { result ≡ None → shown.now ≡ map (λ n. row_now (map T.standing held.now) n.0 n.1) (enumerate_from first rows.now) }
 {
     let Some((row, rest)) = rows.split_first() else {
@@ -102,6 +104,7 @@ pub(crate) fn run_to_end<
     requires { IsTable prepared.now (map T.standing tasks.items) }
     ensures told { IfOk result (λ end. AreToldToEnd prepared.now (map T.standing tasks.items) round_limit (analyzed analyzer.old) (moment (analyzed analyzer.new) end.fault) end.notes.items (map T.standing end.held.items) (end.rounds, end.attempts) end.stopped) }
     ensures rows { IfOk result (λ end. end.snapshot.rows.items ≡ rows_now prepared.now.rows (map T.standing end.held.items)) }
+    ensures grew { Grew (analyzed analyzer.old) (analyzed analyzer.new) }
 {
     laws_below();
     let ran = run_rounds(lanes, alloc, prepared, tasks, analyzer, round_limit)?;

@@ -4,6 +4,8 @@ ghost use Rattle.std.specs.Prelude.{IfOk};
 ghost use Rattle.jb_workers.specs.Round.{AreDones};
 ghost use Rattle.jb_workers.specs.Works.{AllCanBegin, Rise};
 
+use crate::error::RunError;
+use crate::round::refusal;
 use jb_cert::Certificate;
 use jb_chunk::{Done, PartitionTask};
 use jb_repo::{Event, Refused, Snapshot};
@@ -32,9 +34,12 @@ impl<'a, L: Ledger + Send + Sync + 'static, G: Gate + Sync, R: Threads + Wait + 
         self.desk.apply(self.rt, Event::Plan(rounds, certificate))
     }
 
-    /// Applies a Stop.
-    pub(crate) fn stop(&self) -> Result<(), Refused> {
-        self.desk.apply(self.rt, Event::Stop)
+    /// Applies a Stop. The step has so many rows.
+    pub(crate) fn stop(&self, rows: u32) -> Result<(), RunError> {
+        match self.desk.apply(self.rt, Event::Stop) {
+            Ok(()) => Ok(()),
+            Err(refused) => Err(refusal(refused, rows)),
+        }
     }
 
     /// Attempts the works' next chunks, each once, and closes the round. The attempts come in the order of the works.

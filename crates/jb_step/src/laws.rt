@@ -4,11 +4,13 @@ ghost use Rattle.jb_step.specs.Going.{BeginsWithRows, BeginsWithTable, ChunksAre
 ghost use Rattle.jb_step.specs.Laws.{StepsAreOnTheWay, StepsEndAlone, AloneIsOnePlace, CalmStepsArePlain};
 ghost use Rattle.jb_step.specs.inside.Below.{LawsBelow};
 ghost use Rattle.jb_step.specs.Parts.{AttemptsAreAlone, HeardOfPartition, OthersDontCount};
+ghost use Rattle.jb_step.specs.Restarts.{RestartsAreOnTheWay, RestartsEndAlone, RestartsEndAsUnstopped, RestartsFit};
 
 use jb_cert::{bound_is_least, wrap_around_is_least};
-use jb_chunk::{runs_end_alike, runs_lead_to_an_end};
+use jb_chunk::{runs_end_alike, runs_lead_to_an_end, tasks_go_on, tasks_stay_ready};
 use jb_collect::{calls_end_at_a_fault, partitions_are_heard_apart};
 use jb_plan::chunks_follow_one_another;
+use jb_saved::answers_are_computed;
 
 /// What a run of a step does to each partition.
 pub fn partitions_run_alone()
@@ -42,6 +44,24 @@ pub fn plans_can_be_run()
     ensures stay { PartitionsStay }
 {
     chunks_follow_one_another();
+}
+
+/// A step that is stopped any number of times, and restarted each time through its saved text, ends, once nothing stops it,
+/// as a step that was never stopped, whatever the numbers of threads of its runs were.
+///
+/// The restarts are told call by call: what `run_step` says of its answer, then what `Saved::of`, `saved_text`, `read_saved`
+/// and `prepare` say of theirs, and the artifacts that `run_step` takes. No partition may have failed at a stop.
+pub fn restarts_go_on()
+    ensures fit { RestartsFit }
+    ensures on_the_way { RestartsAreOnTheWay }
+    ensures alone { RestartsEndAlone }
+    ensures unstopped { RestartsEndAsUnstopped }
+{
+    answers_are_computed();
+    tasks_go_on();
+    tasks_stay_ready();
+    runs_lead_to_an_end();
+    runs_end_alike();
 }
 
 /// What the crates below say of chunks, of plans, and of calls that may be answered with a fault.

@@ -1,9 +1,13 @@
 //! The plan whose rounds are run.
 
 ghost use Rattle.std.specs.Prelude.{◌≡◌, ◌+◌, ◌++◌, ◌∷◌, ◌≤◌, [], None, IfOk, OnOk, map, length};
-ghost use Rattle.std.specs.List.{enumerate_from};
+ghost use Rattle.std.specs.List.{AllByRecursion, enumerate_from};
+ghost use Rattle.jb_job.specs.Limits.{max_partitions};
 ghost use Rattle.jb_cert.specs.Load.{mcnaughton};
+ghost use Rattle.jb_rules.specs.Sound.{IsSoundRow};
+ghost use Rattle.jb_chunk.specs.Standing.{HasItemCount};
 ghost use Rattle.jb_repo.specs.Rows.{remaining, remaining_of};
+ghost use Rattle.jb_step.specs.Going.{IsTable};
 ghost use Rattle.jb_step.specs.Setup.{row_now, counts_now};
 ghost use Rattle.jb_step.specs.inside.Head.{IsNextPlan, IsAfterRound, note_at};
 
@@ -14,7 +18,6 @@ use crate::prepared::Prepared;
 use crate::round::refusal;
 use jb_cert::fits;
 use jb_chunk::PartitionTask;
-use jb_job::MAX_ITEM_COUNT;
 use jb_plan::chunks_left;
 use jb_rounds::RoundCursor;
 use jb_rules::{Row, RowState};
@@ -47,17 +50,14 @@ pub(crate) fn row_of<T: PartitionTask>(held: &[T], partition: u32, row: Row) -> 
 }
 
 // How many chunks the row has left.
-fn count_of(row: &Row, item_count: u64) -> Result<u64, RunError>
-    ensures { IfOk result (λ count. count ≡ remaining_of item_count row.now row.now.state) }
+fn count_of(row: &Row, item_count: u64) -> u64
+    requires sound { IsSoundRow row.now }
+    requires count { HasItemCount item_count }
+    ensures { result ≡ remaining_of item_count row.now row.now.state }
 {
     match row.state {
-        RowState::Waiting => {
-            if item_count < 1 || MAX_ITEM_COUNT < item_count || !row.sound() {
-                return Err(RunError::Repository(0));
-            }
-            Ok(chunks_left(row.at, row.redo, row.hi, item_count))
-        }
-        RowState::Running(_) | RowState::Finished | RowState::Failed => Ok(0),
+        RowState::Waiting => chunks_left(row.at, row.redo, row.hi, item_count),
+        RowState::Running(_) | RowState::Finished | RowState::Failed => 0,
     }
 }
 
@@ -69,13 +69,14 @@ fn add_counts<T: PartitionTask>(
     held: &[T],
     item_count: u64,
 ) -> Result<(), RunError>
-    requires { first + length rows.now ≤ 4096 }
+    requires few { first + length rows.now ≤ max_partitions }
+    requires sound { AllByRecursion IsSoundRow (map (λ n. row_now (map T.standing held.now) n.0 n.1) (enumerate_from first rows.now)) }
+    requires count { HasItemCount item_count }
     ensures { OnOk result (counts.new.items ≡ counts.old.items ++ remaining item_count (map (λ n. row_now (map T.standing held.now) n.0 n.1) (enumerate_from first rows.now))) }
 {
     if let Some((row, rest)) = rows.split_first() {
         let now = row_of(held, first, *row);
-        let count = count_of(&now, item_count)?;
-        if counts.push(count).is_err() {
+        if counts.push(count_of(&now, item_count)).is_err() {
             return Err(RunError::Memory);
         }
         return add_counts(counts, first + 1, rest, held, item_count);
@@ -89,13 +90,11 @@ fn counts_of<T: PartitionTask>(
     prepared: &Prepared,
     held: &[T],
 ) -> Result<Vec<u64>, RunError>
+    requires { IsTable prepared.now (map T.standing held.now) }
     ensures { IfOk result (λ counts. counts.items ≡ counts_now prepared.now (map T.standing held.now)) }
 {
-    let rows = prepared.rows();
-    if rows.len() > 4096 {
-        return Err(RunError::Repository(0));
-    }
     let mut counts = Vec::new(alloc);
+    let rows = prepared.begun_rows();
     add_counts(&mut counts, 0, rows, held, prepared.item_count())?;
     Ok(counts)
 }
@@ -107,6 +106,7 @@ fn new_plan<
     G: Gate + Sync,
     R: Threads + Wait + Sync,
 >(lanes: &Lanes<L, G, R>, alloc: Global, prepared: &Prepared, held: &[T]) -> Result<Open, RunError>
+    requires table { IsTable prepared.now (map T.standing held.now) }
     ensures { IfOk result (λ plan. IsNextPlan prepared.now (map T.standing held.now) None plan) }
 {
     let counts = counts_of(alloc, prepared, held)?;
@@ -140,6 +140,7 @@ pub(crate) fn next_plan<
     held: &[T],
     plan: Option<Open>,
 ) -> Result<Open, RunError>
+    requires table { IsTable prepared.now (map T.standing held.now) }
     ensures { IfOk result (λ next. IsNextPlan prepared.now (map T.standing held.now) plan next) }
 {
     match plan {

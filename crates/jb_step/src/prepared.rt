@@ -1,15 +1,19 @@
 //! What a step begins with.
 
-ghost use Rattle.std.specs.Prelude.{◌≡◌, ◌↔◌, ◌+◌, ◌++◌, ◌≤◌, length, map, slice_get, option_copied, IfOk, IsTrue, OnOk};
+ghost use Rattle.std.specs.Prelude.{◌≡◌, ◌↔◌, ◌+◌, ◌++◌, ◌≤◌, [], Some, None, length, map, slice_get, option_copied, IfOk, IfErr, IsTrue, OnOk};
+ghost use Rattle.jb_job.specs.Limits.{max_partitions};
 ghost use Rattle.jb_chunk.specs.Standing.{HasItemCount};
 ghost use Rattle.jb_step.specs.Setup.{IsSetup, fresh_rows, needs};
-ghost use Rattle.jb_step.specs.inside.Fresh.{fresh_setup};
+ghost use Rattle.jb_saved.specs.GoingOn.{Refuses, step_faults};
+ghost use Rattle.jb_step.specs.inside.Fresh.{opened_setup, setup_with};
+ghost use Rattle.jb_step.specs.inside.Preparing.{MayOpen};
 ghost use Rattle.jb_step.specs.inside.Starting.{AreBegun, unfinished_from};
 
 use jb_job::{Range, Rules, Step};
 use jb_plan::Checked;
 use jb_repo::Repo;
 use jb_rules::{Row, rows_stay_sound};
+use jb_saved::{Saved, StepError, rows_to_go_on};
 use jb_workers::Desk;
 use std::alloc::{AllocError, Global};
 use std::marker::Model;
@@ -41,14 +45,53 @@ impl Model for Prepared {
 impl Prepared {
     /// The rows of partitions that begin anew on the ranges of a checked plan. The only error is want of memory.
     pub(crate) fn fresh(alloc: Global, plan: &Checked, step: &Step) -> Result<Prepared, AllocError>
-        ensures { IfOk result (λ prepared. prepared ≡ fresh_setup plan.now step.now) }
+        ensures value { IfOk result (λ prepared. prepared ≡ opened_setup plan.now step.now None) }
+        ensures setup { IfOk result (λ prepared. IsSetup prepared) }
     {
         rows_stay_sound();
+        let mut rows = Vec::new(alloc);
+        add_rows(&mut rows, plan.ranges())?;
+        Prepared::with_rows(alloc, rows, plan, step, true)
+    }
+
+    /// The rows of an earlier run, the failed ones of which wait again, on the threads of a checked plan.
+    ///
+    /// # Errors
+    /// `Saved` with the first fault of the rows for this step (`rows_to_go_on`), and `Memory`.
+    pub(crate) fn resumed(
+        alloc: Global,
+        plan: &Checked,
+        step: &Step,
+        records: u64,
+        saved: &Saved,
+    ) -> Result<Prepared, StepError>
+        ensures accepted { OnOk result (step_faults step.now.id records plan.now.replace saved.now ≡ []) }
+        ensures refused { IfErr result (λ error. Refuses error (step_faults step.now.id records plan.now.replace saved.now)) }
+        ensures value { IfOk result (λ prepared. prepared ≡ opened_setup plan.now step.now (Some saved.now)) }
+        ensures setup { IfOk result (λ prepared. IsSetup prepared) }
+    {
+        let rows = rows_to_go_on(alloc, step.id(), records, plan.replace(), saved)?;
+        match Prepared::with_rows(alloc, rows, plan, step, false) {
+            Ok(prepared) => Ok(prepared),
+            Err(_) => Err(StepError::Memory),
+        }
+    }
+
+    // These rows, on the threads of a checked plan. The only error is want of memory for the list of the unfinished.
+    fn with_rows(
+        alloc: Global,
+        rows: Vec<Row>,
+        plan: &Checked,
+        step: &Step,
+        begun_anew: bool,
+    ) -> Result<Prepared, AllocError>
+        requires { MayOpen rows.items }
+        ensures value { IfOk result (λ prepared. prepared ≡ setup_with rows.items plan.now step.now begun_anew) }
+        ensures setup { IfOk result (λ prepared. IsSetup prepared) }
+    {
         let rules = step.rules();
         // Reading the limit tells the proof how high it may be.
         let _limit = rules.retry_limit;
-        let mut rows = Vec::new(alloc);
-        add_rows(&mut rows, plan.ranges())?;
         let mut needs = Vec::new(alloc);
         add_needs(&mut needs, 0, rows.as_slice())?;
         Ok(Prepared {
@@ -57,7 +100,7 @@ impl Prepared {
             rules,
             item_count: step.item_count(),
             threads: plan.threads(),
-            begun_anew: true,
+            begun_anew,
         })
     }
 
@@ -99,7 +142,7 @@ impl Prepared {
     pub(crate) fn begun_rows(&self) -> &[Row]
         ensures value { result.now ≡ self.now.rows }
         ensures begun { AreBegun result.now }
-        ensures few { length result.now ≤ 256 }
+        ensures few { length result.now ≤ max_partitions }
         ensures setup { IsSetup self.now }
     {
         self.rows.as_slice()
@@ -148,7 +191,7 @@ fn add_rows(rows: &mut Vec<Row>, ranges: &[Range]) -> Result<(), AllocError>
 
 // Adds the partitions of some of the rows that aren't finished; the first row has this number.
 fn add_needs(needs: &mut Vec<u32>, first: u32, rows: &[Row]) -> Result<(), AllocError>
-    requires { first + length rows.now ≤ 256 }
+    requires { first + length rows.now ≤ max_partitions }
     ensures { OnOk result (needs.new.items ≡ needs.old.items ++ map (λ n. n.0) (unfinished_from first rows.now)) }
 {
     if let Some((row, rest)) = rows.split_first() {

@@ -5,16 +5,17 @@ ghost use Rattle.std.specs.List.{list_any};
 ghost use Rattle.jb_rules.specs.States.{is_finished, is_failed};
 ghost use Rattle.jb_collect.specs.declared.calls.ReducerCall.TheVariants as act;
 ghost use Rattle.jb_collect.specs.Reduced.{rolled_back};
-ghost use Rattle.jb_step.specs.Ending.{AreCallsUndone};
-ghost use Rattle.jb_step.specs.Reduced.{since};
+ghost use Rattle.jb_step.specs.Ending.{AreCallsUndone, IsRunError};
+ghost use Rattle.jb_step.specs.Reduced.{Grew, since};
 ghost use Rattle.jb_step.specs.Statuses.{status_of, is_completed, went_well};
-ghost use Rattle.jb_step.specs.declared.error.StepError.TheVariants.{WrongArtifacts};
+ghost use Rattle.jb_saved.specs.declared.error.StepError.TheVariants.{WrongArtifacts};
 ghost use Rattle.jb_step.specs.inside.Reducing.{IsReducing, IsEnding};
 
-use crate::error::{RunError, StepError};
+use crate::error::RunError;
 use jb_collect::{PartitionStatus, Reducer, Status};
 use jb_job::ArtifactError;
 use jb_rules::Row;
+use jb_saved::StepError;
 
 // Whether some partition failed.
 fn some_failed(rows: &[Row]) -> bool
@@ -57,7 +58,8 @@ fn is_completed(status: Status) -> bool
 
 // Calls `before_completion`.
 fn call_before(reducer: &mut dyn Reducer) -> Result<bool, RunError>
-    ensures { IfOk result (λ faulted. IsReducing (reduced reducer.old) (act.Before ∷ []) faulted faulted (reduced reducer.new)) }
+    ensures calls { IfOk result (λ faulted. IsReducing (reduced reducer.old) (act.Before ∷ []) faulted faulted (reduced reducer.new)) }
+    ensures grew { Grew (reduced reducer.old) (reduced reducer.new) }
 {
     match reducer.before_completion() {
         Ok(()) => Ok(false),
@@ -68,7 +70,8 @@ fn call_before(reducer: &mut dyn Reducer) -> Result<bool, RunError>
 
 // Calls `rollback`.
 fn call_rollback(reducer: &mut dyn Reducer) -> Result<bool, RunError>
-    ensures { IfOk result (λ faulted. IsReducing (reduced reducer.old) (act.Rollback ∷ []) faulted false (reduced reducer.new)) }
+    ensures calls { IfOk result (λ faulted. IsReducing (reduced reducer.old) (act.Rollback ∷ []) faulted false (reduced reducer.new)) }
+    ensures grew { Grew (reduced reducer.old) (reduced reducer.new) }
 {
     match reducer.rollback() {
         Ok(()) => Ok(false),
@@ -79,7 +82,8 @@ fn call_rollback(reducer: &mut dyn Reducer) -> Result<bool, RunError>
 
 // Calls `after`.
 fn call_after(status: PartitionStatus, reducer: &mut dyn Reducer) -> Result<bool, RunError>
-    ensures { IfOk result (λ faulted. IsReducing (reduced reducer.old) (act.After status ∷ []) faulted false (reduced reducer.new)) }
+    ensures calls { IfOk result (λ faulted. IsReducing (reduced reducer.old) (act.After status ∷ []) faulted false (reduced reducer.new)) }
+    ensures grew { Grew (reduced reducer.old) (reduced reducer.new) }
 {
     match reducer.after(status) {
         Ok(()) => Ok(false),
@@ -96,7 +100,8 @@ fn either(one: bool, other: bool) -> bool
 
 /// Rolls the step back: both calls are made, whatever the first one answers.
 pub(crate) fn undo(reducer: &mut dyn Reducer) -> Result<bool, RunError>
-    ensures { IfOk result (λ faulted. IsReducing (reduced reducer.old) rolled_back faulted false (reduced reducer.new)) }
+    ensures calls { IfOk result (λ faulted. IsReducing (reduced reducer.old) rolled_back faulted false (reduced reducer.new)) }
+    ensures grew { Grew (reduced reducer.old) (reduced reducer.new) }
 {
     let rolled = call_rollback(reducer);
     let ended = call_after(PartitionStatus::Rollback, reducer);
@@ -110,6 +115,8 @@ pub(crate) fn undo(reducer: &mut dyn Reducer) -> Result<bool, RunError>
 pub(crate) fn undone(error: StepError, reducer: &mut dyn Reducer) -> StepError
     ensures calls { AreCallsUndone result (since (reduced reducer.old) (reduced reducer.new)) }
     ensures wrong { result ≡ WrongArtifacts → error ≡ WrongArtifacts }
+    ensures grew { Grew (reduced reducer.old) (reduced reducer.new) }
+    ensures causes { IsRunError error → IsRunError result }
 {
     match undo(reducer) {
         Ok(_) => error,
@@ -119,7 +126,8 @@ pub(crate) fn undone(error: StepError, reducer: &mut dyn Reducer) -> StepError
 
 // Calls `before_completion`; where it finds no memory, the step is rolled back.
 fn begin_completion(reducer: &mut dyn Reducer) -> Result<bool, RunError>
-    ensures { IfOk result (λ faulted. IsReducing (reduced reducer.old) (act.Before ∷ []) faulted faulted (reduced reducer.new)) }
+    ensures calls { IfOk result (λ faulted. IsReducing (reduced reducer.old) (act.Before ∷ []) faulted faulted (reduced reducer.new)) }
+    ensures grew { Grew (reduced reducer.old) (reduced reducer.new) }
 {
     match call_before(reducer) {
         Ok(failed) => Ok(failed),
@@ -133,7 +141,8 @@ fn begin_completion(reducer: &mut dyn Reducer) -> Result<bool, RunError>
 // The calls where each partition is completed and no callback failed.
 fn complete(rows: &[Row], reducer: &mut dyn Reducer) -> Result<Status, RunError>
     requires { went_well rows.now false ≡ true }
-    ensures { IfOk result (λ status. IsEnding rows.now false (reduced reducer.old) status (reduced reducer.new)) }
+    ensures ending { IfOk result (λ status. IsEnding rows.now false (reduced reducer.old) status (reduced reducer.new)) }
+    ensures grew { Grew (reduced reducer.old) (reduced reducer.new) }
 {
     let before = begin_completion(reducer)?;
     if before {
@@ -154,7 +163,8 @@ pub(crate) fn end_step(
     faulted: bool,
     reducer: &mut dyn Reducer,
 ) -> Result<Status, RunError>
-    ensures { IfOk result (λ status. IsEnding rows.now faulted (reduced reducer.old) status (reduced reducer.new)) }
+    ensures ending { IfOk result (λ status. IsEnding rows.now faulted (reduced reducer.old) status (reduced reducer.new)) }
+    ensures grew { Grew (reduced reducer.old) (reduced reducer.new) }
 {
     let well = is_completed(status_now(rows, faulted));
     if well {

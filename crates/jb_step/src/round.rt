@@ -1,13 +1,15 @@
 //! One round over the tasks that a step holds.
 
-ghost use Rattle.std.specs.Prelude.{◌≡◌, true, ◌++◌, ◌∷◌, [], IfOk, OnOk, is_some, length, map};
+ghost use Rattle.std.specs.Prelude.{◌≡◌, true, ◌+◌, ◌++◌, ◌∷◌, ◌≤◌, [], IfOk, List, OnOk, Option, is_some, length, map};
 ghost use Rattle.std.specs.List.{cons_option};
+ghost use Rattle.std.specs.Vec.Iter.{into_iter_items};
 ghost use Rattle.jb_cert.specs.Plans.{slot_pair};
 ghost use Rattle.jb_cert.specs.WrapAround.{lane_slot, slots_of_round};
+ghost use Rattle.jb_step.specs.Reduced.{Grew};
 ghost use Rattle.jb_step.specs.Rounds.{CanRun, after_round, attempts_in, breaks, has_partition, is_commit};
 ghost use Rattle.jb_collect.specs.Heard.{endings_of};
 ghost use Rattle.jb_step.specs.inside.Adding.{heard_in_round};
-ghost use Rattle.jb_step.specs.inside.Round.{tasks_of, partitions_of, Rise, AreWhole, had_memory, taken, rest_of, merged, breaks_in};
+ghost use Rattle.jb_step.specs.inside.Round.{tasks_of, partitions_of, Rise, AreWhole, free_places, had_memory, taken, rest_of, merged, breaks_in};
 ghost use Rattle.jb_step.specs.Ways.{AreReady};
 ghost use Rattle.jb_step.specs.inside.Telling.{IsHearing, moment};
 ghost use Rattle.jb_workers.specs.Works.{AllCanBegin, Rise as AreInOrder};
@@ -26,6 +28,7 @@ use std::alloc::Global;
 use std::sync::Wait;
 use std::sync::ledger::Ledger;
 use std::thread::Threads;
+use std::vec::IntoIter;
 
 /// What a round left.
 #[derive(Drop)]
@@ -137,24 +140,34 @@ fn split<T: PartitionTask>(
     Ok((works, rest))
 }
 
+// The task of the next place: the one that stands there, or that of the next Done.
+fn next_task<T: PartitionTask>(place: Option<T>, dones: &mut IntoIter<Done<T>, Global>) -> T
+    requires { free_places (place ∷ []) ≤ length (into_iter_items dones.old) }
+    ensures task { (rest : List (Option T)) → merged (place ∷ rest) (into_iter_items dones.old) ≡ result ∷ merged rest (into_iter_items dones.new) }
+    ensures places { (rest : List (Option T)) → free_places (place ∷ rest) + length (into_iter_items dones.new) ≡ free_places rest + length (into_iter_items dones.old) }
+{
+    match place {
+        Some(task) => task,
+        None => match dones.next() {
+            Some(done) => done.task,
+            None => unreachable!(),
+        },
+    }
+}
+
 // Puts tasks back into the free places.
 fn merge<T: PartitionTask>(
     alloc: Global,
     rest: Vec<Option<T>>,
     dones: Vec<Done<T>>,
 ) -> Result<Vec<T>, RunError>
+    requires places { free_places rest.items ≡ length dones.items }
     ensures { IfOk result (λ held. held.items ≡ merged rest.items dones.items) }
 {
     let mut held = Vec::new(alloc);
     let mut dones = dones.into_iter();
-    for slot in rest {
-        let task = match slot {
-            Some(task) => task,
-            None => match dones.next() {
-                Some(done) => done.task,
-                None => return Err(RunError::Repository(0)),
-            },
-        };
+    for place in rest {
+        let task = next_task(place, &mut dones);
         if held.push(task).is_err() {
             return Err(RunError::Memory);
         }
@@ -258,6 +271,7 @@ pub(crate) fn one_round<
     ensures attempts { IfOk result (λ turn. turn.attempts ≡ length (attempts_in (map slot_pair slots.now) (map T.standing held.items))) }
     ensures breaks { IfOk result (λ turn. turn.breaks ≡ breaks (map slot_pair slots.now) (map T.standing held.items)) }
     ensures told { IfOk result (λ turn. IsHearing fault (analyzed analyzer.old) (heard_in_round (map slot_pair slots.now) (map T.standing held.items)) (moment (analyzed analyzer.new) turn.fault)) }
+    ensures grew { Grew (analyzed analyzer.old) (analyzed analyzer.new) }
 {
     let (works, rest) = chosen(alloc, held, slots)?;
     let dones = match lanes.run_round(alloc, works) {

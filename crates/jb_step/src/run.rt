@@ -2,6 +2,7 @@
 
 ghost use Rattle.std.specs.Prelude.{◌≡◌, ◌+◌, ◌≤◌, ◌==◌, true, false, IfOk, OnOk, List, [], ◌∷◌, map, filter, length, MatchOption};
 ghost use Rattle.jb_step.specs.Going.{IsTable};
+ghost use Rattle.jb_step.specs.Reduced.{Grew};
 ghost use Rattle.jb_step.specs.Ways.{have_ended};
 ghost use Rattle.jb_step.specs.inside.Head.{AreRounds, IsFinished};
 ghost use Rattle.jb_step.specs.inside.Telling.{moment};
@@ -12,7 +13,7 @@ use crate::laws::laws_below;
 use crate::notes::PlanNote;
 use crate::plan::{Open, closed, next_plan, take_note};
 use crate::prepared::Prepared;
-use crate::round::{one_round, refusal, slots_of};
+use crate::round::{one_round, slots_of};
 use crate::tell::tell_first;
 use jb_chunk::PartitionTask;
 use jb_collect::Analyzer;
@@ -85,7 +86,8 @@ pub(crate) fn run_rounds<
     round_limit: Option<u64>,
 ) -> Result<Ran<T>, RunError>
     requires { IsTable prepared.now (map T.standing tasks.items) }
-    ensures { IfOk result (λ ran. AreRounds prepared.now (map T.standing tasks.items) round_limit (analyzed analyzer.old) (moment (analyzed analyzer.new) ran.fault) ran.notes.items (map T.standing ran.held.items) (ran.rounds, ran.attempts) ran.stopped) }
+    ensures rounds { IfOk result (λ ran. AreRounds prepared.now (map T.standing tasks.items) round_limit (analyzed analyzer.old) (moment (analyzed analyzer.new) ran.fault) ran.notes.items (map T.standing ran.held.items) (ran.rounds, ran.attempts) ran.stopped) }
+    ensures grew { Grew (analyzed analyzer.old) (analyzed analyzer.new) }
 {
     laws_below();
     let rows = prepared.rows().len() as u32;
@@ -96,24 +98,12 @@ pub(crate) fn run_rounds<
     let mut tried: u64 = 0;
     let mut fault = tell_first(prepared, analyzer)?;
     for _ in lanes.rt.forever() {
-        if all_ended(held.as_slice()) {
-            finish_notes(&plan, &mut notes)?;
-            let stopped = false;
-            return Ok(Ran {
-                held,
-                notes,
-                fault,
-                rounds: ran,
-                attempts: tried,
-                stopped,
-            });
-        }
-        if lanes.is_stopping() || at_limit(round_limit, ran) {
-            if let Err(refused) = lanes.stop() {
-                return Err(refusal(refused, rows));
+        let stopped = !all_ended(held.as_slice());
+        if !stopped || lanes.is_stopping() || at_limit(round_limit, ran) {
+            if stopped {
+                lanes.stop(rows)?;
             }
             finish_notes(&plan, &mut notes)?;
-            let stopped = true;
             return Ok(Ran {
                 held,
                 notes,

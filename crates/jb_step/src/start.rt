@@ -2,6 +2,7 @@
 
 ghost use Rattle.std.specs.Prelude.{◌≡◌, ◌↔◌, ◌+◌, ◌≤◌, ◌++◌, ℕ, IfOk, OnOk, IsTrue, length, map};
 ghost use Rattle.std.specs.Vec.Iter.{into_iter_items};
+ghost use Rattle.jb_job.specs.Limits.{max_partitions};
 ghost use Rattle.jb_step.specs.Going.{IsTable};
 ghost use Rattle.jb_step.specs.Prepare.{DoFit, FitRows};
 ghost use Rattle.jb_step.specs.Setup.{first_tasks};
@@ -67,7 +68,7 @@ fn start_rows<T: PartitionTask>(
 ) -> Result<(), RunError>
     requires fit { FitRows (unfinished_from first rows.now) (map T.Artifacts.workplace (into_iter_items artifacts.old)) }
     requires begun { AreBegun rows.now }
-    requires few { first + length rows.now ≤ 4096 }
+    requires few { first + length rows.now ≤ max_partitions }
     ensures { OnOk result (map T.standing tasks.new.items ≡ map T.standing tasks.old.items ++ tasks_from prepared.now first rows.now (map T.Artifacts.workplace (into_iter_items artifacts.old))) }
 {
     let Some((row, rest)) = rows.split_first() else {
@@ -75,7 +76,7 @@ fn start_rows<T: PartitionTask>(
     };
     if !row.state.is_finished() {
         let Some(own) = artifacts.next() else {
-            return Err(RunError::Repository(first));
+            unreachable!();
         };
         let task = T::start(first, *row, prepared.rules(), prepared.item_count(), own);
         if tasks.push(task).is_err() {

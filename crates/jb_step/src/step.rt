@@ -1,15 +1,15 @@
 //! A step, from its artifacts to its end.
 
-ghost use Rattle.std.specs.Prelude.{◌≡◌, ◌+◌, ◌*◌, true, false, IfOk, IfErr, is_some, map};
+ghost use Rattle.std.specs.Prelude.{◌≡◌, ◌+◌, ◌*◌, true, false, IfOk, IfErr, OnOk, is_some, map};
 ghost use Rattle.jb_step.specs.inside.Finish.{works_of};
-ghost use Rattle.jb_step.specs.Ending.{given_back, AreCallsAfter, AreCallsUndone, IsRunOfStep, IsStatus, tasks_left};
+ghost use Rattle.jb_step.specs.Ending.{given_back, AreCallsAfter, AreCallsUndone, IsRunError, IsRunOfStep, IsStatus, tasks_left};
 ghost use Rattle.jb_step.specs.Prepare.{DoFit};
-ghost use Rattle.jb_step.specs.Reduced.{has_fault, since};
+ghost use Rattle.jb_step.specs.Reduced.{Grew, has_fault, since};
 ghost use Rattle.jb_step.specs.Setup.{first_tasks};
 ghost use Rattle.jb_step.specs.Ways.{AreAlone, AreOnTheWay};
-ghost use Rattle.jb_step.specs.declared.error.StepError.TheVariants.{WrongArtifacts};
+ghost use Rattle.jb_saved.specs.declared.error.StepError.TheVariants.{WrongArtifacts};
 
-use crate::error::{RunError, StepError, step_error};
+use crate::error::{RunError, step_error};
 use crate::finish::{Ended, rows_shown, run_to_end};
 use crate::lanes::Lanes;
 use crate::notes::PlanNote;
@@ -21,6 +21,7 @@ use jb_chunk::PartitionTask;
 use jb_collect::{Analyzer, Reducer, Status};
 use jb_job::ClassId;
 use jb_repo::Snapshot;
+use jb_saved::StepError;
 use jb_workers::{Desk, Gate};
 use std::alloc::Global;
 use std::sync::Wait;
@@ -114,6 +115,7 @@ fn run_tasks<
     ensures on_the_way { IfOk result (λ left.
         AreOnTheWay (first_tasks prepared.now (map T.Artifacts.workplace artifacts.items)) (tasks_left prepared.now left.snapshot (given_back T.Artifacts.workplace left.artifacts.items))) }
     ensures fault { IfOk result (λ left. is_some left.fault ≡ has_fault (since (analyzed analyzer.old) (analyzed analyzer.new))) }
+    ensures grew { Grew (analyzed analyzer.old) (analyzed analyzer.new) }
 {
     is_new::<T, L, G, R>(lanes, alloc, prepared)?;
     let tasks = start_all::<T>(alloc, prepared, artifacts)?;
@@ -165,7 +167,11 @@ pub(crate) fn run_over<
     ensures status { IfOk result (λ end. IsStatus end.snapshot (since (analyzed analyzer.old) (analyzed analyzer.new)) (since (reduced reducer.old) (reduced reducer.new)) end.status) }
     ensures reducer { IfOk result (λ end. AreCallsAfter end.snapshot (since (analyzed analyzer.old) (analyzed analyzer.new)) (since (reduced reducer.old) (reduced reducer.new))) }
     ensures undone { IfErr result (λ e. AreCallsUndone e (since (reduced reducer.old) (reduced reducer.new))) }
+    ensures fit { OnOk result (DoFit prepared.now (map T.Artifacts.workplace artifacts.items)) }
     ensures wrong { IfErr result (λ e. e ≡ WrongArtifacts → DoFit prepared.now (map T.Artifacts.workplace artifacts.items) → ⊥) }
+    ensures causes { IfErr result IsRunError }
+    ensures analyzer_grew { Grew (analyzed analyzer.old) (analyzed analyzer.new) }
+    ensures reducer_grew { Grew (reduced reducer.old) (reduced reducer.new) }
 {
     if !prepared.fits::<T>(artifacts.as_slice()) {
         return Err(undone(StepError::WrongArtifacts, reducer));
@@ -236,7 +242,13 @@ pub fn run_step<
     ensures status { IfOk result (λ end. IsStatus end.snapshot (since (analyzed analyzer.old) (analyzed analyzer.new)) (since (reduced reducer.old) (reduced reducer.new)) end.status) }
     ensures reducer { IfOk result (λ end. AreCallsAfter end.snapshot (since (analyzed analyzer.old) (analyzed analyzer.new)) (since (reduced reducer.old) (reduced reducer.new))) }
     ensures undone { IfErr result (λ e. AreCallsUndone e (since (reduced reducer.old) (reduced reducer.new))) }
+    ensures fit { OnOk result (DoFit prepared (map T.Artifacts.workplace artifacts.items)) }
     ensures wrong { IfErr result (λ e. e ≡ WrongArtifacts → DoFit prepared (map T.Artifacts.workplace artifacts.items) → ⊥) }
+    ensures causes { IfErr result IsRunError }
+
+    // The calls that were taken before stay.
+    ensures analyzer_grew { Grew (analyzed analyzer.old) (analyzed analyzer.new) }
+    ensures reducer_grew { Grew (reduced reducer.old) (reduced reducer.new) }
 {
     let lanes = Lanes { desk, gate, rt };
     run_over::<T, L, G, R>(

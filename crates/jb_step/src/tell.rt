@@ -1,9 +1,11 @@
 //! What the analyzer is told, and the fault that it answers.
 
 ghost use Rattle.std.specs.Prelude.{◌≡◌, ◌+◌, ◌≤◌, IfOk, [], ◌∷◌, length, map};
+ghost use Rattle.jb_job.specs.Limits.{max_partitions};
 ghost use Rattle.jb_collect.specs.declared.calls.AnalyzerCall.TheVariants as call;
 ghost use Rattle.jb_collect.specs.Heard.{endings_of, heard_first, heard_in, heard_last};
 ghost use Rattle.jb_collect.specs.Taken.{HasTaken};
+ghost use Rattle.jb_step.specs.Reduced.{Grew};
 ghost use Rattle.jb_step.specs.inside.Telling.{IsAnswer, IsHearing, empties, moment};
 
 use crate::error::RunError;
@@ -30,7 +32,8 @@ pub(crate) fn tell_round<T: PartitionTask>(
     fault: Option<ClassId>,
     analyzer: &mut dyn Analyzer,
 ) -> Result<Option<ClassId>, RunError>
-    ensures { IfOk result (λ now. IsHearing fault (analyzed analyzer.old) (heard_in (endings_of T.standing dones.now)) (moment (analyzed analyzer.new) now)) }
+    ensures told { IfOk result (λ now. IsHearing fault (analyzed analyzer.old) (heard_in (endings_of T.standing dones.now)) (moment (analyzed analyzer.new) now)) }
+    ensures grew { Grew (analyzed analyzer.old) (analyzed analyzer.new) }
 {
     if fault.is_some() {
         return Ok(fault);
@@ -45,7 +48,8 @@ fn tell_status(
     status: Status,
     analyzer: &mut dyn Analyzer,
 ) -> Result<Option<ClassId>, RunError>
-    ensures { IfOk result (λ fault. HasTaken (analyzed analyzer.old) (call.Status partition status ∷ []) fault (analyzed analyzer.new)) }
+    ensures told { IfOk result (λ fault. HasTaken (analyzed analyzer.old) (call.Status partition status ∷ []) fault (analyzed analyzer.new)) }
+    ensures grew { Grew (analyzed analyzer.old) (analyzed analyzer.new) }
 {
     let answer = analyzer.status(partition, status);
     fault_of(answer)
@@ -56,7 +60,8 @@ pub(crate) fn tell_first(
     prepared: &Prepared,
     analyzer: &mut dyn Analyzer,
 ) -> Result<Option<ClassId>, RunError>
-    ensures { IfOk result (λ fault. HasTaken (analyzed analyzer.old) (heard_first prepared.now.begun_anew prepared.now.rows) fault (analyzed analyzer.new)) }
+    ensures told { IfOk result (λ fault. HasTaken (analyzed analyzer.old) (heard_first prepared.now.begun_anew prepared.now.rows) fault (analyzed analyzer.new)) }
+    ensures grew { Grew (analyzed analyzer.old) (analyzed analyzer.new) }
 {
     if !prepared.begun_anew() {
         return Ok(None);
@@ -71,8 +76,9 @@ fn tell_empties(
     rows: &[Row],
     analyzer: &mut dyn Analyzer,
 ) -> Result<Option<ClassId>, RunError>
-    requires { first + length rows.now ≤ 256 }
-    ensures { IfOk result (λ fault. HasTaken (analyzed analyzer.old) (empties first rows.now) fault (analyzed analyzer.new)) }
+    requires { first + length rows.now ≤ max_partitions }
+    ensures told { IfOk result (λ fault. HasTaken (analyzed analyzer.old) (empties first rows.now) fault (analyzed analyzer.new)) }
+    ensures grew { Grew (analyzed analyzer.old) (analyzed analyzer.new) }
 {
     calls_end_at_a_fault();
     let Some((row, rest)) = rows.split_first() else {
@@ -94,7 +100,8 @@ pub(crate) fn tell_last<T: PartitionTask>(
     fault: Option<ClassId>,
     analyzer: &mut dyn Analyzer,
 ) -> Result<Option<ClassId>, RunError>
-    ensures { IfOk result (λ now. IsHearing fault (analyzed analyzer.old) (heard_last (map T.standing held.now)) (moment (analyzed analyzer.new) now)) }
+    ensures told { IfOk result (λ now. IsHearing fault (analyzed analyzer.old) (heard_last (map T.standing held.now)) (moment (analyzed analyzer.new) now)) }
+    ensures grew { Grew (analyzed analyzer.old) (analyzed analyzer.new) }
 {
     if fault.is_some() {
         return Ok(fault);
@@ -107,7 +114,8 @@ fn tell_stopped<T: PartitionTask>(
     held: &[T],
     analyzer: &mut dyn Analyzer,
 ) -> Result<Option<ClassId>, RunError>
-    ensures { IfOk result (λ fault. HasTaken (analyzed analyzer.old) (heard_last (map T.standing held.now)) fault (analyzed analyzer.new)) }
+    ensures told { IfOk result (λ fault. HasTaken (analyzed analyzer.old) (heard_last (map T.standing held.now)) fault (analyzed analyzer.new)) }
+    ensures grew { Grew (analyzed analyzer.old) (analyzed analyzer.new) }
 {
     calls_end_at_a_fault();
     let Some((first, rest)) = held.split_first() else {

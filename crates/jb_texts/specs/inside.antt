@@ -1,2 +1,4 @@
 pub mod Head
+pub mod Heard
 pub mod Idle
+pub mod Tail

@@ -1,6 +1,6 @@
 //! What the program writes: the report of a run, the lines of a plan, and what was found of a plan.
 //!
-//! - `status`: how a step or a job ended, and the exit status.
+//! - `status`: how a step or a job stands, and the exit status.
 //! - `report`: the report of a run, which is written as JSON text while the job runs.
 //! - `plan`: the heading and the lines of a plan of rounds.
 //! - `judgement`: two lines on a plan and its certificate.
@@ -16,5 +16,5 @@ mod whole;
 pub use judgement::Judgement;
 pub use plan::{BLOCK_ROOM, write_plan};
 pub use report::{ReportText, StepsText};
-pub use status::Status;
+pub use status::{status_code, status_name};
 pub use whole::write_whole;

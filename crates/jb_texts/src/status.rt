@@ -1,35 +1,31 @@
-//! How a step or a job ended.
+//! How a step or a job stands, and the exit status of a job.
 
-ghost use Rattle.std.specs.Prelude.{◌≡◌};
+ghost use Rattle.std.specs.Prelude.{◌≡◌, ◌<◌};
 ghost use Rattle.jb_texts.specs.Statuses.{status_code, status_name};
 
-/// How a step or a job ended.
-#[derive(Clone, Copy, Debug, PartialEq, Eq)]
-pub enum Status {
-    /// Each partition is finished.
-    Completed,
-    /// Some partition failed.
-    Failed,
+use jb_collect::Status;
+
+/// The batch status as Jakarta Batch names it.
+pub fn status_name(status: Status) -> &'static str
+    ensures { result.now ≡ status_name status }
+{
+    match status {
+        Status::Started => "STARTED",
+        Status::Stopped => "STOPPED",
+        Status::Failed => "FAILED",
+        Status::Completed => "COMPLETED",
+    }
 }
 
-impl Status {
-    /// The batch status as Jakarta Batch names it.
-    pub fn name(self) -> &'static str
-        ensures { result.now ≡ status_name self }
-    {
-        match self {
-            Status::Completed => "COMPLETED",
-            Status::Failed => "FAILED",
-        }
-    }
-
-    /// The exit status of a job that ended so.
-    pub fn code(self) -> u8
-        ensures { result ≡ status_code self }
-    {
-        match self {
-            Status::Completed => 0,
-            Status::Failed => 1,
-        }
+/// The exit status of a job that stands so: 0 where it is completed, 1 where it failed, and 2 where it was stopped before its
+/// end.
+pub fn status_code(status: Status) -> u8
+    ensures code { result ≡ status_code status }
+    ensures range { result < 3 }
+{
+    match status {
+        Status::Started | Status::Stopped => 2,
+        Status::Failed => 1,
+        Status::Completed => 0,
     }
 }

@@ -71,7 +71,7 @@ fn is_one_for_each_step(job: &Job, items: &Vec<Value>) -> bool
 
 /// The list of data, one for each of the job's steps.
 #[tactic(auto, unfolding(crate::specs::RunDocument::data_list_at))]
-fn data_list(alloc: Global, job: &Job, tree: Value) -> Result<DataList, JobError>
+pub(crate) fn data_list(alloc: Global, job: &Job, tree: Value) -> Result<DataList, JobError>
     ensures { Gives (λ ds. ds) result (data_list_at job.now field.Data (view tree)) }
 {
     let items = take_array(Field::Data, tree)?;

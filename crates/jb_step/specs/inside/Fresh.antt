@@ -1,26 +1,41 @@
--- The rows of partitions that begin anew.
-use Rattle.std.specs.Prelude.{◌≡◌, true, Result, Ok, Err, ℕ}
+-- What a checked plan and saved rows give.
+use Rattle.std.specs.Prelude.{◌≡◌, Bool, Result, Ok, Err, ℕ, List, Option, Some, is_none, slice_get}
 use Rattle.jb_job.specs.declared.class.ClassId.{ClassId}
 use Rattle.jb_job.specs.Records.{StepRecord}
 use Rattle.jb_plan.specs.Faults.{IsFirst, plan_errors}
-use Rattle.jb_plan.specs.Plans.{CheckedPlan}
+use Rattle.jb_plan.specs.Plans.{CheckedPlan, IsRunnable}
 use Rattle.jb_plan.specs.declared.plan.PartitionPlan.{PartitionPlan}
-use Rattle.jb_step.specs.Setup.{Setup, fresh_rows}
-use Rattle.jb_step.specs.declared.error.StepError.{StepError}
-use Rattle.jb_step.specs.declared.error.StepError.TheVariants.{Plan, Mapper, Memory}
+use Rattle.jb_rules.specs.declared.row.Row.{Row}
+use Rattle.jb_saved.specs.SavedRows.{SavedRows}
+use Rattle.jb_saved.specs.declared.error.StepError.{StepError}
+use Rattle.jb_saved.specs.declared.error.StepError.TheVariants.{Plan, Mapper, Saved, Memory}
+use Rattle.jb_step.specs.Setup.{Setup, opening_rows, saved_faults}
 
-abbrev pub fresh_setup : CheckedPlan → StepRecord → Setup
-fresh_setup plan step = record {
-  rows = fresh_rows plan.ranges;
+-- the step with these rows, on the plan's threads
+abbrev pub setup_with : List Row → CheckedPlan → StepRecord → (begun_anew : Bool) → Setup
+setup_with rows plan step begun_anew = record {
+  rows = rows;
   rules = step.rules;
   item_count = step.item_count;
   threads = plan.threads;
-  begun_anew = true;
+  begun_anew = begun_anew;
 }
 
--- there is no plan that can be run: the mapper's fault, or the first of its plan; where memory lacked, nothing is said
-abbrev pub IsUnplanned : ℕ → Result PartitionPlan ClassId → StepError → Type 0
-IsUnplanned records mapped (Mapper class) = mapped ≡ Err class
-IsUnplanned records mapped (Plan fault) = (plan : PartitionPlan) × (mapped ≡ Ok plan) × IsFirst fault (plan_errors records plan)
-IsUnplanned records mapped Memory = Unit {0}
-IsUnplanned records mapped _ = ⊥
+abbrev pub opened_setup : CheckedPlan → StepRecord → Option SavedRows → Setup
+opened_setup plan step saved = setup_with (opening_rows plan.ranges saved) plan step (is_none saved)
+
+-- the saved rows are refused; where memory lacked, nothing is said
+abbrev pub IsUnopened : StepRecord → (records : ℕ) → (replace : Bool) → Option SavedRows → StepError → Type 0
+IsUnopened step records replace saved (Saved place) = slice_get (saved_faults step records replace saved) 0 ≡ Some place
+IsUnopened step records replace saved Memory = Unit {0}
+IsUnopened step records replace saved _ = ⊥
+
+-- there is nothing to begin: the mapper's fault, the first of its plan, or the first of the saved rows; where memory lacked,
+-- nothing is said
+abbrev pub IsUnplanned : StepRecord → ℕ → Result PartitionPlan ClassId → Option SavedRows → StepError → Type 0
+IsUnplanned step records mapped saved (Mapper class) = mapped ≡ Err class
+IsUnplanned step records mapped saved (Plan fault) = (plan : PartitionPlan) × (mapped ≡ Ok plan) × IsFirst fault (plan_errors records plan)
+IsUnplanned step records mapped saved (Saved place) =
+    (plan : PartitionPlan) × (mapped ≡ Ok plan) × IsRunnable records plan × (slice_get (saved_faults step records plan.replace saved) 0 ≡ Some place)
+IsUnplanned step records mapped saved Memory = Unit {0}
+IsUnplanned step records mapped saved _ = ⊥

@@ -50,6 +50,11 @@ taken standing set ts = filter (λ t. has_partition set (standing t).partition) 
 abbrev pub rest_of : {T : Type 0} → (T → TaskState) → List Pair → List T → List (Option T)
 rest_of standing set ts = map (λ t. if has_partition set (standing t).partition then None else Some t) ts
 
+abbrev pub free_places : {T : Type 0} → List (Option T) → ℕ
+free_places [] = 0
+free_places (Some t ∷ rest) = free_places rest
+free_places (None ∷ rest) = 1 + free_places rest
+
 -- the Dones' tasks, in order, in the free places
 abbrev pub merged : {T : Type 0} → List (Option T) → List (Done T) → List T
 merged [] ds = []

@@ -1,7 +1,7 @@
 -- What stands in a report before the list of its steps.
 use Rattle.std.specs.Prelude.{ℕ, List, [], ◌∷◌, ◌++◌, codes}
 use Rattle.json.specs.Print.{quoted}
-use Rattle.jb_texts.specs.declared.status.Status.{Status}
+use Rattle.jb_collect.specs.declared.calls.Status.{Status}
 use Rattle.jb_texts.specs.Statuses.{status_name}
 
 unfoldable pub head_text : (job : List ℕ) → Status → List ℕ

@@ -9,8 +9,9 @@ ghost use Rattle.jb_texts.specs.ReportTokens.{steps_tokens};
 ghost use Rattle.jb_texts.specs.inside.Head.{head_text};
 
 use crate::report::steps::StepsText;
-use crate::status::Status;
+use crate::status::status_name;
 use crate::whole::{write_bytes, write_whole};
+use jb_collect::Status;
 use json::Writer;
 use std::alloc::{AllocError, Global};
 use std::io;
@@ -43,7 +44,7 @@ fn head_of(alloc: Global, job: &str, status: Status) -> Result<Vec<u8>, AllocErr
     out.key("job")?;
     out.string(job)?;
     out.key("status")?;
-    out.string(status.name())?;
+    out.string(status_name(status))?;
     out.key("steps")?;
     Ok(out.into_inner())
 }

@@ -6,25 +6,10 @@ ghost use Rattle.json.specs.Token.{string};
 ghost use Rattle.jb_texts.specs.Report.{texts_tree};
 ghost use Rattle.jb_texts.specs.ReportTokens.{tokens_of};
 
+use crate::report::text::write_text;
 use jb_artifacts::ItemWriter;
 use json::Writer;
 use std::alloc::{AllocError, Global};
-use std::str::from_utf8;
-
-#[tactic(auto, using(crate::proofs::Utf8::lossy))]
-/// Writes a result. What is no UTF-8 in it is replaced.
-fn write_result(alloc: Global, out: &mut Writer, bytes: &[u8]) -> Result<(), AllocError>
-    ensures text { OnOk result (out.new.tokens ≡ out.old.tokens ++ string (utf8_lossy bytes.now) ∷ []) }
-    ensures before { out.new.before ≡ out.old.before }
-{
-    match from_utf8(bytes) {
-        Ok(text) => out.string(text),
-        Err(_) => {
-            let text = String::from_utf8_lossy(alloc, bytes)?;
-            out.string(text.as_str())
-        }
-    }
-}
 
 /// Writes the result at this place of the writer's list.
 fn write_result_at<W: ItemWriter>(
@@ -40,7 +25,7 @@ fn write_result_at<W: ItemWriter>(
     let Some(bytes) = writer.item_at(place) else {
         unreachable!();
     };
-    write_result(alloc, out, bytes)
+    write_text(alloc, out, bytes)
 }
 
 /// Writes the list of what the writer holds.

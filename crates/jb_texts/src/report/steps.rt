@@ -3,13 +3,19 @@
 ghost use Rattle.std.specs.Prelude.{◌≡◌, ◌++◌, map, [], string_bytes, IfOk, OnOk};
 ghost use Rattle.std.specs.Str.Lossy.{utf8_lossy};
 ghost use Rattle.jb_texts.specs.Report.{texts_tree};
+ghost use Rattle.jb_texts.specs.inside.Tail.{end_tokens, lists_tokens};
 ghost use Rattle.jb_texts.specs.ReportTokens.{step_head, step_tail, steps_tokens, tokens_of};
 
+use crate::report::heard::write_heard;
 use crate::report::outputs::write_outputs;
+use crate::report::plans::write_plans;
+use crate::report::reducer::write_reducer;
 use crate::report::rows::write_rows;
-use crate::status::Status;
+use crate::status::status_name;
 use jb_artifacts::ItemWriter;
+use jb_collect::{AnalyzerCall, ReducerCall, Status};
 use jb_rules::Row;
+use jb_step::PlanNote;
 use json::Writer;
 use std::alloc::{AllocError, Global};
 use std::marker::Model;
@@ -33,6 +39,37 @@ impl Model for StepsText {
     ghost invariant = { λ steps. steps.out.before ≡ [] };
 }
 
+/// Ends the list of the outputs, and writes the plans and the reducer's calls.
+fn write_lists(
+    alloc: Global,
+    out: &mut Writer,
+    plans: &[PlanNote],
+    reducer: &[ReducerCall],
+) -> Result<(), AllocError>
+    ensures lists { OnOk result (out.new.tokens ≡ out.old.tokens ++ lists_tokens plans.now reducer.now) }
+    ensures before { out.new.before ≡ out.old.before }
+{
+    out.end_array()?;
+    out.key("plans")?;
+    write_plans(alloc, out, plans)?;
+    out.key("reducer")?;
+    write_reducer(out, reducer)
+}
+
+/// Writes the rows, the status and the id of a step.
+fn write_end(out: &mut Writer, rows: &[Row], status: Status, id: &str) -> Result<(), AllocError>
+    ensures end { OnOk result (out.new.tokens ≡ out.old.tokens ++ end_tokens rows.now status id.now) }
+    ensures before { out.new.before ≡ out.old.before }
+{
+    out.key("rows")?;
+    write_rows(out, rows)?;
+    out.key("status")?;
+    out.string(status_name(status))?;
+    out.key("step")?;
+    out.string(id)?;
+    out.end_object()
+}
+
 impl StepsText {
     /// The reports of no step yet.
     pub fn new(alloc: Global) -> Result<StepsText, AllocError>
@@ -43,11 +80,18 @@ impl StepsText {
         Ok(StepsText { out })
     }
 
-    /// Begins the report of a step.
-    pub fn begin_step(&mut self) -> Result<(), AllocError>
-        ensures { OnOk result (self.new ≡ self.old ++ step_head) }
+    /// Begins the report of a step with so many partitions, whose analyzer heard this.
+    pub fn begin_step(
+        &mut self,
+        alloc: Global,
+        partitions: u32,
+        heard: &[AnalyzerCall],
+    ) -> Result<(), AllocError>
+        ensures { OnOk result (self.new ≡ self.old ++ step_head partitions heard.now) }
     {
         self.out.begin_object()?;
+        self.out.key("heard")?;
+        write_heard(alloc, &mut self.out, heard, partitions)?;
         self.out.key("outputs")?;
         self.out.begin_array()
     }
@@ -71,18 +115,20 @@ impl StepsText {
         self.out.end_array()
     }
 
-    /// Ends the report of a step, whose partitions left these rows.
-    pub fn end_step(&mut self, rows: &[Row], status: Status, id: &str) -> Result<(), AllocError>
-        ensures { OnOk result (self.new ≡ self.old ++ step_tail rows.now status id.now) }
+    /// Ends the report of a step, whose partitions left these rows, in these plans, and whose reducer took these calls.
+    pub fn end_step(
+        &mut self,
+        alloc: Global,
+        rows: &[Row],
+        plans: &[PlanNote],
+        reducer: &[ReducerCall],
+        status: Status,
+        id: &str,
+    ) -> Result<(), AllocError>
+        ensures { OnOk result (self.new ≡ self.old ++ step_tail rows.now plans.now reducer.now status id.now) }
     {
-        self.out.end_array()?;
-        self.out.key("rows")?;
-        write_rows(&mut self.out, rows)?;
-        self.out.key("status")?;
-        self.out.string(status.name())?;
-        self.out.key("step")?;
-        self.out.string(id)?;
-        self.out.end_object()
+        write_lists(alloc, &mut self.out, plans, reducer)?;
+        write_end(&mut self.out, rows, status, id)
     }
 
     /// The writer, which has written the list up to here.

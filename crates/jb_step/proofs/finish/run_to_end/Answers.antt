@@ -8,4 +8,4 @@ pub returns-clause-told : goal.returns-clause-told
 returns-clause-told g c =
     let table : List TaskState = map g.T.PartitionTask.standing c.in_ok-ran.ran.held.items in
     told-to-end c.laws_below.ensures c.args.prepared.now (map g.T.PartitionTask.standing c.args.tasks.items) c.args.round_limit _ (moment _ c.in_ok-ran.ran.fault) (moment _ c.in_ok-now_fault.now_fault) c.in_ok-ran.ran.notes.items table (c.in_ok-ran.ran.rounds, c.in_ok-ran.ran.attempts) c.in_ok-ran.ran.stopped
-    c.requires c.in_ok-ran.ensures (rw c.as_slice.ensures.value at c.in_ok-now_fault.ensures)
+    c.requires c.in_ok-ran.ensures.rounds (rw c.as_slice.ensures.value at c.in_ok-now_fault.ensures.told)

@@ -1,4 +1,4 @@
-use Rattle.std.proofs.Common.{◌≡◌, ◌+◌, length, map, rules, List, true, false, sym, ap, ◌∙◌, subst}
+use Rattle.std.proofs.Common.{◌≡◌, ◌+◌, length, map, rules, Bool, List, true, false, not, refl, sym, ap, ◌∙◌, subst}
 use Rattle.jb_cert.specs.Lawful.{Pair}
 use Rattle.jb_cert.specs.Plans.{slot_pair}
 use Rattle.jb_chunk.specs.Standing.{TaskState}
@@ -6,14 +6,16 @@ use Rattle.jb_step.specs.Rounds.{CanRun, attempts_in}
 use Rattle.jb_step.specs.Ways.{have_ended}
 use Rattle.jb_step.specs.inside.Head.{set_of_round, IsNextPlan, IsFinished}
 use Rattle.jb_step.specs.inside.Telling.{moment}
-use Rattle.jb_step.proofs.Turning.{begins, turns, ends, can-run, head-ready, head-rises, room}
+use Rattle.jb_step.proofs.Growing.{grew-more}
+use Rattle.jb_step.proofs.Turning.{begins, turns, ends, can-run, head-ready, head-rises, room, table-of}
 use Rattle.jb_step.proofs.run.run_rounds.Goals as goal
 
 pub loop-init : goal.loop-init
 loop-init g c = (
   rw c.new-notes.ensures.items
-      (begins c.args.prepared.now (map g.T.PartitionTask.standing c.args.tasks.items) _ (moment _ c.in_ok-fault.fault) c.requires c.in_ok-fault.ensures),
+      (begins c.args.prepared.now (map g.T.PartitionTask.standing c.args.tasks.items) _ (moment _ c.in_ok-fault.fault) c.requires c.in_ok-fault.ensures.told),
   search rules,
+  c.in_ok-fault.ensures.grew,
 )
 
 pub loop-preserved : goal.loop-preserved
@@ -30,6 +32,7 @@ loop-preserved g c =
       turns c.laws_below.ensures c.args.prepared.now start _ (moment _ c.loop.fault) (moment _ c.in_ok-turn.turn.fault) table after (c.loop.ran, c.loop.tried) c.loop.notes.items c.closed.new.notes.items c.loop.plan c.in_ok-plan.plan c.in_ok-next.next set c.in_ok-turn.turn.breaks (c.in-Some-checked_add.more, c.in-Some-checked_add-2.attempts)
           c.loop.invariant.0 next sets c.in_ok-turn.ensures.table c.in_ok-turn.ensures.ready c.in_ok-turn.ensures.breaks c.in_ok-turn.ensures.told (λ i. (more_is i, tried_is i)) c.in_ok-plan.ensures,
       rw more_is (c.at_limit.ensures c.if-at_limit.false),
+      grew-more _ _ _ c.loop.invariant.2 c.in_ok-turn.ensures.grew,
     )
 
 pub one_round-requires-clause-rise : goal.one_round-requires-clause-rise
@@ -54,15 +57,19 @@ closed-requires g c =
     let next : IsNextPlan c.args.prepared.now table c.loop.plan c.in_ok-next.next = rw (← c.as_slice-in-loop.ensures.value) c.in_ok-next.ensures in
     room c.args.prepared.now (map g.T.PartitionTask.standing c.args.tasks.items) _ (moment _ c.loop.fault) table (c.loop.ran, c.loop.tried) c.loop.notes.items c.loop.plan c.in_ok-next.next c.loop.invariant.0 next
 
-pub returns-then-all_ended : goal.returns-then-all_ended
-returns-then-all_ended g c =
-    let table : List TaskState = map g.T.PartitionTask.standing c.loop.held.items in
-    let ended : have_ended table ≡ true = rw (← c.as_slice.ensures.value) (sym c.all_ended.ensures ∙ c.if-all_ended.true) in
-    let noted : IsFinished c.loop.plan c.loop.notes.items c.finish_notes.new.notes.items = search rules in
-    ends c.laws_below.ensures c.args.prepared.now (map g.T.PartitionTask.standing c.args.tasks.items) _ (moment _ c.loop.fault) table (c.loop.ran, c.loop.tried) c.loop.notes.items c.finish_notes.new.notes.items c.loop.plan c.args.round_limit false c.loop.invariant.0 noted c.loop.invariant.1 (λ u. ended)
+not-stopped : (b : Bool) → not b ≡ false → b ≡ true
+not-stopped true e = refl
+not-stopped false e = let never : ⊥ = cc in absurd never
 
-pub returns-then-is_stopping : goal.returns-then-is_stopping
-returns-then-is_stopping g c =
+pub returns-then-not-stopped-clause-rounds : goal.returns-then-not-stopped-clause-rounds
+returns-then-not-stopped-clause-rounds g c =
     let table : List TaskState = map g.T.PartitionTask.standing c.loop.held.items in
-    let noted : IsFinished c.loop.plan c.loop.notes.items c.finish_notes-then-is_stopping.new.notes.items = search rules in
-    ends c.laws_below.ensures c.args.prepared.now (map g.T.PartitionTask.standing c.args.tasks.items) _ (moment _ c.loop.fault) table (c.loop.ran, c.loop.tried) c.loop.notes.items c.finish_notes-then-is_stopping.new.notes.items c.loop.plan c.args.round_limit true c.loop.invariant.0 noted c.loop.invariant.1 (λ u. let never : ⊥ = cc in absurd never)
+    let ended : c.all_ended-stopped.result ≡ have_ended table = rw c.as_slice.ensures.value at c.all_ended-stopped.ensures in
+    let noted : IsFinished c.loop.plan c.loop.notes.items c.finish_notes.new.notes.items = search rules in
+    ends c.laws_below.ensures c.args.prepared.now (map g.T.PartitionTask.standing c.args.tasks.items) _ (moment _ c.loop.fault) table (c.loop.ran, c.loop.tried) c.loop.notes.items c.finish_notes.new.notes.items c.loop.plan c.args.round_limit (not c.all_ended-stopped.result)
+    c.loop.invariant.0 noted c.loop.invariant.1 (λ u. sym ended ∙ not-stopped c.all_ended-stopped.result u)
+
+pub next_plan-requires-clause-table : goal.next_plan-requires-clause-table
+next_plan-requires-clause-table g c κs bounds =
+    let table : List TaskState = map g.T.PartitionTask.standing c.loop.held.items in
+    rw c.as_slice-in-loop.ensures.value (table-of c.args.prepared.now (map g.T.PartitionTask.standing c.args.tasks.items) _ (moment _ c.loop.fault) table (c.loop.ran, c.loop.tried) c.loop.notes.items c.loop.plan c.loop.invariant.0)

@@ -1,0 +1,62 @@
+//! The document of `restart`: a document of `run`, and what the run before left.
+
+ghost use Rattle.std.specs.Prelude.{◌≡◌, option_map, IfOk, IfErr};
+ghost use Rattle.serde_json.specs.Find.{get};
+ghost use Rattle.serde_json.specs.View.{view};
+ghost use Rattle.jb_job.specs.Names.{name_of};
+ghost use Rattle.jb_job.specs.declared.field.Field.TheVariants as field;
+ghost use Rattle.jb_documents.specs.RestartDocument.{GivesRestart, IsRestart, IsRefusedRestart, restart_at};
+
+use super::fault::RestartFault;
+use super::resume::Resume;
+use super::resume_fields::resume;
+use crate::run::{DataList, data_list};
+use crate::taken::{take_field, take_object};
+use jb_job::kinds::required;
+use jb_job::{Field, Job, JobError, job_of, read_tree};
+use serde_json::Value;
+use std::alloc::Global;
+
+/// A job, the data of its steps, and what the run before left.
+#[derive(Drop)]
+pub struct RestartDocument {
+    pub job: Job,
+    pub steps: DataList,
+    pub resume: Resume,
+}
+
+/// The fields of the data and of what the run before left, where they are there.
+fn take_parts(tree: Value) -> (Option<Value>, Option<Value>)
+    ensures data { option_map view result.0 ≡ get (name_of field.Data) (view tree) }
+    ensures resume { option_map view result.1 ≡ get (name_of field.Resume) (view tree) }
+{
+    let (data, rest) = take_field(Field::Data, tree);
+    let (resume, _job_tree) = take_field(Field::Resume, rest);
+    (data, resume)
+}
+
+/// The document that the tree stands for, or its first fault.
+#[tactic(auto, unfolding(crate::specs::RestartDocument::restart_at, jb_job::specs::Reading::required))]
+fn document_of(alloc: Global, tree: Value) -> Result<RestartDocument, RestartFault>
+    ensures { GivesRestart result (restart_at (view tree)) }
+{
+    let table = [Field::Job, Field::Data, Field::Resume];
+    let document = take_object(Field::Unknown, &table, tree)?;
+    let job = job_of(alloc, required(Field::Job, &document)?)?;
+    let (data, left) = take_parts(document);
+    let steps = data_list(alloc, &job, data.ok_or(JobError::WrongShape(Field::Data))?)?;
+    let left = left.ok_or(JobError::WrongShape(Field::Resume))?;
+    let resume = resume(alloc, job.steps.as_slice(), left)?;
+    Ok(RestartDocument { job, steps, resume })
+}
+
+/// The document that the bytes stand for, or their first fault: `NotJson` where they are no JSON text. The bytes are let
+/// go once they are read.
+pub fn read_restart(alloc: Global, bytes: Vec<u8>) -> Result<RestartDocument, RestartFault>
+    ensures document { IfOk result (IsRestart bytes.items) }
+    ensures refused { IfErr result (λ fault. IsRefusedRestart fault bytes.items) }
+{
+    let tree = read_tree(alloc, &bytes)?;
+    drop(bytes);
+    document_of(alloc, tree)
+}

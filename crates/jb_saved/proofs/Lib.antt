@@ -1,0 +1,9 @@
+mod Trees
+mod TextTrees
+mod TextRead
+mod RoundTrip
+mod Unfit
+mod Kept
+mod Inverse
+mod Again
+mod Worked

@@ -1,0 +1,35 @@
+-- The worked rows, computed.
+use Rattle.std.proofs.Common.{◌≡◌, refl}
+use Rattle.std.specs.Prelude.{codes}
+use Rattle.serde_json.specs.Written.{compact_text}
+use Rattle.serde_json.proofs.OnLiterals.{serde_json_on_literals}
+use Rattle.jb_saved.specs.SavedTree.{saved_tree}
+use Rattle.std.specs.Fmt.{digits}
+use Rattle.jb_saved.specs.Worked.{WorkedSaved, stopped}
+use Rattle.jb_saved.specs.SavedForm.{counts_in, row_of, rows_of, keyed, step_of, saved_of, form_at}
+use Rattle.jb_rules.specs.RowTest.{is_sound}
+use Rattle.jb_saved.specs.Reading.{first_unfit, saved_at}
+
+written : compact_text (saved_tree stopped) ≡ codes "{\"rows\":[[0,3,2,0,0,2,2,2,1,0,0,0,0,0,\"waiting\"],[3,5,5,3,0,2,2,2,1,0,0,0,0,0,\"done\"],[5,7,5,5,0,0,0,0,0,0,0,0,0,0,\"waiting\"]],\"step\":\"s\",\"version\":1}"
+unfolding digits serde_json_on_literals
+written = refl
+
+pub worked : WorkedSaved
+unfolding digits counts_in row_of rows_of keyed step_of saved_of form_at is_sound first_unfit saved_at
+worked = record {
+  text = written;
+  read = refl;
+  past_end = refl;
+  overlap = refl;
+  empty = refl;
+  unfinished = refl;
+  version = refl;
+  no_number = refl;
+  no_step = refl;
+  no_row = refl;
+  no_list = refl;
+  other_key = refl;
+  again = refl;
+  faults = refl;
+  none = refl;
+}

@@ -1,0 +1,55 @@
+-- What reading a saved text answers, said of each row by the row rules themselves; and what saving refuses.
+use Rattle.std.specs.Prelude.{◌≡◌, ℕ, ◌<◌, List, length, position, slice_get, Option, Some, None, Result, Ok, Err}
+use Rattle.serde_json.specs.Data.{Data}
+use Rattle.jb_plan.specs.Ranges.{HaveNoneInCommon}
+use Rattle.jb_rules.specs.declared.row.Row.{Row}
+use Rattle.jb_rules.specs.Rows.{range_of}
+use Rattle.jb_rules.specs.Sound.{IsSoundRow}
+use Rattle.jb_rules.specs.States.{is_running}
+use Rattle.jb_saved.specs.declared.error.StepError.{StepError}
+use Rattle.jb_saved.specs.declared.error.StepError.TheVariants as error
+use Rattle.jb_saved.specs.declared.place.SavedPlace.{SavedPlace}
+use Rattle.jb_saved.specs.declared.place.SavedPlace.TheVariants.{NotJson, Rows}
+use Rattle.jb_saved.specs.SavedRows.{SavedRows}
+use Rattle.jb_saved.specs.SavedForm.{form_at}
+
+-- no record of the i-th row's range belongs to an earlier row's; an empty range has no record
+abbrev pub IsApartFromEarlier : List Row → (i : ℕ) → Row → Type 0
+IsApartFromEarlier rows i r = (k : ℕ) (s : Row) → k < i → slice_get rows k ≡ Some s → HaveNoneInCommon (range_of s) (range_of r)
+
+-- the i-th row keeps the row rules, and its range overlaps no earlier one
+abbrev pub Fits : List Row → (i : ℕ) → Type 0
+Fits rows i = (r : Row) → slice_get rows i ≡ Some r → IsSoundRow r × IsApartFromEarlier rows i r
+
+-- each row does
+abbrev pub AllFit : List Row → Type 0
+AllFit rows = (i : ℕ) → i < length rows → Fits rows i
+
+-- the i-th row is the first that doesn't
+pub record IsFirstUnfit (rows : List Row) (i : ℕ) : Type 0 where
+  pub here : i < length rows
+  pub earlier : (k : ℕ) → k < i → Fits rows k
+  pub unfit : Fits rows i → ⊥
+
+-- the saved rows of a text's tree by its form; a text without a tree is no JSON
+abbrev pub form_of : Option Data → Result SavedRows SavedPlace
+form_of None = Err NotJson
+form_of (Some d) = form_at d
+
+-- A text stands for saved rows, or it has a first fault: of its form, else of its rows.
+abbrev pub IsAnswer : Option Data → Result SavedRows SavedPlace → Type 0
+IsAnswer tree (Ok s) = (form_of tree ≡ Ok s) × AllFit s.rows
+IsAnswer tree (Err (Rows i)) = (s : SavedRows) × (form_of tree ≡ Ok s) × IsFirstUnfit s.rows i
+IsAnswer tree (Err place) = form_of tree ≡ Err place
+
+-- ---- saving
+
+-- the first row whose partition is running
+abbrev pub first_running : List Row → Option ℕ
+first_running rows = position (λ (r : Row). is_running r.state) rows
+
+-- rows aren't saved where one is running: the first is named; memory runs out only where none is
+abbrev pub RefusesRunning : StepError → Option ℕ → Type 0
+RefusesRunning (error.Saved place) (Some i) = place ≡ Rows i
+RefusesRunning error.Memory running = running ≡ None
+RefusesRunning _ running = ⊥

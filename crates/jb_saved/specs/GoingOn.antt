@@ -1,0 +1,46 @@
+-- Saved rows as a step goes on from them.
+use Rattle.std.specs.Prelude.{◌≡◌, ◌≢◌, ℕ, ◌++◌, Bool, not, nat_lt, if◌then◌else◌, List, [], ◌∷◌, map, slice_get, bytes_eq, Some}
+use Rattle.std.specs.List.{list_any}
+use Rattle.jb_rules.specs.declared.row.Row.{Row}
+use Rattle.jb_rules.specs.declared.row.RowState.TheVariants.{Failed}
+use Rattle.jb_rules.specs.Rows.{dropped_row}
+use Rattle.jb_rules.specs.States.{is_failed}
+use Rattle.jb_saved.specs.declared.error.StepError.{StepError}
+use Rattle.jb_saved.specs.declared.error.StepError.TheVariants as error
+use Rattle.jb_saved.specs.declared.place.SavedPlace.{SavedPlace}
+use Rattle.jb_saved.specs.declared.place.SavedPlace.TheVariants.{Step, Records, Override}
+use Rattle.jb_saved.specs.SavedRows.{SavedRows}
+
+-- A failed partition waits again (Jakarta Batch 2.1, "Restart Processing"), at its checkpoint and with its counts; another
+-- stands as it was saved.
+abbrev pub again : Row → Row
+again row = if is_failed row.state then dropped_row row else row
+
+-- the rows with which the step goes on
+abbrev pub rows_again : SavedRows → List Row
+rows_again s = map again s.rows
+
+-- no partition has failed
+abbrev pub AreUnfailed : List Row → Type 0
+AreUnfailed rows = (i : ℕ) (r : Row) → slice_get rows i ≡ Some r → r.state ≢ Failed
+
+-- some row ends past the last record
+abbrev pub is_past : (records : ℕ) → List Row → Bool
+is_past records rows = list_any (λ (r : Row). nat_lt records r.hi) rows
+
+-- this fault, where the condition holds
+abbrev pub fault_if : Bool → SavedPlace → List SavedPlace
+fault_if holds fault = if holds then fault ∷ [] else []
+
+-- All faults of saved rows for a step of this id, so many records and this override flag, in the order in which they count
+abbrev pub step_faults : (step : List ℕ) → (records : ℕ) → (replace : Bool) → SavedRows → List SavedPlace
+step_faults step records replace s =
+    fault_if (not (bytes_eq s.step step)) Step
+    ++ fault_if (is_past records s.rows) Records
+    ++ fault_if replace Override
+
+-- the first of the faults; memory runs out only where there is none
+abbrev pub Refuses : StepError → List SavedPlace → Type 0
+Refuses (error.Saved place) faults = slice_get faults 0 ≡ Some place
+Refuses error.Memory faults = faults ≡ []
+Refuses _ faults = ⊥

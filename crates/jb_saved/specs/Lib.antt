@@ -1,0 +1,10 @@
+pub mod Places
+pub mod SavedRows
+pub mod SavedTree
+pub mod SavedForm
+pub mod Reading
+pub mod Answers
+pub mod GoingOn
+pub mod Laws
+pub mod Worked
+pub mod inside

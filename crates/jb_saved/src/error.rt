@@ -1,0 +1,46 @@
+//! Why a step has no answer.
+
+ghost use Rattle.std.specs.Prelude.{◌≡◌};
+ghost use Rattle.jb_saved.specs.declared.error.StepError.TheVariants.{Memory};
+
+use crate::place::SavedPlace;
+use jb_job::ClassId;
+use jb_plan::PlanError;
+use std::alloc::{AllocError, AllocFailed};
+
+/// Why a step has no answer. Calls on saved rows answer `Saved` and `Memory` alone.
+#[derive(Clone, Copy, Debug, PartialEq, Eq)]
+pub enum StepError {
+    /// The mapper's plan can't be run.
+    Plan(PlanError),
+    /// The mapper answered a fault of this class.
+    Mapper(ClassId),
+    /// The reducer's `begin` did.
+    Reducer(ClassId),
+    /// The artifacts aren't those that the unfinished partitions need.
+    WrongArtifacts,
+    /// The desk's row of this partition isn't the step's own, or the desk was used by another, or it refused an event.
+    Repository(u32),
+    /// A worker could not be started.
+    Workers,
+    /// The saved rows are refused.
+    Saved(SavedPlace),
+    /// There was no memory.
+    Memory,
+}
+
+impl From<AllocError> for StepError {
+    ghost from_gives = { λ _ e. e ≡ Memory };
+
+    fn from(_: AllocError) -> StepError {
+        StepError::Memory
+    }
+}
+
+impl<T: Drop> From<AllocFailed<T>> for StepError {
+    ghost from_gives = { λ _ e. e ≡ Memory };
+
+    fn from(_: AllocFailed<T>) -> StepError {
+        StepError::Memory
+    }
+}
