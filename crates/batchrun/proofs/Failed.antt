@@ -2,9 +2,10 @@
 use Rattle.std.proofs.Common.{◌≡◌, ◌≢◌, ◌≤◌, ◌<◌, ℕ, List, Option, Some, IfSome, Result, Ok, Err, IfErr, IfOk, refl, arith}
 use Rattle.std.specs.Io.KnownBytes.{Keeps}
 use Rattle.clap.specs.Words.{Text}
-use Rattle.batchrun.specs.declared.words.line.Line.{Line}
+use Rattle.batchrun.specs.declared.words.request.Line.{Line}
 use Rattle.batchrun.specs.declared.streams.failure.Failure.{Failure}
 use Rattle.batchrun.specs.declared.streams.failure.Failure.TheVariants as failure
+use Rattle.batchrun.specs.declared.words.request.Request.TheVariants.{Work}
 use Rattle.batchrun.specs.Answer.{IsRefusedBy}
 use Rattle.batchrun.specs.CommandLine.{Asks}
 use Rattle.batchrun.specs.Failures.{HasFailed, IsCutShort}
@@ -16,17 +17,21 @@ pub as_run_failure : (e : Failure) → IsFailure e → IsRunFailure e
 as_run_failure (failure.Document f) fails = fails
 as_run_failure (failure.Plan f) fails = absurd fails
 as_run_failure failure.Memory fails = fails
+as_run_failure failure.Workers fails = absurd fails
+as_run_failure (failure.Repository p) fails = absurd fails
 as_run_failure failure.Stream fails = fails
-as_run_failure failure.Usage fails = absurd fails
+as_run_failure (failure.Usage f) fails = absurd fails
 
-pub has_failed : (words : List Text) (line : Line) (input old new : Option (List ℕ)) (e : Failure) → Asks words line
-    → (failure_code e ≡ 3 → IfSome input (IsRefusedBy line.word e)) → IsRunFailure e → (e ≢ failure.Stream → Keeps old new) → IsCutShort line.word input old new
+pub has_failed : (words : List Text) (line : Line) (input old new : Option (List ℕ)) (e : Failure) → Asks words (Work line)
+    → (failure_code e ≡ 3 → IfSome input (IsRefusedBy line.word e)) → IsRunFailure e → (e ≢ failure.Stream → Keeps old new) → IsCutShort (Work line) input old new
     → HasFailed (Some words) input old new e
 has_failed words line input old new (failure.Document f) asks refused fails silent cut = (line, asks, refused refl, silent (λ same. cc))
 has_failed words line input old new (failure.Plan f) asks refused fails silent cut = (line, asks, refused refl, silent (λ same. cc))
 has_failed words line input old new failure.Memory asks refused fails silent cut = silent (λ same. cc)
-has_failed words line input old new failure.Stream asks refused fails silent cut = (line, asks, cut)
-has_failed words line input old new failure.Usage asks refused fails silent cut = absurd fails
+has_failed words line input old new failure.Workers asks refused fails silent cut = silent (λ same. cc)
+has_failed words line input old new (failure.Repository p) asks refused fails silent cut = silent (λ same. cc)
+has_failed words line input old new failure.Stream asks refused fails silent cut = (Work line, asks, cut)
+has_failed words line input old new (failure.Usage f) asks refused fails silent cut = absurd fails
 
 -- what follows of a failure
 pub err-four : {P Q R S T : Failure → Type 0} (r : Result ℕ Failure) → ((e : Failure) → P e → Q e → R e → S e → T e) → IfErr r P → IfErr r Q → IfErr r R → IfErr r S → IfErr r T
@@ -38,6 +43,6 @@ err-five (Ok x) f p q t s u = tt
 err-five (Err e) f p q t s u = f e p q t s u
 
 -- a status past those of an answer is that of a failure
-pub failure_by_status : {P Q : Failure → Type 0} (r : Result ℕ Failure) (status : ℕ) → IfOk r (λ s. status ≡ s) → IfOk r (λ s. s < 2) → IfErr r P → IfErr r Q → 3 ≤ status → (e : Failure) × P e × Q e
+pub failure_by_status : {P Q : Failure → Type 0} (r : Result ℕ Failure) (status : ℕ) → IfOk r (λ s. status ≡ s) → IfOk r (λ s. s < 3) → IfErr r P → IfErr r Q → 3 ≤ status → (e : Failure) × P e × Q e
 failure_by_status (Ok s) status told below p q past = absurd (omega (arith, told, below, past))
 failure_by_status (Err e) status told below p q past = (e, p, q)

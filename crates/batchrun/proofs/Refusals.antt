@@ -5,7 +5,7 @@ use Rattle.jb_job.specs.declared.error.JobError.TheVariants as fault
 use Rattle.jb_plan.specs.declared.fault.PlanError.{PlanError}
 use Rattle.batchrun.specs.declared.streams.failure.Failure.{Failure}
 use Rattle.batchrun.specs.declared.streams.failure.Failure.TheVariants as failure
-use Rattle.batchrun.specs.declared.words.line.Word.TheVariants as word
+use Rattle.batchrun.specs.declared.words.request.Word.TheVariants as word
 use Rattle.batchrun.specs.Statuses.{failure_of, failure_code}
 use Rattle.batchrun.specs.Refusals.{IsFailure, IsRunFailure}
 use Rattle.jb_documents.specs.RunDocument.{IsRefusedDocument}
@@ -36,7 +36,9 @@ refused_by_run input (failure.Document f) document plan fails code = beside (IsR
 refused_by_run input (failure.Plan f) document plan fails code = plan f refl
 refused_by_run input failure.Memory document plan fails code = absurd (omega (arith, code))
 refused_by_run input failure.Stream document plan fails code = absurd (omega (arith, code))
-refused_by_run input failure.Usage document plan fails code = absurd fails
+refused_by_run input failure.Workers document plan fails code = absurd (omega (arith, code))
+refused_by_run input (failure.Repository p) document plan fails code = absurd (omega (arith, code))
+refused_by_run input (failure.Usage f) document plan fails code = absurd fails
 
 pub refused_by_plan : (input : Option (List ℕ)) (e : Failure) → ((f : JobError) → e ≡ failure.Document f → IfSome input (IsRefusedLoad f))
     → IsFailure e → failure_code e ≡ 3 → IfSome input (IsRefusedBy word.Plan e)
@@ -44,7 +46,9 @@ refused_by_plan input (failure.Document f) document fails code = beside (IsRefus
 refused_by_plan input (failure.Plan f) document fails code = absurd fails
 refused_by_plan input failure.Memory document fails code = absurd (omega (arith, code))
 refused_by_plan input failure.Stream document fails code = absurd (omega (arith, code))
-refused_by_plan input failure.Usage document fails code = absurd fails
+refused_by_plan input failure.Workers document fails code = absurd fails
+refused_by_plan input (failure.Repository p) document fails code = absurd fails
+refused_by_plan input (failure.Usage f) document fails code = absurd fails
 
 pub refused_by_check : (input : Option (List ℕ)) (e : Failure) → ((f : JobError) → e ≡ failure.Document f → IfSome input (IsRefusedClaim f))
     → IsFailure e → failure_code e ≡ 3 → IfSome input (IsRefusedBy word.Check e)
@@ -52,4 +56,6 @@ refused_by_check input (failure.Document f) document fails code = beside (IsRefu
 refused_by_check input (failure.Plan f) document fails code = absurd fails
 refused_by_check input failure.Memory document fails code = absurd (omega (arith, code))
 refused_by_check input failure.Stream document fails code = absurd (omega (arith, code))
-refused_by_check input failure.Usage document fails code = absurd fails
+refused_by_check input failure.Workers document fails code = absurd fails
+refused_by_check input (failure.Repository p) document fails code = absurd fails
+refused_by_check input (failure.Usage f) document fails code = absurd fails

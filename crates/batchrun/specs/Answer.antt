@@ -1,10 +1,15 @@
 -- What the program leaves.
 use Rattle.std.specs.Prelude.{◌≡◌, ℕ, ◌<◌, List, Option}
+use Rattle.std.specs.Io.KnownBytes.{Appends}
 use Rattle.jb_documents.specs.RunDocument.{IsRefusedDocument}
 use Rattle.jb_documents.specs.PlanDocument.{IsRefusedLoad}
 use Rattle.jb_documents.specs.CheckDocument.{IsRefusedClaim}
-use Rattle.batchrun.specs.declared.words.line.Word.{Word}
-use Rattle.batchrun.specs.declared.words.line.Word.TheVariants.{Run, Plan, Check}
+use Rattle.jb_texts.specs.Front.{AppendsFront}
+use Rattle.batchrun.specs.declared.words.request.Request.{Request}
+use Rattle.batchrun.specs.declared.words.request.Request.TheVariants.{Help, Version, Work}
+use Rattle.batchrun.specs.declared.words.request.Word.{Word}
+use Rattle.batchrun.specs.declared.words.request.Word.TheVariants.{Run, Plan, Check}
+use Rattle.batchrun.specs.Help.{help_text, version_text}
 use Rattle.batchrun.specs.RunWord.{IsRefusedPlan, IsRun, IsRunFront}
 use Rattle.batchrun.specs.PlanWord.{IsPlanned, IsPlanFront}
 use Rattle.batchrun.specs.CheckWord.{IsCheckAnswer, IsCheckFront}
@@ -12,17 +17,29 @@ use Rattle.batchrun.specs.Refusals.{IsFault}
 use Rattle.batchrun.specs.declared.streams.failure.Failure.{Failure}
 use Rattle.batchrun.specs.declared.streams.failure.Failure.TheVariants as failure
 
--- The writer holds the answer to the word, and the status is the answer's.
-abbrev pub IsAnswer : Word → (input old new : Option (List ℕ)) → (status : ℕ) → Type 0
-IsAnswer Run input old new status = (status < 2) × IsRun input old new status
-IsAnswer Plan input old new status = (status ≡ 0) × IsPlanned input old new
-IsAnswer Check input old new status = (status < 2) × IsCheckAnswer input old new status
+-- The writer holds what the word makes of the document, and the status is the answer's.
+abbrev pub IsWorkAnswer : Word → (input old new : Option (List ℕ)) → (status : ℕ) → Type 0
+IsWorkAnswer Run input old new status = (status < 3) × IsRun input old new status
+IsWorkAnswer Plan input old new status = (status ≡ 0) × IsPlanned input old new
+IsWorkAnswer Check input old new status = (status < 2) × IsCheckAnswer input old new status
 
--- The writer holds the front of an answer to the word: nothing of it, some of its bytes, or all.
-abbrev pub IsAnswerFront : Word → (input old new : Option (List ℕ)) → Type 0
-IsAnswerFront Run input old new = IsRunFront input old new
-IsAnswerFront Plan input old new = IsPlanFront input old new
-IsAnswerFront Check input old new = IsCheckFront input old new
+-- The writer holds the answer: what a word makes of the document, or what the program says of itself, with status 0.
+abbrev pub IsAnswer : Request → (input old new : Option (List ℕ)) → (status : ℕ) → Type 0
+IsAnswer (Work line) input old new status = IsWorkAnswer line.word input old new status
+IsAnswer (Help topic) input old new status = (status ≡ 0) × Appends old new (help_text topic)
+IsAnswer Version input old new status = (status ≡ 0) × Appends old new version_text
+
+-- The writer holds the front of what the word makes of the document: nothing of it, some of its bytes, or all.
+abbrev pub IsWorkFront : Word → (input old new : Option (List ℕ)) → Type 0
+IsWorkFront Run input old new = IsRunFront input old new
+IsWorkFront Plan input old new = IsPlanFront input old new
+IsWorkFront Check input old new = IsCheckFront input old new
+
+-- The same of any answer.
+abbrev pub IsAnswerFront : Request → (input old new : Option (List ℕ)) → Type 0
+IsAnswerFront (Work line) input old new = IsWorkFront line.word input old new
+IsAnswerFront (Help topic) input old new = AppendsFront old new (help_text topic)
+IsAnswerFront Version input old new = AppendsFront old new version_text
 
 -- The bytes are refused by this word, and the failure names why: their first fault, or the first refused plan of a job.
 abbrev pub IsRefusedBy : Word → Failure → List ℕ → Type 0

@@ -1,41 +1,91 @@
--- The command line of the program, and what its matches ask for (own choice: one word, with no argument).
-use Rattle.std.specs.Prelude.{◌≡◌, ◌⊎◌, List, [], true, false, Option, Some, None, option_map, codes, bytes_eq, if◌then◌else◌}
-use Rattle.clap.specs.Words.{App, Row, Shape, Text, fault_of, new_app, subcommand_of, takes, with_subcommand}
-use Rattle.batchrun.specs.declared.words.line.Line.{Line}
-use Rattle.batchrun.specs.declared.words.line.Word.{Word}
-use Rattle.batchrun.specs.declared.words.line.Word.TheVariants.{Run, Plan, Check}
+-- The command line of the program, and what it asks for (own choice: one word with no argument, `help` with a word if need be, or
+-- one of the usual options for help and the version).
+use Rattle.std.specs.Prelude.{◌≡◌, ◌≢◌, ◌⊎◌, ◌+◌, ◌<◌, ◌≤◌, ℕ, List, [], take, true, Option, Some, None, option_map, option_and_then, slice_get, codes, bytes_eq, string_bytes, if◌then◌else◌, IsSomeAnd}
+use Rattle.clap.specs.Words.{App, IsAmong, Row, Shape, Text, fault_of, first_of, new_app, new_rule, subcommand_of, with_rule, with_subcommand}
+use Rattle.clap.specs.declared.error.kind.ErrorKind.{ErrorKind}
+use Rattle.clap.specs.declared.error.kind.ErrorKind.TheVariants.{DisplayHelp, DisplayVersion}
+use Rattle.batchrun.specs.declared.words.fault.UsageFault.{UsageFault}
+use Rattle.batchrun.specs.declared.words.fault.UsageFault.TheVariants as usage
+use Rattle.batchrun.specs.declared.words.request.Request.{Request}
+use Rattle.batchrun.specs.declared.words.request.Request.TheVariants.{Help, Version, Work}
+use Rattle.batchrun.specs.declared.words.request.Word.{Word}
+use Rattle.batchrun.specs.declared.words.request.Word.TheVariants.{Run, Plan, Check}
 
--- the program, which needs a word
+-- ---- the words and options that there are
+
+-- the program with no word; it has `-h`, `--help`, `-V` and `--version`
 abbrev pub program : App
-program = record (new_app (codes "batchrun")) { top = record (new_app (codes "batchrun")).top { no_binary_name = true; subcommand_required = true } }
+program = record (new_app (codes "batchrun")) { top = record (new_app (codes "batchrun")).top { no_binary_name = true; disable_help_subcommand = true; has_version = true } }
 
--- a word that takes no arguments
+-- a word that takes no argument but `-h` and `--help`
 abbrev pub word_app : Text → Shape
 word_app name = (new_app name).top
 
--- `batchrun run`, `batchrun plan` and `batchrun check`
-abbrev pub app : App
-app = with_subcommand (with_subcommand (with_subcommand program (word_app (codes "run"))) (word_app (codes "plan"))) (word_app (codes "check"))
+-- `help`, which takes a word
+abbrev pub help_app : Shape
+help_app = (with_rule (new_app (codes "help")) (new_rule (codes "word"))).top
 
+-- `batchrun run`, `batchrun plan`, `batchrun check` and `batchrun help`
+abbrev pub app : App
+app = with_subcommand (with_subcommand (with_subcommand (with_subcommand program (word_app (codes "run"))) (word_app (codes "plan"))) (word_app (codes "check"))) help_app
+
+-- the words that do something with a document
 abbrev pub word_in : Text → Option Word
 word_in name = if bytes_eq name (codes "run") then Some Run
     else (if bytes_eq name (codes "plan") then Some Plan
     else (if bytes_eq name (codes "check") then Some Check else None))
 
--- the line that a subcommand's name and matches ask for
-abbrev pub line_in : Option (Text × List Row) → Option Line
-line_in None = None
-line_in (Some found) = option_map (λ word. record { word = word; rounds = None }) (word_in found.0)
+-- ---- what they ask for
 
--- what the words after the program's name ask for, by `clap`'s matches of them
-abbrev pub asked_by : List Text → Option Line
-asked_by words = line_in (subcommand_of app words)
+-- a word by itself, which is told nothing more so far
+abbrev pub work_in : Text → Option Request
+work_in name = option_map (λ word. Work (record { word = word; rounds = None })) (word_in name)
 
--- `clap` takes the words, since it has no error for them, and its matches of them ask for this
-pub record Asks (words : List Text) (line : Line) : Type 0 where
-  pub taken : fault_of app words ≡ []
-  pub asked : asked_by words ≡ Some line
+-- `help` alone tells of the program, and with a word of that word
+abbrev pub topic_in : Option Text → Option Request
+topic_in None = Some (Help None)
+topic_in (Some name) = option_map (λ word. Help (Some word)) (word_in name)
 
--- the program doesn't know the words: `clap` doesn't take them, or they ask for nothing
+-- what a subcommand's name and matches ask for
+abbrev pub request_in : Option (Text × List Row) → Option Request
+request_in None = None
+request_in (Some found) = if bytes_eq found.0 (codes "help") then topic_in (first_of (codes "word") found.1)
+    else work_in found.0
+
+-- `clap` takes the words, and its matches of them ask for this
+abbrev pub AreTakenAs : List Text → Option Request → Type 0
+AreTakenAs words request = (fault_of app words ≡ []) × (request_in (subcommand_of app words) ≡ request)
+
+-- `clap` ends reading the words for this
+abbrev pub EndIn : List Text → ErrorKind → Type 0
+EndIn words kind = IsAmong kind (fault_of app words)
+
+-- what `--help` and `-h` tell of: the word before them
+abbrev pub topic_at : List Text → Option Word
+topic_at words = option_and_then word_in (slice_get words 0)
+
+-- What the words ask for: the word that `clap` takes; the help, by its option or by the word `help`; the version, by its option.
+abbrev pub Asks : List Text → Request → Type 0
+Asks words (Work line) = AreTakenAs words (Some (Work line))
+Asks words (Help topic) = AreTakenAs words (Some (Help topic)) ⊎ (EndIn words DisplayHelp × (topic ≡ topic_at words))
+Asks words Version = EndIn words DisplayVersion
+
+-- The words ask for nothing: `clap` takes them and finds nothing in them, or finds a mistake.
 abbrev pub AreUnknown : List Text → Type 0
-AreUnknown words = (takes app words ≡ false) ⊎ (asked_by words ≡ None)
+AreUnknown words = AreTakenAs words None ⊎ ((kind : ErrorKind) × EndIn words kind × (kind ≢ DisplayHelp) × (kind ≢ DisplayVersion))
+
+-- ---- which word is wrong
+
+-- The words ask for nothing, and this is the first one up to which they do so.
+pub record IsWrongWord (words : List Text) (word : Text) : Type 0 where
+  pub unknown : AreUnknown words
+  pub place : ℕ
+  pub is_there : slice_get words place ≡ Some word
+  pub before : (n : ℕ) → 0 < n → n ≤ place → (request : Request) × Asks (take n words) request
+  pub up_to : AreUnknown (take (place + 1) words)
+
+-- what is wrong with the words of the process; there are none to speak of where one is no text
+abbrev pub IsWrong : UsageFault → Option (List Text) → Type 0
+IsWrong usage.NoWord words = words ≡ Some []
+IsWrong usage.NoText words = words ≡ None
+IsWrong (usage.Wrong word) words = IsSomeAnd words (λ given. IsWrongWord given (string_bytes word))

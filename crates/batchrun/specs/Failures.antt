@@ -2,34 +2,37 @@
 use Rattle.std.specs.Prelude.{◌≡◌, ℕ, ◌⊎◌, List, Option, IfSome, IsSomeAnd}
 use Rattle.std.specs.Io.KnownBytes.{Appends, Keeps}
 use Rattle.clap.specs.Words.{Text}
-use Rattle.batchrun.specs.declared.words.line.Line.{Line}
-use Rattle.batchrun.specs.declared.words.line.Word.{Word}
+use Rattle.batchrun.specs.declared.words.request.Line.{Line}
+use Rattle.batchrun.specs.declared.words.request.Request.{Request}
+use Rattle.batchrun.specs.declared.words.request.Request.TheVariants.{Work}
 use Rattle.batchrun.specs.declared.streams.failure.Failure.{Failure}
 use Rattle.batchrun.specs.declared.streams.failure.Failure.TheVariants as failure
 use Rattle.batchrun.specs.Answer.{IsAnswerFront, IsRefusedBy}
-use Rattle.batchrun.specs.CommandLine.{Asks, AreUnknown}
+use Rattle.batchrun.specs.CommandLine.{Asks, IsWrong}
 use Rattle.batchrun.specs.FailureText.{failure_text}
 use Rattle.batchrun.specs.Statuses.{failure_code}
 
 -- There are words, and they ask for this.
-abbrev pub IsAsked : (words : Option (List Text)) → Line → Type 0
-IsAsked words line = IsSomeAnd words (λ given. Asks given line)
+abbrev pub IsAsked : (words : Option (List Text)) → Request → Type 0
+IsAsked words request = IsSomeAnd words (λ given. Asks given request)
 
--- The word's answer isn't whole: the writer holds nothing of it, or its front.
-abbrev pub IsCutShort : Word → (input old new : Option (List ℕ)) → Type 0
-IsCutShort word input old new = Keeps old new ⊎ IsAnswerFront word input old new
+-- The answer isn't whole: the writer holds nothing of it, or its front.
+abbrev pub IsCutShort : Request → (input old new : Option (List ℕ)) → Type 0
+IsCutShort request input old new = Keeps old new ⊎ IsAnswerFront request input old new
 
--- The bytes are refused, and nothing is written.
+-- A word refuses the bytes, and nothing is written.
 abbrev pub IsRefused : (words : Option (List Text)) → (input old new : Option (List ℕ)) → Failure → Type 0
-IsRefused words input old new e = (line : Line) × IsAsked words line × IfSome input (IsRefusedBy line.word e) × Keeps old new
+IsRefused words input old new e = (line : Line) × IsAsked words (Work line) × IfSome input (IsRefusedBy line.word e) × Keeps old new
 
 -- Why there is no answer. Only where a stream failed may the writer hold anything, and that is the front of the answer.
 abbrev pub HasFailed : (words : Option (List Text)) → (input old new : Option (List ℕ)) → Failure → Type 0
-HasFailed words input old new failure.Usage = IfSome words AreUnknown × Keeps old new
+HasFailed words input old new (failure.Usage fault) = IsWrong fault words × Keeps old new
 HasFailed words input old new (failure.Document fault) = IsRefused words input old new (failure.Document fault)
 HasFailed words input old new (failure.Plan error) = IsRefused words input old new (failure.Plan error)
 HasFailed words input old new failure.Memory = Keeps old new
-HasFailed words input old new failure.Stream = (line : Line) × IsAsked words line × IsCutShort line.word input old new
+HasFailed words input old new failure.Workers = Keeps old new
+HasFailed words input old new (failure.Repository partition) = Keeps old new
+HasFailed words input old new failure.Stream = (request : Request) × IsAsked words request × IsCutShort request input old new
 
 -- The failure is told, and the status is its own; where it can't be written, a stream has failed.
 abbrev pub IsTold : Failure → (old new : Option (List ℕ)) → (status : ℕ) → Type 0

@@ -11,4 +11,6 @@ pub mod ProcessWords
 pub mod Refusals
 pub mod RunWord
 pub mod Statuses
+pub mod StepRun
+pub mod UsageText
 pub mod inside

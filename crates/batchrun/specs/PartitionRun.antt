@@ -1,8 +1,10 @@
--- What a partition of a step leaves that runs by itself (own choice: a partition is a range of the step's records).
-use Rattle.std.specs.Prelude.{ℕ, ◌≡◌, ◌+◌, ◌-◌, ◌<◌, ◌∷◌, ◌==◌, ◌&&◌, nat_le, nat_lt, Bool, List, [], map, take, drop, filter, find, reverse, Option, Some, None}
+-- What a partition of a step begins with, and what it leaves by itself (own choice: a partition is a range of the step's
+-- records).
+use Rattle.std.specs.Prelude.{ℕ, ◌≡◌, ◌+◌, ◌-◌, ◌∷◌, ◌==◌, ◌&&◌, nat_le, nat_lt, Bool, true, List, [], map, take, drop, filter, find, reverse, Option, Some, None}
 use Rattle.std.specs.Str.Lossy.{utf8_lossy}
 use Rattle.jb_job.specs.declared.job.Range.{Range}
 use Rattle.jb_rules.specs.Rows.{fresh_row}
+use Rattle.jb_rules.specs.States.{has_ended}
 use Rattle.jb_artifacts.specs.declared.faults.FaultPlan.{FaultPlan}
 use Rattle.jb_artifacts.specs.declared.faults.FaultPlan.TheVariants as plan
 use Rattle.jb_artifacts.specs.Faults.{Plans}
@@ -13,7 +15,7 @@ use Rattle.jb_documents.specs.declared.run.faults.FaultKind.{FaultKind}
 use Rattle.jb_documents.specs.declared.run.faults.FaultKind.TheVariants.{Bad, Shaky}
 use Rattle.jb_documents.specs.declared.run.faults.PlannedFault.{PlannedFault}
 use Rattle.jb_chunk.specs.Standing.{TaskState, started}
-use Rattle.jb_chunk.specs.Alone.{IsAlone}
+use Rattle.jb_chunk.specs.Alone.{IsAlone, IsOnTheWay}
 use Rattle.jb_chunk.specs.Plain.{IsCalm, plain_outputs, plain_row}
 use Rattle.jb_texts.specs.Report.{PartitionReport}
 use Rattle.batchrun.specs.declared.run.settings.StepSettings.{StepSettings}
@@ -69,16 +71,15 @@ report_of task = record { row = task.row; outputs = map utf8_lossy task.work.wri
 abbrev pub plain_report : TaskState → PartitionReport
 plain_report begun = record { row = plain_row begun; outputs = map utf8_lossy (plain_outputs begun) }
 
--- Some task leaves this that the other leads to by its own attempts, one after another, until it is finished or failed.
-abbrev pub IsLeftBy : TaskState → PartitionReport → Type 0
-IsLeftBy begun left = (task : TaskState) × IsAlone begun task × (left ≡ report_of task)
-
--- What the task of a partition leaves. It runs by itself: nothing here speaks of another partition. One with no record is
--- finished from the start.
+-- What a partition that begins with this task leaves. Only its own attempts lead there, one after another: nothing here
+-- speaks of another partition, a thread or a round. Where it is finished or failed, it left what all of them lead to, and
+-- that is plain where no call fails.
 pub record IsPartitionRun (begun : TaskState) (left : PartitionReport) : Type 0 where
-  pub without_records : begun.row.lo ≡ begun.row.hi → left ≡ report_of begun
-  pub with_records : begun.row.lo < begun.row.hi → IsLeftBy begun left
-  pub without_faults : begun.row.lo < begun.row.hi → IsCalm begun.work begun.row.lo begun.row.hi → left ≡ plain_report begun
+  pub task : TaskState
+  pub is_left : left ≡ report_of task
+  pub on_the_way : IsOnTheWay begun task
+  pub alone : has_ended left.row.state ≡ true → IsAlone begun task
+  pub plain : has_ended left.row.state ≡ true → IsCalm begun.work begun.row.lo begun.row.hi → left ≡ plain_report begun
 
 -- what the partitions of a step leave, in order, from this number on, where this is how each begins
 abbrev pub ArePartitionRuns : (begun : (partition : ℕ) → Range → TaskState) → (partition : ℕ) → List Range → List PartitionReport → Type 0

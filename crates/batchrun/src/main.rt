@@ -20,6 +20,7 @@ mod tests;
 
 fn main(rt: HostRuntime) -> ExitCode {
     ExitCode::from(perform(
+        &rt,
         rt.alloc(),
         env::args(&rt),
         &mut rt.stdin(),

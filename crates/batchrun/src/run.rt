@@ -1,18 +1,25 @@
 //! The run of a job.
 //!
 //! - `job`: the steps, one after another.
-//! - `step`: the partitions of a step, one after another.
-//! - `plan`: the partition plan of a step.
+//! - `step`: a step over its threads, and `rounds`: its rounds, on a desk of its own.
+//! - `preparing`: what it begins with, by its partition plan.
 //! - `settings`: what the partitions of a step have in common.
-//! - `partition`: one partition by itself.
+//! - `artifacts`: what each of them works with.
 //! - `records`, `fault_plans`: what a partition's artifacts are made from.
+//! - `callbacks`: what hears of the run, and keeps its calls.
+//! - `told`: the report of a step that was run.
+//! - `laws`: what the crates below say of partitions.
 
+mod artifacts;
+mod callbacks;
 mod fault_plans;
 mod job;
-mod partition;
-mod plan;
+mod laws;
+mod preparing;
 mod records;
+mod rounds;
 mod settings;
 mod step;
+mod told;
 
 pub use job::run_job;

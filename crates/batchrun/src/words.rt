@@ -1,17 +1,25 @@
 //! The command line, and what each of its words does with a document.
 //!
 //! - `process`: the words behind the program's name.
-//! - `line`: which word the command line has.
+//! - `request`, `line`: what they ask for.
+//! - `fault`: why they ask for nothing.
+//! - `help`: what the program says of itself.
 //! - `run`, `plan`, `check`: the words.
 
 mod check;
+mod fault;
+mod help;
 mod line;
 mod plan;
 mod process;
+mod request;
 mod run;
 
 pub use check::run_check;
-pub use line::{LineFault, Word, line_of};
+pub use fault::{LineFault, UsageFault};
+pub use help::{write_help, write_version};
+pub use line::line_of;
 pub use plan::run_plan;
 pub use process::{arguments, words_after_name};
+pub use request::{Line, Request, Word};
 pub use run::run;

@@ -1,7 +1,11 @@
 //! What the partitions of a step have in common.
 
+ghost use Rattle.std.specs.Prelude.{◌≡◌, ◌≤◌};
+ghost use Rattle.jb_job.specs.Limits.{max_retry_limit};
+ghost use Rattle.jb_chunk.specs.Standing.{HasItemCount};
+
 use jb_documents::StepFaults;
-use jb_job::{Rules, Text};
+use jb_job::{Rules, Step, Text};
 
 /// What the partitions of a step have in common: the rules of their chunks, and what their artifacts are made from.
 #[derive(Drop)]
@@ -14,4 +18,27 @@ pub struct StepSettings {
     /// Items that begin with this are filtered.
     pub drop: Option<Text>,
     pub faults: StepFaults,
+}
+
+/// What the partitions of the step have in common.
+pub fn settings_for(
+    step: &Step,
+    prefix: Text,
+    drop: Option<Text>,
+    faults: StepFaults,
+) -> StepSettings
+    ensures settings { result ≡ record { rules = step.now.rules; item_count = step.now.item_count; prefix = prefix; drop = drop; faults = faults } }
+    ensures items { HasItemCount result.item_count }
+    ensures retried { result.rules.retry_limit ≤ max_retry_limit }
+{
+    let rules = step.rules();
+    // Reading the limit tells the proof how high it may be.
+    let _limit = rules.retry_limit;
+    StepSettings {
+        rules,
+        item_count: step.item_count(),
+        prefix,
+        drop,
+        faults,
+    }
 }

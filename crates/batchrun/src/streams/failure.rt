@@ -5,72 +5,62 @@ ghost use Rattle.std.specs.Io.KnownBytes.{Appends};
 ghost use Rattle.batchrun.specs.FailureText.{failure_text};
 ghost use Rattle.batchrun.specs.Statuses.{failure_code};
 
-use crate::words::LineFault;
+use crate::words::{LineFault, UsageFault};
 use jb_job::JobError;
 use jb_plan::PlanError;
 use std::alloc::{AllocError, AllocFailed};
 use std::io::Write;
 use std::{fmt, io};
 
-/// What the words do, what they read and what they print.
-const HELP: &str = "usage: batchrun WORD < DOCUMENT
-
-Reads one JSON document on standard input, to its end. WORD says what is done with it:
-
-  run    runs the document's job and prints a report, one line of JSON
-         {\"job\": job record, \"data\": [{\"records\": [text, ..], \"prefix\": text, \"drop\": text, \"faults\": {..}}, ..]}
-  plan   prints a plan of the fewest rounds: `rounds N CERTIFICATE`, then a line for each round
-         {\"counts\": [chunks of a partition, ..], \"threads\": number}
-  check  prints whether a plan is lawful, and whether its certificate holds
-         {\"counts\": .., \"threads\": .., \"rounds\": [[[lane, partition, chunk], ..], ..], \"certificate\": ..}
-
-A document that is refused prints nothing but one line on standard error.
-Exit status: 0 completed, or lawful and certified; 1 failed, or not; 3 refused; 4 no memory or a failing stream; 5 these words.
-";
-
 /// Why the program gives no report.
-#[derive(Clone, Copy, Debug, PartialEq, Eq)]
+#[derive(Debug, Drop)]
 pub enum Failure {
-    /// The words of the command line are none that the program knows.
-    Usage,
+    /// The words of the command line ask for nothing.
+    Usage(UsageFault),
     /// The document has this fault.
     Document(JobError),
     /// The partition plan of a step has this fault.
     Plan(PlanError),
     /// There was no memory.
     Memory,
+    /// A worker could not be started.
+    Workers,
+    /// The repository's row of this partition isn't the step's own, or, with the number of rows, it refused an event.
+    Repository(u32),
     /// Standard input, standard output or standard error failed.
     Stream,
 }
 
 impl Failure {
-    /// The exit status: 3 where the document or a plan is refused, 4 for memory and streams, 5 for the command line.
-    pub fn status(self) -> u8
-        ensures code { result ≡ failure_code self }
+    /// The exit status: 3 where the document or a plan is refused, 4 for memory, workers, the repository and streams, 5 for the command line.
+    pub fn status(&self) -> u8
+        ensures code { result ≡ failure_code self.now }
         ensures range { (3 ≤ result) × (result ≤ 5) }
     {
         match self {
             Failure::Document(_) | Failure::Plan(_) => 3,
-            Failure::Memory | Failure::Stream => 4,
-            Failure::Usage => 5,
+            Failure::Memory | Failure::Workers | Failure::Repository(_) | Failure::Stream => 4,
+            Failure::Usage(_) => 5,
         }
     }
 }
 
-/// One line on why there is no answer, or the help where the words are wrong.
+/// One line on why there is no answer, and one more where the words are wrong.
 impl fmt::Display for Failure {
     ghost use Rattle.std.specs.Prelude.{Some};
     ghost use Rattle.batchrun.specs.FailureText.{failure_text};
 
     ghost output = { λ failure. Some (failure_text failure) };
 
-    #[tactic(auto, unfolding(crate::specs::FailureText::refusal, crate::specs::Help::help))]
+    #[tactic(auto, unfolding(crate::specs::FailureText::refusal))]
     fn fmt<W: fmt::Write>(&self, f: &mut fmt::Formatter<W>) -> fmt::Result {
         match self {
-            Failure::Usage => f.write_str(HELP),
+            Failure::Usage(fault) => write!(f, "{fault}"),
             Failure::Document(fault) => write!(f, "refused: {fault}\n"),
             Failure::Plan(error) => write!(f, "refused: {error}\n"),
             Failure::Memory => f.write_str("no memory\n"),
+            Failure::Workers => f.write_str("no worker\n"),
+            Failure::Repository(partition) => write!(f, "repository {partition}\n"),
             Failure::Stream => f.write_str("stream failed\n"),
         }
     }
@@ -117,7 +107,7 @@ impl From<LineFault> for Failure {
 
     fn from(fault: LineFault) -> Failure {
         match fault {
-            LineFault::Usage => Failure::Usage,
+            LineFault::Usage(fault) => Failure::Usage(fault),
             LineFault::Memory => Failure::Memory,
         }
     }
@@ -151,9 +141,9 @@ impl From<PlanError> for Failure {
     }
 }
 
-/// Writes one line on why there is no answer, or the help where the words are wrong.
-pub fn write_failure<W: Write>(failure: Failure, writer: &mut W) -> io::Result<()>
-    ensures { OnOk result (Appends (W.contents writer.old) (W.contents writer.new) (failure_text failure)) }
+/// Writes one line on why there is no answer, and one more where the words are wrong.
+pub fn write_failure<W: Write>(failure: &Failure, writer: &mut W) -> io::Result<()>
+    ensures { OnOk result (Appends (W.contents writer.old) (W.contents writer.new) (failure_text failure.now)) }
 {
     write!(writer, "{failure}")?;
     writer.flush()

@@ -10,7 +10,7 @@ const ROWS: [Row; 3] = [
     (
         "run",
         r#"{"data":[{"records":["a","b","c"],"prefix":"x"}],"job":{"id":"j","step":[{"id":"s","chunk":{"item-count":2},"partition":{"plan":{"ranges":[[0,2],[2,3]],"threads":1}}}]}}"#,
-        "{\"job\":\"j\",\"status\":\"COMPLETED\",\"steps\":[{\"outputs\":[[\"xa\",\"xb\"],[\"xc\"]],\"rows\":[[0,2,2,0,0,2,2,2,1,0,0,0,0,0,\"done\"],[2,3,3,2,0,1,1,1,1,0,0,0,0,0,\"done\"]],\"status\":\"COMPLETED\",\"step\":\"s\"}]}\n",
+        "{\"job\":\"j\",\"status\":\"COMPLETED\",\"steps\":[{\"heard\":[[\"0:2:2\",\"0:2:2:end\",\"COMPLETED\"],[\"1:3:1\",\"1:3:1:end\",\"COMPLETED\"]],\"outputs\":[[\"xa\",\"xb\"],[\"xc\"]],\"plans\":[[\"FullLoad\",2,2]],\"reducer\":[\"begin\",\"before\",\"after COMMIT\"],\"rows\":[[0,2,2,0,0,2,2,2,1,0,0,0,0,0,\"done\"],[2,3,3,2,0,1,1,1,1,0,0,0,0,0,\"done\"]],\"status\":\"COMPLETED\",\"step\":\"s\"}]}\n",
         0,
     ),
     (
@@ -37,7 +37,7 @@ fn failing_reads(rt: HostRuntime) {
             let mut written = Vec::new(alloc);
             let mut faults = Vec::new(alloc);
             let args = arguments(alloc, word);
-            let code = perform(alloc, args, &mut reader, &mut written, &mut faults);
+            let code = perform(&rt, alloc, args, &mut reader, &mut written, &mut faults);
             let fails = fails_at < length + 2;
             assert_eq!(rt; code, if fails { 4 } else { status }, "{word} {fails_at}");
             let wanted = if fails { "" } else { output };
@@ -63,7 +63,7 @@ fn failing_writes(rt: HostRuntime) {
             let mut faults = Vec::new(alloc);
             let mut reader = document.as_bytes();
             let args = arguments(alloc, word);
-            let code = perform(alloc, args, &mut reader, &mut writer, &mut faults);
+            let code = perform(&rt, alloc, args, &mut reader, &mut writer, &mut faults);
             let fails = fails_at < length + 1;
             assert_eq!(rt; code, if fails { 4 } else { status }, "{word} {fails_at}");
             assert!(rt;
@@ -77,6 +77,28 @@ fn failing_writes(rt: HostRuntime) {
     }
 }
 
+// Each write of the version fails in turn, and nothing is read.
+#[test]
+fn failing_writes_of_the_version(rt: HostRuntime) {
+    let alloc = rt.alloc();
+    let output = "batchrun 0.1.0\n";
+    let length = output.len() as u64;
+    for fails_at in 1..length + 2 {
+        let mut reader = FailingReader::new("".as_bytes(), 1);
+        let mut writer = FailingWriter::new(alloc, fails_at);
+        let mut faults = Vec::new(alloc);
+        let args = arguments(alloc, "--version");
+        let code = perform(&rt, alloc, args, &mut reader, &mut writer, &mut faults);
+        let fails = fails_at < length + 1;
+        assert_eq!(rt; code, if fails { 4 } else { 0 }, "{fails_at}");
+        assert!(rt; output.as_bytes().starts_with(writer.bytes()), "{fails_at}");
+        assert_eq!(rt; writer.calls(), fails_at.min(length), "{fails_at}");
+        assert_eq!(rt; reader.calls(), 0, "{fails_at}");
+        let line = if fails { "stream failed\n" } else { "" };
+        assert_eq!(rt; faults.as_slice(), line.as_bytes(), "{fails_at}");
+    }
+}
+
 // A fault writer that fails: the status is that of a failing stream.
 #[test]
 fn failing_fault_writer(rt: HostRuntime) {
@@ -85,7 +107,7 @@ fn failing_fault_writer(rt: HostRuntime) {
     let mut writer = FailingWriter::new(alloc, 1);
     let args = arguments(alloc, "run");
     let mut reader = "[]".as_bytes();
-    let status = perform(alloc, args, &mut reader, &mut output, &mut writer);
+    let status = perform(&rt, alloc, args, &mut reader, &mut output, &mut writer);
     assert_eq!(rt; status, 4);
     assert!(rt; output.is_empty());
     assert!(rt; writer.bytes().is_empty());
@@ -105,7 +127,7 @@ fn long_document_in_small_reads(rt: HostRuntime) {
     let mut written = Vec::new(alloc);
     let mut faults = Vec::new(alloc);
     let args = arguments(alloc, word);
-    let status = perform(alloc, args, &mut reader, &mut written, &mut faults);
+    let status = perform(&rt, alloc, args, &mut reader, &mut written, &mut faults);
     assert_eq!(rt; status, 0);
     assert_eq!(rt; written.as_slice(), output.as_bytes());
 }

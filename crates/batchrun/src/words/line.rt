@@ -1,64 +1,15 @@
 //! The command line: the words after the program's name.
 
-ghost use Rattle.std.specs.Prelude.{◌≡◌, true, map, [], IfOk, IfErr};
-ghost use Rattle.clap.specs.Values.{kind_of};
-ghost use Rattle.clap.specs.declared.error.kind.ErrorKind.TheVariants.{OutOfMemory};
-ghost use Rattle.clap.specs.Words.{app_of, fault_of as faults_of, subcommand_of, subcommand_rows_of, takes, with_subcommand};
-ghost use Rattle.batchrun.specs.CommandLine.{app, program as program_app, word_app, word_in, Asks, AreUnknown};
+ghost use Rattle.std.specs.Prelude.{◌≡◌, map, option_map, None, IfErr, IfOk, IfSome};
+ghost use Rattle.clap.specs.Words.{app_of, subcommand_rows_of, with_subcommand};
+ghost use Rattle.batchrun.specs.CommandLine.{app, help_app, program as program_app, request_in, topic_at, topic_in, word_app, work_in, word_in, AreUnknown, Asks, IsWrong};
 
+use crate::words::fault::{LineFault, UsageFault};
+use crate::words::help::VERSION;
+use crate::words::request::{Line, Request, Word};
 use clap::error::ErrorKind;
-use clap::{ArgMatches, Command, Error};
+use clap::{Arg, ArgMatches, Command};
 use std::alloc::{AllocError, Global};
-
-/// What the program is asked to do.
-#[derive(Clone, Copy, Debug, PartialEq, Eq)]
-pub enum Word {
-    /// Runs a job.
-    Run,
-    /// Prints a plan of the fewest rounds.
-    Plan,
-    /// Checks a plan of rounds and its certificate.
-    Check,
-}
-
-/// What the command line asks for.
-#[derive(Clone, Copy, Debug, PartialEq, Eq)]
-pub struct Line {
-    pub word: Word,
-    /// After how many rounds a step is to stop. No word takes such a number so far.
-    pub rounds: Option<u64>,
-}
-
-/// Why the command line asks for nothing.
-#[derive(Clone, Copy, Debug, PartialEq, Eq)]
-pub enum LineFault {
-    /// The words are none that the program knows.
-    Usage,
-    /// There was no memory to read them.
-    Memory,
-}
-
-impl From<AllocError> for LineFault {
-    ghost use Rattle.std.specs.Prelude.{◌≡◌};
-    ghost use Rattle.batchrun.specs.declared.words.line.LineFault.TheVariants.{Memory};
-
-    ghost from_gives = { λ _ e. e ≡ Memory };
-
-    fn from(_e: AllocError) -> LineFault {
-        LineFault::Memory
-    }
-}
-
-/// Why `clap` takes none of the words: there was no memory, or the program doesn't know them.
-fn fault_of(fault: &Error) -> LineFault
-    ensures { kind_of fault.now ≡ OutOfMemory → result ≡ LineFault.Memory }
-{
-    if fault.kind() == ErrorKind::OutOfMemory {
-        LineFault::Memory
-    } else {
-        LineFault::Usage
-    }
-}
 
 /// The program with no word.
 fn program<'a>(alloc: Global) -> Command<'a>
@@ -66,7 +17,8 @@ fn program<'a>(alloc: Global) -> Command<'a>
 {
     Command::new(alloc, "batchrun")
         .no_binary_name(true)
-        .subcommand_required(true)
+        .disable_help_subcommand(true)
+        .version(VERSION)
 }
 
 /// The program with a word more, which takes no arguments.
@@ -81,27 +33,24 @@ fn with_word<'a>(
     Ok(command)
 }
 
+/// The program with the word `help` more, which takes a word.
+fn with_help<'a>(alloc: Global, program: Command<'a>) -> Result<Command<'a>, AllocError>
+    ensures { IfOk result (λ c. app_of c ≡ with_subcommand (app_of program.entry) help_app) }
+{
+    let help = Command::new(alloc, "help").arg(Arg::new(alloc, "word"))?;
+    let command = program.subcommand(help)?;
+    Ok(command)
+}
+
 /// The command line of the program.
 fn command<'a>(alloc: Global) -> Result<Command<'a>, AllocError>
     ensures { IfOk result (λ c. app_of c ≡ app) }
 {
     let with_run = with_word(alloc, program(alloc), "run")?;
     let with_plan = with_word(alloc, with_run, "plan")?;
-    let command = with_word(alloc, with_plan, "check")?;
+    let with_check = with_word(alloc, with_plan, "check")?;
+    let command = with_help(alloc, with_check)?;
     Ok(command)
-}
-
-/// What `clap` finds in the words.
-fn matches_of<'a>(alloc: Global, words: &'a [&'a str]) -> Result<ArgMatches<'a>, LineFault>
-    ensures ok { IfOk result (λ m. subcommand_rows_of m ≡ subcommand_of app (map (λ w. w.now) words.now)) }
-    ensures taken { IfOk result (λ _. faults_of app (map (λ w. w.now) words.now) ≡ []) }
-    ensures err { IfErr result (λ e. takes app (map (λ w. w.now) words.now) ≡ true → e ≡ LineFault.Memory) }
-{
-    let command = command(alloc)?;
-    match command.try_get_matches_from(words) {
-        Ok(matches) => Ok(matches),
-        Err(fault) => Err(fault_of(&fault)),
-    }
 }
 
 fn word_of(name: &str) -> Option<Word>
@@ -115,18 +64,96 @@ fn word_of(name: &str) -> Option<Word>
     }
 }
 
-/// What the words after the program's name ask for. They are refused as `Usage` where `clap` doesn't take them, or where
-/// its matches of them ask for nothing.
-pub fn line_of<'a>(alloc: Global, words: &'a [&'a str]) -> Result<Line, LineFault>
-    ensures ok { IfOk result (Asks (map (λ w. w.now) words.now)) }
-    ensures err { IfErr result (λ e. e ≡ LineFault.Usage → AreUnknown (map (λ w. w.now) words.now)) }
+/// The help that `help` gives: of the program, or of the word behind it.
+fn topic_of(name: Option<&str>) -> Option<Request>
+    ensures { result ≡ topic_in (option_map (λ n. n.now) name.entry) }
 {
-    let matches = matches_of(alloc, words)?;
-    let Some((name, _)) = matches.subcommand() else {
-        return Err(LineFault::Usage);
+    match name {
+        None => Some(Request::Help(None)),
+        Some(name) => match word_of(name) {
+            Some(word) => Some(Request::Help(Some(word))),
+            None => None,
+        },
+    }
+}
+
+/// What a word alone asks for.
+fn work_of(name: &str) -> Option<Request>
+    ensures { result ≡ work_in name.now }
+{
+    match word_of(name) {
+        Some(word) => Some(Request::Work(Line { word, rounds: None })),
+        None => None,
+    }
+}
+
+/// What the matches ask for.
+fn request_of(matches: &ArgMatches<'_>) -> Option<Request>
+    ensures { result ≡ request_in (subcommand_rows_of matches.now) }
+{
+    let Some((name, rest)) = matches.subcommand() else {
+        return None;
     };
-    let Some(word) = word_of(name) else {
-        return Err(LineFault::Usage);
+    match name {
+        "help" => topic_of(rest.get_str("word")),
+        _ => work_of(name),
+    }
+}
+
+/// What a call for help is about: the first word, if it is one that does something with a document.
+fn topic_before(words: &[&str]) -> Option<Word>
+    ensures { result ≡ topic_at (map (λ w. w.now) words.now) }
+{
+    match words.split_first() {
+        Some((first, _)) => word_of(first),
+        None => None,
+    }
+}
+
+/// What the words ask for, if they ask for something.
+fn asked<'a>(alloc: Global, words: &'a [&'a str]) -> Result<Option<Request>, LineFault>
+    ensures asks { IfOk result (λ request. IfSome request (Asks (map (λ w. w.now) words.now))) }
+    ensures nothing { IfOk result (λ request. request ≡ None → AreUnknown (map (λ w. w.now) words.now)) }
+    ensures err { IfErr result (λ e. e ≡ LineFault.Memory) }
+{
+    let command = command(alloc)?;
+    match command.try_get_matches_from(words) {
+        Ok(matches) => Ok(request_of(&matches)),
+        Err(fault) => match fault.kind() {
+            ErrorKind::OutOfMemory => Err(LineFault::Memory),
+            ErrorKind::DisplayHelp => Ok(Some(Request::Help(topic_before(words)))),
+            ErrorKind::DisplayVersion => Ok(Some(Request::Version)),
+            _ => Ok(None),
+        },
+    }
+}
+
+/// The fault of words that ask for nothing: the first word up to which they do so, or that there is none.
+fn fault_in<'a>(alloc: Global, words: &'a [&'a str]) -> Result<UsageFault, LineFault>
+    requires { AreUnknown (map (λ w. w.now) words.now) }
+    ensures wrong { IfOk result (λ fault. IsWrong fault (Some (map (λ w. w.now) words.now))) }
+    ensures err { IfErr result (λ e. e ≡ LineFault.Memory) }
+{
+    let Some((last, others)) = words.split_last() else {
+        return Ok(UsageFault::NoWord);
     };
-    Ok(Line { word, rounds: None })
+    for place in 0..others.len() {
+        let Some(_) = asked(alloc, &words[..place + 1])? else {
+            return Ok(UsageFault::Wrong(words[place].to_string(alloc)?));
+        };
+    }
+    let last: &str = last;
+    Ok(UsageFault::Wrong(last.to_string(alloc)?))
+}
+
+/// What the words after the program's name ask for. Where they ask for nothing, they are refused as `Usage`, with the first word up to
+/// which they do so.
+pub fn line_of<'a>(alloc: Global, words: &'a [&'a str]) -> Result<Request, LineFault>
+    ensures ok { IfOk result (Asks (map (λ w. w.now) words.now)) }
+    ensures err { IfErr result (λ e. (fault : UsageFault) → e ≡ LineFault.Usage fault → IsWrong fault (Some (map (λ w. w.now) words.now))) }
+{
+    match asked(alloc, words)? {
+        Some(request) => Ok(request),
+        None => Err(LineFault::Usage(fault_in(alloc, words)?)),
+    }
 }

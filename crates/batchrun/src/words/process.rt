@@ -3,21 +3,21 @@
 ghost use Rattle.std.specs.Prelude.{◌≡◌, drop, map, string_bytes, IfErr, IfOk};
 ghost use Rattle.batchrun.specs.ProcessWords.{process_words};
 
-use crate::words::LineFault;
+use crate::words::fault::{LineFault, UsageFault};
 use std::alloc::{AllocError, Global};
 use std::env::Args;
 use std::io;
 use std::io::ErrorKind;
 
-/// The arguments. They are refused as `Usage` where one is no text.
+/// The arguments. They are refused as `NoText` where one is no text.
 pub fn arguments(alloc: Global, args: io::Result<Args>) -> Result<Vec<String>, LineFault>
     ensures ok { IfOk result (λ all. process_words args ≡ Some (drop 1 (map string_bytes all.items))) }
-    ensures err { IfErr result (λ e. e ≡ LineFault.Usage → process_words args ≡ None) }
+    ensures err { IfErr result (λ e. (fault : UsageFault) → e ≡ LineFault.Usage fault → (fault ≡ UsageFault.NoText) × (process_words args ≡ None)) }
 {
     match args {
         Ok(args) => Ok(args.collect(alloc)?),
         Err(fault) if fault.kind() == ErrorKind::OutOfMemory => Err(LineFault::Memory),
-        Err(_) => Err(LineFault::Usage),
+        Err(_) => Err(LineFault::Usage(UsageFault::NoText)),
     }
 }
 

@@ -12,10 +12,13 @@ ghost use Rattle.batchrun.specs.RunWord.{IsRefusedPlan, IsRun, IsRunFront};
 
 use crate::run::run_job;
 use crate::streams::{Failure, read_all};
+use jb_collect::Status;
 use jb_documents::read_document;
-use jb_texts::{ReportText, Status};
+use jb_texts::{ReportText, status_code};
 use std::alloc::Global;
 use std::io::{Read, Write};
+use std::sync::Wait;
+use std::thread::Threads;
 
 /// Writes the report whole, and gives the exit status. Where the writer fails, it holds the front of the report.
 fn write_report<W: Write>(
@@ -27,16 +30,21 @@ fn write_report<W: Write>(
     ensures err { IfErr result (λ e. (e ≡ Failure.Stream) × AppendsFront (W.contents writer.old) (W.contents writer.new) report.now) }
 {
     report.write_to(writer)?;
-    Ok(status.code())
+    Ok(status_code(status))
 }
 
-/// Reads a document of `run`, runs its job and writes the report. The exit status is 0 where the job is completed, and 1
-/// where it failed.
+/// Reads a document of `run`, runs its job and writes the report. The exit status is 0 where the job is completed, 1 where
+/// it failed, and 2 where it was stopped before its end.
 ///
 /// Where the reader or the writer fails, the writer may hold the front of the report; where anything else is wrong, it holds
 /// nothing more.
 #[tactic(auto, using(crate::proofs::Refusals::refusals))]
-pub fn run<R: Read, W: Write>(alloc: Global, reader: &mut R, writer: &mut W) -> Result<u8, Failure>
+pub fn run<T: Threads + Wait + Sync, R: Read, W: Write>(
+    rt: &T,
+    alloc: Global,
+    reader: &mut R,
+    writer: &mut W,
+) -> Result<u8, Failure>
     ensures ok { IfOk result (IsRun (R.remaining reader.old) (W.contents writer.old) (W.contents writer.new)) }
     ensures refused { IfErr result (λ e. (fault : JobError) → e ≡ Failure.Document fault → IfSome (R.remaining reader.old) (IsRefusedDocument fault)) }
     ensures unplanned { IfErr result (λ e. (fault : PlanError) → e ≡ Failure.Plan fault → IfSome (R.remaining reader.old) (IsRefusedPlan fault)) }
@@ -46,6 +54,6 @@ pub fn run<R: Read, W: Write>(alloc: Global, reader: &mut R, writer: &mut W) -> 
 {
     let bytes = read_all(alloc, reader)?;
     let document = read_document(alloc, bytes)?;
-    let (status, report) = run_job(alloc, document)?;
+    let (status, report) = run_job(rt, alloc, document)?;
     write_report(status, &report, writer)
 }

@@ -1,6 +1,8 @@
-use Rattle.std.proofs.Common.{IfSome, sym, subst}
-use Rattle.batchrun.specs.Answer.{IsRefusedBy}
-use Rattle.batchrun.specs.Failures.{IsCutShort}
+use Rattle.std.proofs.Common.{◌⊎◌, IfSome, map, sym, subst}
+use Rattle.std.specs.Io.KnownBytes.{Keeps}
+use Rattle.batchrun.specs.declared.words.request.Request.TheVariants.{Work}
+use Rattle.batchrun.specs.Answer.{IsRefusedBy, IsWorkFront}
+use Rattle.batchrun.specs.CommandLine.{Asks}
 use Rattle.batchrun.proofs.Refusals.{refused_by_run, refused_by_plan, refused_by_check}
 use Rattle.batchrun.proofs.Failed.{as_run_failure, err-four, err-five, has_failed}
 use Rattle.batchrun.proofs.perform.answer_words.Goals as goal
@@ -10,9 +12,12 @@ returns-in-Run-clause-failed g c =
     let input = g.R.Read.remaining c.args.reader.now in
     let old = g.W.Write.contents c.args.writer.now in
     let new = g.W.Write.contents c.run.new.writer in
-    err-five c.run.result (λ e document plan fails silent cut. has_failed _ c.in_ok-line.line input old new e c.in_ok-line.ensures.ok
+    let line = c.in-Work.line in
+    let words = map (λ w. w.now) c.args.words.now in
+    let asks : Asks words (Work line) = subst (λ request. Asks words request) c.in-Work.is c.in_ok-request.ensures.ok in
+    err-five c.run.result (λ e document plan fails silent cut. has_failed words line input old new e asks
     (λ code. subst (λ word. IfSome input (IsRefusedBy word e)) (sym c.in-Run.is) (refused_by_run input e document plan fails code))
-    fails silent (subst (λ word. IsCutShort word input old new) (sym c.in-Run.is) cut))
+    fails silent (subst (λ word. Keeps old new ⊎ IsWorkFront word input old new) (sym c.in-Run.is) cut))
     c.run.ensures.refused c.run.ensures.unplanned c.run.ensures.failures c.run.ensures.silent c.run.ensures.cut
 
 pub returns-in-Plan-clause-failed : goal.returns-in-Plan-clause-failed
@@ -20,9 +25,12 @@ returns-in-Plan-clause-failed g c =
     let input = g.R.Read.remaining c.args.reader.now in
     let old = g.W.Write.contents c.args.writer.now in
     let new = g.W.Write.contents c.run_plan.new.writer in
-    err-four c.run_plan.result (λ e document fails silent cut. has_failed _ c.in_ok-line.line input old new e c.in_ok-line.ensures.ok
+    let line = c.in-Work.line in
+    let words = map (λ w. w.now) c.args.words.now in
+    let asks : Asks words (Work line) = subst (λ request. Asks words request) c.in-Work.is c.in_ok-request.ensures.ok in
+    err-four c.run_plan.result (λ e document fails silent cut. has_failed words line input old new e asks
     (λ code. subst (λ word. IfSome input (IsRefusedBy word e)) (sym c.in-Plan.is) (refused_by_plan input e document fails code))
-    (as_run_failure e fails) silent (subst (λ word. IsCutShort word input old new) (sym c.in-Plan.is) cut))
+    (as_run_failure e fails) silent (subst (λ word. Keeps old new ⊎ IsWorkFront word input old new) (sym c.in-Plan.is) cut))
     c.run_plan.ensures.refused c.run_plan.ensures.failures c.run_plan.ensures.silent c.run_plan.ensures.cut
 
 pub returns-in-Check-clause-failed : goal.returns-in-Check-clause-failed
@@ -30,7 +38,10 @@ returns-in-Check-clause-failed g c =
     let input = g.R.Read.remaining c.args.reader.now in
     let old = g.W.Write.contents c.args.writer.now in
     let new = g.W.Write.contents c.run_check.new.writer in
-    err-four c.run_check.result (λ e document fails silent cut. has_failed _ c.in_ok-line.line input old new e c.in_ok-line.ensures.ok
+    let line = c.in-Work.line in
+    let words = map (λ w. w.now) c.args.words.now in
+    let asks : Asks words (Work line) = subst (λ request. Asks words request) c.in-Work.is c.in_ok-request.ensures.ok in
+    err-four c.run_check.result (λ e document fails silent cut. has_failed words line input old new e asks
     (λ code. subst (λ word. IfSome input (IsRefusedBy word e)) (sym c.in-Check.is) (refused_by_check input e document fails code))
-    (as_run_failure e fails) silent (subst (λ word. IsCutShort word input old new) (sym c.in-Check.is) cut))
+    (as_run_failure e fails) silent (subst (λ word. Keeps old new ⊎ IsWorkFront word input old new) (sym c.in-Check.is) cut))
     c.run_check.ensures.refused c.run_check.ensures.failures c.run_check.ensures.silent c.run_check.ensures.cut

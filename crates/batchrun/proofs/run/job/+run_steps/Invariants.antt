@@ -3,4 +3,4 @@ use Rattle.batchrun.proofs.run.job.+run_steps.Given as goal
 
 -- each call has a step less
 abbrev pub decreases-run_steps : goal.decreases-run_steps
-decreases-run_steps l = length l.steps.now
+decreases-run_steps g l = length l.steps.now

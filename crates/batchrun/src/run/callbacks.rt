@@ -1,0 +1,111 @@
+//! What hears of a step's run, and keeps its calls.
+
+ghost use Rattle.std.specs.Prelude.{◌≡◌, [], map};
+ghost use Rattle.jb_collect.specs.Taken.{well};
+
+use jb_artifacts::Item;
+use jb_collect::{Analyzer, AnalyzerCall, PartitionStatus, Reducer, ReducerCall, Status};
+use jb_job::ArtifactError;
+use std::alloc::Global;
+use std::marker::Model;
+
+/// An analyzer that keeps the list of its calls, and answers each well. Contracts see the list.
+#[derive(Drop)]
+pub struct Listener {
+    alloc: Global,
+    calls: Vec<AnalyzerCall>,
+}
+
+impl Model for Listener {
+    ghost use Rattle.std.specs.Prelude.{List};
+    ghost use Rattle.jb_collect.specs.declared.calls.AnalyzerCall.{AnalyzerCall};
+
+    ghost Value = { List AnalyzerCall };
+
+    ghost view = { λ listener. listener.calls.items };
+}
+
+impl Listener {
+    /// A listener that has heard nothing.
+    pub fn new(alloc: Global) -> Listener
+        ensures { result ≡ [] }
+    {
+        Listener {
+            alloc,
+            calls: Vec::new(alloc),
+        }
+    }
+}
+
+impl Analyzer for Listener {
+    ghost analyzed = { λ calls. map well calls };
+
+    fn collected(&mut self, partition: u32, text: &[u8]) -> Result<(), ArtifactError> {
+        let text = Item::copy_of(self.alloc, text)?;
+        self.calls.push(AnalyzerCall::Collected(partition, text))?;
+        Ok(())
+    }
+
+    fn status(&mut self, partition: u32, status: Status) -> Result<(), ArtifactError> {
+        self.calls.push(AnalyzerCall::Status(partition, status))?;
+        Ok(())
+    }
+
+    fn calls(&self) -> &[AnalyzerCall] {
+        self.calls.as_slice()
+    }
+}
+
+/// A reducer that keeps the list of its calls, and answers each well. Contracts see the list.
+#[derive(Drop)]
+pub struct Recorder {
+    calls: Vec<ReducerCall>,
+}
+
+impl Model for Recorder {
+    ghost use Rattle.std.specs.Prelude.{List};
+    ghost use Rattle.jb_collect.specs.declared.calls.ReducerCall.{ReducerCall};
+
+    ghost Value = { List ReducerCall };
+
+    ghost view = { λ recorder. recorder.calls.items };
+}
+
+impl Recorder {
+    /// A recorder that was called with nothing.
+    pub fn new(alloc: Global) -> Recorder
+        ensures { result ≡ [] }
+    {
+        Recorder {
+            calls: Vec::new(alloc),
+        }
+    }
+}
+
+impl Reducer for Recorder {
+    ghost reduced = { λ calls. map well calls };
+
+    fn begin(&mut self) -> Result<(), ArtifactError> {
+        self.calls.push(ReducerCall::Begin)?;
+        Ok(())
+    }
+
+    fn before_completion(&mut self) -> Result<(), ArtifactError> {
+        self.calls.push(ReducerCall::Before)?;
+        Ok(())
+    }
+
+    fn rollback(&mut self) -> Result<(), ArtifactError> {
+        self.calls.push(ReducerCall::Rollback)?;
+        Ok(())
+    }
+
+    fn after(&mut self, status: PartitionStatus) -> Result<(), ArtifactError> {
+        self.calls.push(ReducerCall::After(status))?;
+        Ok(())
+    }
+
+    fn calls(&self) -> &[ReducerCall] {
+        self.calls.as_slice()
+    }
+}

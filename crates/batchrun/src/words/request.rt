@@ -1,0 +1,31 @@
+//! What the command line asks for.
+
+/// What the program does with a document.
+#[derive(Clone, Copy, Debug, PartialEq, Eq)]
+pub enum Word {
+    /// Runs a job.
+    Run,
+    /// Prints a plan of the fewest rounds.
+    Plan,
+    /// Checks a plan of rounds and its certificate.
+    Check,
+}
+
+/// A word, and what it is told beside its document.
+#[derive(Clone, Copy, Debug, PartialEq, Eq)]
+pub struct Line {
+    pub word: Word,
+    /// After how many rounds a step is to stop. No word takes such a number so far.
+    pub rounds: Option<u64>,
+}
+
+/// What the command line asks for.
+#[derive(Clone, Copy, Debug, PartialEq, Eq)]
+pub enum Request {
+    /// Do this with the document on standard input.
+    Work(Line),
+    /// Print the help: the program's, or that of a word. Nothing is read.
+    Help(Option<Word>),
+    /// Print the program's version. Nothing is read.
+    Version,
+}
