@@ -3,5 +3,4 @@
 mod calls;
 mod own;
 mod rows;
-mod threads;
 mod worked;

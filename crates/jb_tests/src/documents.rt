@@ -5,8 +5,9 @@ ghost use Rattle.jb_documents.specs.PlanDocument.{AsksFor};
 ghost use Rattle.jb_documents.specs.Worked.{three_equal, three_equal_document, two_rounds, two_rounds_document};
 
 use jb_cert::Certificate;
-use jb_documents::{FaultKind, read_claim, read_document, read_load};
+use jb_documents::{FaultKind, read_claim, read_document, read_load, read_restart};
 use std::alloc::{AllocError, Global};
+use std::test::Fail;
 
 // This fact speaks of no code.
 fn worked_documents()
@@ -44,4 +45,66 @@ fn documents_are_read(rt: HostRuntime) {
         assert_eq!(rt; fault.number, 1);
         assert!(rt; matches!(&fault.kind, FaultKind::Shaky(_)));
     }
+}
+
+/// The document of a restart of seven records in three partitions, with what stands under `resume`.
+fn restart_of(alloc: Global, resume: &str) -> Result<Vec<u8>, AllocError> {
+    let step = r#"{"chunk":{"item-count":2},"id":"s","partition":{"plan":{"partitions":3}}}"#;
+    let text = format!(in alloc;
+        r#"{{"data":[{{"records":["a","b","c","d","e","f","g"]}}],"job":{{"id":"j","step":[{step}]}}{resume}}}"#
+    )?;
+    bytes_of(alloc, text.as_str())
+}
+
+/// The saved rows of a step that was stopped after one round.
+const STOPPED: &str =
+    r#""saved":{"rows":[[0,3,2,0,0,2,2,2,1,0,0,0,0,0,"waiting"],[3,5,5,3,0,2,2,2,1,0,0,0,0,0,"done"],[5,7,5,5,0,0,0,0,0,0,0,0,0,0,"waiting"]],"step":"#;
+
+/// A line for each restart: what it is refused for, or `accepted`; and what follows the job. `#` stands for the saved rows up to
+/// their step's id.
+const RESTARTS: &str =
+    r#"accepted ,"resume":{"outputs":[["xa","xb","xc"],["xd","xe"],[]],#"s","version":1}}
+WrongShape(resume) 
+WrongShape(resume) ,"resume":[]
+WrongShape(unknown) ,"resume":[],"rounds":1
+WrongShape(unknown) ,"resume":{"rows":[]}
+WrongShape(outputs) ,"resume":{"saved":7}
+WrongShape(outputs) ,"resume":{"outputs":[["xa",7]],"saved":7}
+WrongShape(outputs) ,"resume":{"outputs":[[],"xa"],"saved":7}
+WrongShape(saved) ,"resume":{"outputs":[]}
+Saved(Shape) ,"resume":{"outputs":[],"saved":null}
+Saved(Version) ,"resume":{"outputs":[],#"t","version":2}}
+WrongShape(outputs) ,"resume":{"outputs":[[],["xd","xe"]],#"t","version":1}}
+OutOfRange(outputs) ,"resume":{"outputs":[["xa"],["xd","xe"],[]],#"t","version":1}}
+Saved(Step) ,"resume":{"outputs":[["xa","xb"],["xd","xe"],[]],#"t","version":1}}"#;
+
+/// What follows the job in the document of a line, and what the document is refused for, as it prints.
+fn restart_answer(alloc: Global, resume: &str) -> Result<String, Fail> {
+    let bytes = match resume.split_once('#') {
+        None => restart_of(alloc, resume)?,
+        Some((left, right)) => {
+            let whole = format!(in alloc; "{left}{STOPPED}{right}")?;
+            restart_of(alloc, whole.as_str())?
+        }
+    };
+    match read_restart(alloc, bytes) {
+        Err(fault) => Ok(format!(in alloc; "{fault}")?),
+        Ok(document) => {
+            let saved = document.resume.saved.rows().len();
+            let held = document.resume.outputs.as_slice().len();
+            let accepted = saved == 3 && held == 3 && document.steps.as_slice().len() == 1;
+            let name = if accepted { "accepted" } else { "another" };
+            Ok(String::from_str(alloc, name)?)
+        }
+    }
+}
+
+#[test]
+fn restarts_are_read(rt: HostRuntime) -> Result<(), Fail> {
+    for line in RESTARTS.lines() {
+        let (want, resume) = line.split_once(' ').ok_or("no text")?;
+        let answer = restart_answer(rt.alloc(), resume)?;
+        assert_eq!(rt; answer.as_str(), want, "{line}");
+    }
+    Ok(())
 }

@@ -1,15 +1,13 @@
 //! Tests of the libraries' public calls: what no clause says, worked values of their definitions, and memory that is refused.
 //!
 //! They stand apart from the libraries, so that each of those is proved once. A module has the tests of the library of its
-//! name; `rounds` those of `jb_cert` too.
+//! name; `rounds` those of `jb_cert` too. The libraries that work over threads have theirs in `jb_step_tests`.
 #![tactic(auto)]
 
 #[cfg(test)]
 mod artifacts;
 #[cfg(test)]
 mod chunk;
-#[cfg(test)]
-mod collect;
 #[cfg(test)]
 mod documents;
 #[cfg(test)]
@@ -25,8 +23,6 @@ mod rounds;
 #[cfg(test)]
 mod rules;
 #[cfg(test)]
-mod step;
+mod saved;
 #[cfg(test)]
 mod texts;
-#[cfg(test)]
-mod workers;

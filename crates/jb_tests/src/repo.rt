@@ -48,7 +48,7 @@ const TWO_RECORDS: Counts = Counts {
 };
 
 /// Fresh rows of these ranges.
-fn rows_of(alloc: Global, ranges: &[(u64, u64)]) -> Result<Vec<Row>, AllocError> {
+pub(crate) fn rows_of(alloc: Global, ranges: &[(u64, u64)]) -> Result<Vec<Row>, AllocError> {
     let mut rows = Vec::new(alloc);
     for (lo, hi) in ranges {
         rows.push(Row::fresh(Range { lo: *lo, hi: *hi }))?;
@@ -57,7 +57,7 @@ fn rows_of(alloc: Global, ranges: &[(u64, u64)]) -> Result<Vec<Row>, AllocError>
 }
 
 /// A repository of these rows.
-fn opened(rt: &impl Abort, rows: Vec<Row>, threads: u32, item_count: u64) -> Repo {
+pub(crate) fn opened(rt: &impl Abort, rows: Vec<Row>, threads: u32, item_count: u64) -> Repo {
     assert!(rt; can_open(rows.as_slice(), threads, item_count));
     Repo::new(rows, threads, item_count)
 }
@@ -389,6 +389,23 @@ fn a_list_of_events_on_256_rows(rt: HostRuntime) -> Result<(), Fail> {
         .iter()
         .filter(|row| row.state == RowState::Finished);
     assert_eq!(rt; finished.count(), 64);
+    Ok(())
+}
+
+/// A partition of 10,000 chunks, from its Plan to its end, as one list of events.
+#[test]
+fn a_list_of_30_001_events(rt: HostRuntime) -> Result<(), Fail> {
+    let mut repo = opened(&rt, rows_of(rt.alloc(), &[(0, 10_000)])?, 1, 1);
+    let mut events = Vec::new(rt.alloc());
+    events.push(Event::Plan(10_000, Certificate::Longest(0)))?;
+    for written in 1..10_001 {
+        events.push(Event::Begin(0, 0))?;
+        events.push(Event::Commit(0, ONE_RECORD, written))?;
+        events.push(Event::Round)?;
+    }
+    let answers = run_events(&mut repo, &events)?;
+    assert!(rt; answers.len() == 30_001 && answers.iter().all(|answer| answer.is_none()));
+    assert_eq!(rt; repo.totals().commit, 10_000);
     Ok(())
 }
 

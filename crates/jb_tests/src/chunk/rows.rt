@@ -25,19 +25,25 @@ struct Ran {
     last: Vec<u8>,
 }
 
-/// Runs a partition of the letters a to d alone, with a processor that puts an x before each. The class of number 0 is
+fn letters(alloc: Global) -> Result<Vec<Item>, Fail> {
+    let mut records = Vec::new(alloc);
+    for byte in b"abcd" {
+        records.push(Item::copy_of(alloc, &[*byte])?)?;
+    }
+    Ok(records)
+}
+
+/// Runs a partition of these records alone, with a processor that puts an x before each. The class of number 0 is
 /// skippable and the classes `retryable` are retried. Answers the last output too.
 fn run(
     alloc: Global,
+    records: Vec<Item>,
     item_count: u64,
     retryable: u64,
     processes: FaultPlans,
     writes: FaultPlans,
 ) -> Result<Ran, Fail> {
-    let mut records = Vec::new(alloc);
-    for byte in b"abcd" {
-        records.push(Item::copy_of(alloc, &[*byte])?)?;
-    }
+    let hi = records.len() as u64;
     let prefix = Item::copy_of(alloc, b"x")?;
     let artifacts = ArtifactsOf {
         reader: TableReader::new(alloc, 0, records, FaultPlans::new(alloc)),
@@ -45,7 +51,7 @@ fn run(
         writer: ListWriter::new(alloc, Vec::new(alloc), writes),
         collector: CountCollector::new(alloc),
     };
-    let row = Row::fresh(Range { lo: 0, hi: 4 });
+    let row = Row::fresh(Range { lo: 0, hi });
     if !row.sound() || row.state != RowState::Waiting || !Task::fits(&artifacts, &row) {
         return Err(Fail::from("a task"));
     }
@@ -75,12 +81,42 @@ fn run(
 #[test]
 fn rows(rt: HostRuntime) -> Result<(), Fail> {
     let alloc = rt.alloc();
-    let skipped = run(alloc, 2, 1, bad_one(alloc)?, FaultPlans::new(alloc))?;
+    let skipped = run(
+        alloc,
+        letters(alloc)?,
+        2,
+        1,
+        bad_one(alloc)?,
+        FaultPlans::new(alloc),
+    )?;
     assert_eq!(rt; skipped.end, AloneEnd::Finished);
     assert_eq!(rt; (skipped.row.written, skipped.row.counts.rollback), (3, 1));
     assert_eq!(rt; skipped.last.as_slice(), b"xd".as_slice());
-    let torn = run(alloc, 4, 0, FaultPlans::new(alloc), bad_one(alloc)?)?;
+    let torn = run(
+        alloc,
+        letters(alloc)?,
+        4,
+        0,
+        FaultPlans::new(alloc),
+        bad_one(alloc)?,
+    )?;
     assert_eq!(rt; torn.end, AloneEnd::Finished);
     assert_eq!(rt; (torn.row.written, torn.row.counts.write_skip), (0, 1));
+    Ok(())
+}
+
+/// One chunk of many records, each of which has a result.
+#[test]
+fn a_chunk_of_100_000_records(rt: HostRuntime) -> Result<(), Fail> {
+    let alloc = rt.alloc();
+    let mut records = Vec::new(alloc);
+    for _ in 0..100_000 {
+        records.push(Item::copy_of(alloc, b"r")?)?;
+    }
+    let (processes, writes) = (FaultPlans::new(alloc), FaultPlans::new(alloc));
+    let ran = run(alloc, records, 1_000_000, 0, processes, writes)?;
+    assert_eq!(rt; ran.end, AloneEnd::Finished);
+    assert_eq!(rt; (ran.row.written, ran.row.counts.commit), (100_000, 1));
+    assert_eq!(rt; ran.last.as_slice(), b"xr".as_slice());
     Ok(())
 }

@@ -1,0 +1,173 @@
+//! What the steps of the tests are made of.
+
+use jb_artifacts::{
+    ArtifactsOf, CountCollector, FaultList, FaultPlan, FaultPlans, Item, ListWriter,
+    PrefixProcessor, TableReader,
+};
+use jb_chunk::{PartitionTask, Task};
+use jb_collect::{Analyzer, Reducer};
+use jb_job::{ClassId, MAX_ITEM_COUNT, MAX_RECORDS, Name, Range, Ranges, Rules, Spec, Step};
+use jb_mapper::PartitionMapper;
+use jb_plan::PartitionPlan;
+use jb_step::{Prepared, Saved, StepEnd, StepError, prepare, run_step};
+use jb_workers::{Desk, Gate};
+use std::alloc::{AllocError, Global};
+use std::sync::Wait;
+use std::sync::ledger::Ledger;
+use std::test::*;
+use std::thread::Threads;
+
+/// What a partition works with: its processor puts an x before each record.
+pub(crate) type Works = ArtifactsOf<TableReader, PrefixProcessor, ListWriter, CountCollector>;
+
+/// A partition's task.
+pub(crate) type Letters = Task<Works>;
+
+/// The step's id.
+const STEP: &str = "step";
+
+/// Records and their partitions.
+///
+/// They are written as a text: each letter is a record, and each `/` ends a partition. Behind a letter stands how its calls
+/// fail: `!` each time that it is processed, `?` the first time, `<` each time that it is read, `>` each time that it is
+/// written. The class of `?` is 1, that of the others 0.
+#[derive(Drop)]
+pub(crate) struct Given {
+    records: Vec<Item>,
+    ranges: Vec<Range>,
+    reads: FaultPlans,
+    processes: FaultPlans,
+    writes: FaultPlans,
+}
+
+impl Given {
+    pub(crate) fn read(alloc: Global, text: &str) -> Result<Given, Fail> {
+        let mut given = Given {
+            records: Vec::new(alloc),
+            ranges: Vec::new(alloc),
+            reads: FaultPlans::new(alloc),
+            processes: FaultPlans::new(alloc),
+            writes: FaultPlans::new(alloc),
+        };
+        for sign in text.as_bytes() {
+            given.take(alloc, *sign)?;
+        }
+        Ok(given)
+    }
+
+    fn take(&mut self, alloc: Global, sign: u8) -> Result<(), AllocError> {
+        let count = self.count();
+        let last = count.saturating_sub(1);
+        let bad = FaultPlan::Bad(ClassId::new(0));
+        match sign {
+            b'/' => {
+                let lo = self.ranges.last().map_or(0, |range| range.hi);
+                self.ranges.push(Range { lo, hi: count })?;
+            }
+            b'!' => self.processes.insert(last, bad)?,
+            b'?' => {
+                let classes = FaultList::from_vec(Vec::from_slice(alloc, &[ClassId::new(1)])?);
+                self.processes.insert(last, FaultPlan::Shaky(classes))?;
+            }
+            b'<' => self.reads.insert(last, bad)?,
+            b'>' => self.writes.insert(last, bad)?,
+            letter => self.records.push(Item::copy_of(alloc, &[letter])?)?,
+        }
+        Ok(())
+    }
+
+    /// How many records there are.
+    pub(crate) fn count(&self) -> u64 {
+        self.records.len() as u64
+    }
+
+    /// The records of each partition.
+    pub(crate) fn ranges(&self) -> &[Range] {
+        self.ranges.as_slice()
+    }
+
+    /// The plan of these partitions.
+    pub(crate) fn plan(self, threads: u32) -> PartitionPlan {
+        PartitionPlan {
+            ranges: Ranges::new(self.ranges),
+            threads,
+            replace: false,
+        }
+    }
+
+    /// The artifacts of one partition.
+    fn works(self, alloc: Global) -> Result<Works, AllocError> {
+        let prefix = Item::copy_of(alloc, b"x")?;
+        Ok(ArtifactsOf {
+            reader: TableReader::new(alloc, 0, self.records, self.reads),
+            processor: PrefixProcessor::new(alloc, prefix, None, self.processes),
+            writer: ListWriter::new(alloc, Vec::new(alloc), self.writes),
+            collector: CountCollector::new(alloc),
+        })
+    }
+}
+
+/// The artifacts of one partition of the records.
+pub(crate) fn works(alloc: Global, text: &str) -> Result<Works, Fail> {
+    Ok(Given::read(alloc, text)?.works(alloc)?)
+}
+
+/// The artifacts of so many partitions of the records.
+pub(crate) fn all_works(alloc: Global, text: &str, partitions: usize) -> Result<Vec<Works>, Fail> {
+    let mut all = Vec::new(alloc);
+    for _ in 0..partitions {
+        all.push(works(alloc, text)?)?;
+    }
+    Ok(all)
+}
+
+/// What a step of this item count and these rules begins with.
+pub(crate) fn begun(
+    alloc: Global,
+    item_count: u64,
+    rules: Rules,
+    records: u64,
+    mapper: &mut dyn PartitionMapper,
+    reducer: &mut dyn Reducer,
+) -> Result<Result<Prepared, StepError>, Fail> {
+    begun_from(alloc, item_count, rules, records, mapper, reducer, None)
+}
+
+/// The same, where an earlier run of the step saved rows.
+pub(crate) fn begun_from(
+    alloc: Global,
+    item_count: u64,
+    rules: Rules,
+    records: u64,
+    mapper: &mut dyn PartitionMapper,
+    reducer: &mut dyn Reducer,
+    saved: Option<Saved>,
+) -> Result<Result<Prepared, StepError>, Fail> {
+    if item_count < 1 || MAX_ITEM_COUNT < item_count || MAX_RECORDS < records {
+        return Err(Fail::from("a step"));
+    }
+    let id = Name::new(String::from_str(alloc, STEP)?);
+    let step = Step::new(id, item_count, rules, Spec::new(1, 0, false, None));
+    Ok(prepare(alloc, &step, records, mapper, reducer, saved))
+}
+
+/// Runs the step to its end. It has no contract, so that its callers have short proofs.
+pub(crate) fn ended<
+    T: PartitionTask + Send + 'static,
+    L: Ledger + Send + Sync + 'static,
+    G: Gate + Sync,
+    R: Threads + Wait + Sync,
+>(
+    rt: &R,
+    alloc: Global,
+    desk: &Desk<L>,
+    prepared: Prepared,
+    artifacts: Vec<T::Artifacts>,
+    analyzer: &mut dyn Analyzer,
+    reducer: &mut dyn Reducer,
+    gate: &G,
+) -> Result<StepEnd<T::Artifacts>, StepError> {
+    run_step::<T, L, G, R>(
+        rt, alloc, desk, prepared, artifacts, analyzer, reducer, None, gate,
+    )
+}

@@ -1,0 +1,453 @@
+//! What comes of whole steps, each beside its partitions run alone.
+
+ghost use Rattle.std.specs.Prelude.{◌≡◌};
+
+use crate::collect::line_of;
+use crate::step::given::{Given, Letters, Works, all_works, begun, ended, works};
+use jb_artifacts::ItemWriter;
+use jb_chunk::{PartitionTask, run_alone};
+use jb_collect::{Analyzer, ListAnalyzer, ListReducer, Reducer};
+use jb_job::{ClassId, Range, Rules};
+use jb_mapper::FixedMapper;
+use jb_rules::Row;
+use jb_step::StepEnd;
+use jb_workers::NoGate;
+use std::alloc::Global;
+use std::marker::Brand;
+use std::process::Abort;
+use std::sync::Wait;
+use std::sync::ledger::{Blank, Ledger};
+use std::test::*;
+use std::thread::Threads;
+
+/// What a case asks of its step.
+#[derive(Clone, Copy)]
+pub(crate) struct Asked {
+    pub(crate) item_count: u64,
+    pub(crate) rules: Rules,
+    /// The number of the analyzer's call that fails, if one does.
+    pub(crate) analyzer: Option<u64>,
+    /// On how many threads the step's course is compared.
+    pub(crate) threads: u32,
+}
+
+/// A step, and what comes of it.
+#[derive(Clone, Copy)]
+pub(crate) struct Case {
+    pub(crate) records: &'static str,
+    pub(crate) asked: Asked,
+    /// The step's plans, the analyzer's calls, the reducer's, and the status and the number of events.
+    pub(crate) course: &'static str,
+    /// What each partition comes to, on each number of threads.
+    pub(crate) partitions: &'static str,
+}
+
+pub(crate) const STRICT: Rules = Rules {
+    skippable: 0,
+    retryable: 0,
+    skip_limit: None,
+    retry_limit: 2,
+};
+
+pub(crate) const ONE_SKIP: Rules = Rules {
+    skippable: 1,
+    skip_limit: Some(1),
+    ..STRICT
+};
+
+pub(crate) const PLAIN: Asked = Asked {
+    item_count: 2,
+    rules: STRICT,
+    analyzer: None,
+    threads: 2,
+};
+
+/// What the partitions of seven records come to.
+pub(crate) const SEVEN: &str = "3 0 0 3 | 3 3 2 0 0 0 0 0 | Finished xa xb xc
+5 3 0 2 | 2 2 1 0 0 0 0 0 | Finished xd xe
+7 5 0 2 | 2 2 1 0 0 0 0 0 | Finished xf xg
+";
+
+pub(crate) fn case_at(number: u64) -> Option<Case> {
+    Some(match number {
+        0 => Case {
+            records: "abc/de/fg/",
+            asked: PLAIN,
+            course: "Longest(0) 2 of 2
+0:2:2 1:5:2 1:5:2:end 1 Completed 0:3:3 0:3:3:end 0 Completed 2:7:2 2:7:2:end 2 Completed .
+Begin Before After(Commit) .
+Completed 11
+",
+            partitions: SEVEN,
+        },
+        1 => Case {
+            records: "abc/de/fg/",
+            asked: Asked {
+                threads: 1,
+                ..PLAIN
+            },
+            course: "FullLoad 4 of 4
+0:2:2 0:3:3 0:3:3:end 0 Completed 1:5:2 1:5:2:end 1 Completed 2:7:2 2:7:2:end 2 Completed .
+Begin Before After(Commit) .
+Completed 13
+",
+            partitions: SEVEN,
+        },
+        2 => Case {
+            records: "abc/de/fg/",
+            asked: Asked {
+                analyzer: Some(1),
+                ..PLAIN
+            },
+            course: "Longest(0) 2 of 2
+0:2:2 1:5:2 .
+Begin Rollback After(Rollback) .
+Failed 11
+",
+            partitions: SEVEN,
+        },
+        3 => Case {
+            records: "ab/c/",
+            asked: Asked {
+                threads: 1,
+                ..PLAIN
+            },
+            course: "FullLoad 2 of 2
+0:2:2 0:2:2:end 0 Completed 1:3:1 1:3:1:end 1 Completed .
+Begin Before After(Commit) .
+Completed 7
+",
+            partitions: "2 0 0 2 | 2 2 1 0 0 0 0 0 | Finished xa xb
+3 2 0 1 | 1 1 1 0 0 0 0 0 | Finished xc
+",
+        },
+        4 => Case {
+            records: "/",
+            asked: PLAIN,
+            course: "0 Completed .
+Begin Before After(Commit) .
+Completed 0
+",
+            partitions: "0 0 0 0 | 0 0 0 0 0 0 0 0 | Finished
+",
+        },
+        5 => Case {
+            records: "a/b///",
+            asked: PLAIN,
+            course: "Longest(0) 1 of 1
+2 Completed 3 Completed 0:1:1 0:1:1:end 0 Completed 1:2:1 1:2:1:end 1 Completed .
+Begin Before After(Commit) .
+Completed 6
+",
+            partitions: "1 0 0 1 | 1 1 1 0 0 0 0 0 | Finished xa
+2 1 0 1 | 1 1 1 0 0 0 0 0 | Finished xb
+2 2 0 0 | 0 0 0 0 0 0 0 0 | Finished
+2 2 0 0 | 0 0 0 0 0 0 0 0 | Finished
+",
+        },
+        6 => Case {
+            records: "a!bcd!/ef/",
+            asked: Asked {
+                rules: ONE_SKIP,
+                ..PLAIN
+            },
+            course: "Longest(0) 2 of 2
+0:2:1 1:6:2 1:6:2:end 1 Completed 0 Failed .
+Begin Rollback After(Rollback) .
+Failed 9
+",
+            partitions: "2 0 0 1 | 2 1 1 1 0 1 0 0 | Failed xb
+6 4 0 2 | 2 2 1 0 0 0 0 0 | Finished xe xf
+",
+        },
+        7 => Case {
+            records: "abc?d/",
+            asked: Asked {
+                item_count: 4,
+                rules: Rules {
+                    retryable: 2,
+                    ..STRICT
+                },
+                ..PLAIN
+            },
+            course: "Longest(0) 1 of 1
+Longest(0) 4 of 4
+0:1:1 0:2:2 0:3:3 0:4:4 0:4:4:end 0 Completed .
+Begin Before After(Commit) .
+Completed 17
+",
+            partitions: "4 4 1 4 | 4 4 4 1 0 0 0 0 | Finished xa xb xc xd
+",
+        },
+        8 => Case {
+            records: "ab!cd/",
+            asked: Asked {
+                rules: Rules {
+                    retryable: 1,
+                    ..ONE_SKIP
+                },
+                ..PLAIN
+            },
+            course: "Longest(0) 1 of 2
+Longest(0) 3 of 3
+0:1:1 0:2:1 0:4:3 0:4:3:end 0 Completed .
+Begin Before After(Commit) .
+Completed 14
+",
+            partitions: "4 2 1 3 | 4 3 3 1 0 1 0 0 | Finished xa xc xd
+",
+        },
+        9 => Case {
+            records: "a!/",
+            asked: Asked {
+                item_count: 1,
+                rules: Rules {
+                    retryable: 1,
+                    ..STRICT
+                },
+                ..PLAIN
+            },
+            course: "Longest(0) 1 of 1
+Longest(0) 1 of 1
+Longest(0) 1 of 1
+0 Failed .
+Begin Rollback After(Rollback) .
+Failed 12
+",
+            partitions: "0 1 2 0 | 0 0 0 3 0 0 0 0 | Failed
+",
+        },
+        10 => Case {
+            records: "a<b?c/",
+            asked: Asked {
+                rules: Rules {
+                    retryable: 2,
+                    ..ONE_SKIP
+                },
+                ..PLAIN
+            },
+            course: "Longest(0) 1 of 2
+Longest(0) 3 of 3
+0:1:0 0:2:1 0:3:2 0:3:2:end 0 Completed .
+Begin Before After(Commit) .
+Completed 14
+",
+            partitions: "3 2 1 2 | 2 2 3 1 1 0 0 0 | Finished xb xc
+",
+        },
+        11 => Case {
+            records: "ab>c/",
+            asked: Asked {
+                item_count: 3,
+                rules: ONE_SKIP,
+                ..PLAIN
+            },
+            course: "Longest(0) 1 of 1
+0:3:0 0:3:0:end 0 Completed .
+Begin Before After(Commit) .
+Completed 4
+",
+            partitions: "3 0 0 0 | 3 0 1 0 0 0 0 1 | Finished
+",
+        },
+        12 => Case {
+            records: "a<bc/",
+            asked: Asked {
+                rules: Rules {
+                    skippable: 1,
+                    ..STRICT
+                },
+                ..PLAIN
+            },
+            course: "Longest(0) 2 of 2
+0:2:1 0:3:2 0:3:2:end 0 Completed .
+Begin Before After(Commit) .
+Completed 7
+",
+            partitions: "3 0 0 2 | 2 2 2 0 1 0 0 0 | Finished xb xc
+",
+        },
+        _ => return None,
+    })
+}
+
+/// Adds a line that tells how a partition stands: its row's place (at, redo, retries, written), its counts, its state and its
+/// outputs.
+pub(crate) fn add_partition(
+    text: &mut String,
+    alloc: Global,
+    row: &Row,
+    works: &Works,
+) -> Result<(), Fail> {
+    let place = format!(in alloc;
+        "{} {} {} {} | ",
+        row.at, row.redo, row.retries, row.written
+    )?;
+    text.push_str(place.as_str())?;
+    let counts = row.counts;
+    let done = format!(in alloc;
+        "{} {} {} {} ",
+        counts.read, counts.write, counts.commit, counts.rollback
+    )?;
+    text.push_str(done.as_str())?;
+    let skips = format!(in alloc;
+        "{} {} {} {} | ",
+        counts.read_skip, counts.process_skip, counts.filter, counts.write_skip
+    )?;
+    text.push_str(skips.as_str())?;
+    let state = format!(in alloc; "{:?}", row.state)?;
+    text.push_str(state.as_str())?;
+    for number in 0..works.writer.count() {
+        let output = works.writer.item_at(number).ok_or("an output")?;
+        let output = String::from_utf8_lossy(alloc, output)?;
+        text.push_str(" ")?;
+        text.push_str(output.as_str())?;
+    }
+    text.push_str("\n")?;
+    Ok(())
+}
+
+/// What each partition of the case comes to alone.
+fn alone(alloc: Global, case: &Case) -> Result<String, Fail> {
+    let given = Given::read(alloc, case.records)?;
+    let mut text = String::new(alloc);
+    for range in given.ranges() {
+        add_alone(&mut text, alloc, case, *range)?;
+    }
+    Ok(text)
+}
+
+fn add_alone(text: &mut String, alloc: Global, case: &Case, range: Range) -> Result<(), Fail> {
+    let works = works(alloc, case.records)?;
+    if range.lo >= range.hi {
+        return add_partition(text, alloc, &Row::fresh(range), &works);
+    }
+    let row = Row::fresh(range);
+    if !row.sound() || !row.state.is_waiting() || !Letters::fits(&works, &row) {
+        return Err(Fail::from("a task"));
+    }
+    if case.asked.item_count < 1 || case.asked.item_count > 1_000_000 {
+        return Err(Fail::from("an item count"));
+    }
+    let task = Letters::start(0, row, case.asked.rules, case.asked.item_count, works);
+    let task = run_alone(alloc, task).task;
+    let row = *task.row();
+    add_partition(text, alloc, &row, &task.into_artifacts())
+}
+
+/// What the case's step comes to.
+#[derive(Drop)]
+struct Ran {
+    course: String,
+    partitions: String,
+}
+
+/// Runs the case's step on so many threads.
+fn run<L: Ledger + Send + Sync + 'static, R: Threads + Wait + Sync>(
+    rt: &R,
+    alloc: Global,
+    blank: Blank,
+    case: &Case,
+    threads: u32,
+) -> Result<Ran, Fail>
+    requires name { blank.name ≡ L.name }
+    requires parts { blank.parts ≡ L.parts }
+    requires all { blank.parts ≡ 1000000000000 }
+{
+    let given = Given::read(alloc, case.records)?;
+    let records = given.count();
+    let fault = case.asked.analyzer.map(|number| (number, ClassId::new(5)));
+    let mut analyzer = ListAnalyzer::new(alloc, fault);
+    let mut reducer = ListReducer::new(alloc, None);
+    let mut mapper = FixedMapper::new(given.plan(threads));
+    let asked = case.asked;
+    let prepared = begun(
+        alloc,
+        asked.item_count,
+        asked.rules,
+        records,
+        &mut mapper,
+        &mut reducer,
+    )?;
+    let prepared = prepared.ok().ok_or("a start")?;
+    let desk = prepared.desk::<L>(alloc, blank)?;
+    let artifacts = all_works(alloc, case.records, prepared.needs().len())?;
+    let end = ended::<Letters, L, NoGate, R>(
+        rt,
+        alloc,
+        &desk,
+        prepared,
+        artifacts,
+        &mut analyzer,
+        &mut reducer,
+        &NoGate,
+    );
+    let end = end.ok().ok_or("an end")?;
+    Ok(Ran {
+        course: course_of(alloc, &end, &analyzer, &reducer)?,
+        partitions: partitions_of(alloc, case, &end)?,
+    })
+}
+
+pub(crate) fn course_of(
+    alloc: Global,
+    end: &StepEnd<Works>,
+    analyzer: &dyn Analyzer,
+    reducer: &dyn Reducer,
+) -> Result<String, Fail> {
+    let mut text = String::new(alloc);
+    for plan in &end.plans {
+        let line = format!(in alloc; "{} {} of {}\n", plan.certificate, plan.ran, plan.planned)?;
+        text.push_str(line.as_str())?;
+    }
+    let heard = line_of(alloc, analyzer.calls())?;
+    let heard = String::from_utf8_lossy(alloc, heard.as_slice())?;
+    text.push_str(heard.as_str())?;
+    text.push_str(".\n")?;
+    for call in reducer.calls() {
+        let word = format!(in alloc; "{call:?} ")?;
+        text.push_str(word.as_str())?;
+    }
+    let line = format!(in alloc; ".\n{:?} {}\n", end.status, end.snapshot.events)?;
+    text.push_str(line.as_str())?;
+    Ok(text)
+}
+
+/// How each partition stands; one that had nothing to do has no artifacts.
+fn partitions_of(alloc: Global, case: &Case, end: &StepEnd<Works>) -> Result<String, Fail> {
+    let none = works(alloc, case.records)?;
+    let mut text = String::new(alloc);
+    for (partition, row) in end.snapshot.rows.iter().enumerate() {
+        let own = end
+            .artifacts
+            .iter()
+            .find(|left| left.0 as usize == partition);
+        match own {
+            Some(left) => add_partition(&mut text, alloc, row, &left.1)?,
+            None => add_partition(&mut text, alloc, row, &none)?,
+        }
+    }
+    Ok(text)
+}
+
+/// Runs a case on 1 to 4 threads.
+#[test]
+fn steps(rt: HostRuntime) -> Result<(), Fail> {
+    let alloc = rt.alloc();
+    for number in 0..13 {
+        let Some(case) = case_at(number) else {
+            return Err(Fail::from("a case"));
+        };
+        let alone = alone(alloc, &case)?;
+        assert_eq!(rt; alone.as_str(), case.partitions);
+        for threads in 1..5 {
+            let blank = Blank::new(1_000_000_000_000);
+            let ran = run::<Brand, _>(&rt, alloc, blank, &case, threads)?;
+            assert_eq!(rt; ran.partitions.as_str(), case.partitions);
+            if threads == case.asked.threads {
+                assert_eq!(rt; ran.course.as_str(), case.course);
+            }
+        }
+    }
+    Ok(())
+}

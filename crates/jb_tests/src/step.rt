@@ -1,6 +1,0 @@
-//! Steps over threads.
-
-mod given;
-mod meeting;
-mod refusals;
-mod rows;

@@ -1,0 +1,203 @@
+//! Four lanes that wait for each other in both rounds of a step, and their processors at each partition's first record.
+
+ghost use Rattle.std.specs.Prelude.{◌≡◌};
+
+use crate::step::given::{Given, begun, ended, works};
+use crate::workers::meeting::wait_for;
+use jb_artifacts::{
+    ArtifactsOf, CountCollector, Item, ItemProcessor, ListWriter, PrefixProcessor, TableReader,
+};
+use jb_chunk::Task;
+use jb_collect::{ListAnalyzer, ListReducer, Status};
+use jb_job::{ArtifactError, Rules};
+use jb_mapper::FixedMapper;
+use jb_workers::Gate;
+use std::alloc::Global;
+use std::marker::Brand;
+use std::process::Abort;
+use std::sync::atomic::{AtomicBool, AtomicU64, Ordering};
+use std::sync::ledger::{Blank, Ledger};
+use std::sync::{Arc, Wait};
+use std::test::*;
+use std::thread::Threads;
+use std::time::Clock;
+
+/// Four partitions of four records, which are two chunks of two.
+const RECORDS: &str = "abcd/efgh/ijkl/mnop/";
+
+/// Who is here, of four, how many of them saw all four, and how many waited in vain.
+#[derive(Drop)]
+struct Meeting {
+    here: [AtomicBool; 4],
+    met: AtomicU64,
+    alone: AtomicU64,
+}
+
+impl Meeting {
+    fn new() -> Meeting {
+        Meeting {
+            here: [
+                AtomicBool::new(false),
+                AtomicBool::new(false),
+                AtomicBool::new(false),
+                AtomicBool::new(false),
+            ],
+            met: AtomicU64::new(0),
+            alone: AtomicU64::new(0),
+        }
+    }
+
+    /// This one of the four is here now.
+    fn come(&self, own: u32) {
+        if let Some(flag) = self.here.get(own as usize) {
+            flag.store(true, Ordering::SeqCst);
+        }
+    }
+
+    fn note(&self, met: bool) {
+        let count = if met { &self.met } else { &self.alone };
+        count.fetch_add(1, Ordering::SeqCst);
+    }
+
+    fn seen(&self) -> [u64; 2] {
+        [
+            self.met.load(Ordering::SeqCst),
+            self.alone.load(Ordering::SeqCst),
+        ]
+    }
+}
+
+/// The lanes, which meet in each round.
+#[derive(Drop)]
+struct Lanes<R> {
+    rt: R,
+    rounds: [Meeting; 2],
+}
+
+impl<R: Clock + Send + Sync> Gate for Lanes<R> {
+    fn arrive(&self, lane: u32, round: u64) {
+        let meeting = match round {
+            0 => &self.rounds[0],
+            _ => &self.rounds[1],
+        };
+        meeting.come(lane);
+        let met = meeting.here.iter().all(|flag| wait_for(&self.rt, flag));
+        meeting.note(met);
+    }
+
+    fn leave(&self, _lane: u32, _round: u64) {}
+}
+
+/// Whether the flag is set within 1,000,000,000 loads.
+fn spin_for(flag: &AtomicBool) -> bool {
+    for _ in 0..1_000_000_000 {
+        if flag.load(Ordering::SeqCst) {
+            return true;
+        }
+    }
+    false
+}
+
+/// A processor that puts an x before each item. At the first record of its partition it meets those of the other three.
+#[derive(Drop)]
+struct Waiting {
+    prefix: PrefixProcessor,
+    partition: u32,
+    first: u64,
+    meeting: Arc<Meeting>,
+}
+
+impl ItemProcessor for Waiting {
+    ghost processor = { λ w. ⟦<PrefixProcessor as ItemProcessor>⟧.processor w.prefix };
+
+    fn process_item(&mut self, number: u64, item: &[u8]) -> Result<Option<Item>, ArtifactError> {
+        if number == self.first {
+            self.meeting.come(self.partition);
+            let met = self.meeting.here.iter().all(spin_for);
+            self.meeting.note(met);
+        }
+        self.prefix.process_item(number, item)
+    }
+}
+
+type WaitingWorks = ArtifactsOf<TableReader, Waiting, ListWriter, CountCollector>;
+
+/// The artifacts of the four partitions.
+fn waiting_works(alloc: Global, meeting: &Arc<Meeting>) -> Result<Vec<WaitingWorks>, Fail> {
+    let given = Given::read(alloc, RECORDS)?;
+    let mut all = Vec::new(alloc);
+    let mut partition: u32 = 0;
+    for range in given.ranges() {
+        let ArtifactsOf {
+            reader,
+            processor: prefix,
+            writer,
+            collector,
+        } = works(alloc, RECORDS)?;
+        let processor = Waiting {
+            prefix,
+            partition,
+            first: range.lo,
+            meeting: Arc::try_clone(meeting)?,
+        };
+        all.push(ArtifactsOf {
+            reader,
+            processor,
+            writer,
+            collector,
+        })?;
+        partition = partition.saturating_add(1);
+    }
+    Ok(all)
+}
+
+/// The four partitions' lanes meet in both rounds, and their processors meet in the first one.
+fn meet<L: Ledger + Send + Sync + 'static, R: Threads + Wait + Clock + Abort + Copy + Send + Sync>(
+    rt: &R,
+    alloc: Global,
+    blank: Blank,
+) -> Result<(), Fail>
+    requires name { blank.name ≡ L.name }
+    requires parts { blank.parts ≡ L.parts }
+    requires all { blank.parts ≡ 1000000000000 }
+{
+    let rules = Rules {
+        skippable: 0,
+        retryable: 0,
+        skip_limit: None,
+        retry_limit: 0,
+    };
+    let mut analyzer = ListAnalyzer::new(alloc, None);
+    let mut reducer = ListReducer::new(alloc, None);
+    let mut mapper = FixedMapper::new(Given::read(alloc, RECORDS)?.plan(4));
+    let prepared = begun(alloc, 2, rules, 16, &mut mapper, &mut reducer)?;
+    let prepared = prepared.ok().ok_or("a start")?;
+    let desk = prepared.desk::<L>(alloc, blank)?;
+    let gate = Lanes {
+        rt: *rt,
+        rounds: [Meeting::new(), Meeting::new()],
+    };
+    let processors = Arc::new(alloc, Meeting::new())?;
+    let artifacts = waiting_works(alloc, &processors)?;
+    let end = ended::<Task<WaitingWorks>, L, Lanes<R>, R>(
+        rt,
+        alloc,
+        &desk,
+        prepared,
+        artifacts,
+        &mut analyzer,
+        &mut reducer,
+        &gate,
+    );
+    let end = end.ok().ok_or("an end")?;
+    assert_eq!(rt; gate.rounds[0].seen(), [4, 0]);
+    assert_eq!(rt; gate.rounds[1].seen(), [4, 0]);
+    assert_eq!(rt; processors.seen(), [4, 0]);
+    assert_eq!(rt; (end.status, end.snapshot.events), (Status::Completed, 19));
+    Ok(())
+}
+
+#[test]
+fn four_lanes_meet_in_both_rounds(rt: HostRuntime) -> Result<(), Fail> {
+    meet::<Brand, _>(&rt, rt.alloc(), Blank::new(1_000_000_000_000))
+}

@@ -1,6 +1,0 @@
-//! Rounds of tasks over threads.
-
-mod answers;
-pub(crate) mod meeting;
-mod memory;
-pub(crate) mod tasks;
