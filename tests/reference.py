@@ -151,14 +151,14 @@ def range_of(field, tree):
 def plan_of(field, tree):
     given = fields(field, ["partitions", "threads", "override", "ranges"], tree)
     partitions = optional(given, "partitions", lambda f, t: number(1, 4_096, f, t), 1)
-    optional(given, "threads", lambda f, t: number(0, 4_096, f, t))
+    threads = optional(given, "threads", lambda f, t: number(0, 4_096, f, t), 0)
     optional(given, "override", flag)
 
     def ranges(f, t):
         shaped("partitions" not in given, f)
         return [range_of(f, pair) for pair in items(0, 4_096, f, t)]
 
-    return partitions, optional(given, "ranges", ranges)
+    return partitions, threads, optional(given, "ranges", ranges)
 
 
 def partition_of(field, tree):
@@ -199,7 +199,7 @@ def step_of(declared, earlier, tree):
 
     name = required(given, "id", new_id)
     chunk = required(given, "chunk", chunk_of(declared))
-    return name, chunk, optional(given, "partition", partition_of, (1, None))
+    return name, chunk, optional(given, "partition", partition_of, (1, 0, None))
 
 
 def job_of(tree):
@@ -295,7 +295,7 @@ def checked_ranges(records, ranges):
     return ranges
 
 
-# ---- a partition, run alone
+# ---- a partition, chunk by chunk
 
 
 class Fault(Exception):
@@ -332,11 +332,14 @@ class Partition:
         order = [("skip", can_skip), ("retry", can_retry)] if self.at < self.redo else [("retry", can_retry), ("skip", can_skip)]
         return next((choice for choice, is_open in order if is_open), "fail")
 
-    def run(self):
-        while self.at < self.hi and not self.failed:
-            self.attempt()
+    def chunks_left(self):
+        if self.failed:
+            return 0
+        single = max(self.redo - self.at, 0)
+        return single + -(-(self.hi - self.at - single) // self.chunk.item_count)
 
     def attempt(self):
+        """Whether the next chunk was committed."""
         end = self.at + 1 if self.at < self.redo else min(self.at + self.chunk.item_count, self.hi)
         delta = dict.fromkeys(METRICS, 0)
         ended = self.block(end, delta)
@@ -346,11 +349,12 @@ class Partition:
                 self.failed = True
             else:
                 self.retries, self.redo = self.retries + 1, max(self.redo, end)
-            return
+            return False
         self.at = end
         delta["COMMIT"] = 1
         for name in METRICS:
             self.counts[name] += delta[name]
+        return True
 
     def skipped(self, fault, delta):
         """None where the fault is skipped, else what becomes of the chunk."""
@@ -393,6 +397,63 @@ class Partition:
         return None
 
 
+# ---- a step, in rounds
+
+
+def wrapped(counts, threads):
+    """The certificate, and for each round what each lane has in it: a partition and the number of a chunk, or None."""
+    rounds = max([0, *counts, -(-sum(counts) // threads)])
+    slots = [[None] * threads for _ in range(rounds)]
+    unit = 0
+    for partition, count in enumerate(counts):
+        places = [divmod(place, rounds) for place in range(unit, unit + count)]
+        for chunk, (lane, turn) in enumerate(sorted(places, key=lambda place: place[1])):
+            slots[turn][lane] = partition, chunk
+        unit += count
+    longest = next((f"Longest({partition})" for partition, count in enumerate(counts) if count == rounds), "FullLoad")
+    return longest if sum(counts) else "Nothing", slots
+
+
+class Step:
+    """The plans of a step's rounds, and what its analyzer heard of each partition."""
+
+    def __init__(self, tasks, threads):
+        self.tasks, self.threads = tasks, min(threads or len(tasks), 64)
+        self.plans, self.heard = [], [["COMPLETED"] if task.lo == task.hi else [] for task in tasks]
+
+    def run(self):
+        while any(counts := [task.chunks_left() for task in self.tasks]):
+            certificate, rounds = wrapped(counts, self.threads)
+            ran = 0
+            for slots in rounds:
+                ran += 1
+                if not all([self.attempt(slot[0]) for slot in slots if slot is not None]):
+                    break
+            self.plans.append([certificate, len(rounds), ran])
+
+    def attempt(self, partition):
+        task, heard = self.tasks[partition], self.heard[partition]
+        committed = task.attempt()
+        if committed:
+            text = f"{partition}:{task.at}:{task.counts['WRITE']}"
+            heard += [text, f"{text}:end", "COMPLETED"] if task.at == task.hi else [text]
+        elif task.failed:
+            heard.append("FAILED")
+        return committed
+
+    def report(self, name):
+        failed = any(task.failed for task in self.tasks)
+        return {
+            "heard": self.heard,
+            "outputs": [task.outputs for task in self.tasks],
+            "plans": self.plans,
+            "reducer": ["begin", "rollback", "after ROLLBACK"] if failed else ["begin", "before", "after COMMIT"],
+            "rows": [task.row() for task in self.tasks],
+            "status": "FAILED" if failed else "COMPLETED",
+            "step": name,
+        }
+
+
 # ---- the words
 
 
@@ -403,17 +464,15 @@ def compact(value):
 def run(tree):
     (name, _, steps), data = document_of(tree)
     reports, status = [], "COMPLETED"
-    for (step, chunk, (partitions, ranges)), given in zip(steps, data):
+    for (step_name, chunk, (partitions, threads, ranges)), given in zip(steps, data):
         if status == "FAILED":
             break
         records = len(given[0])
         whole_plan = even_ranges(records, partitions) if ranges is None else ranges
-        tasks = [Partition(chunk, given, each) for each in checked_ranges(records, whole_plan)]
-        for task in tasks:
-            task.run()
-        status = "FAILED" if any(task.failed for task in tasks) else "COMPLETED"
-        outputs, rows = [task.outputs for task in tasks], [task.row() for task in tasks]
-        reports.append({"outputs": outputs, "rows": rows, "status": status, "step": step})
+        step = Step([Partition(chunk, given, each) for each in checked_ranges(records, whole_plan)], threads)
+        step.run()
+        reports.append(step.report(step_name))
+        status = reports[-1]["status"]
     return int(status == "FAILED"), compact({"job": name, "status": status, "steps": reports}) + "\n"
 
 
@@ -431,17 +490,9 @@ def load_of(keys, tree):
 
 def plan(tree):
     _, counts, threads = load_of(["counts", "threads"], tree)
-    rounds = max([0, *counts, -(-sum(counts) // threads)])
-    slots = [["-"] * threads for _ in range(rounds)]
-    unit = 0
-    for partition, count in enumerate(counts):
-        places = [divmod(place, rounds) for place in range(unit, unit + count)]
-        for chunk, (lane, turn) in enumerate(sorted(places, key=lambda place: place[1])):
-            slots[turn][lane] = f"{partition}.{chunk}"
-        unit += count
-    longest = next((f"Longest({partition})" for partition, count in enumerate(counts) if count == rounds), "FullLoad")
-    certificate = longest if sum(counts) else "Nothing"
-    return 0, "".join([f"rounds {rounds} {certificate}\n", *(f"{turn}: {' '.join(line)}\n" for turn, line in enumerate(slots))])
+    certificate, rounds = wrapped(counts, threads)
+    lines = [" ".join("-" if slot is None else f"{slot[0]}.{slot[1]}" for slot in slots) for slots in rounds]
+    return 0, "".join([f"rounds {len(rounds)} {certificate}\n", *(f"{turn}: {line}\n" for turn, line in enumerate(lines))])
 
 
 def slot_of(field, tree):

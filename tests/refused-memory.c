@@ -3,6 +3,7 @@
 #include <stdio.h>
 #include <stdlib.h>
 #include <errno.h>
+#include <sys/syscall.h>
 #include <unistd.h>
 
 void *__libc_malloc(size_t);
@@ -23,14 +24,22 @@ __attribute__((constructor)) static void begin(void) {
 
 __attribute__((destructor)) static void end(void) {
     char text[32];
+    if (!counting) return;
     counting = 0;
     int length = snprintf(text, sizeof text, "%lu", asked);
     if (write(counts, text, length) < 0) return;
 }
 
-/* Whether the program gets this request. */
+/* A program with threads ends so: no destructor is called then. */
+void _exit(int status) {
+    end();
+    syscall(SYS_exit_group, status);
+    __builtin_unreachable();
+}
+
+/* Whether the program gets this request, from whichever of its threads. */
 static int given(void) {
-    if (!counting || ++asked != refused) return 1;
+    if (!counting || __atomic_add_fetch(&asked, 1, __ATOMIC_RELAXED) != refused) return 1;
     errno = ENOMEM;
     return 0;
 }

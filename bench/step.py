@@ -1,0 +1,88 @@
+#!/usr/bin/env python3
+"""What one step of 100,000 and 1,000,000 records takes on 1, 2 and 4 threads, beside its partitions run alone, one after another.
+
+The records have ten bytes, and no call fails. There are eight partitions or 256, even ones, or the last one has a good half of the records. `cpu s`
+is the processor time of all threads and `wall s` the time that passed, each the least of five runs, less that of a run that makes the records
+and the artifacts and does no more. `to alone` is the step's processor time by that of `run_alone` over the same partitions. Ten times the
+chunks should take about ten times as long.
+
+    bench/step.py [--instructions]
+
+With `--instructions` it counts, by valgrind's callgrind, what the processor does on one thread, at 100,000 records: a count that no load of the
+machine changes. The program `step` is no part of the gate (programs.py), and no number here decides it; on a busy machine read `cpu s`.
+"""
+import os
+import re
+import subprocess
+import sys
+import tempfile
+
+from measure import measure
+from programs import build
+
+STANDS_ON = ("jb_job", "jb_plan", "jb_rules", "jb_mapper", "jb_artifacts", "jb_chunk", "jb_repo", "jb_workers", "jb_collect", "jb_step")
+SIZES = (100_000, 1_000_000)
+ITEM_COUNTS = (1_000, 10)
+RUNS = 5
+
+
+def least(program, *words):
+    """The least processor and wall seconds of some runs."""
+    ran = [measure([program, *map(str, words)], os.devnull) for _ in range(RUNS)]
+    if any(status for status, *_ in ran):
+        sys.exit(f"{' '.join(map(str, words))} ended with a status that isn't 0")
+    return min(cpu for _, _, cpu, _ in ran), min(wall for _, wall, _, _ in ran)
+
+
+def line(program, shape, partitions, records, item_count):
+    """Prints a line: alone, and as a step on 1, 2 and 4 threads."""
+    given = (shape, partitions, records, item_count)
+    made_cpu, made_wall = least(program, "made", *given, 1)
+    alone_cpu, alone_wall = least(program, "alone", *given, 1)
+    alone = max(alone_cpu - made_cpu, 1e-9)
+    cells = [f"{alone:>7.3f} {alone_wall - made_wall:>7.3f}"]
+    for threads in (1, 2, 4):
+        cpu, wall = least(program, "step", *given, threads)
+        cells.append(f"{cpu - made_cpu:>7.3f} {wall - made_wall:>7.3f} {(cpu - made_cpu) / alone:>6.2f}")
+    print(f"{named(*given):<62}  {'  '.join(cells)}", flush=True)
+
+
+def named(shape, partitions, records, item_count):
+    return f"{records:,} records, {partitions} partitions, {shape}, chunks of {item_count:,}"
+
+
+def instructions(program, *words):
+    """How many instructions a run takes."""
+    command = ["valgrind", "--tool=callgrind", "--callgrind-out-file=/dev/null", program, *map(str, words)]
+    ran = subprocess.run(command, capture_output=True, text=True, check=True)
+    return int(re.search(r"Collected : (\d+)", ran.stderr)[1])
+
+
+def count(program, shape, partitions, item_count):
+    """Prints a line: instructions alone, and as a step on one thread."""
+    given = (shape, partitions, min(SIZES), item_count, 1)
+    made, alone, step = (instructions(program, way, *given) for way in ("made", "alone", "step"))
+    cells = f"{alone - made:>14,}  {step - made:>14,}  {(step - made) / (alone - made):>8.2f}"
+    print(f"{named(shape, partitions, min(SIZES), item_count):<62}  {cells}", flush=True)
+
+
+def main():
+    counted = sys.argv[1:] == ["--instructions"]
+    with tempfile.TemporaryDirectory() as room:
+        program = build("step", STANDS_ON, room, words=("step", "even", "8", "1000", "10", "2"))
+        if counted:
+            print(f"{'what':<62}  {'alone':>14}  {'one thread':>14}  {'to alone':>8}")
+        else:
+            print(f"{'':<62}  {'alone':>15}{'one thread':>24}{'two threads':>24}{'four threads':>24}")
+            print(f"{'what':<62}  {'cpu s  wall s':>15}{'   cpu s  wall s to alone' * 3}")
+        for item_count in ITEM_COUNTS:
+            for partitions, shape in ((8, "even"), (8, "long"), (256, "even")):
+                if counted:
+                    count(program, shape, partitions, item_count)
+                    continue
+                for records in SIZES:
+                    line(program, shape, partitions, records, item_count)
+
+
+if __name__ == "__main__":
+    main()
