@@ -2,9 +2,11 @@ pub mod Callbacks
 pub mod CommandLines
 pub mod Failed
 pub mod FaultPlans
+pub mod Held
 pub mod Known
 pub mod Least
 pub mod Mapped
+pub mod Opening
 pub mod PartitionRuns
 pub mod Partitions
 pub mod Prepared

@@ -1,5 +1,5 @@
 -- A step whose mapper has a plan, and whose reducer answers each call well.
-use Rattle.std.proofs.Common.{◌≡◌, ℕ, Bool, true, false, Some, None, List, [], ◌∷◌, ◌++◌, Result, Ok, length, map, refl, ap, sym, subst, ◌∙◌}
+use Rattle.std.proofs.Common.{◌≡◌, ℕ, Bool, true, false, Option, Some, None, List, [], ◌∷◌, ◌++◌, Result, Ok, length, map, refl, ap, sym, subst, ◌∙◌}
 use Rattle.jb_job.specs.Records.{SpecRecord, StepRecord}
 use Rattle.jb_job.specs.declared.class.ClassId.{ClassId}
 use Rattle.jb_job.specs.declared.job.Range.{Range}
@@ -12,6 +12,8 @@ use Rattle.jb_collect.specs.declared.calls.ReducerCall.TheVariants.{Begin}
 use Rattle.jb_collect.specs.Taken.{Taken, calls_of, well}
 use Rattle.jb_step.specs.Prepare.{IsRefusal}
 use Rattle.jb_step.specs.Reduced.{Grew, has_fault, since}
+use Rattle.jb_saved.specs.SavedRows.{SavedRows}
+use Rattle.jb_saved.specs.declared.place.SavedPlace.{SavedPlace}
 use Rattle.jb_saved.specs.declared.error.StepError.{StepError}
 use Rattle.jb_saved.specs.declared.error.StepError.TheVariants as error
 use Rattle.batchrun.specs.JobRun.{plan_for, ranges_for}
@@ -33,18 +35,18 @@ own-plan spec records own threads replace some same-threads same-replace =
 
 -- ---- what `prepare` leaves
 
--- only the plan may be refused, where there is memory
-pub other-refusal : (step : StepRecord) (records : ℕ) (mapped : Result PartitionPlan ClassId) (plan : PartitionPlan) (before : List (Taken ReducerCall)) (new : List ReducerCall) (e : StepError) → Grew before (map well new) → mapped ≡ Ok plan
-    → IsRefusal step records mapped None (since before (map well new)) e → ((fault : PlanError) → e ≡ error.Plan fault → ⊥) → (e ≡ error.Memory → ⊥) → ⊥
-other-refusal step records mapped plan before new (error.Plan fault) grew maps is plans memory = plans fault refl
-other-refusal step records mapped plan before new (error.Mapper class) grew maps is plans memory = cc
-other-refusal step records mapped plan before new (error.Reducer class) grew maps is plans memory =
+-- only the plan and the saved rows may be refused, where there is memory
+pub other-refusal : (step : StepRecord) (records : ℕ) (mapped : Result PartitionPlan ClassId) (saved : Option SavedRows) (plan : PartitionPlan) (before : List (Taken ReducerCall)) (new : List ReducerCall) (e : StepError) → Grew before (map well new) → mapped ≡ Ok plan
+    → IsRefusal step records mapped saved (since before (map well new)) e → ((fault : PlanError) → e ≡ error.Plan fault → ⊥) → ((place : SavedPlace) → e ≡ error.Saved place → ⊥) → (e ≡ error.Memory → ⊥) → ⊥
+other-refusal step records mapped saved plan before new (error.Plan fault) grew maps is plans places memory = plans fault refl
+other-refusal step records mapped saved plan before new (error.Mapper class) grew maps is plans places memory = cc
+other-refusal step records mapped saved plan before new (error.Reducer class) grew maps is plans places memory =
     let none : false ≡ true = sym (well-faults (length before) new) ∙ ap has_fault is in cc
-other-refusal step records mapped plan before new error.WrongArtifacts grew maps is plans memory = is
-other-refusal step records mapped plan before new (error.Repository p) grew maps is plans memory = is
-other-refusal step records mapped plan before new error.Workers grew maps is plans memory = is
-other-refusal step records mapped plan before new (error.Saved place) grew maps is plans memory = cc
-other-refusal step records mapped plan before new error.Memory grew maps is plans memory = memory refl
+other-refusal step records mapped saved plan before new error.WrongArtifacts grew maps is plans places memory = is
+other-refusal step records mapped saved plan before new (error.Repository p) grew maps is plans places memory = is
+other-refusal step records mapped saved plan before new error.Workers grew maps is plans places memory = is
+other-refusal step records mapped saved plan before new (error.Saved place) grew maps is plans places memory = places place refl
+other-refusal step records mapped saved plan before new error.Memory grew maps is plans places memory = memory refl
 
 -- the reducer took one call more
 pub begun : (before after : List (Taken ReducerCall)) (old new : List ReducerCall) → Grew before after → calls_of (since before after) ≡ Begin ∷ []

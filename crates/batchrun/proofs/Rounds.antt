@@ -1,5 +1,5 @@
 -- What a run of a step's rounds leaves, with a listener and a recorder that answer each call well.
-use Rattle.std.proofs.Common.{◌≡◌, ℕ, ◌||◌, false, None, List, ◌++◌, length, map, sym, ap₂, ◌∙◌, subst}
+use Rattle.std.proofs.Common.{◌≡◌, ℕ, ◌||◌, false, Option, List, ◌++◌, length, map, sym, ap₂, ◌∙◌, subst}
 use Rattle.jb_artifacts.specs.Meaning.{Workplace}
 use Rattle.jb_collect.specs.declared.calls.AnalyzerCall.{AnalyzerCall}
 use Rattle.jb_collect.specs.declared.calls.ReducerCall.{ReducerCall}
@@ -15,11 +15,11 @@ use Rattle.jb_step.specs.Statuses.{status_of, went_well}
 use Rattle.batchrun.proofs.Callbacks.{well-after, well-faults}
 
 -- the listener took these calls behind those that it had
-pub listens : (prepared : Setup) (works : List Workplace) (before : List (Taken AnalyzerCall)) (old new shown : List AnalyzerCall) (notes : List PlanNote) (snapshot : Snapshot) (left : List (ℕ × Workplace))
-    → IsRunOfStep prepared works None before (map well new) notes snapshot left → before ≡ map well old → shown ≡ new → IsRunOfStep prepared works None (map well old) (map well shown) notes snapshot left
-listens prepared works before old new shown notes snapshot left run same is =
-    subst (λ (taken : List (Taken AnalyzerCall)). IsRunOfStep prepared works None taken (map well shown) notes snapshot left) same
-    (subst (λ cs. IsRunOfStep prepared works None before (map well cs) notes snapshot left) (sym is) run)
+pub listens : (prepared : Setup) (works : List Workplace) (round_limit : Option ℕ) (before : List (Taken AnalyzerCall)) (old new shown : List AnalyzerCall) (notes : List PlanNote) (snapshot : Snapshot) (left : List (ℕ × Workplace))
+    → IsRunOfStep prepared works round_limit before (map well new) notes snapshot left → before ≡ map well old → shown ≡ new → IsRunOfStep prepared works round_limit (map well old) (map well shown) notes snapshot left
+listens prepared works round_limit before old new shown notes snapshot left run same is =
+    subst (λ (taken : List (Taken AnalyzerCall)). IsRunOfStep prepared works round_limit taken (map well shown) notes snapshot left) same
+    (subst (λ cs. IsRunOfStep prepared works round_limit before (map well cs) notes snapshot left) (sym is) run)
 
 -- no callback failed
 pub stands : (snapshot : Snapshot) (heard : List (Taken AnalyzerCall)) (reduced : List (Taken ReducerCall)) (more : List AnalyzerCall) (after : List ReducerCall) (status : Status)

@@ -3,10 +3,9 @@ use Rattle.std.proofs.Common.{◌≡◌, List, [], ◌∷◌, Some, None, arith,
 use Rattle.clap.specs.Words.{Text}
 use Rattle.clap.specs.declared.error.kind.ErrorKind.TheVariants.{UnknownArgument}
 use Rattle.clap.proofs.OnLiterals.{clap_on_literals}
-use Rattle.batchrun.specs.declared.words.request.Request.{Request}
 use Rattle.batchrun.specs.declared.words.request.Request.TheVariants.{Help, Version, Work}
-use Rattle.batchrun.specs.declared.words.request.Word.TheVariants.{Run, Plan, Check}
-use Rattle.batchrun.specs.CommandLine.{AreUnknown, Asks, IsWrongWord}
+use Rattle.batchrun.specs.declared.words.request.Word.TheVariants.{Run, Restart, Plan, Check}
+use Rattle.batchrun.specs.CommandLine.{AreUnknown, Asks, CanGoOn, IsWrongWord}
 
 a_word : Asks (codes "check" ∷ []) (Work (record { word = Check; rounds = None }))
 unfolding clap_on_literals
@@ -36,7 +35,7 @@ nothing : AreUnknown []
 unfolding clap_on_literals
 nothing = inl (refl, refl)
 
-another_word : AreUnknown (codes "help" ∷ codes "restart" ∷ [])
+another_word : AreUnknown (codes "help" ∷ codes "walk" ∷ [])
 unfolding clap_on_literals
 another_word = inl (refl, refl)
 
@@ -44,9 +43,17 @@ a_word_twice : AreUnknown (codes "run" ∷ codes "run" ∷ [])
 unfolding clap_on_literals
 a_word_twice = inr (UnknownArgument, inl refl, (λ e. cc), (λ e. cc))
 
--- no word takes a number of rounds so far: the option is the wrong word, not the number behind it
+a_number_of_rounds : Asks (codes "restart" ∷ codes "--rounds" ∷ codes "1" ∷ []) (Work (record { word = Restart; rounds = Some 1 }))
+unfolding clap_on_literals
+a_number_of_rounds = (refl, refl)
+
+no_number_of_rounds : AreUnknown (codes "run" ∷ codes "--rounds" ∷ codes "1000000001" ∷ [])
+unfolding clap_on_literals
+no_number_of_rounds = inl (refl, refl)
+
+-- the option belongs to `run` and `restart` alone: it is the wrong word, not the number behind it
 rounds_line : List Text
-rounds_line = codes "run" ∷ codes "--rounds" ∷ codes "1" ∷ []
+rounds_line = codes "plan" ∷ codes "--rounds" ∷ codes "1" ∷ []
 
 the_option : IsWrongWord rounds_line (codes "--rounds")
 unfolding clap_on_literals rounds_line
@@ -55,6 +62,6 @@ the_option = record {
   place = 1;
   is_there = refl;
   before = λ n some to. let one : n ≡ 1 = omega (arith, some, to) in
-      subst (λ m. (request : Request) × Asks (take m rounds_line) request) (sym one) (Work (record { word = Run; rounds = None }), (refl, refl));
-  up_to = inr (UnknownArgument, inl refl, (λ e. cc), (λ e. cc));
+      subst (λ m. CanGoOn (take m rounds_line)) (sym one) (Work (record { word = Plan; rounds = None }), inl (refl, refl));
+  up_to = inl (inr (UnknownArgument, inl refl, (λ e. cc), (λ e. cc)), inr (UnknownArgument, inl refl, (λ e. cc), (λ e. cc)));
 }

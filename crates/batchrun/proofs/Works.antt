@@ -1,4 +1,4 @@
--- The partitions that have records: their rows, and the records of their ranges.
+-- The unfinished partitions: their rows, and the records of their ranges.
 use Rattle.std.proofs.Common.{◌≡◌, ℕ, zero, suc, ◌+◌, ◌<◌, true, nat_lt, List, [], ◌∷◌, ◌++◌, drop, length, map, get_or, slice_get, Some, None, refl, ap, sym, subst, ◌∙◌, arith, append_assoc}
 use Rattle.std.specs.Prelude.{All, AllPairs, slice_index_or}
 use Rattle.std.specs.List.{AllByRecursion, enumerate_from}
@@ -12,13 +12,13 @@ use Rattle.jb_job.specs.declared.job.Range.{Range}
 use Rattle.jb_artifacts.specs.Meaning.{Workplace}
 use Rattle.jb_plan.specs.Plans.{IsWithin}
 use Rattle.jb_plan.specs.Ranges.{AreDisjoint, HaveNoneInCommon}
+use Rattle.jb_rules.specs.Rows.{range_of}
 use Rattle.jb_rules.specs.declared.row.Row.{Row}
 use Rattle.jb_step.specs.Setup.{needs, unfinished}
 use Rattle.batchrun.specs.declared.run.settings.StepSettings.{StepSettings}
-use Rattle.batchrun.specs.PartitionRun.{records_in, workplace_of}
-use Rattle.batchrun.specs.StepRun.{range_of, work_for}
+use Rattle.batchrun.specs.PartitionRun.{held_by, records_in, work_for, workplace_of}
 
--- the row of one that has records is the step's, and its records are there
+-- the row of an unfinished one is the step's, and its records are there
 pub record Stands (rows : List Row) (records : ℕ) (n : ℕ × Row) : Type 0 where
   pub row : slice_get rows n.0 ≡ Some n.1
   pub within : IsWithin records (range_of n.1)
@@ -57,7 +57,7 @@ all-apart rows disjoint i j d before within =
 pub unfinished-apart : (rows : List Row) → AreDisjoint (map range_of rows) → AllPairs AreApart (unfinished rows)
 unfinished-apart rows disjoint = AllPairs-filter AreApart _ (enumerate_from 0 rows) (all-apart rows disjoint)
 
--- ---- the partitions with records, one after another
+-- ---- the unfinished partitions, one after another
 
 at-place : (ns : List (ℕ × Row)) (k p : ℕ) → slice_get (map (λ n. n.0) ns) k ≡ Some p → (row : Row) × (slice_get ns k ≡ Some (p, row))
 at-place [] k p h = absurd (cc h)
@@ -69,7 +69,7 @@ pub record IsNext (rows : List Row) (records k p : ℕ) (row : Row) : Type 0 whe
   pub place : slice_get (unfinished rows) k ≡ Some (p, row)
   pub stands : Stands rows records (p, row)
 
--- a partition read from the list of those with records
+-- a partition read from the list of the unfinished
 pub listed-at : (ps qs : List ℕ) (k p : ℕ) → (true ≡ nat_lt k (length ps)) × (p ≡ slice_index_or ps k p) → ps ≡ qs → slice_get qs k ≡ Some p
 listed-at ps qs k p read same =
     let below : k < length ps = grind (arith, nat_tests, read.0) in
@@ -94,18 +94,18 @@ next-row rows records k p row within h is =
     subst (IsNext rows records k p) same next.1
 
 -- the records of the later ones stay where those of this one leave
-kept-behind : (settings : StepSettings) (old now : List (List ℕ)) (range : Range) (ns : List (ℕ × Row))
+kept-behind : (settings : StepSettings) (outputs : List (List (List ℕ))) (old now : List (List ℕ)) (range : Range) (ns : List (ℕ × Row))
     → AllByRecursion (λ m. HaveNoneInCommon range (range_of m.1)) ns → ((other : Range) → HaveNoneInCommon range other → records_in now other ≡ records_in old other)
-    → map (work_for settings now) ns ≡ map (work_for settings old) ns
-kept-behind settings old now range [] apart others = refl
-kept-behind settings old now range (m ∷ ns) apart others =
+    → map (work_for settings now outputs) ns ≡ map (work_for settings old outputs) ns
+kept-behind settings outputs old now range [] apart others = refl
+kept-behind settings outputs old now range (m ∷ ns) apart others =
     let same = others (range_of m.1) apart.0 in
-    (λ i. workplace_of settings (same i) (range_of m.1) ∷ kept-behind settings old now range ns apart.1 others i)
+    (λ i. workplace_of settings (same i) (held_by outputs m.0) (range_of m.1) ∷ kept-behind settings outputs old now range ns apart.1 others i)
 
-pub works-more : (settings : StepSettings) (rows : List Row) (old now : List (List ℕ)) (records k p : ℕ) (row : Row) → AreDisjoint (map range_of rows) → IsNext rows records k p row
+pub works-more : (settings : StepSettings) (outputs : List (List (List ℕ))) (rows : List Row) (old now : List (List ℕ)) (records k p : ℕ) (row : Row) → AreDisjoint (map range_of rows) → IsNext rows records k p row
     → ((other : Range) → HaveNoneInCommon (range_of row) other → records_in now other ≡ records_in old other)
-    → map (work_for settings old) (drop k (unfinished rows)) ≡ work_for settings old (p, row) ∷ map (work_for settings now) (drop (k + 1) (unfinished rows))
-works-more settings rows old now records k p row disjoint next others =
+    → map (work_for settings old outputs) (drop k (unfinished rows)) ≡ work_for settings old outputs (p, row) ∷ map (work_for settings now outputs) (drop (k + 1) (unfinished rows))
+works-more settings outputs rows old now records k p row disjoint next others =
     let ns = unfinished rows in
     let n : ℕ × Row = (p, row) in
     let inside : k < length ns = slice_get_within ns k n next.place in
@@ -115,8 +115,8 @@ works-more settings rows old now records k p row disjoint next others =
     let first : get_or ns k d ≡ n = get_or_from_slice_get ns k n d next.place in
     subst (λ m. HaveNoneInCommon (range_of row) (range_of m.1)) (sym (get_or-drop (k + 1) ns j d))
     (subst (λ m. AreApart m (get_or ns (k + 1 + j) d)) first (unfinished-apart rows disjoint k (k + 1 + j) d (omega arith) past)) in
-    ap (map (work_for settings old)) (drop_more ns k n inside ∙ ap (λ m. m ∷ drop (k + 1) ns) here)
-    ∙ ap (λ ws. work_for settings old n ∷ ws) (sym (kept-behind settings old now (range_of row) (drop (k + 1) ns) (recursion_from_All _ (drop (k + 1) ns) apart) others))
+    ap (map (work_for settings old outputs)) (drop_more ns k n inside ∙ ap (λ m. m ∷ drop (k + 1) ns) here)
+    ∙ ap (λ ws. work_for settings old outputs n ∷ ws) (sym (kept-behind settings outputs old now (range_of row) (drop (k + 1) ns) (recursion_from_All _ (drop (k + 1) ns) apart) others))
 
 -- one partition's artifacts more, before those of the later ones
 pub works-added : {A : Type 0} (work : A → Workplace) (all pushed : List A) (own : A) (rest whole : List Workplace) → pushed ≡ all ++ own ∷ [] → whole ≡ work own ∷ rest

@@ -1,7 +1,9 @@
--- The command line of the program, and what it asks for (own choice: one word with no argument, `help` with a word if need be, or
--- one of the usual options for help and the version).
-use Rattle.std.specs.Prelude.{◌≡◌, ◌≢◌, ◌⊎◌, ◌+◌, ◌<◌, ◌≤◌, ℕ, List, [], take, true, Option, Some, None, option_map, option_and_then, slice_get, codes, bytes_eq, string_bytes, if◌then◌else◌, IsSomeAnd}
-use Rattle.clap.specs.Words.{App, IsAmong, Row, Shape, Text, fault_of, first_of, new_app, new_rule, subcommand_of, with_rule, with_subcommand}
+-- The command line of the program, and what it asks for (own choice: one word, of which `run` and `restart` take a number of
+-- rounds, `help` with a word if need be, or one of the usual options for help and the version).
+use Rattle.std.specs.Prelude.{◌≡◌, ◌≢◌, ◌⊎◌, ◌+◌, ◌<◌, ◌≤◌, ◌-◌, ◌*◌, ℕ, List, [], ◌∷◌, ◌++◌, length, take, nat_le, true, Option, Some, None, option_map, option_and_then, slice_get, codes, bytes_eq, string_bytes, if◌then◌else◌, IsSomeAnd}
+use Rattle.std.specs.Char.{is_ascii_digit}
+use Rattle.clap.specs.Words.{App, IsAmong, Row, Rule, Shape, Text, fault_of, first_of, new_app, new_rule, subcommand_of, with_rule, with_subcommand}
+use Rattle.clap.specs.declared.builder.action.ArgAction.TheVariants.{Set}
 use Rattle.clap.specs.declared.error.kind.ErrorKind.{ErrorKind}
 use Rattle.clap.specs.declared.error.kind.ErrorKind.TheVariants.{DisplayHelp, DisplayVersion}
 use Rattle.batchrun.specs.declared.words.fault.UsageFault.{UsageFault}
@@ -9,7 +11,7 @@ use Rattle.batchrun.specs.declared.words.fault.UsageFault.TheVariants as usage
 use Rattle.batchrun.specs.declared.words.request.Request.{Request}
 use Rattle.batchrun.specs.declared.words.request.Request.TheVariants.{Help, Version, Work}
 use Rattle.batchrun.specs.declared.words.request.Word.{Word}
-use Rattle.batchrun.specs.declared.words.request.Word.TheVariants.{Run, Plan, Check}
+use Rattle.batchrun.specs.declared.words.request.Word.TheVariants.{Run, Restart, Plan, Check}
 
 -- ---- the words and options that there are
 
@@ -21,25 +23,55 @@ program = record (new_app (codes "batchrun")) { top = record (new_app (codes "ba
 abbrev pub word_app : Text → Shape
 word_app name = (new_app name).top
 
+-- the option `--rounds`, which takes a number
+abbrev pub rounds_rule : Rule
+rounds_rule = record (new_rule (codes "rounds")) { long = Some (codes "rounds"); action = Some Set }
+
+-- a word that takes a number of rounds
+abbrev pub limited_app : Text → Shape
+limited_app name = (with_rule (new_app name) rounds_rule).top
+
 -- `help`, which takes a word
 abbrev pub help_app : Shape
 help_app = (with_rule (new_app (codes "help")) (new_rule (codes "word"))).top
 
--- `batchrun run`, `batchrun plan`, `batchrun check` and `batchrun help`
+-- `batchrun run`, `batchrun restart`, `batchrun plan`, `batchrun check` and `batchrun help`
 abbrev pub app : App
-app = with_subcommand (with_subcommand (with_subcommand (with_subcommand program (word_app (codes "run"))) (word_app (codes "plan"))) (word_app (codes "check"))) help_app
+app = with_subcommand (with_subcommand (with_subcommand (with_subcommand (with_subcommand program (limited_app (codes "run"))) (limited_app (codes "restart"))) (word_app (codes "plan"))) (word_app (codes "check"))) help_app
 
 -- the words that do something with a document
 abbrev pub word_in : Text → Option Word
 word_in name = if bytes_eq name (codes "run") then Some Run
+    else (if bytes_eq name (codes "restart") then Some Restart
     else (if bytes_eq name (codes "plan") then Some Plan
-    else (if bytes_eq name (codes "check") then Some Check else None))
+    else (if bytes_eq name (codes "check") then Some Check else None)))
+
+-- ---- the number of rounds
+
+-- the most rounds that a line may ask for
+abbrev pub max_rounds : ℕ
+max_rounds = 1000000000
+
+-- a number, and decimal digits behind it, give a number up to the most
+abbrev pub rounds_from : ℕ → Text → Option ℕ
+rounds_from n [] = if nat_le n max_rounds then Some n else None
+rounds_from n (digit ∷ digits) = if is_ascii_digit digit then rounds_from (n * 10 + (digit - 48)) digits else None
+
+-- a number of rounds: one decimal digit or more
+abbrev pub rounds_in : Text → Option ℕ
+rounds_in [] = None
+rounds_in (digit ∷ digits) = rounds_from 0 (digit ∷ digits)
 
 -- ---- what they ask for
 
--- a word by itself, which is told nothing more so far
-abbrev pub work_in : Text → Option Request
-work_in name = option_map (λ word. Work (record { word = word; rounds = None })) (word_in name)
+-- a word by itself, or with its number of rounds
+abbrev pub line_in : Word → (given : Option Text) → Option Request
+line_in word None = Some (Work (record { word = word; rounds = None }))
+line_in word (Some text) = option_map (λ n. Work (record { word = word; rounds = Some n })) (rounds_in text)
+
+-- a word's name, and the number of rounds that is given
+abbrev pub work_in : Text → (given : Option Text) → Option Request
+work_in name given = option_and_then (λ word. line_in word given) (word_in name)
 
 -- `help` alone tells of the program, and with a word of that word
 abbrev pub topic_in : Option Text → Option Request
@@ -50,7 +82,7 @@ topic_in (Some name) = option_map (λ word. Help (Some word)) (word_in name)
 abbrev pub request_in : Option (Text × List Row) → Option Request
 request_in None = None
 request_in (Some found) = if bytes_eq found.0 (codes "help") then topic_in (first_of (codes "word") found.1)
-    else work_in found.0
+    else work_in found.0 (first_of (codes "rounds") found.1)
 
 -- `clap` takes the words, and its matches of them ask for this
 abbrev pub AreTakenAs : List Text → Option Request → Type 0
@@ -76,13 +108,22 @@ AreUnknown words = AreTakenAs words None ⊎ ((kind : ErrorKind) × EndIn words 
 
 -- ---- which word is wrong
 
--- The words ask for nothing, and this is the first one up to which they do so.
+-- They ask for something, or would if a number stood behind them.
+abbrev pub CanGoOn : List Text → Type 0
+CanGoOn words = (request : Request) × (Asks words request ⊎ Asks (words ++ codes "0" ∷ []) request)
+
+-- They ask for nothing, whether or not a number stands behind them.
+abbrev pub CannotGoOn : List Text → Type 0
+CannotGoOn words = AreUnknown words × AreUnknown (words ++ codes "0" ∷ [])
+
+-- The words ask for nothing, and this is the first one up to which no number behind them would help; where each of them can
+-- go on, it is the last, whose number is missing.
 pub record IsWrongWord (words : List Text) (word : Text) : Type 0 where
   pub unknown : AreUnknown words
   pub place : ℕ
   pub is_there : slice_get words place ≡ Some word
-  pub before : (n : ℕ) → 0 < n → n ≤ place → (request : Request) × Asks (take n words) request
-  pub up_to : AreUnknown (take (place + 1) words)
+  pub before : (n : ℕ) → 0 < n → n ≤ place → CanGoOn (take n words)
+  pub up_to : CannotGoOn (take (place + 1) words) ⊎ (place + 1 ≡ length words)
 
 -- what is wrong with the words of the process; there are none to speak of where one is no text
 abbrev pub IsWrong : UsageFault → Option (List Text) → Type 0

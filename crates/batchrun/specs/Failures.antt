@@ -22,13 +22,14 @@ IsCutShort request input old new = Keeps old new ⊎ IsAnswerFront request input
 
 -- A word refuses the bytes, and nothing is written.
 abbrev pub IsRefused : (words : Option (List Text)) → (input old new : Option (List ℕ)) → Failure → Type 0
-IsRefused words input old new e = (line : Line) × IsAsked words (Work line) × IfSome input (IsRefusedBy line.word e) × Keeps old new
+IsRefused words input old new e = (line : Line) × IsAsked words (Work line) × IfSome input (IsRefusedBy line.word line.rounds e) × Keeps old new
 
 -- Why there is no answer. Only where a stream failed may the writer hold anything, and that is the front of the answer.
 abbrev pub HasFailed : (words : Option (List Text)) → (input old new : Option (List ℕ)) → Failure → Type 0
 HasFailed words input old new (failure.Usage fault) = IsWrong fault words × Keeps old new
 HasFailed words input old new (failure.Document fault) = IsRefused words input old new (failure.Document fault)
 HasFailed words input old new (failure.Plan error) = IsRefused words input old new (failure.Plan error)
+HasFailed words input old new (failure.Saved place) = IsRefused words input old new (failure.Saved place)
 HasFailed words input old new failure.Memory = Keeps old new
 HasFailed words input old new failure.Workers = Keeps old new
 HasFailed words input old new (failure.Repository partition) = Keeps old new

@@ -9,6 +9,7 @@ pub mod PartitionRun
 pub mod PlanWord
 pub mod ProcessWords
 pub mod Refusals
+pub mod RestartWord
 pub mod RunWord
 pub mod Statuses
 pub mod StepRun

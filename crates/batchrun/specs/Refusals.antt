@@ -33,9 +33,11 @@ IsFailure failure.Memory = Unit
 IsFailure failure.Stream = Unit
 IsFailure _ = ⊥
 
--- run: also a fault of a step's partition plan, a worker that can't be started, or a repository that isn't the step's own
+-- run and restart: also a fault of a step's partition plan or of the saved rows, a worker that can't be started, or a
+-- repository that isn't the step's own
 abbrev pub IsRunFailure : Failure → Type 0
 IsRunFailure (failure.Plan _) = Unit
+IsRunFailure (failure.Saved _) = Unit
 IsRunFailure failure.Workers = Unit
 IsRunFailure (failure.Repository _) = Unit
 IsRunFailure e = IsFailure e

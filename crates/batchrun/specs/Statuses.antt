@@ -4,15 +4,18 @@ use Rattle.jb_job.specs.declared.error.JobError.{JobError}
 use Rattle.jb_job.specs.declared.error.JobError.TheVariants as fault
 use Rattle.jb_plan.specs.declared.fault.PlanError.{PlanError}
 use Rattle.jb_plan.specs.declared.fault.PlanError.TheVariants as plan_fault
+use Rattle.jb_documents.specs.declared.restart.fault.RestartFault.{RestartFault}
+use Rattle.jb_documents.specs.declared.restart.fault.RestartFault.TheVariants as restart_fault
 use Rattle.batchrun.specs.declared.words.fault.LineFault.{LineFault}
 use Rattle.batchrun.specs.declared.words.fault.LineFault.TheVariants as line_fault
 use Rattle.batchrun.specs.declared.streams.failure.Failure.{Failure}
 use Rattle.batchrun.specs.declared.streams.failure.Failure.TheVariants as failure
 
--- 3 where the document or a plan is refused, 4 for memory, workers, the repository and streams, 5 for the command line
+-- 3 where the document, a plan or the saved rows are refused, 4 for memory, workers, the repository and streams, 5 for the command line
 abbrev pub failure_code : Failure → ℕ
 failure_code (failure.Document f) = 3
 failure_code (failure.Plan f) = 3
+failure_code (failure.Saved place) = 3
 failure_code failure.Memory = 4
 failure_code failure.Workers = 4
 failure_code (failure.Repository partition) = 4
@@ -42,3 +45,8 @@ plan_failure plan_fault.Threads = failure.Plan plan_fault.Threads
 abbrev pub line_failure : LineFault → Failure
 line_failure (line_fault.Usage fault) = failure.Usage fault
 line_failure line_fault.Memory = failure.Memory
+
+-- the failure that a fault of a document of `restart` is
+abbrev pub restart_failure : RestartFault → Failure
+restart_failure (restart_fault.Document f) = failure_of f
+restart_failure (restart_fault.Saved place) = failure.Saved place

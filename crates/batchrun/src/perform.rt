@@ -9,8 +9,8 @@ ghost use Rattle.batchrun.specs.ProcessWords.{process_words};
 
 use crate::streams::{Failure, write_failure};
 use crate::words::{
-    Request, Word, arguments, line_of, run, run_check, run_plan, words_after_name, write_help,
-    write_version,
+    Request, Word, arguments, line_of, restart, run, run_check, run_plan, words_after_name,
+    write_help, write_version,
 };
 use std::alloc::Global;
 use std::env::Args;
@@ -36,7 +36,8 @@ fn answer_words<'a, T: Threads + Wait + Sync, R: Read, W: Write>(
         Request::Help(topic) => write_help(topic, writer),
         Request::Version => write_version(writer),
         Request::Work(line) => match line.word {
-            Word::Run => run(rt, alloc, reader, writer),
+            Word::Run => run(rt, alloc, line.rounds, reader, writer),
+            Word::Restart => restart(rt, alloc, line.rounds, reader, writer),
             Word::Plan => run_plan(alloc, reader, writer),
             Word::Check => run_check(alloc, reader, writer),
         },
@@ -76,8 +77,9 @@ fn status_of<F: Write>(answer: Result<u8, Failure>, fault_writer: &mut F) -> u8
 }
 
 /// Does what the process's arguments ask, and gives the exit status: 0, 1 and 2 for an answer, which the writer then holds; 3
-/// where the document or a step's partition plan is refused, by its first fault; 4 where there is no memory or no worker, the
-/// repository isn't the step's own, or a stream fails; 5 where the words ask for nothing. What is wrong is written to the fault writer.
+/// where the document, a step's partition plan or its saved rows are refused, by its first fault; 4 where there is no memory or
+/// no worker, the repository isn't the step's own, or a stream fails; 5 where the words ask for nothing. What is wrong is written
+/// to the fault writer.
 pub fn perform<T: Threads + Wait + Sync, R: Read, W: Write, F: Write>(
     rt: &T,
     alloc: Global,

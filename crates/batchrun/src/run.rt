@@ -5,7 +5,7 @@
 //! - `preparing`: what it begins with, by its partition plan.
 //! - `settings`: what the partitions of a step have in common.
 //! - `artifacts`: what each of them works with.
-//! - `records`, `fault_plans`: what a partition's artifacts are made from.
+//! - `records`, `fault_plans`, `held`: what a partition's artifacts are made from.
 //! - `callbacks`: what hears of the run, and keeps its calls.
 //! - `told`: the report of a step that was run.
 //! - `laws`: what the crates below say of partitions.
@@ -13,6 +13,7 @@
 mod artifacts;
 mod callbacks;
 mod fault_plans;
+mod held;
 mod job;
 mod laws;
 mod preparing;
@@ -22,4 +23,4 @@ mod settings;
 mod step;
 mod told;
 
-pub use job::run_job;
+pub use job::{restart_job, run_job};

@@ -4,7 +4,7 @@
 //! - `request`, `line`: what they ask for.
 //! - `fault`: why they ask for nothing.
 //! - `help`: what the program says of itself.
-//! - `run`, `plan`, `check`: the words.
+//! - `run`, `restart`, `plan`, `check`: the words.
 
 mod check;
 mod fault;
@@ -13,6 +13,7 @@ mod line;
 mod plan;
 mod process;
 mod request;
+mod restart;
 mod run;
 
 pub use check::run_check;
@@ -22,4 +23,5 @@ pub use line::line_of;
 pub use plan::run_plan;
 pub use process::{arguments, words_after_name};
 pub use request::{Line, Request, Word};
+pub use restart::restart;
 pub use run::run;

@@ -2,11 +2,8 @@
 use Rattle.std.specs.Prelude.{ℕ, List, [], ◌∷◌, ◌++◌, map, length, codes}
 use Rattle.std.specs.List.{range_with_len}
 use Rattle.std.specs.Str.Lossy.{utf8_lossy}
-use Rattle.serde_json.specs.Data.{Data, number, unsigned, string, array, object, member, no_members}
-use Rattle.serde_json.specs.View.{items_of}
+use Rattle.serde_json.specs.Data.{Data, string, object, member, no_members}
 use Rattle.serde_json.specs.Written.{compact_text}
-use Rattle.jb_rules.specs.declared.row.RowState.{RowState}
-use Rattle.jb_rules.specs.declared.row.RowState.TheVariants as state
 use Rattle.jb_rules.specs.declared.row.Row.{Row}
 use Rattle.jb_cert.specs.Texts.{certificate_text}
 use Rattle.jb_collect.specs.declared.calls.AnalyzerCall.{AnalyzerCall}
@@ -15,6 +12,7 @@ use Rattle.jb_collect.specs.declared.calls.ReducerCall.{ReducerCall}
 use Rattle.jb_collect.specs.declared.calls.ReducerCall.TheVariants.{Begin, Before, Rollback, After}
 use Rattle.jb_collect.specs.declared.calls.PartitionStatus.TheVariants as end
 use Rattle.jb_collect.specs.declared.calls.Status.{Status}
+use Rattle.jb_saved.specs.SavedTree.{list_tree, number_tree, saved_tree}
 use Rattle.jb_step.specs.declared.notes.PlanNote.{PlanNote}
 use Rattle.jb_step.specs.Parts.{calls_about}
 use Rattle.jb_texts.specs.Statuses.{status_name}
@@ -40,29 +38,6 @@ pub record Report : Type 0 where
   pub steps : List StepReport
 
 -- ---- the tree
-
--- No row of a report runs: each chunk has ended.
-abbrev pub state_name : RowState → List ℕ
-state_name state.Waiting = codes "waiting"
-state_name (state.Running lane) = codes "running"
-state_name state.Finished = codes "done"
-state_name state.Failed = codes "failed"
-
-abbrev pub list_tree : List Data → Data
-list_tree ds = array (items_of ds)
-
-abbrev pub number_tree : ℕ → Data
-number_tree n = number (unsigned n)
-
--- the fourteen numbers of a row and its state
-abbrev pub row_tree : Row → Data
-row_tree r = list_tree (number_tree r.lo ∷ number_tree r.hi ∷ number_tree r.at ∷ number_tree r.redo ∷ number_tree r.retries ∷ number_tree r.written
-    ∷ number_tree r.counts.read ∷ number_tree r.counts.write ∷ number_tree r.counts.commit ∷ number_tree r.counts.rollback
-    ∷ number_tree r.counts.read_skip ∷ number_tree r.counts.process_skip ∷ number_tree r.counts.filter ∷ number_tree r.counts.write_skip
-    ∷ string (state_name r.state) ∷ [])
-
-abbrev pub rows_tree : List Row → Data
-rows_tree rows = list_tree (map row_tree rows)
 
 abbrev pub texts_tree : List (List ℕ) → Data
 texts_tree ts = list_tree (map string ts)
@@ -106,7 +81,7 @@ step_tree s = object
     (member (codes "outputs") (outputs_tree s.partitions)
     (member (codes "plans") (plans_tree s.plans)
     (member (codes "reducer") (reducer_tree s.reducer)
-    (member (codes "rows") (rows_tree (map (λ p. p.row) s.partitions))
+    (member (codes "saved") (saved_tree (record { step = s.id; rows = map (λ p. p.row) s.partitions }))
     (member (codes "status") (string (status_name s.status))
     (member (codes "step") (string s.id) no_members)))))))
 

@@ -8,9 +8,10 @@ use Rattle.jb_rules.specs.declared.row.Row.{Row}
 use Rattle.jb_collect.specs.declared.calls.AnalyzerCall.{AnalyzerCall}
 use Rattle.jb_collect.specs.declared.calls.ReducerCall.{ReducerCall}
 use Rattle.jb_collect.specs.declared.calls.Status.{Status}
+use Rattle.jb_saved.specs.SavedTree.{saved_tree}
 use Rattle.jb_step.specs.declared.notes.PlanNote.{PlanNote}
 use Rattle.jb_texts.specs.Statuses.{status_name}
-use Rattle.jb_texts.specs.Report.{PartitionReport, StepReport, heard_tree, plans_tree, reducer_tree, rows_tree, texts_tree}
+use Rattle.jb_texts.specs.Report.{PartitionReport, StepReport, heard_tree, plans_tree, reducer_tree, texts_tree}
 
 -- the tokens of a tree
 abbrev pub tokens_of : Data → List Token
@@ -27,7 +28,7 @@ outputs_tokens partitions = flat_map (λ p. tokens_of (texts_tree p.outputs)) pa
 abbrev pub step_tail : List Row → List PlanNote → List ReducerCall → Status → (id : List ℕ) → List Token
 step_tail rows plans reducer status id = end_array ∷ key (codes "plans") ∷ (tokens_of (plans_tree plans)
     ++ key (codes "reducer") ∷ (tokens_of (reducer_tree reducer)
-    ++ key (codes "rows") ∷ (tokens_of (rows_tree rows)
+    ++ key (codes "saved") ∷ (tokens_of (saved_tree (record { step = id; rows = rows }))
     ++ key (codes "status") ∷ string (status_name status) ∷ key (codes "step") ∷ string id ∷ end_object ∷ [])))
 
 abbrev pub step_tokens : StepReport → List Token

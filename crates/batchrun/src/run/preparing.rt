@@ -3,18 +3,17 @@
 ghost use Rattle.std.specs.Prelude.{◌≡◌, ◌≤◌, ◌⊎◌, ◌++◌, ◌∷◌, [], Ok, IfErr, IfOk, OnOk};
 ghost use Rattle.jb_collect.specs.declared.calls.ReducerCall.TheVariants.{Begin};
 ghost use Rattle.jb_job.specs.Limits.{max_records};
-ghost use Rattle.jb_plan.specs.Faults.{IsFirst, plan_errors};
 ghost use Rattle.jb_plan.specs.Plans.{IsRunnable};
-ghost use Rattle.jb_plan.specs.declared.fault.PlanError.{PlanError};
+ghost use Rattle.jb_step.specs.Setup.{IsSetup, saved_faults};
 ghost use Rattle.batchrun.specs.JobRun.{plan_for};
-ghost use Rattle.batchrun.specs.StepRun.{setup_with};
+ghost use Rattle.batchrun.specs.StepRun.{IsNotBegun, setup_with};
 
 use crate::run::callbacks::Recorder;
 use crate::streams::Failure;
 use jb_job::{Ranges, Step};
 use jb_mapper::{EvenMapper, FixedMapper, PartitionMapper};
 use jb_plan::PartitionPlan;
-use jb_step::{Prepared, StepError, prepare};
+use jb_step::{Prepared, Saved, StepError, prepare};
 use std::alloc::{AllocError, Global};
 
 fn copied(alloc: Global, ranges: &Ranges) -> Result<Ranges, AllocError>
@@ -30,37 +29,44 @@ fn prepared_by(
     step: &Step,
     records: u64,
     mapper: &mut dyn PartitionMapper,
+    saved: Option<Saved>,
     reducer: &mut Recorder,
 ) -> Result<Prepared, Failure>
     requires few { records ≤ max_records }
     requires mapped { mapping mapper.old records ≡ Ok (plan_for step.now.spec records) }
     ensures runnable { OnOk result (IsRunnable records (plan_for step.now.spec records)) }
-    ensures prepared { IfOk result (λ prepared. prepared ≡ setup_with step.now (plan_for step.now.spec records)) }
+    ensures accepted { OnOk result (saved_faults step.now records step.now.spec.replace saved ≡ []) }
+    ensures prepared { IfOk result (λ prepared. prepared ≡ setup_with step.now (plan_for step.now.spec records) saved) }
+    ensures setup { IfOk result (λ prepared. IsSetup prepared) }
     ensures begun { OnOk result (reducer.new ≡ reducer.old ++ Begin ∷ []) }
-    ensures why { IfErr result (λ e. (e ≡ Failure.Memory) ⊎ ((fault : PlanError) × (e ≡ Failure.Plan fault) × IsFirst fault (plan_errors records (plan_for step.now.spec records)))) }
+    ensures why { IfErr result (λ e. (e ≡ Failure.Memory) ⊎ IsNotBegun step.now records (plan_for step.now.spec records) saved e) }
 {
-    match prepare(alloc, step, records, mapper, reducer, None) {
+    match prepare(alloc, step, records, mapper, reducer, saved) {
         Ok(prepared) => Ok(prepared),
         Err(error) => match error {
             StepError::Plan(fault) => Err(Failure::from(fault)),
+            StepError::Saved(place) => Err(Failure::Saved(place)),
             StepError::Memory => Err(Failure::Memory),
             _ => unreachable!(),
         },
     }
 }
 
-/// Prepares a step with so many records: with its own ranges, or with even ones.
+/// Prepares a step with so many records: with its own ranges, or with even ones, or with the rows of an earlier run.
 pub fn prepared_step(
     alloc: Global,
     step: &Step,
     records: u64,
+    saved: Option<Saved>,
     reducer: &mut Recorder,
 ) -> Result<Prepared, Failure>
     requires few { records ≤ max_records }
     ensures runnable { OnOk result (IsRunnable records (plan_for step.now.spec records)) }
-    ensures prepared { IfOk result (λ prepared. prepared ≡ setup_with step.now (plan_for step.now.spec records)) }
+    ensures accepted { OnOk result (saved_faults step.now records step.now.spec.replace saved ≡ []) }
+    ensures prepared { IfOk result (λ prepared. prepared ≡ setup_with step.now (plan_for step.now.spec records) saved) }
+    ensures setup { IfOk result (λ prepared. IsSetup prepared) }
     ensures begun { OnOk result (reducer.new ≡ reducer.old ++ Begin ∷ []) }
-    ensures why { IfErr result (λ e. (e ≡ Failure.Memory) ⊎ ((fault : PlanError) × (e ≡ Failure.Plan fault) × IsFirst fault (plan_errors records (plan_for step.now.spec records)))) }
+    ensures why { IfErr result (λ e. (e ≡ Failure.Memory) ⊎ IsNotBegun step.now records (plan_for step.now.spec records) saved e) }
 {
     let spec = step.spec();
     match spec.ranges() {
@@ -71,7 +77,7 @@ pub fn prepared_step(
                 spec.threads(),
                 spec.replace(),
             );
-            prepared_by(alloc, step, records, &mut mapper, reducer)
+            prepared_by(alloc, step, records, &mut mapper, saved, reducer)
         }
         Some(ranges) => {
             let mut mapper = FixedMapper::new(PartitionPlan {
@@ -79,7 +85,7 @@ pub fn prepared_step(
                 threads: spec.threads(),
                 replace: spec.replace(),
             });
-            prepared_by(alloc, step, records, &mut mapper, reducer)
+            prepared_by(alloc, step, records, &mut mapper, saved, reducer)
         }
     }
 }

@@ -1,6 +1,6 @@
 //! The rounds of a step, on a desk of its own.
 
-ghost use Rattle.std.specs.Prelude.{◌≡◌, ◌++◌, false, map, None, IfErr, IfOk};
+ghost use Rattle.std.specs.Prelude.{◌≡◌, ◌++◌, false, map, IfErr, IfOk};
 ghost use Rattle.jb_collect.specs.Reduced.{calls_after};
 ghost use Rattle.jb_collect.specs.Taken.{well};
 ghost use Rattle.jb_step.specs.Ending.{IsRunError, IsRunOfStep, given_back, tasks_left};
@@ -42,13 +42,15 @@ fn run_failure(error: StepError) -> Failure
     }
 }
 
-/// Runs the rounds of a prepared step on a desk of its own. `blank` is a ledger's with 1,000,000,000,000 parts.
+/// Runs the rounds of a prepared step on a desk of its own, in no more rounds than the limit. `blank` is a ledger's with
+/// 1,000,000,000,000 parts.
 pub fn run_rounds<T: Threads + Wait + Sync, L: Ledger + Send + Sync + 'static>(
     rt: &T,
     alloc: Global,
     blank: Blank,
     prepared: Prepared,
     artifacts: Vec<OwnArtifacts>,
+    round_limit: Option<u64>,
     listener: &mut Listener,
     recorder: &mut Recorder,
 ) -> Result<StepEnd<OwnArtifacts>, Failure>
@@ -56,7 +58,7 @@ pub fn run_rounds<T: Threads + Wait + Sync, L: Ledger + Send + Sync + 'static>(
     requires parts { blank.parts ≡ L.parts }
     requires all { blank.parts ≡ 1000000000000 }
     requires fit { DoFit prepared (map ⟦<OwnArtifacts as Meaning>⟧.workplace artifacts.items) }
-    ensures ran { IfOk result (λ end. IsRunOfStep prepared (map ⟦<OwnArtifacts as Meaning>⟧.workplace artifacts.items) None
+    ensures ran { IfOk result (λ end. IsRunOfStep prepared (map ⟦<OwnArtifacts as Meaning>⟧.workplace artifacts.items) round_limit
         (map well listener.old) (map well listener.new) end.plans.items end.snapshot (given_back ⟦<OwnArtifacts as Meaning>⟧.workplace end.artifacts.items)) }
     ensures on_the_way { IfOk result (λ end. AreOnTheWay (first_tasks prepared (map ⟦<OwnArtifacts as Meaning>⟧.workplace artifacts.items))
         (tasks_left prepared end.snapshot (given_back ⟦<OwnArtifacts as Meaning>⟧.workplace end.artifacts.items))) }
@@ -66,7 +68,15 @@ pub fn run_rounds<T: Threads + Wait + Sync, L: Ledger + Send + Sync + 'static>(
 {
     let desk = prepared.desk::<L>(alloc, blank)?;
     match jb_step::run_step::<Task<OwnArtifacts>, L, NoGate, T>(
-        rt, alloc, &desk, prepared, artifacts, listener, recorder, None, &NoGate,
+        rt,
+        alloc,
+        &desk,
+        prepared,
+        artifacts,
+        listener,
+        recorder,
+        round_limit,
+        &NoGate,
     ) {
         Ok(end) => Ok(end),
         Err(error) => Err(run_failure(error)),

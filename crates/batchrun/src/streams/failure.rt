@@ -6,8 +6,10 @@ ghost use Rattle.batchrun.specs.FailureText.{failure_text};
 ghost use Rattle.batchrun.specs.Statuses.{failure_code};
 
 use crate::words::{LineFault, UsageFault};
+use jb_documents::RestartFault;
 use jb_job::JobError;
 use jb_plan::PlanError;
+use jb_saved::SavedPlace;
 use std::alloc::{AllocError, AllocFailed};
 use std::io::Write;
 use std::{fmt, io};
@@ -21,6 +23,8 @@ pub enum Failure {
     Document(JobError),
     /// The partition plan of a step has this fault.
     Plan(PlanError),
+    /// What of the saved rows is refused.
+    Saved(SavedPlace),
     /// There was no memory.
     Memory,
     /// A worker could not be started.
@@ -32,13 +36,14 @@ pub enum Failure {
 }
 
 impl Failure {
-    /// The exit status: 3 where the document or a plan is refused, 4 for memory, workers, the repository and streams, 5 for the command line.
+    /// The exit status: 3 where the document, a plan or the saved rows are refused, 4 for memory, workers, the repository and
+    /// streams, 5 for the command line.
     pub fn status(&self) -> u8
         ensures code { result ≡ failure_code self.now }
         ensures range { (3 ≤ result) × (result ≤ 5) }
     {
         match self {
-            Failure::Document(_) | Failure::Plan(_) => 3,
+            Failure::Document(_) | Failure::Plan(_) | Failure::Saved(_) => 3,
             Failure::Memory | Failure::Workers | Failure::Repository(_) | Failure::Stream => 4,
             Failure::Usage(_) => 5,
         }
@@ -58,6 +63,7 @@ impl fmt::Display for Failure {
             Failure::Usage(fault) => write!(f, "{fault}"),
             Failure::Document(fault) => write!(f, "refused: {fault}\n"),
             Failure::Plan(error) => write!(f, "refused: {error}\n"),
+            Failure::Saved(place) => write!(f, "refused: Saved({place})\n"),
             Failure::Memory => f.write_str("no memory\n"),
             Failure::Workers => f.write_str("no worker\n"),
             Failure::Repository(partition) => write!(f, "repository {partition}\n"),
@@ -123,6 +129,20 @@ impl From<JobError> for Failure {
         match fault {
             JobError::Memory => Failure::Memory,
             fault => Failure::Document(fault),
+        }
+    }
+}
+
+impl From<RestartFault> for Failure {
+    ghost use Rattle.std.specs.Prelude.{◌≡◌};
+    ghost use Rattle.batchrun.specs.Statuses.{restart_failure};
+
+    ghost from_gives = { λ fault failure. failure ≡ restart_failure fault };
+
+    fn from(fault: RestartFault) -> Failure {
+        match fault {
+            RestartFault::Document(fault) => Failure::from(fault),
+            RestartFault::Saved(place) => Failure::Saved(place),
         }
     }
 }

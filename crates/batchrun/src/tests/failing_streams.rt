@@ -6,11 +6,17 @@ use crate::perform::perform;
 /// A word, its document, what it prints and its status.
 type Row = (&'static str, &'static str, &'static str, u8);
 
-const ROWS: [Row; 3] = [
+const ROWS: [Row; 4] = [
     (
         "run",
         r#"{"data":[{"records":["a","b","c"],"prefix":"x"}],"job":{"id":"j","step":[{"id":"s","chunk":{"item-count":2},"partition":{"plan":{"ranges":[[0,2],[2,3]],"threads":1}}}]}}"#,
-        "{\"job\":\"j\",\"status\":\"COMPLETED\",\"steps\":[{\"heard\":[[\"0:2:2\",\"0:2:2:end\",\"COMPLETED\"],[\"1:3:1\",\"1:3:1:end\",\"COMPLETED\"]],\"outputs\":[[\"xa\",\"xb\"],[\"xc\"]],\"plans\":[[\"FullLoad\",2,2]],\"reducer\":[\"begin\",\"before\",\"after COMMIT\"],\"rows\":[[0,2,2,0,0,2,2,2,1,0,0,0,0,0,\"done\"],[2,3,3,2,0,1,1,1,1,0,0,0,0,0,\"done\"]],\"status\":\"COMPLETED\",\"step\":\"s\"}]}\n",
+        "{\"job\":\"j\",\"status\":\"COMPLETED\",\"steps\":[{\"heard\":[[\"0:2:2\",\"0:2:2:end\",\"COMPLETED\"],[\"1:3:1\",\"1:3:1:end\",\"COMPLETED\"]],\"outputs\":[[\"xa\",\"xb\"],[\"xc\"]],\"plans\":[[\"FullLoad\",2,2]],\"reducer\":[\"begin\",\"before\",\"after COMMIT\"],\"saved\":{\"rows\":[[0,2,2,0,0,2,2,2,1,0,0,0,0,0,\"done\"],[2,3,3,2,0,1,1,1,1,0,0,0,0,0,\"done\"]],\"step\":\"s\",\"version\":1},\"status\":\"COMPLETED\",\"step\":\"s\"}]}\n",
+        0,
+    ),
+    (
+        "restart",
+        r#"{"data":[{"records":["a","b","c"],"prefix":"x"}],"job":{"id":"j","step":[{"id":"s","chunk":{"item-count":2}}]},"resume":{"outputs":[["xa","xb"]],"saved":{"rows":[[0,3,2,0,0,2,2,2,1,0,0,0,0,0,"waiting"]],"step":"s","version":1}}}"#,
+        "{\"job\":\"j\",\"status\":\"COMPLETED\",\"steps\":[{\"heard\":[[\"0:3:3\",\"0:3:3:end\",\"COMPLETED\"]],\"outputs\":[[\"xa\",\"xb\",\"xc\"]],\"plans\":[[\"Longest(0)\",1,1]],\"reducer\":[\"begin\",\"before\",\"after COMMIT\"],\"saved\":{\"rows\":[[0,3,3,0,0,3,3,3,2,0,0,0,0,0,\"done\"]],\"step\":\"s\",\"version\":1},\"status\":\"COMPLETED\",\"step\":\"s\"}]}\n",
         0,
     ),
     (
@@ -117,7 +123,7 @@ fn failing_fault_writer(rt: HostRuntime) {
 #[test]
 fn long_document_in_small_reads(rt: HostRuntime) {
     let alloc = rt.alloc();
-    let (word, document, output, _) = ROWS[1];
+    let (word, document, output, _) = ROWS[2];
     let mut bytes = Vec::new(alloc);
     bytes.resize(2_000_000, b' ').expect(&rt, "memory");
     bytes

@@ -20,9 +20,10 @@ const PROGRAM: &str = "usage: batchrun WORD < DOCUMENT
 Reads one JSON document on standard input, to its end, and prints the answer on
 standard output. WORD says what is done with it:
 
-  run    runs the document's job and prints a report
-  plan   prints a plan of the fewest rounds for partitions of so many chunks
-  check  prints whether a plan is lawful, and whether its certificate holds
+  run      runs the document's job and prints a report
+  restart  goes on with a job that was stopped or failed, and prints a report
+  plan     prints a plan of the fewest rounds for partitions of so many chunks
+  check    prints whether a plan is lawful, and whether its certificate holds
 
 `help WORD` and `WORD --help` tell what a word reads and prints; `--version`
 prints the version.
@@ -34,8 +35,8 @@ The exit status says how it went:
   1  The job failed, or the plan that was checked isn't lawful or its
      certificate doesn't hold.
   2  The job was stopped before its end.
-  3  The document or a step's partition plan is refused, and standard error
-     names the first fault.
+  3  The document, a step's partition plan or its saved rows are refused, and
+     standard error names the first fault.
   4  There was no memory or no worker, or a step's repository wasn't its own, or
      a stream failed: standard error says which.
   5  The words ask for nothing, and standard error names the first wrong one.
@@ -45,7 +46,7 @@ its usual cause. examples/ has documents to begin with.
 ";
 
 /// What `run` reads and prints.
-const RUN: &str = "usage: batchrun run < DOCUMENT
+const RUN: &str = "usage: batchrun run [--rounds N] < DOCUMENT
 
 Runs a job: its steps in turn, up to the first that isn't completed. It reads a
 job record, and for each step what it works on:
@@ -57,16 +58,33 @@ job record, and for each step what it works on:
 
 It prints a report, one line of JSON, with the job's status and, for each step
 that ran, what its analyzer heard, each partition's outputs, its plans, the
-calls of its reducer, each partition's row, and its status:
+calls of its reducer, its saved rows, and its status:
 
   {\"job\": id, \"status\": status,
    \"steps\": [{\"heard\": [..], \"outputs\": [..], \"plans\": [..], \"reducer\": [..],
-              \"rows\": [..], \"status\": status, \"step\": id}, ..]}
+              \"saved\": {..}, \"status\": status, \"step\": id}, ..]}
 
-The exit status is 0 where the job is completed, 1 where it failed and 2 where
-it was stopped. docs/FORMATS.md has every key with its range. A document to
-begin with is examples/three-records.json; examples/billing.json has faults,
-skips and retries.
+With --rounds each step stops after N rounds, 0 to 1000000000. The exit status
+is 0 where the job is completed, 1 where it failed and 2 where it was stopped;
+`batchrun restart` goes on from there. docs/FORMATS.md has every key with its
+range. A document to begin with is examples/three-records.json;
+examples/billing.json has faults, skips and retries.
+";
+
+/// What `restart` reads and prints.
+const RESTART: &str = "usage: batchrun restart [--rounds N] < DOCUMENT
+
+Goes on with a job that was stopped or failed, at the step whose rows were
+saved. It reads a document of `run`, which says besides what that step left: the
+outputs and the saved rows of the step in the report before:
+
+  {\"job\": {..}, \"data\": [..],
+   \"resume\": {\"outputs\": [[text, ..], ..], \"saved\": {..}}}
+
+Steps before that one aren't run and aren't in the report; finished partitions
+aren't run again, and a failed one goes on from its last chunk that was
+committed. It prints a report as `run` does, and --rounds and the exit status
+say the same. docs/FORMATS.md has every key with its range.
 ";
 
 /// What `plan` reads and prints.
@@ -117,7 +135,7 @@ fn write_text<W: Write>(text: &str, writer: &mut W) -> Result<u8, Failure>
 }
 
 /// Writes the help of the program, or of a word. The exit status is 0.
-#[tactic(auto, unfolding(crate::specs::Help::program_help, crate::specs::Help::run_help, crate::specs::Help::plan_help, crate::specs::Help::check_help))]
+#[tactic(auto, unfolding(crate::specs::Help::program_help, crate::specs::Help::run_help, crate::specs::Help::restart_help, crate::specs::Help::plan_help, crate::specs::Help::check_help))]
 pub fn write_help<W: Write>(topic: Option<Word>, writer: &mut W) -> Result<u8, Failure>
     ensures ok { IfOk result (λ status. (status ≡ 0) × Appends (W.contents writer.old) (W.contents writer.new) (help_text topic)) }
     ensures err { IfErr result (λ e. (e ≡ Failure.Stream) × AppendsFront (W.contents writer.old) (W.contents writer.new) (help_text topic)) }
@@ -125,6 +143,7 @@ pub fn write_help<W: Write>(topic: Option<Word>, writer: &mut W) -> Result<u8, F
     match topic {
         None => write_text(PROGRAM, writer),
         Some(Word::Run) => write_text(RUN, writer),
+        Some(Word::Restart) => write_text(RESTART, writer),
         Some(Word::Plan) => write_text(PLAN, writer),
         Some(Word::Check) => write_text(CHECK, writer),
     }

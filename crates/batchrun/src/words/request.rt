@@ -5,6 +5,8 @@
 pub enum Word {
     /// Runs a job.
     Run,
+    /// Goes on with a job that was stopped or failed.
+    Restart,
     /// Prints a plan of the fewest rounds.
     Plan,
     /// Checks a plan of rounds and its certificate.
@@ -15,7 +17,8 @@ pub enum Word {
 #[derive(Clone, Copy, Debug, PartialEq, Eq)]
 pub struct Line {
     pub word: Word,
-    /// After how many rounds a step is to stop. No word takes such a number so far.
+    /// After how many rounds a step is to stop: 0 to 1,000,000,000, with `run` and `restart` alone. Without it no round is the
+    /// last.
     pub rounds: Option<u64>,
 }
 

@@ -1,8 +1,8 @@
-//! The rows of a step's partitions.
+//! The saved object of a step: its rows and its id.
 
 ghost use Rattle.std.specs.Prelude.{◌≡◌, ◌++◌, map, flat_map, decimal, OnOk};
 ghost use Rattle.json.specs.Token.{number};
-ghost use Rattle.jb_texts.specs.Report.{row_tree, rows_tree, state_name};
+ghost use Rattle.jb_saved.specs.SavedTree.{row_tree, rows_tree, saved_tree, state_name};
 ghost use Rattle.jb_texts.specs.ReportTokens.{tokens_of};
 
 use jb_rules::{Row, RowState};
@@ -69,11 +69,26 @@ fn write_members(out: &mut Writer, rows: &[Row]) -> Result<(), AllocError>
 }
 
 /// Writes the list of the rows.
-pub fn write_rows(out: &mut Writer, rows: &[Row]) -> Result<(), AllocError>
+fn write_rows(out: &mut Writer, rows: &[Row]) -> Result<(), AllocError>
     ensures rows { OnOk result (out.new.tokens ≡ out.old.tokens ++ tokens_of (rows_tree rows.now)) }
     ensures before { out.new.before ≡ out.old.before }
 {
     out.begin_array()?;
     write_members(out, rows)?;
     out.end_array()
+}
+
+/// Writes the saved object of these rows of the step of this id, as `jb_saved` reads it.
+pub fn write_saved(out: &mut Writer, rows: &[Row], id: &str) -> Result<(), AllocError>
+    ensures saved { OnOk result (out.new.tokens ≡ out.old.tokens ++ tokens_of (saved_tree (record { step = id.now; rows = rows.now }))) }
+    ensures before { out.new.before ≡ out.old.before }
+{
+    out.begin_object()?;
+    out.key("rows")?;
+    write_rows(out, rows)?;
+    out.key("step")?;
+    out.string(id)?;
+    out.key("version")?;
+    out.u64(1)?;
+    out.end_object()
 }

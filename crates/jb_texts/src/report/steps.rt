@@ -10,7 +10,7 @@ use crate::report::heard::write_heard;
 use crate::report::outputs::write_outputs;
 use crate::report::plans::write_plans;
 use crate::report::reducer::write_reducer;
-use crate::report::rows::write_rows;
+use crate::report::rows::write_saved;
 use crate::status::status_name;
 use jb_artifacts::ItemWriter;
 use jb_collect::{AnalyzerCall, ReducerCall, Status};
@@ -56,13 +56,13 @@ fn write_lists(
     write_reducer(out, reducer)
 }
 
-/// Writes the rows, the status and the id of a step.
+/// Writes the saved rows, the status and the id of a step.
 fn write_end(out: &mut Writer, rows: &[Row], status: Status, id: &str) -> Result<(), AllocError>
     ensures end { OnOk result (out.new.tokens ≡ out.old.tokens ++ end_tokens rows.now status id.now) }
     ensures before { out.new.before ≡ out.old.before }
 {
-    out.key("rows")?;
-    write_rows(out, rows)?;
+    out.key("saved")?;
+    write_saved(out, rows, id)?;
     out.key("status")?;
     out.string(status_name(status))?;
     out.key("step")?;

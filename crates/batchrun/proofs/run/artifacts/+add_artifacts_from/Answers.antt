@@ -2,7 +2,8 @@ use Rattle.std.proofs.Common.{◌≡◌, ◌+◌, ◌∷◌, drop, length, map, 
 use Rattle.std.specs.Option.{option_copied}
 use Rattle.std.proofs.lemmas.Result.{on_ok_weaker}
 use Rattle.jb_step.specs.Setup.{needs, unfinished}
-use Rattle.batchrun.specs.StepRun.{work_for}
+use Rattle.jb_rules.specs.Rows.{range_of}
+use Rattle.batchrun.specs.PartitionRun.{records_in, work_for, workplace_of}
 use Rattle.batchrun.proofs.Works.{listed-at, next-row, no-row, works-added, works-more}
 use Rattle.batchrun.proofs.run.artifacts.+add_artifacts_from.Goals as goal
 
@@ -29,7 +30,10 @@ returns t c =
     let now = c.artifacts_of_row.new.records in
     let listed : slice_get (needs rows) c.args.place ≡ Some p = listed-at c.needs.result.now (needs rows) c.args.place p (c.in-Some.ensures.lookup.0, c.in-Some.ensures.lookup.1) c.needs.ensures in
     let next = next-row rows (length old) c.args.place p row c.requires.within listed (sym c.row.ensures ∙ ap option_copied c.in-Some-row.is) in
-    let whole = works-more c.args.step.now rows old now (length old) c.args.place p row c.requires.disjoint next c.artifacts_of_row.ensures.others in
-    let rest = map (work_for c.args.step.now now) (drop (c.args.place + 1) (unfinished rows)) in
+    let outputs = c.args.outputs.now in
+    let range = range_of row in
+    let made = c.in_ok-artifacts_of_row.ensures.made ∙ ap (λ held. workplace_of c.args.step.now (records_in old range) held range) c.in_ok-held.ensures in
+    let whole = works-more c.args.step.now outputs rows old now (length old) c.args.place p row c.requires.disjoint next c.artifacts_of_row.ensures.others in
+    let rest = map (work_for c.args.step.now now outputs) (drop (c.args.place + 1) (unfinished rows)) in
     on_ok_weaker c.add_artifacts_from.result (λ e. e ∙ works-added _ c.args.all.now.items c.push.new.self.items c.in_ok-artifacts_of_row.field-0 rest _
-    c.in_ok-push.ensures.items (whole ∙ ap (λ w. w ∷ rest) (sym c.in_ok-artifacts_of_row.ensures.made))) c.add_artifacts_from.ensures
+    c.in_ok-push.ensures.items (whole ∙ ap (λ w. w ∷ rest) (sym made))) c.add_artifacts_from.ensures

@@ -16,4 +16,4 @@ returns-in-Ok-clause-begun g c =
 
 pub unreachable-requires : goal.unreachable-requires
 unreachable-requires g c =
-    other-refusal c.args.step.now c.args.records _ _ _ c.prepare.new.reducer c.in-Err.error c.in-Err.ensures.grew c.requires.mapped c.in-Err.ensures.refused c.in_default.not-Plan c.in_default.not-Memory
+    other-refusal c.args.step.now c.args.records _ c.args.saved _ _ c.prepare.new.reducer c.in-Err.error c.in-Err.ensures.grew c.requires.mapped c.in-Err.ensures.refused c.in_default.not-Plan c.in_default.not-Saved c.in_default.not-Memory

@@ -10,7 +10,7 @@ use Rattle.batchrun.proofs.run.rounds.run_rounds.OwnLists as own
 
 pub returns-in-Ok-clause-ran : goal.returns-in-Ok-clause-ran
 returns-in-Ok-clause-ran g c =
-    listens c.args.prepared _ _ c.args.listener.now c.run_step.new.analyzer _ _ _ _ c.in-Ok.ensures.run
+    listens c.args.prepared _ c.args.round_limit _ c.args.listener.now c.run_step.new.analyzer _ _ _ _ c.in-Ok.ensures.run
     (carried_sameᵐ _ _ own.entry-1-1 (own.own-1.entry own.at-1-1) own.same-1-1 (List (Taken AnalyzerCall)) (λ j y. j.1.analyzed y.now) _)
     (c.listener-2-1.given.1 refl ∙ same-calls _ c.run_step.new.analyzer (sym (carried_sameᵐ _ _ own.entry-1-1 (own.own-1.entry own.at-1-1) own.same-1-1 (List (Taken AnalyzerCall)) (λ j y. j.1.analyzed y.now) c.listener-1.given.0)
     ∙ ap (λ x. (own.own-1.entry x.now.0).1.analyzed x.now.1) c.listener-1.given.1))

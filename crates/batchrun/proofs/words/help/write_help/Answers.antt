@@ -2,8 +2,8 @@ use Rattle.std.proofs.Common.{◌≡◌, rules, IfErr, IfOk, Some, sym, subst}
 use Rattle.std.specs.Io.KnownBytes.{Appends}
 use Rattle.jb_texts.specs.Front.{AppendsFront}
 use Rattle.batchrun.specs.declared.streams.failure.Failure.TheVariants.{Stream}
-use Rattle.batchrun.specs.declared.words.request.Word.TheVariants.{Run, Plan, Check}
-use Rattle.batchrun.specs.Help.{check_help, help_text, plan_help, program_help, run_help}
+use Rattle.batchrun.specs.declared.words.request.Word.TheVariants.{Run, Restart, Plan, Check}
+use Rattle.batchrun.specs.Help.{check_help, help_text, plan_help, program_help, restart_help, run_help}
 use Rattle.batchrun.proofs.words.help.write_help.Goals as goal
 
 pub returns-in-None-clause-ok : goal.returns-in-None-clause-ok
@@ -35,6 +35,22 @@ returns-in-Some-Run-clause-err g c =
     let new = g.W.Write.contents c.write_text-in-Some-Run.new.writer in
     let asked : c.args.topic ≡ Some Run = search rules in
     subst (λ topic. IfErr c.write_text-in-Some-Run.result (λ e. (e ≡ Stream) × AppendsFront old new (help_text topic))) (sym asked) c.write_text-in-Some-Run.ensures.err
+
+pub returns-in-Some-Restart-clause-ok : goal.returns-in-Some-Restart-clause-ok
+unfolding restart_help
+returns-in-Some-Restart-clause-ok g c =
+    let old = g.W.Write.contents c.args.writer.now in
+    let new = g.W.Write.contents c.write_text-in-Some-Restart.new.writer in
+    let asked : c.args.topic ≡ Some Restart = search rules in
+    subst (λ topic. IfOk c.write_text-in-Some-Restart.result (λ status. (status ≡ 0) × Appends old new (help_text topic))) (sym asked) c.write_text-in-Some-Restart.ensures.ok
+
+pub returns-in-Some-Restart-clause-err : goal.returns-in-Some-Restart-clause-err
+unfolding restart_help
+returns-in-Some-Restart-clause-err g c =
+    let old = g.W.Write.contents c.args.writer.now in
+    let new = g.W.Write.contents c.write_text-in-Some-Restart.new.writer in
+    let asked : c.args.topic ≡ Some Restart = search rules in
+    subst (λ topic. IfErr c.write_text-in-Some-Restart.result (λ e. (e ≡ Stream) × AppendsFront old new (help_text topic))) (sym asked) c.write_text-in-Some-Restart.ensures.err
 
 pub returns-in-Some-Plan-clause-ok : goal.returns-in-Some-Plan-clause-ok
 unfolding plan_help

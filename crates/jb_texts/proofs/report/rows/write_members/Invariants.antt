@@ -1,5 +1,5 @@
 use Rattle.std.proofs.Common.{◌≡◌, ◌++◌, flat_map, take}
-use Rattle.jb_texts.specs.Report.{row_tree}
+use Rattle.jb_saved.specs.SavedTree.{row_tree}
 use Rattle.jb_texts.specs.ReportTokens.{tokens_of}
 use Rattle.jb_texts.proofs.report.rows.write_members.Given as goal
 

@@ -1,7 +1,7 @@
 use Rattle.std.proofs.Common.{rules, ◌≡◌, ◌++◌, ◌∷◌, [], ◌∙◌, ap, append_assoc}
 use Rattle.std.proofs.lemmas.Result.{on_ok_weaker}
 use Rattle.json.specs.Token.{begin_array, end_array, string}
-use Rattle.jb_texts.specs.Report.{state_name}
+use Rattle.jb_saved.specs.SavedTree.{state_name}
 use Rattle.jb_texts.proofs.report.rows.write_row.Goals as goal
 
 pub returns-clause-row : goal.returns-clause-row
