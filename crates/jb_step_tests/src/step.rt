@@ -3,6 +3,10 @@
 mod four;
 mod given;
 mod meeting;
+mod memory;
 mod other_desks;
 mod refusals;
+mod restarts;
+mod resumed;
 mod rows;
+mod watched;

@@ -2,11 +2,9 @@
 
 ghost use Rattle.std.specs.Prelude.{◌≡◌};
 
-use crate::step::given::{Given, begun, ended, works};
+use crate::step::given::{Given, Processor, begun, ended, works};
 use crate::workers::meeting::wait_for;
-use jb_artifacts::{
-    ArtifactsOf, CountCollector, Item, ItemProcessor, ListWriter, PrefixProcessor, TableReader,
-};
+use jb_artifacts::{ArtifactsOf, CountCollector, Item, ItemProcessor, ListWriter, TableReader};
 use jb_chunk::Task;
 use jb_collect::{ListAnalyzer, ListReducer, Status};
 use jb_job::{ArtifactError, Rules};
@@ -101,14 +99,14 @@ fn spin_for(flag: &AtomicBool) -> bool {
 /// A processor that puts an x before each item. At the first record of its partition it meets those of the other three.
 #[derive(Drop)]
 struct Waiting {
-    prefix: PrefixProcessor,
+    prefix: Processor,
     partition: u32,
     first: u64,
     meeting: Arc<Meeting>,
 }
 
 impl ItemProcessor for Waiting {
-    ghost processor = { λ w. ⟦<PrefixProcessor as ItemProcessor>⟧.processor w.prefix };
+    ghost processor = { λ w. ⟦<Processor as ItemProcessor>⟧.processor w.prefix };
 
     fn process_item(&mut self, number: u64, item: &[u8]) -> Result<Option<Item>, ArtifactError> {
         if number == self.first {

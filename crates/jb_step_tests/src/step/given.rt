@@ -1,27 +1,50 @@
 //! What the steps of the tests are made of.
 
 use jb_artifacts::{
-    ArtifactsOf, CountCollector, FaultList, FaultPlan, FaultPlans, Item, ListWriter,
+    ArtifactsOf, CountCollector, FaultList, FaultPlan, FaultPlans, Item, ItemProcessor, ListWriter,
     PrefixProcessor, TableReader,
 };
 use jb_chunk::{PartitionTask, Task};
 use jb_collect::{Analyzer, Reducer};
-use jb_job::{ClassId, MAX_ITEM_COUNT, MAX_RECORDS, Name, Range, Ranges, Rules, Spec, Step};
+use jb_job::{
+    ArtifactError, ClassId, MAX_ITEM_COUNT, MAX_RECORDS, Name, Range, Ranges, Rules, Spec, Step,
+};
 use jb_mapper::PartitionMapper;
 use jb_plan::PartitionPlan;
-use jb_step::{Prepared, Saved, StepEnd, StepError, prepare, run_step};
-use jb_workers::{Desk, Gate};
+use jb_repo::Snapshot;
+use jb_rules::Row;
+use jb_step::{Prepared, Saved, StepEnd, StepError, prepare, read_saved, run_step, saved_text};
+use jb_workers::{Desk, Gate, NoGate};
 use std::alloc::{AllocError, Global};
 use std::sync::Wait;
 use std::sync::ledger::Ledger;
 use std::test::*;
 use std::thread::Threads;
 
-/// What a partition works with: its processor puts an x before each record.
-pub(crate) type Works = ArtifactsOf<TableReader, PrefixProcessor, ListWriter, CountCollector>;
+/// What a partition works with.
+pub(crate) type Works = ArtifactsOf<TableReader, Processor, ListWriter, CountCollector>;
 
 /// A partition's task.
 pub(crate) type Letters = Task<Works>;
+
+/// A processor that puts an x before each record, and finds no memory the first time that it gets the record of this number.
+#[derive(Drop)]
+pub(crate) struct Processor {
+    prefix: PrefixProcessor,
+    wanting: Option<u64>,
+}
+
+impl ItemProcessor for Processor {
+    ghost processor = { λ p. ⟦<PrefixProcessor as ItemProcessor>⟧.processor p.prefix };
+
+    fn process_item(&mut self, number: u64, item: &[u8]) -> Result<Option<Item>, ArtifactError> {
+        if self.wanting == Some(number) {
+            self.wanting = None;
+            return Err(ArtifactError::Memory);
+        }
+        self.prefix.process_item(number, item)
+    }
+}
 
 /// The step's id.
 const STEP: &str = "step";
@@ -30,7 +53,8 @@ const STEP: &str = "step";
 ///
 /// They are written as a text: each letter is a record, and each `/` ends a partition. Behind a letter stands how its calls
 /// fail: `!` each time that it is processed, `?` the first time, `<` each time that it is read, `>` each time that it is
-/// written. The class of `?` is 1, that of the others 0.
+/// written. The class of `?` is 1, that of the others 0. `~` is no fault: the first time that the record is processed, there is
+/// no memory.
 #[derive(Drop)]
 pub(crate) struct Given {
     records: Vec<Item>,
@@ -38,6 +62,7 @@ pub(crate) struct Given {
     reads: FaultPlans,
     processes: FaultPlans,
     writes: FaultPlans,
+    wanting: Option<u64>,
 }
 
 impl Given {
@@ -48,6 +73,7 @@ impl Given {
             reads: FaultPlans::new(alloc),
             processes: FaultPlans::new(alloc),
             writes: FaultPlans::new(alloc),
+            wanting: None,
         };
         for sign in text.as_bytes() {
             given.take(alloc, *sign)?;
@@ -71,6 +97,7 @@ impl Given {
             }
             b'<' => self.reads.insert(last, bad)?,
             b'>' => self.writes.insert(last, bad)?,
+            b'~' => self.wanting = Some(last),
             letter => self.records.push(Item::copy_of(alloc, &[letter])?)?,
         }
         Ok(())
@@ -95,13 +122,17 @@ impl Given {
         }
     }
 
-    /// The artifacts of one partition.
-    fn works(self, alloc: Global) -> Result<Works, AllocError> {
+    /// The artifacts of one partition, whose writer has these results.
+    fn works(self, alloc: Global, written: Vec<Item>) -> Result<Works, AllocError> {
         let prefix = Item::copy_of(alloc, b"x")?;
+        let processor = Processor {
+            prefix: PrefixProcessor::new(alloc, prefix, None, self.processes),
+            wanting: self.wanting,
+        };
         Ok(ArtifactsOf {
             reader: TableReader::new(alloc, 0, self.records, self.reads),
-            processor: PrefixProcessor::new(alloc, prefix, None, self.processes),
-            writer: ListWriter::new(alloc, Vec::new(alloc), self.writes),
+            processor,
+            writer: ListWriter::new(alloc, written, self.writes),
             collector: CountCollector::new(alloc),
         })
     }
@@ -109,7 +140,20 @@ impl Given {
 
 /// The artifacts of one partition of the records.
 pub(crate) fn works(alloc: Global, text: &str) -> Result<Works, Fail> {
-    Ok(Given::read(alloc, text)?.works(alloc)?)
+    Ok(Given::read(alloc, text)?.works(alloc, Vec::new(alloc))?)
+}
+
+/// The artifacts of one partition of records that none of its rules left out, whose writer has what the row says was written.
+pub(crate) fn works_from(alloc: Global, text: &str, row: &Row) -> Result<Works, Fail> {
+    let given = Given::read(alloc, text)?;
+    let mut written = Vec::new(alloc);
+    let records = given.records.iter().skip(row.lo as usize);
+    for record in records.take(row.written as usize) {
+        let mut result = Vec::from_slice(alloc, b"x")?;
+        result.extend_from_slice(record.as_slice())?;
+        written.push(Item::from_vec(result))?;
+    }
+    Ok(given.works(alloc, written)?)
 }
 
 /// The artifacts of so many partitions of the records.
@@ -151,6 +195,17 @@ pub(crate) fn begun_from(
     Ok(prepare(alloc, &step, records, mapper, reducer, saved))
 }
 
+/// The rows of a run of the step, saved as a text and read again.
+pub(crate) fn saved_again(alloc: Global, snapshot: &Snapshot) -> Result<Saved, Fail> {
+    let saved = Saved::of(alloc, STEP, snapshot)?;
+    let text = saved_text(alloc, &saved)?;
+    let read = read_saved(alloc, text.as_bytes())?;
+    if read.step_id() != saved.step_id() || read.rows() != saved.rows() {
+        return Err(Fail::from("other rows"));
+    }
+    Ok(read)
+}
+
 /// Runs the step to its end. It has no contract, so that its callers have short proofs.
 pub(crate) fn ended<
     T: PartitionTask + Send + 'static,
@@ -169,5 +224,25 @@ pub(crate) fn ended<
 ) -> Result<StepEnd<T::Artifacts>, StepError> {
     run_step::<T, L, G, R>(
         rt, alloc, desk, prepared, artifacts, analyzer, reducer, None, gate,
+    )
+}
+
+/// Runs so many rounds of the step at most.
+pub(crate) fn stopped_after<
+    T: PartitionTask + Send + 'static,
+    L: Ledger + Send + Sync + 'static,
+    R: Threads + Wait + Sync,
+>(
+    rt: &R,
+    alloc: Global,
+    desk: &Desk<L>,
+    prepared: Prepared,
+    artifacts: Vec<T::Artifacts>,
+    analyzer: &mut dyn Analyzer,
+    reducer: &mut dyn Reducer,
+    rounds: Option<u64>,
+) -> Result<StepEnd<T::Artifacts>, StepError> {
+    run_step::<T, L, NoGate, R>(
+        rt, alloc, desk, prepared, artifacts, analyzer, reducer, rounds, &NoGate,
     )
 }

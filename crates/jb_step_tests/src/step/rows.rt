@@ -389,6 +389,7 @@ fn run<L: Ledger + Send + Sync + 'static, R: Threads + Wait + Sync>(
     })
 }
 
+/// The step's plans, the analyzer's calls, the reducer's, and the status and the number of events.
 pub(crate) fn course_of(
     alloc: Global,
     end: &StepEnd<Works>,
@@ -396,6 +397,17 @@ pub(crate) fn course_of(
     reducer: &dyn Reducer,
 ) -> Result<String, Fail> {
     let mut text = String::new(alloc);
+    add_course(&mut text, alloc, end, analyzer, reducer)?;
+    Ok(text)
+}
+
+pub(crate) fn add_course(
+    text: &mut String,
+    alloc: Global,
+    end: &StepEnd<Works>,
+    analyzer: &dyn Analyzer,
+    reducer: &dyn Reducer,
+) -> Result<(), Fail> {
     for plan in &end.plans {
         let line = format!(in alloc; "{} {} of {}\n", plan.certificate, plan.ran, plan.planned)?;
         text.push_str(line.as_str())?;
@@ -404,13 +416,24 @@ pub(crate) fn course_of(
     let heard = String::from_utf8_lossy(alloc, heard.as_slice())?;
     text.push_str(heard.as_str())?;
     text.push_str(".\n")?;
+    add_reduced(text, alloc, reducer)?;
+    let line = format!(in alloc; "{:?} {}\n", end.status, end.snapshot.events)?;
+    text.push_str(line.as_str())?;
+    Ok(())
+}
+
+/// Adds a line of the reducer's calls.
+pub(crate) fn add_reduced(
+    text: &mut String,
+    alloc: Global,
+    reducer: &dyn Reducer,
+) -> Result<(), Fail> {
     for call in reducer.calls() {
         let word = format!(in alloc; "{call:?} ")?;
         text.push_str(word.as_str())?;
     }
-    let line = format!(in alloc; ".\n{:?} {}\n", end.status, end.snapshot.events)?;
-    text.push_str(line.as_str())?;
-    Ok(text)
+    text.push_str(".\n")?;
+    Ok(())
 }
 
 /// How each partition stands; one that had nothing to do has no artifacts.

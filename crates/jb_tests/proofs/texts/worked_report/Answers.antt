@@ -15,7 +15,8 @@ use Rattle.jb_collect.specs.declared.calls.PartitionStatus.TheVariants as end
 use Rattle.jb_collect.specs.declared.calls.Status.TheVariants.{Completed}
 use Rattle.jb_cert.specs.declared.certificates.Certificate.TheVariants.{Longest}
 use Rattle.jb_step.specs.declared.notes.PlanNote.{PlanNote}
-use Rattle.jb_texts.specs.Report.{PartitionReport, heard_tree, list_tree, outputs_tree, plans_tree, reducer_tree, report_text, rows_tree, texts_tree}
+use Rattle.jb_saved.specs.SavedTree.{list_tree, saved_tree}
+use Rattle.jb_texts.specs.Report.{PartitionReport, heard_tree, outputs_tree, plans_tree, reducer_tree, report_text, texts_tree}
 use Rattle.jb_texts.specs.Worked.{finished_row, seven_records, seven_records_text}
 use Rattle.jb_tests.proofs.texts.worked_report.Goals as goal
 
@@ -71,7 +72,7 @@ text_with heard = compact_text
     (member (codes "outputs") (outputs_tree partitions)
     (member (codes "plans") (plans_tree notes)
     (member (codes "reducer") (reducer_tree (Begin ∷ Before ∷ After end.Commit ∷ []))
-    (member (codes "rows") (rows_tree (finished_row 0 3 0 2 ∷ finished_row 3 5 3 1 ∷ finished_row 5 7 5 1 ∷ []))
+    (member (codes "saved") (saved_tree (record { step = codes "s"; rows = finished_row 0 3 0 2 ∷ finished_row 3 5 3 1 ∷ finished_row 5 7 5 1 ∷ [] }))
     (member (codes "status") (string (codes "COMPLETED"))
     (member (codes "step") (string (codes "s")) no_members))))))) ∷ []))
     no_members))))

@@ -1,0 +1,508 @@
+//! Steps that are run again from their saved texts, after a stop, a failed partition or want of memory, each beside the step that
+//! nothing stops.
+
+ghost use Rattle.std.specs.Prelude.{◌≡◌};
+
+use crate::step::given::{
+    Given, Letters, Works, all_works, begun_from, saved_again, stopped_after, works, works_from,
+};
+use crate::step::rows::{
+    Asked, Case, ONE_SKIP, PLAIN, SEVEN, add_course, add_partition, add_reduced, case_at,
+};
+use jb_artifacts::ArtifactsOf;
+use jb_collect::{Analyzer, ListAnalyzer, ListReducer, Reducer, Status};
+use jb_mapper::FixedMapper;
+use jb_repo::Snapshot;
+use jb_rules::Row;
+use jb_step::{Prepared, Saved, StepEnd, StepError};
+use std::alloc::Global;
+use std::marker::Brand;
+use std::mem;
+use std::sync::Wait;
+use std::sync::ledger::{Blank, Ledger};
+use std::test::*;
+use std::thread::Threads;
+
+/// A step that is run more than once.
+#[derive(Clone, Copy)]
+struct Journey {
+    /// The records and the plan of its first run, and those of its restarts.
+    records: &'static str,
+    again: &'static str,
+    asked: Asked,
+    /// The partitions that each run needs artifacts for, and its course.
+    courses: &'static str,
+    /// What each partition comes to.
+    partitions: &'static str,
+}
+
+fn journey_at(number: u64) -> Option<Journey> {
+    Some(match number {
+        0 => Journey {
+            records: "abc/de/fg/",
+            again: "abc/de/fg/",
+            asked: PLAIN,
+            courses: "[0, 1, 2]
+Longest(0) 1 of 2
+0:2:2 1:5:2 1:5:2:end 1 Completed 0 Stopped 2 Stopped .
+Begin Rollback After(Rollback) .
+Stopped 7
+[0, 2]
+Longest(0) 1 of 1
+0:3:3 0:3:3:end 0 Completed 2:7:2 2:7:2:end 2 Completed .
+Begin Before After(Commit) .
+Completed 6
+",
+            partitions: SEVEN,
+        },
+        1 => Journey {
+            records: "abc/de/fg/",
+            again: "abc/de/fg/",
+            asked: PLAIN,
+            courses: "[0, 1, 2]
+FullLoad 1 of 4
+0:2:2 0 Stopped 1 Stopped 2 Stopped .
+Begin Rollback After(Rollback) .
+Stopped 5
+[0, 1, 2]
+FullLoad 1 of 3
+0:3:3 0:3:3:end 0 Completed 1 Stopped 2 Stopped .
+Begin Rollback After(Rollback) .
+Stopped 5
+[1, 2]
+FullLoad 1 of 2
+1:5:2 1:5:2:end 1 Completed 2 Stopped .
+Begin Rollback After(Rollback) .
+Stopped 5
+[2]
+Longest(2) 1 of 1
+2:7:2 2:7:2:end 2 Completed .
+Begin Before After(Commit) .
+Completed 4
+",
+            partitions: SEVEN,
+        },
+        2 => Journey {
+            records: "a/b///",
+            again: "a/b///",
+            asked: PLAIN,
+            courses: "[0, 1]
+2 Completed 3 Completed 0 Stopped 1 Stopped .
+Begin Rollback After(Rollback) .
+Stopped 1
+[0, 1]
+Longest(0) 1 of 1
+0:1:1 0:1:1:end 0 Completed 1:2:1 1:2:1:end 1 Completed .
+Begin Before After(Commit) .
+Completed 6
+",
+            partitions: "1 0 0 1 | 1 1 1 0 0 0 0 0 | Finished xa
+2 1 0 1 | 1 1 1 0 0 0 0 0 | Finished xb
+2 2 0 0 | 0 0 0 0 0 0 0 0 | Finished
+2 2 0 0 | 0 0 0 0 0 0 0 0 | Finished
+",
+        },
+        3 => Journey {
+            records: "a!bcd!/ef/",
+            again: "abcd/ef/",
+            asked: Asked {
+                rules: ONE_SKIP,
+                ..PLAIN
+            },
+            courses: "[0, 1]
+Longest(0) 2 of 2
+0:2:1 1:6:2 1:6:2:end 1 Completed 0 Failed .
+Begin Rollback After(Rollback) .
+Failed 9
+[0]
+Longest(0) 1 of 1
+0:4:3 0:4:3:end 0 Completed .
+Begin Before After(Commit) .
+Completed 4
+",
+            partitions: "4 0 0 3 | 4 3 2 1 0 1 0 0 | Finished xb xc xd
+6 4 0 2 | 2 2 1 0 0 0 0 0 | Finished xe xf
+",
+        },
+        4 => Journey {
+            records: "a/b/c/",
+            again: "abc/",
+            asked: PLAIN,
+            courses: "[0, 1, 2]
+0 Stopped 1 Stopped 2 Stopped .
+Begin Rollback After(Rollback) .
+Stopped 1
+[0, 1, 2]
+FullLoad 3 of 3
+0:1:1 0:1:1:end 0 Completed 1:2:1 1:2:1:end 1 Completed 2:3:1 2:3:1:end 2 Completed .
+Begin Before After(Commit) .
+Completed 10
+",
+            partitions: "1 0 0 1 | 1 1 1 0 0 0 0 0 | Finished xa
+2 1 0 1 | 1 1 1 0 0 0 0 0 | Finished xb
+3 2 0 1 | 1 1 1 0 0 0 0 0 | Finished xc
+",
+        },
+        5 => Journey {
+            records: "ab/c~d/",
+            again: "ab/cd/",
+            asked: PLAIN,
+            courses: "[0, 1]
+Memory 6 1
+Begin Rollback After(Rollback) .
+2 0 0 2 | 2 2 1 0 0 0 0 0 | Finished xa xb
+2 2 0 0 | 0 0 0 0 0 0 0 0 | Waiting
+[1]
+Longest(1) 1 of 1
+1:4:2 1:4:2:end 1 Completed .
+Begin Before After(Commit) .
+Completed 4
+",
+            partitions: "2 0 0 2 | 2 2 1 0 0 0 0 0 | Finished xa xb
+4 2 0 2 | 2 2 1 0 0 0 0 0 | Finished xc xd
+",
+        },
+        _ => return None,
+    })
+}
+
+/// The threads that the plan of a journey's run asks for, and its greatest number of rounds.
+fn leg_at(journey: u64, run: u64) -> Option<(u32, Option<u64>)> {
+    Some(match (journey, run) {
+        (0, 0) => (2, Some(1)),
+        (1, 0..=3) => (1, Some(1)),
+        (2 | 4, 0) => (2, Some(0)),
+        (3 | 5, 0) | (0 | 2 | 3 | 5, 1) => (2, None),
+        (4, 1) => (0, None),
+        _ => return None,
+    })
+}
+
+/// What a run leaves: the rows, as they were saved and read again, and the artifacts of the partitions, each with its number.
+#[derive(Drop)]
+pub(crate) struct Between {
+    saved: Option<Saved>,
+    rows: Vec<Row>,
+    unfinished: Vec<(u32, Works)>,
+    finished: Vec<(u32, Works)>,
+}
+
+impl Between {
+    /// Nothing is left yet.
+    pub(crate) fn nothing(alloc: Global) -> Between {
+        Between {
+            saved: None,
+            rows: Vec::new(alloc),
+            unfinished: Vec::new(alloc),
+            finished: Vec::new(alloc),
+        }
+    }
+
+    /// Before the first run.
+    pub(crate) fn first(alloc: Global, records: &str) -> Result<Between, Fail> {
+        let given = Given::read(alloc, records)?;
+        let some = given.ranges().iter().filter(|range| range.lo < range.hi);
+        let mut between = Between::nothing(alloc);
+        for own in all_works(alloc, records, some.count())? {
+            between.unfinished.push((0, own))?;
+        }
+        Ok(between)
+    }
+
+    /// The saved rows and the artifacts that the next run begins with.
+    fn give_up(&mut self, alloc: Global) -> (Option<Saved>, Vec<(u32, Works)>) {
+        let left = mem::replace(&mut self.unfinished, Vec::new(alloc));
+        (self.saved.take(), left)
+    }
+
+    /// What the run left, and its status, if it has an answer.
+    pub(crate) fn take(
+        &mut self,
+        alloc: Global,
+        records: &str,
+        snapshot: &Snapshot,
+        end: Result<StepEnd<Works>, StepError>,
+    ) -> Result<Option<Status>, Fail> {
+        match end {
+            Ok(end) => {
+                let status = end.status;
+                self.keep(alloc, end)?;
+                Ok(Some(status))
+            }
+            Err(_) => {
+                self.renew(alloc, records, snapshot)?;
+                Ok(None)
+            }
+        }
+    }
+
+    pub(crate) fn keep(&mut self, alloc: Global, end: StepEnd<Works>) -> Result<(), Fail> {
+        self.hold(alloc, &end.snapshot)?;
+        for (partition, own) in end.artifacts {
+            let row = self.rows.get(partition as usize).ok_or("a row")?;
+            if row.state.is_finished() {
+                self.finished.push((partition, own))?;
+            } else {
+                self.unfinished.push((partition, own))?;
+            }
+        }
+        Ok(())
+    }
+
+    fn hold(&mut self, alloc: Global, snapshot: &Snapshot) -> Result<(), Fail> {
+        let saved = saved_again(alloc, snapshot)?;
+        self.rows = Vec::from_slice(alloc, saved.rows())?;
+        self.saved = Some(saved);
+        Ok(())
+    }
+
+    /// What a run without an answer left: its artifacts are gone, and the writers of new ones have what was written.
+    fn renew(&mut self, alloc: Global, records: &str, snapshot: &Snapshot) -> Result<(), Fail> {
+        self.hold(alloc, snapshot)?;
+        self.finished = Vec::new(alloc);
+        for (partition, row) in (0..256).zip(self.rows.iter()) {
+            let own = works_from(alloc, records, row)?;
+            if row.state.is_finished() {
+                self.finished.push((partition, own))?;
+            } else {
+                self.unfinished.push((partition, own))?;
+            }
+        }
+        Ok(())
+    }
+
+    /// How each partition stands; one that had nothing to do has no artifacts.
+    pub(crate) fn partitions(&self, alloc: Global) -> Result<String, Fail> {
+        let none = works(alloc, "")?;
+        let mut text = String::new(alloc);
+        for (partition, row) in self.rows.iter().enumerate() {
+            let ended = self
+                .finished
+                .iter()
+                .find(|left| left.0 as usize == partition);
+            let failed = self
+                .unfinished
+                .iter()
+                .find(|left| left.0 as usize == partition);
+            match ended.or(failed) {
+                Some(left) => add_partition(&mut text, alloc, row, &left.1)?,
+                None => add_partition(&mut text, alloc, row, &none)?,
+            }
+        }
+        Ok(text)
+    }
+}
+
+/// The artifacts that were handed back; or, where a restart has records of its own, new ones with the writers of those.
+fn works_again(
+    alloc: Global,
+    unfinished: Vec<(u32, Works)>,
+    records: Option<&str>,
+) -> Result<Vec<Works>, Fail> {
+    let mut again = Vec::new(alloc);
+    for (_, own) in unfinished {
+        match records {
+            None => again.push(own)?,
+            Some(records) => again.push(with_writer(own, works(alloc, records)?))?,
+        }
+    }
+    Ok(again)
+}
+
+fn with_writer(own: Works, new: Works) -> Works {
+    ArtifactsOf {
+        reader: new.reader,
+        processor: new.processor,
+        writer: own.writer,
+        collector: new.collector,
+    }
+}
+
+/// Goes on from what the run before left, on the plan of these records; `others` where these aren't its own. The status, if
+/// the run has an answer, and its course.
+pub(crate) fn gone_on<R: Threads + Wait + Sync>(
+    rt: &R,
+    alloc: Global,
+    asked: Asked,
+    records: &str,
+    others: bool,
+    rounds: Option<u64>,
+    between: &mut Between,
+) -> Result<(Option<Status>, String), Fail> {
+    let mut analyzer = ListAnalyzer::new(alloc, None);
+    let mut reducer = ListReducer::new(alloc, None);
+    let (saved, left) = between.give_up(alloc);
+    let prepared = started(alloc, asked, records, &mut reducer, saved)?;
+    let mut course = format!(in alloc; "{:?}\n", prepared.needs())?;
+    let artifacts = works_again(alloc, left, if others { Some(records) } else { None })?;
+    let blank = Blank::new(1_000_000_000_000);
+    let (snapshot, end) = run_on::<Brand, R>(
+        rt,
+        alloc,
+        blank,
+        prepared,
+        artifacts,
+        rounds,
+        &mut analyzer,
+        &mut reducer,
+    )?;
+    add_answer(&mut course, alloc, &snapshot, &end, &analyzer, &reducer)?;
+    let status = between.take(alloc, records, &snapshot, end)?;
+    if status.is_none() {
+        course.push_str(between.partitions(alloc)?.as_str())?;
+    }
+    Ok((status, course))
+}
+
+/// Runs at most so many rounds, and answers what the table shows then, too.
+fn run_on<L: Ledger + Send + Sync + 'static, R: Threads + Wait + Sync>(
+    rt: &R,
+    alloc: Global,
+    blank: Blank,
+    prepared: Prepared,
+    artifacts: Vec<Works>,
+    rounds: Option<u64>,
+    analyzer: &mut ListAnalyzer,
+    reducer: &mut ListReducer,
+) -> Result<(Snapshot, Result<StepEnd<Works>, StepError>), Fail>
+    requires name { blank.name ≡ L.name }
+    requires parts { blank.parts ≡ L.parts }
+    requires all { blank.parts ≡ 1000000000000 }
+{
+    let desk = prepared.desk::<L>(alloc, blank)?;
+    let end = stopped_after::<Letters, L, R>(
+        rt, alloc, &desk, prepared, artifacts, analyzer, reducer, rounds,
+    );
+    Ok((desk.status(rt)?, end))
+}
+
+/// What a run of these records begins with.
+pub(crate) fn started(
+    alloc: Global,
+    asked: Asked,
+    records: &str,
+    reducer: &mut ListReducer,
+    saved: Option<Saved>,
+) -> Result<Prepared, Fail> {
+    let given = Given::read(alloc, records)?;
+    let count = given.count();
+    let mut mapper = FixedMapper::new(given.plan(asked.threads));
+    let prepared = begun_from(
+        alloc,
+        asked.item_count,
+        asked.rules,
+        count,
+        &mut mapper,
+        reducer,
+        saved,
+    )?;
+    Ok(prepared?)
+}
+
+/// Adds the course of a run; where it has no answer, why, the numbers of events and of plans of its history, and the reducer's
+/// calls.
+fn add_answer(
+    course: &mut String,
+    alloc: Global,
+    snapshot: &Snapshot,
+    end: &Result<StepEnd<Works>, StepError>,
+    analyzer: &dyn Analyzer,
+    reducer: &dyn Reducer,
+) -> Result<(), Fail> {
+    match end {
+        Ok(end) => add_course(course, alloc, end, analyzer, reducer),
+        Err(error) => {
+            let line = format!(in alloc; "{error:?} {} {}\n", snapshot.events, snapshot.plans)?;
+            course.push_str(line.as_str())?;
+            add_reduced(course, alloc, reducer)
+        }
+    }
+}
+
+/// The courses of a journey's runs, and what its partitions come to.
+fn travelled<R: Threads + Wait + Sync>(
+    rt: &R,
+    alloc: Global,
+    number: u64,
+    journey: &Journey,
+) -> Result<(String, String), Fail> {
+    let mut between = Between::first(alloc, journey.records)?;
+    let mut courses = String::new(alloc);
+    for run in 0..4 {
+        if let Some((threads, rounds)) = leg_at(number, run) {
+            let records = if run == 0 {
+                journey.records
+            } else {
+                journey.again
+            };
+            let asked = Asked {
+                threads,
+                ..journey.asked
+            };
+            let others = records != journey.records;
+            let (_, course) = gone_on(rt, alloc, asked, records, others, rounds, &mut between)?;
+            courses.push_str(course.as_str())?;
+        }
+    }
+    Ok((courses, between.partitions(alloc)?))
+}
+
+#[test]
+fn restarts(rt: HostRuntime) -> Result<(), Fail> {
+    for number in 0..6 {
+        let Some(journey) = journey_at(number) else {
+            return Err(Fail::from("a journey"));
+        };
+        let (courses, partitions) = travelled(&rt, rt.alloc(), number, &journey)?;
+        assert_eq!(rt; courses.as_str(), journey.courses);
+        assert_eq!(rt; partitions.as_str(), journey.partitions);
+    }
+    Ok(())
+}
+
+/// Stops the case's step after so many rounds, and restarts it on so many threads until it is over: in one run, or, after a
+/// stop before the first round, round by round. On one thread a partition can fail while another waits, and the step is over
+/// then: there it isn't stopped again.
+fn stopped_at<R: Threads + Wait + Sync>(
+    rt: &R,
+    alloc: Global,
+    case: &Case,
+    stop: u64,
+    threads: u32,
+) -> Result<(Option<Status>, String), Fail> {
+    let mut between = Between::first(alloc, case.records)?;
+    let mut status = Some(Status::Stopped);
+    for run in 0..20 {
+        if status == Some(Status::Stopped) {
+            let (threads, rounds) = match (run, stop) {
+                (0, _) => (case.asked.threads, Some(stop)),
+                (_, 0) if threads > 1 => (threads, Some(1)),
+                _ => (threads, None),
+            };
+            let asked = Asked {
+                threads,
+                ..case.asked
+            };
+            let records = case.records;
+            (status, _) = gone_on(rt, alloc, asked, records, false, rounds, &mut between)?;
+        }
+    }
+    Ok((status, between.partitions(alloc)?))
+}
+
+#[test]
+fn stops_change_nothing(rt: HostRuntime) -> Result<(), Fail> {
+    for number in 0..13 {
+        let Some(case) = case_at(number) else {
+            return Err(Fail::from("a case"));
+        };
+        for stop in 0..5 {
+            for threads in 1..5 {
+                let (status, partitions) = stopped_at(&rt, rt.alloc(), &case, stop, threads)?;
+                assert!(rt; matches!(status, Some(Status::Completed | Status::Failed)));
+                assert_eq!(rt; partitions.as_str(), case.partitions);
+            }
+        }
+    }
+    Ok(())
+}

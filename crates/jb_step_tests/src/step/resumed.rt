@@ -1,0 +1,150 @@
+//! Saved rows that are refused, in the order of their faults, and a stop that is asked for in the middle of a round.
+
+ghost use Rattle.std.specs.Prelude.{◌≡◌};
+
+use crate::step::given::{Given, Letters, all_works, begun, begun_from, ended};
+use crate::step::restarts::{Between, gone_on};
+use crate::step::rows::{PLAIN, SEVEN, STRICT, course_of};
+use jb_collect::{ListAnalyzer, ListReducer, Reducer, Status};
+use jb_mapper::FixedMapper;
+use jb_plan::PlanError;
+use jb_step::{SavedPlace, StepError, read_saved};
+use jb_workers::{Desk, Gate};
+use std::alloc::Global;
+use std::marker::Brand;
+use std::sync::ledger::{Blank, Ledger};
+use std::sync::{Arc, Wait};
+use std::test::*;
+use std::thread::Threads;
+
+/// Three records in two partitions, none of them read.
+const SAVED: &str =
+    "{\"rows\":[[0,2,0,0,0,0,0,0,0,0,0,0,0,0,\"waiting\"],[2,3,2,2,0,0,0,0,0,0,0,0,0,0,\"waiting\"]],\"step\":\"step\",\"version\":1}";
+
+/// The same of another step.
+const OTHER: &str =
+    "{\"rows\":[[0,2,0,0,0,0,0,0,0,0,0,0,0,0,\"waiting\"],[2,3,2,2,0,0,0,0,0,0,0,0,0,0,\"waiting\"]],\"step\":\"other\",\"version\":1}";
+
+/// The records of the step that is stopped, and its course up to then.
+const RECORDS: &str = "abc/de/fg/";
+
+const COURSE: &str = "Longest(0) 1 of 2
+0:2:2 1:5:2 1:5:2:end 1 Completed 0 Stopped 2 Stopped .
+Begin Rollback After(Rollback) .
+Stopped 7
+";
+
+/// Why the step has no answer, and how many calls its reducer took.
+fn refusal(
+    alloc: Global,
+    text: &str,
+    records: &str,
+    threads: u32,
+    replace: bool,
+) -> Result<(StepError, usize), Fail> {
+    let saved = read_saved(alloc, text.as_bytes()).ok().ok_or("saved rows")?;
+    let given = Given::read(alloc, records)?;
+    let count = given.count();
+    let mut plan = given.plan(threads);
+    plan.replace = replace;
+    let mut mapper = FixedMapper::new(plan);
+    let mut reducer = ListReducer::new(alloc, None);
+    let answer = begun_from(
+        alloc,
+        2,
+        STRICT,
+        count,
+        &mut mapper,
+        &mut reducer,
+        Some(saved),
+    )?;
+    match answer {
+        Ok(_) => Err(Fail::from("no answer")),
+        Err(error) => Ok((error, reducer.calls().len())),
+    }
+}
+
+#[test]
+fn saved_rows_are_refused(rt: HostRuntime) -> Result<(), Fail> {
+    let cases = [
+        (OTHER, "ab/", 5_000, StepError::Plan(PlanError::Threads)),
+        (OTHER, "ab/", 2, StepError::Saved(SavedPlace::Step)),
+        (SAVED, "ab/", 2, StepError::Saved(SavedPlace::Records)),
+        (SAVED, "ab/c/", 2, StepError::Saved(SavedPlace::Override)),
+    ];
+    for (text, records, threads, error) in cases {
+        let answer = refusal(rt.alloc(), text, records, threads, true)?;
+        assert_eq!(rt; answer, (error, 3));
+    }
+    Ok(())
+}
+
+/// Asks for a stop when lane 1 begins in the first round.
+#[derive(Drop)]
+struct Stopping<L: Ledger> {
+    desk: Arc<Desk<L>>,
+}
+
+impl<L: Ledger + Send + Sync> Gate for Stopping<L> {
+    fn arrive(&self, lane: u32, round: u64) {
+        if lane == 1 && round == 0 {
+            self.desk.request_stop();
+        }
+    }
+
+    fn leave(&self, _lane: u32, _round: u64) {}
+}
+
+/// The round is run to its end, and no other is begun.
+fn stop<L: Ledger + Send + Sync + 'static, R: Threads + Wait + Sync>(
+    rt: &R,
+    alloc: Global,
+    blank: Blank,
+    between: &mut Between,
+) -> Result<String, Fail>
+    requires name { blank.name ≡ L.name }
+    requires parts { blank.parts ≡ L.parts }
+    requires all { blank.parts ≡ 1000000000000 }
+{
+    let given = Given::read(alloc, RECORDS)?;
+    let count = given.count();
+    let mut analyzer = ListAnalyzer::new(alloc, None);
+    let mut reducer = ListReducer::new(alloc, None);
+    let mut mapper = FixedMapper::new(given.plan(2));
+    let prepared = begun(alloc, 2, STRICT, count, &mut mapper, &mut reducer)?;
+    let prepared = prepared.ok().ok_or("a start")?;
+    let desk = Arc::new(alloc, prepared.desk::<L>(alloc, blank)?)?;
+    let gate = Stopping {
+        desk: Arc::try_clone(&desk)?,
+    };
+    let artifacts = all_works(alloc, RECORDS, 3)?;
+    let end = ended::<Letters, L, Stopping<L>, R>(
+        rt,
+        alloc,
+        &desk,
+        prepared,
+        artifacts,
+        &mut analyzer,
+        &mut reducer,
+        &gate,
+    );
+    let end = end.ok().ok_or("an end")?;
+    let course = course_of(alloc, &end, &analyzer, &reducer)?;
+    between.keep(alloc, end)?;
+    Ok(course)
+}
+
+/// The restart ends as the step that nothing stops.
+#[test]
+fn a_stop_in_a_round(rt: HostRuntime) -> Result<(), Fail> {
+    let alloc = rt.alloc();
+    let mut between = Between::nothing(alloc);
+    let blank = Blank::new(1_000_000_000_000);
+    let course = stop::<Brand, _>(&rt, alloc, blank, &mut between)?;
+    assert_eq!(rt; course.as_str(), COURSE);
+    let (status, _) = gone_on(&rt, alloc, PLAIN, RECORDS, false, None, &mut between)?;
+    assert!(rt; status == Some(Status::Completed));
+    let partitions = between.partitions(alloc)?;
+    assert_eq!(rt; partitions.as_str(), SEVEN);
+    Ok(())
+}

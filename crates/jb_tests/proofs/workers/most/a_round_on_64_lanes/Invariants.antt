@@ -1,4 +1,0 @@
-use Rattle.jb_tests.proofs.workers.most.a_round_on_64_lanes.Given as goal
-
-abbrev pub ghosts-run : goal.ghosts-run
-ghosts-run g a = record { name = a.blank.name; parts = a.blank.parts }
