@@ -1,15 +1,21 @@
 """A plain, slow program that answers as `batchrun` does, written from docs/FORMATS.md and docs/RULES.md alone.
 
-`answer(word, document)` gives status, standard output and standard error. Scripts of this folder compare the built program with it.
+`answer(word, document, rounds)` gives status, standard output and standard error; `rounds` is the number behind `--rounds`, if there
+is one. Scripts of this folder compare the built program with it.
 """
 import dataclasses
 import json
 
 MOST = 2**64
+MOST_ROLLBACKS = 1_000_000_000_000
 
 
 class Refused(Exception):
     """The first fault of a document."""
+
+
+class Broken(Exception):
+    """A step that came to no end."""
 
 
 # ---- JSON: bytes to trees
@@ -148,17 +154,28 @@ def range_of(field, tree):
     return tuple(tree)
 
 
+@dataclasses.dataclass
+class Plan:
+    partitions: int
+    threads: int
+    override: bool
+    ranges: list | None
+
+    def ranges_of(self, records):
+        return checked_ranges(records, even_ranges(records, self.partitions) if self.ranges is None else self.ranges)
+
+
 def plan_of(field, tree):
     given = fields(field, ["partitions", "threads", "override", "ranges"], tree)
     partitions = optional(given, "partitions", lambda f, t: number(1, 4_096, f, t), 1)
     threads = optional(given, "threads", lambda f, t: number(0, 4_096, f, t), 0)
-    optional(given, "override", flag)
+    override = optional(given, "override", flag, False)
 
     def ranges(f, t):
         shaped("partitions" not in given, f)
         return [range_of(f, pair) for pair in items(0, 4_096, f, t)]
 
-    return partitions, threads, optional(given, "ranges", ranges)
+    return Plan(partitions, threads, override, optional(given, "ranges", ranges))
 
 
 def partition_of(field, tree):
@@ -199,7 +216,7 @@ def step_of(declared, earlier, tree):
 
     name = required(given, "id", new_id)
     chunk = required(given, "chunk", chunk_of(declared))
-    return name, chunk, optional(given, "partition", partition_of, (1, 0, None))
+    return name, chunk, optional(given, "partition", partition_of, Plan(1, 0, False, None))
 
 
 def job_of(tree):
@@ -258,15 +275,84 @@ def data_of(declared, tree):
     return records, prefix, drop, optional(given, "faults", faults_of, [{}, {}, {}])
 
 
-def document_of(tree):
-    given = fields("unknown", ["job", "data"], tree)
+def document_of(tree, keys):
+    given = fields("unknown", keys, tree)
     job = required(given, "job", lambda _, t: job_of(t))
 
     def data_list(field, tree):
         shaped(isinstance(tree, list) and len(tree) == len(job[2]), field)
         return [data_of(job[1], data) for data in tree]
 
-    return job, required(given, "data", data_list)
+    data = required(given, "data", data_list)
+    resume = required(given, "resume", resume_of([step[0] for step in job[2]])) if "resume" in keys else None
+    return job, data, resume
+
+
+# ---- what a restart goes on from
+
+
+def saved_if(is_right, place):
+    if not is_right:
+        raise Refused(f"Saved({place})")
+
+
+def is_sound(row):
+    """The rules that each row keeps."""
+    lo, hi, at, redo, retries, written, read, write, commit, rollback, read_skip, process_skip, filtered, write_skip, state = row
+    results = write + process_skip + filtered
+    return (
+        lo <= at <= hi <= 10_000_000
+        and lo <= redo <= hi
+        and (state == "done") == (at == hi)
+        and read + read_skip == at - lo
+        and write == written
+        and (results == read if write_skip == 0 else results <= read)
+        and max(write_skip, int(at > lo)) <= commit <= at - lo
+        and retries <= rollback <= MOST_ROLLBACKS
+    )
+
+
+def share_a_record(one, other):
+    return max(one[0], other[0]) < min(one[1], other[1])
+
+
+def is_row(tree):
+    numbers = isinstance(tree, list) and len(tree) == 15 and all(type(each) is int for each in tree[:14])
+    return numbers and isinstance(tree[14], str) and tree[14] in ("waiting", "done", "failed")
+
+
+def saved_of(_, tree):
+    """The step's id and the rows of a saved object."""
+    saved_if(isinstance(tree, dict), "Shape")
+    version = tree.get("version")
+    saved_if(type(version) is not int or version == 1, "Version")
+    saved_if(type(version) is int and tree.keys() == {"rows", "step", "version"}, "Shape")
+    rows, step = tree["rows"], tree["step"]
+    saved_if(isinstance(step, str) and 1 <= len(step.encode()) <= 64, "Shape")
+    saved_if(isinstance(rows, list) and 1 <= len(rows) <= 256 and all(map(is_row, rows)), "Shape")
+    for place, row in enumerate(rows):
+        saved_if(is_sound(row) and not any(share_a_record(row, earlier) for earlier in rows[:place]), f"Rows({place})")
+    return step, rows
+
+
+def resume_of(steps):
+    """The number of the step, the rows and the outputs that a restart goes on from."""
+
+    def text_lists(field, tree):
+        shaped(isinstance(tree, list) and all(isinstance(texts, list) for texts in tree), field)
+        shaped(all(isinstance(text, str) for texts in tree for text in texts), field)
+        return tree
+
+    def read(field, tree):
+        given = fields(field, ["outputs", "saved"], tree)
+        outputs = required(given, "outputs", text_lists)
+        step, rows = required(given, "saved", saved_of)
+        shaped(len(outputs) == len(rows), "outputs")
+        ranged(all(row[5] <= len(texts) for row, texts in zip(rows, outputs)), "outputs")
+        saved_if(step in steps, "Step")
+        return steps.index(step), rows, outputs
+
+    return read
 
 
 # ---- a step's plan
@@ -320,6 +406,13 @@ class Partition:
         self.at = self.redo = self.lo
         self.retries, self.outputs, self.failed = 0, [], False
         self.counts = dict.fromkeys(METRICS, 0)
+
+    def go_on(self, row, texts):
+        """Stands where the saved row says; a failed partition waits again."""
+        _, _, self.at, self.redo, self.retries, written, *counts, _ = row
+        self.counts = dict(zip(METRICS, counts))
+        self.outputs = texts[:written]
+        return self
 
     def row(self):
         state = "failed" if self.failed else "done" if self.at == self.hi else "waiting"
@@ -417,22 +510,37 @@ def wrapped(counts, threads):
 class Step:
     """The plans of a step's rounds, and what its analyzer heard of each partition."""
 
-    def __init__(self, tasks, threads):
-        self.tasks, self.threads = tasks, min(threads or len(tasks), 64)
-        self.plans, self.heard = [], [["COMPLETED"] if task.lo == task.hi else [] for task in tasks]
+    def __init__(self, tasks, threads, begun_anew):
+        self.tasks, self.threads, self.stopped = tasks, threads, False
+        self.plans, self.heard = [], [["COMPLETED"] if begun_anew and task.lo == task.hi else [] for task in tasks]
 
-    def run(self):
+    def run(self, limit):
+        """Runs the partitions to their ends, in at most so many rounds."""
+        done, plan = 0, None
         while any(counts := [task.chunks_left() for task in self.tasks]):
-            certificate, rounds = wrapped(counts, self.threads)
-            ran = 0
-            for slots in rounds:
-                ran += 1
-                if not all([self.attempt(slot[0]) for slot in slots if slot is not None]):
-                    break
-            self.plans.append([certificate, len(rounds), ran])
+            if done == limit:
+                self.stop()
+                return
+            if plan is None:
+                certificate, rounds = wrapped(counts, self.threads)
+                plan = iter(rounds)
+                self.plans.append([certificate, len(rounds), 0])
+            whole_round = [self.attempt(slot[0]) for slot in next(plan) if slot is not None]
+            done += 1
+            self.plans[-1][2] += 1
+            if not all(whole_round) or self.plans[-1][1] == self.plans[-1][2]:
+                plan = None
+
+    def stop(self):
+        self.stopped = True
+        for task, heard in zip(self.tasks, self.heard):
+            if task.chunks_left():
+                heard.append("STOPPED")
 
     def attempt(self, partition):
         task, heard = self.tasks[partition], self.heard[partition]
+        if task.counts["ROLLBACK"] == MOST_ROLLBACKS:
+            raise Broken(f"repository {len(self.tasks)}")
         committed = task.attempt()
         if committed:
             text = f"{partition}:{task.at}:{task.counts['WRITE']}"
@@ -441,15 +549,18 @@ class Step:
             heard.append("FAILED")
         return committed
 
+    def status(self):
+        return "FAILED" if any(task.failed for task in self.tasks) else "STOPPED" if self.stopped else "COMPLETED"
+
     def report(self, name):
-        failed = any(task.failed for task in self.tasks)
+        completed = self.status() == "COMPLETED"
         return {
             "heard": self.heard,
             "outputs": [task.outputs for task in self.tasks],
             "plans": self.plans,
-            "reducer": ["begin", "rollback", "after ROLLBACK"] if failed else ["begin", "before", "after COMMIT"],
-            "rows": [task.row() for task in self.tasks],
-            "status": "FAILED" if failed else "COMPLETED",
+            "reducer": ["begin", "before", "after COMMIT"] if completed else ["begin", "rollback", "after ROLLBACK"],
+            "saved": {"rows": [task.row() for task in self.tasks], "step": name, "version": 1},
+            "status": self.status(),
             "step": name,
         }
 
@@ -461,19 +572,45 @@ def compact(value):
     return json.dumps(value, ensure_ascii=False, separators=(",", ":"), sort_keys=True)
 
 
-def run(tree):
-    (name, _, steps), data = document_of(tree)
-    reports, status = [], "COMPLETED"
-    for (step_name, chunk, (partitions, threads, ranges)), given in zip(steps, data):
-        if status == "FAILED":
+def first_step(chunk, plan, given):
+    """A step that begins."""
+    ranges = plan.ranges_of(len(given[0]))
+    return Step([Partition(chunk, given, each) for each in ranges], min(plan.threads or len(ranges), 64), True)
+
+
+def restarted_step(chunk, plan, given, rows, outputs):
+    """A step that goes on from its saved rows: its plan gives the number of threads alone."""
+    records = len(given[0])
+    ranges = plan.ranges_of(records)
+    saved_if(all(row[1] <= records for row in rows), "Records")
+    saved_if(not plan.override, "Override")
+    tasks = [Partition(chunk, given, row[:2]).go_on(row, texts) for row, texts in zip(rows, outputs)]
+    return Step(tasks, min(plan.threads or len(ranges), 64), False)
+
+
+def run_steps(job, data, resume, limit):
+    reports = []
+    first = 0 if resume is None else resume[0]
+    for place in range(first, len(data)):
+        name, chunk, plan = job[2][place]
+        if resume is not None and place == first:
+            step = restarted_step(chunk, plan, data[place], *resume[1:])
+        else:
+            step = first_step(chunk, plan, data[place])
+        step.run(limit)
+        reports.append(step.report(name))
+        if step.status() != "COMPLETED":
             break
-        records = len(given[0])
-        whole_plan = even_ranges(records, partitions) if ranges is None else ranges
-        step = Step([Partition(chunk, given, each) for each in checked_ranges(records, whole_plan)], threads)
-        step.run()
-        reports.append(step.report(step_name))
-        status = reports[-1]["status"]
-    return int(status == "FAILED"), compact({"job": name, "status": status, "steps": reports}) + "\n"
+    status = reports[-1]["status"]
+    return ["COMPLETED", "FAILED", "STOPPED"].index(status), compact({"job": job[0], "status": status, "steps": reports}) + "\n"
+
+
+def run(tree, limit=None):
+    return run_steps(*document_of(tree, ["job", "data"]), limit)
+
+
+def restart(tree, limit=None):
+    return run_steps(*document_of(tree, ["job", "data", "resume"]), limit)
 
 
 def load_of(keys, tree):
@@ -553,13 +690,16 @@ def check(tree):
     return int(fault is not None or not holds), "".join(f"{line}\n" for line in lines)
 
 
-WORDS = {"run": run, "plan": plan, "check": check}
+WORDS = {"run": run, "restart": restart, "plan": plan, "check": check}
 
 
-def answer(word, document):
-    """The status, standard output and standard error of `batchrun WORD` on these bytes."""
+def answer(word, document, rounds=None):
+    """The status, standard output and standard error of `batchrun WORD` on these bytes, with `--rounds` where a number is given."""
+    limit = {} if rounds is None else {"limit": rounds}
     try:
-        status, output = WORDS[word](tree_of(document))
+        status, output = WORDS[word](tree_of(document), **limit)
     except Refused as refused:
         return 3, b"", f"refused: {refused}\n".encode()
+    except Broken as broken:
+        return 4, b"", f"{broken}\n".encode()
     return status, output.encode(), b""
