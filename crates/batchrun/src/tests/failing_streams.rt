@@ -1,6 +1,6 @@
-//! Each read and each write of each word fails in turn.
+//! Each read and each write of each word fails in turn, or is interrupted.
 
-use super::streams::{FailingReader, FailingWriter, arguments};
+use super::streams::{FailingReader, FailingWriter, Interrupted, arguments};
 use crate::perform::perform;
 
 /// A word, its document, what it prints and its status.
@@ -80,6 +80,22 @@ fn failing_writes(rt: HostRuntime) {
             let line = if fails { "stream failed\n" } else { "" };
             assert_eq!(rt; faults.as_slice(), line.as_bytes(), "{word} {fails_at}");
         }
+    }
+}
+
+// Every other read and write is interrupted: each is made again, and nothing is lost or told twice.
+#[test]
+fn interrupted_calls(rt: HostRuntime) {
+    let alloc = rt.alloc();
+    for (word, document, output, status) in ROWS {
+        let mut reader = Interrupted::new(FailingReader::new(document.as_bytes(), 0));
+        let mut written = Interrupted::new(FailingWriter::new(alloc, 0));
+        let mut faults = Interrupted::new(FailingWriter::new(alloc, 0));
+        let args = arguments(alloc, word);
+        let code = perform(&rt, alloc, args, &mut reader, &mut written, &mut faults);
+        assert_eq!(rt; code, status, "{word}");
+        assert_eq!(rt; written.stream().bytes(), output.as_bytes(), "{word}");
+        assert!(rt; faults.stream().bytes().is_empty(), "{word}");
     }
 }
 

@@ -1,4 +1,4 @@
-//! Arguments, and streams that fail.
+//! Arguments, and streams that fail or are interrupted.
 
 use std::alloc::Global;
 use std::env::Args;
@@ -87,5 +87,51 @@ impl Write for FailingWriter {
 
     fn flush(&mut self) -> io::Result<()> {
         Ok(())
+    }
+}
+
+/// Is interrupted at each call that follows none or one that was not.
+#[derive(Drop)]
+pub struct Interrupted<S> {
+    stream: S,
+    is_next: bool,
+}
+
+impl<S> Interrupted<S> {
+    pub fn new(stream: S) -> Interrupted<S> {
+        Interrupted {
+            stream,
+            is_next: true,
+        }
+    }
+
+    pub fn stream(&self) -> &S {
+        &self.stream
+    }
+}
+
+impl<R: Read> Read for Interrupted<R> {
+    fn read(&mut self, buf: &mut [u8]) -> io::Result<usize> {
+        if self.is_next {
+            self.is_next = false;
+            return Err(io::Error::from(io::ErrorKind::Interrupted));
+        }
+        self.is_next = true;
+        self.stream.read(buf)
+    }
+}
+
+impl<W: Write> Write for Interrupted<W> {
+    fn write(&mut self, buf: &[u8]) -> io::Result<usize> {
+        if self.is_next {
+            self.is_next = false;
+            return Err(io::Error::from(io::ErrorKind::Interrupted));
+        }
+        self.is_next = true;
+        self.stream.write(buf)
+    }
+
+    fn flush(&mut self) -> io::Result<()> {
+        self.stream.flush()
     }
 }
