@@ -9,4 +9,5 @@ mod refusals;
 mod restarts;
 mod resumed;
 mod rows;
+mod runs;
 mod watched;

@@ -2,14 +2,16 @@
 
 ghost use Rattle.std.specs.Prelude.{◌≡◌};
 
-use crate::step::given::{Given, Processor, begun, ended, works};
+use crate::step::given::{Given, Processor, ended, works};
+use crate::step::rows::{Asked, PLAIN};
+use crate::step::runs::started;
 use crate::workers::meeting::wait_for;
 use jb_artifacts::{ArtifactsOf, CountCollector, Item, ItemProcessor, ListWriter, TableReader};
 use jb_chunk::Task;
 use jb_collect::{ListAnalyzer, ListReducer, Status};
-use jb_job::{ArtifactError, Rules};
-use jb_mapper::FixedMapper;
-use jb_workers::Gate;
+use jb_job::ArtifactError;
+use jb_step::Prepared;
+use jb_workers::{Desk, Gate};
 use std::alloc::Global;
 use std::marker::Brand;
 use std::process::Abort;
@@ -149,6 +151,32 @@ fn waiting_works(alloc: Global, meeting: &Arc<Meeting>) -> Result<Vec<WaitingWor
     Ok(all)
 }
 
+/// The step's status, and the number of its events.
+fn met<L: Ledger + Send + Sync + 'static, R: Threads + Wait + Clock + Abort + Copy + Send + Sync>(
+    rt: &R,
+    alloc: Global,
+    desk: &Desk<L>,
+    prepared: Prepared,
+    processors: &Arc<Meeting>,
+    reducer: &mut ListReducer,
+    gate: &Lanes<R>,
+) -> Result<(Status, u64), Fail> {
+    let mut analyzer = ListAnalyzer::new(alloc, None);
+    let artifacts = waiting_works(alloc, processors)?;
+    let end = ended::<Task<WaitingWorks>, L, Lanes<R>, R>(
+        rt,
+        alloc,
+        desk,
+        prepared,
+        artifacts,
+        &mut analyzer,
+        reducer,
+        gate,
+    );
+    let end = end.ok().ok_or("an end")?;
+    Ok((end.status, end.snapshot.events))
+}
+
 /// The four partitions' lanes meet in both rounds, and their processors meet in the first one.
 fn meet<L: Ledger + Send + Sync + 'static, R: Threads + Wait + Clock + Abort + Copy + Send + Sync>(
     rt: &R,
@@ -159,39 +187,23 @@ fn meet<L: Ledger + Send + Sync + 'static, R: Threads + Wait + Clock + Abort + C
     requires parts { blank.parts ≡ L.parts }
     requires all { blank.parts ≡ 1000000000000 }
 {
-    let rules = Rules {
-        skippable: 0,
-        retryable: 0,
-        skip_limit: None,
-        retry_limit: 0,
+    let asked = Asked {
+        threads: 4,
+        ..PLAIN
     };
-    let mut analyzer = ListAnalyzer::new(alloc, None);
     let mut reducer = ListReducer::new(alloc, None);
-    let mut mapper = FixedMapper::new(Given::read(alloc, RECORDS)?.plan(4));
-    let prepared = begun(alloc, 2, rules, 16, &mut mapper, &mut reducer)?;
-    let prepared = prepared.ok().ok_or("a start")?;
+    let prepared = started(alloc, asked, RECORDS, &mut reducer, None)?;
     let desk = prepared.desk::<L>(alloc, blank)?;
     let gate = Lanes {
         rt: *rt,
         rounds: [Meeting::new(), Meeting::new()],
     };
     let processors = Arc::new(alloc, Meeting::new())?;
-    let artifacts = waiting_works(alloc, &processors)?;
-    let end = ended::<Task<WaitingWorks>, L, Lanes<R>, R>(
-        rt,
-        alloc,
-        &desk,
-        prepared,
-        artifacts,
-        &mut analyzer,
-        &mut reducer,
-        &gate,
-    );
-    let end = end.ok().ok_or("an end")?;
+    let end = met::<L, R>(rt, alloc, &desk, prepared, &processors, &mut reducer, &gate)?;
     assert_eq!(rt; gate.rounds[0].seen(), [4, 0]);
     assert_eq!(rt; gate.rounds[1].seen(), [4, 0]);
     assert_eq!(rt; processors.seen(), [4, 0]);
-    assert_eq!(rt; (end.status, end.snapshot.events), (Status::Completed, 19));
+    assert_eq!(rt; end, (Status::Completed, 19));
     Ok(())
 }
 

@@ -2,11 +2,10 @@
 
 ghost use Rattle.std.specs.Prelude.{◌≡◌};
 
-use crate::step::given::{Given, Letters, all_works, begun, ended};
+use crate::step::rows::PLAIN;
+use crate::step::runs::{ended_with, started};
 use crate::workers::meeting::Meeting;
 use jb_collect::{ListAnalyzer, ListReducer, Status};
-use jb_job::Rules;
-use jb_mapper::FixedMapper;
 use std::alloc::Global;
 use std::marker::Brand;
 use std::process::Abort;
@@ -28,30 +27,22 @@ fn meet<L: Ledger + Send + Sync + 'static, R: Threads + Wait + Clock + Abort + C
     requires parts { blank.parts ≡ L.parts }
     requires all { blank.parts ≡ 1000000000000 }
 {
-    let rules = Rules {
-        skippable: 0,
-        retryable: 0,
-        skip_limit: None,
-        retry_limit: 0,
-    };
     let mut analyzer = ListAnalyzer::new(alloc, None);
     let mut reducer = ListReducer::new(alloc, None);
-    let mut mapper = FixedMapper::new(Given::read(alloc, RECORDS)?.plan(2));
-    let prepared = begun(alloc, 2, rules, 4, &mut mapper, &mut reducer)?;
-    let prepared = prepared.ok().ok_or("a start")?;
+    let prepared = started(alloc, PLAIN, RECORDS, &mut reducer, None)?;
     let desk = Arc::new(alloc, prepared.desk::<L>(alloc, blank)?)?;
     let gate = Meeting::new(*rt, Arc::try_clone(&desk)?);
-    let artifacts = all_works(alloc, RECORDS, 2)?;
-    let end = ended::<Letters, L, Meeting<L, R>, R>(
+    let end = ended_with::<L, Meeting<L, R>, R>(
         rt,
         alloc,
         &desk,
         prepared,
-        artifacts,
+        RECORDS,
+        2,
         &mut analyzer,
         &mut reducer,
         &gate,
-    );
+    )?;
     let end = end.ok().ok_or("an end")?;
     assert_eq!(rt; gate.seen(), [0, 0, 1]);
     assert_eq!(rt; (end.status, end.snapshot.events), (Status::Completed, 6));

@@ -2,14 +2,13 @@
 
 ghost use Rattle.std.specs.Prelude.{◌≡◌};
 
-use crate::step::given::{Given, Letters, all_works, begun_from, ended};
-use crate::step::rows::STRICT;
+use crate::step::rows::{Asked, PLAIN};
+use crate::step::runs::{ended_with, started};
 use jb_cert::Certificate;
 use jb_collect::{ListAnalyzer, ListReducer, Reducer};
-use jb_mapper::FixedMapper;
 use jb_repo::Event;
 use jb_step::{Prepared, StepError, read_saved};
-use jb_workers::NoGate;
+use jb_workers::{Desk, NoGate};
 use std::alloc::Global;
 use std::marker::Brand;
 use std::sync::Wait;
@@ -36,6 +35,30 @@ const RECORDS: &str = "ab/c/";
 const AT_LIMIT: &str =
     "{\"rows\":[[0,1,0,0,0,0,0,0,0,1000000000000,0,0,0,0,\"waiting\"]],\"step\":\"step\",\"version\":1}";
 
+/// The records of the step and those of its desk's rows, the desk's threads, and the saved rows of both, if they have any.
+#[derive(Clone, Copy)]
+struct Rows {
+    own: &'static str,
+    desk: &'static str,
+    threads: u32,
+    saved: Option<&'static str>,
+}
+
+fn rows_of(wrong: Wrong) -> Rows {
+    let (own, desk, threads, saved) = match wrong {
+        Wrong::OtherRows => (RECORDS, "ab/cd/", 2, None),
+        Wrong::Planned => (RECORDS, RECORDS, 2, None),
+        Wrong::OneThread => (RECORDS, RECORDS, 1, None),
+        Wrong::AtLimit => ("a/", "a/", 2, Some(AT_LIMIT)),
+    };
+    Rows {
+        own,
+        desk,
+        threads,
+        saved,
+    }
+}
+
 /// What the step of these records begins with, with the rows of the saved text, if there is one.
 fn start(
     alloc: Global,
@@ -48,11 +71,18 @@ fn start(
         Some(text) => Some(read_saved(alloc, text.as_bytes()).ok().ok_or("saved rows")?),
         None => None,
     };
-    let given = Given::read(alloc, records)?;
-    let count = given.count();
-    let mut mapper = FixedMapper::new(given.plan(threads));
-    let prepared = begun_from(alloc, 2, STRICT, count, &mut mapper, reducer, saved)?;
-    Ok(prepared.ok().ok_or("a start")?)
+    let asked = Asked { threads, ..PLAIN };
+    started(alloc, asked, records, reducer, saved)
+}
+
+fn desk_of<L: Ledger>(alloc: Global, blank: Blank, rows: &Rows) -> Result<Desk<L>, Fail>
+    requires name { blank.name ≡ L.name }
+    requires parts { blank.parts ≡ L.parts }
+    requires all { blank.parts ≡ 1000000000000 }
+{
+    let mut other = ListReducer::new(alloc, None);
+    let prepared = start(alloc, rows.desk, rows.threads, rows.saved, &mut other)?;
+    Ok(prepared.desk::<L>(alloc, blank)?)
 }
 
 /// Why the step has no answer, and how many calls its reducer took.
@@ -66,35 +96,27 @@ fn refusal<L: Ledger + Send + Sync + 'static, R: Threads + Wait + Sync>(
     requires parts { blank.parts ≡ L.parts }
     requires all { blank.parts ≡ 1000000000000 }
 {
-    let (records, partitions, text) = match wrong {
-        Wrong::AtLimit => ("a/", 1, Some(AT_LIMIT)),
-        _ => (RECORDS, 2, None),
-    };
-    let (desk_records, desk_threads) = match wrong {
-        Wrong::OtherRows => ("ab/cd/", 2),
-        Wrong::OneThread => (records, 1),
-        _ => (records, 2),
-    };
+    let rows = rows_of(wrong);
     let mut reducer = ListReducer::new(alloc, None);
     let mut analyzer = ListAnalyzer::new(alloc, None);
-    let mut other = ListReducer::new(alloc, None);
-    let prepared = start(alloc, records, 2, text, &mut reducer)?;
-    let desk = start(alloc, desk_records, desk_threads, text, &mut other)?.desk::<L>(alloc, blank)?;
+    let prepared = start(alloc, rows.own, 2, rows.saved, &mut reducer)?;
+    let desk = desk_of::<L>(alloc, blank, &rows)?;
     if wrong == Wrong::Planned {
         let planned = desk.apply(rt, Event::Plan(1, Certificate::FullLoad));
         planned.ok().ok_or("a plan")?;
     }
-    let artifacts = all_works(alloc, records, partitions)?;
-    let end = ended::<Letters, L, NoGate, R>(
+    let partitions = prepared.needs().len();
+    let end = ended_with::<L, NoGate, R>(
         rt,
         alloc,
         &desk,
         prepared,
-        artifacts,
+        rows.own,
+        partitions,
         &mut analyzer,
         &mut reducer,
         &NoGate,
-    );
+    )?;
     match end {
         Ok(_) => Err(Fail::from("no answer")),
         Err(error) => Ok((error, reducer.calls().len())),

@@ -3,7 +3,8 @@
 ghost use Rattle.std.specs.Prelude.{◌≡◌, Err};
 ghost use Rattle.jb_mapper.specs.Mapping.{Mapping};
 
-use crate::step::given::{Given, Letters, all_works, begun, ended, works};
+use crate::step::given::{Given, Letters, begun, works};
+use crate::step::runs::ended_with;
 use crate::workers::tasks::with_work;
 use jb_cert::Certificate;
 use jb_chunk::PartitionTask;
@@ -13,7 +14,7 @@ use jb_mapper::{FixedMapper, PartitionMapper};
 use jb_plan::{PartitionPlan, PlanError};
 use jb_repo::Event;
 use jb_rules::Row;
-use jb_step::StepError;
+use jb_step::{Prepared, StepError};
 use jb_workers::{Desk, NoGate};
 use std::alloc::Global;
 use std::marker::Brand;
@@ -80,6 +81,23 @@ fn run_own<L: Ledger + Send + Sync + 'static, R: Threads + Wait + Sync>(
     Ok(())
 }
 
+/// What the step begins with, unless its plan is refused.
+fn start(
+    alloc: Global,
+    wrong: Wrong,
+    reducer: &mut ListReducer,
+) -> Result<Result<Prepared, StepError>, Fail> {
+    if wrong == Wrong::Mapper {
+        let mut failing = Failing {
+            class: ClassId::new(3),
+        };
+        return begun(alloc, 2, RULES, 3, &mut failing, reducer);
+    }
+    let threads = if wrong == Wrong::Threads { 5_000 } else { 2 };
+    let mut mapper = FixedMapper::new(Given::read(alloc, RECORDS)?.plan(threads));
+    begun(alloc, 2, RULES, 3, &mut mapper, reducer)
+}
+
 /// Why the step has no answer, and how many calls its reducer took.
 fn refusal<L: Ledger + Send + Sync + 'static, R: Threads + Wait + Sync>(
     rt: &R,
@@ -91,23 +109,14 @@ fn refusal<L: Ledger + Send + Sync + 'static, R: Threads + Wait + Sync>(
     requires parts { blank.parts ≡ L.parts }
     requires all { blank.parts ≡ 1000000000000 }
 {
-    let class = ClassId::new(3);
     let fault = if wrong == Wrong::Reducer {
-        Some((0, class))
+        Some((0, ClassId::new(3)))
     } else {
         None
     };
     let mut reducer = ListReducer::new(alloc, fault);
     let mut analyzer = ListAnalyzer::new(alloc, None);
-    let mut failing = Failing { class };
-    let threads = if wrong == Wrong::Threads { 5_000 } else { 2 };
-    let mut mapper = FixedMapper::new(Given::read(alloc, RECORDS)?.plan(threads));
-    let answer = if wrong == Wrong::Mapper {
-        begun(alloc, 2, RULES, 3, &mut failing, &mut reducer)?
-    } else {
-        begun(alloc, 2, RULES, 3, &mut mapper, &mut reducer)?
-    };
-    let prepared = match answer {
+    let prepared = match start(alloc, wrong, &mut reducer)? {
         Ok(prepared) => prepared,
         Err(error) => return Ok((error, reducer.calls().len())),
     };
@@ -116,17 +125,17 @@ fn refusal<L: Ledger + Send + Sync + 'static, R: Threads + Wait + Sync>(
         run_own(rt, alloc, &desk)?;
     }
     let partitions = if wrong == Wrong::OneShort { 1 } else { 2 };
-    let artifacts = all_works(alloc, RECORDS, partitions)?;
-    let end = ended::<Letters, L, NoGate, R>(
+    let end = ended_with::<L, NoGate, R>(
         rt,
         alloc,
         &desk,
         prepared,
-        artifacts,
+        RECORDS,
+        partitions,
         &mut analyzer,
         &mut reducer,
         &NoGate,
-    );
+    )?;
     match end {
         Ok(_) => Err(Fail::from("no answer")),
         Err(error) => Ok((error, reducer.calls().len())),

@@ -4,14 +4,14 @@
 ghost use Rattle.std.specs.Prelude.{◌≡◌};
 
 use crate::step::given::{
-    Given, Letters, Works, all_works, begun_from, saved_again, stopped_after, works, works_from,
+    Given, Letters, Works, all_works, saved_again, stopped_after, works, works_from,
 };
 use crate::step::rows::{
     Asked, Case, ONE_SKIP, PLAIN, SEVEN, add_course, add_partition, add_reduced, case_at,
 };
+use crate::step::runs::started;
 use jb_artifacts::ArtifactsOf;
 use jb_collect::{Analyzer, ListAnalyzer, ListReducer, Reducer, Status};
-use jb_mapper::FixedMapper;
 use jb_repo::Snapshot;
 use jb_rules::Row;
 use jb_step::{Prepared, Saved, StepEnd, StepError};
@@ -374,29 +374,6 @@ fn run_on<L: Ledger + Send + Sync + 'static, R: Threads + Wait + Sync>(
         rt, alloc, &desk, prepared, artifacts, analyzer, reducer, rounds,
     );
     Ok((desk.status(rt)?, end))
-}
-
-/// What a run of these records begins with.
-pub(crate) fn started(
-    alloc: Global,
-    asked: Asked,
-    records: &str,
-    reducer: &mut ListReducer,
-    saved: Option<Saved>,
-) -> Result<Prepared, Fail> {
-    let given = Given::read(alloc, records)?;
-    let count = given.count();
-    let mut mapper = FixedMapper::new(given.plan(asked.threads));
-    let prepared = begun_from(
-        alloc,
-        asked.item_count,
-        asked.rules,
-        count,
-        &mut mapper,
-        reducer,
-        saved,
-    )?;
-    Ok(prepared?)
 }
 
 /// Adds the course of a run; where it has no answer, why, the numbers of events and of plans of its history, and the reducer's

@@ -2,9 +2,10 @@
 
 ghost use Rattle.std.specs.Prelude.{◌≡◌};
 
-use crate::step::given::{Given, Letters, all_works, begun, begun_from, ended};
+use crate::step::given::{Given, begun_from};
 use crate::step::restarts::{Between, gone_on};
 use crate::step::rows::{PLAIN, SEVEN, STRICT, course_of};
+use crate::step::runs::{ended_with, started};
 use jb_collect::{ListAnalyzer, ListReducer, Reducer, Status};
 use jb_mapper::FixedMapper;
 use jb_plan::PlanError;
@@ -106,28 +107,24 @@ fn stop<L: Ledger + Send + Sync + 'static, R: Threads + Wait + Sync>(
     requires parts { blank.parts ≡ L.parts }
     requires all { blank.parts ≡ 1000000000000 }
 {
-    let given = Given::read(alloc, RECORDS)?;
-    let count = given.count();
     let mut analyzer = ListAnalyzer::new(alloc, None);
     let mut reducer = ListReducer::new(alloc, None);
-    let mut mapper = FixedMapper::new(given.plan(2));
-    let prepared = begun(alloc, 2, STRICT, count, &mut mapper, &mut reducer)?;
-    let prepared = prepared.ok().ok_or("a start")?;
+    let prepared = started(alloc, PLAIN, RECORDS, &mut reducer, None)?;
     let desk = Arc::new(alloc, prepared.desk::<L>(alloc, blank)?)?;
     let gate = Stopping {
         desk: Arc::try_clone(&desk)?,
     };
-    let artifacts = all_works(alloc, RECORDS, 3)?;
-    let end = ended::<Letters, L, Stopping<L>, R>(
+    let end = ended_with::<L, Stopping<L>, R>(
         rt,
         alloc,
         &desk,
         prepared,
-        artifacts,
+        RECORDS,
+        3,
         &mut analyzer,
         &mut reducer,
         &gate,
-    );
+    )?;
     let end = end.ok().ok_or("an end")?;
     let course = course_of(alloc, &end, &analyzer, &reducer)?;
     between.keep(alloc, end)?;

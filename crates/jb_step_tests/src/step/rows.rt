@@ -3,12 +3,12 @@
 ghost use Rattle.std.specs.Prelude.{◌≡◌};
 
 use crate::collect::line_of;
-use crate::step::given::{Given, Letters, Works, all_works, begun, ended, works};
+use crate::step::given::{Given, Letters, Works, works};
+use crate::step::runs::{ended_with, started};
 use jb_artifacts::ItemWriter;
 use jb_chunk::{PartitionTask, run_alone};
 use jb_collect::{Analyzer, ListAnalyzer, ListReducer, Reducer};
 use jb_job::{ClassId, Range, Rules};
-use jb_mapper::FixedMapper;
 use jb_rules::Row;
 use jb_step::StepEnd;
 use jb_workers::NoGate;
@@ -354,34 +354,27 @@ fn run<L: Ledger + Send + Sync + 'static, R: Threads + Wait + Sync>(
     requires parts { blank.parts ≡ L.parts }
     requires all { blank.parts ≡ 1000000000000 }
 {
-    let given = Given::read(alloc, case.records)?;
-    let records = given.count();
     let fault = case.asked.analyzer.map(|number| (number, ClassId::new(5)));
     let mut analyzer = ListAnalyzer::new(alloc, fault);
     let mut reducer = ListReducer::new(alloc, None);
-    let mut mapper = FixedMapper::new(given.plan(threads));
-    let asked = case.asked;
-    let prepared = begun(
-        alloc,
-        asked.item_count,
-        asked.rules,
-        records,
-        &mut mapper,
-        &mut reducer,
-    )?;
-    let prepared = prepared.ok().ok_or("a start")?;
+    let asked = Asked {
+        threads,
+        ..case.asked
+    };
+    let prepared = started(alloc, asked, case.records, &mut reducer, None)?;
     let desk = prepared.desk::<L>(alloc, blank)?;
-    let artifacts = all_works(alloc, case.records, prepared.needs().len())?;
-    let end = ended::<Letters, L, NoGate, R>(
+    let partitions = prepared.needs().len();
+    let end = ended_with::<L, NoGate, R>(
         rt,
         alloc,
         &desk,
         prepared,
-        artifacts,
+        case.records,
+        partitions,
         &mut analyzer,
         &mut reducer,
         &NoGate,
-    );
+    )?;
     let end = end.ok().ok_or("an end")?;
     Ok(Ran {
         course: course_of(alloc, &end, &analyzer, &reducer)?,

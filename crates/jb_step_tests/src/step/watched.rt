@@ -3,8 +3,9 @@
 ghost use Rattle.std.specs.Prelude.{◌≡◌};
 
 use crate::step::given::{Letters, Works, all_works, ended};
-use crate::step::restarts::{Between, gone_on, started};
+use crate::step::restarts::{Between, gone_on};
 use crate::step::rows::{Asked, PLAIN, SEVEN};
+use crate::step::runs::started;
 use jb_collect::{ListAnalyzer, ListReducer, Status};
 use jb_repo::Snapshot;
 use jb_rules::Counts;

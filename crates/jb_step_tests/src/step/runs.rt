@@ -1,0 +1,58 @@
+//! How the steps of the tests begin and end.
+
+use crate::step::given::{Given, Letters, Works, all_works, begun_from, ended};
+use crate::step::rows::Asked;
+use jb_collect::{Analyzer, ListReducer, Reducer};
+use jb_mapper::FixedMapper;
+use jb_step::{Prepared, Saved, StepEnd, StepError};
+use jb_workers::{Desk, Gate};
+use std::alloc::Global;
+use std::sync::Wait;
+use std::sync::ledger::Ledger;
+use std::test::*;
+use std::thread::Threads;
+
+/// What a run of these records begins with.
+pub(crate) fn started(
+    alloc: Global,
+    asked: Asked,
+    records: &str,
+    reducer: &mut ListReducer,
+    saved: Option<Saved>,
+) -> Result<Prepared, Fail> {
+    let given = Given::read(alloc, records)?;
+    let count = given.count();
+    let mut mapper = FixedMapper::new(given.plan(asked.threads));
+    let prepared = begun_from(
+        alloc,
+        asked.item_count,
+        asked.rules,
+        count,
+        &mut mapper,
+        reducer,
+        saved,
+    )?;
+    Ok(prepared?)
+}
+
+/// Runs the step to its end, with new artifacts for so many partitions of the records.
+pub(crate) fn ended_with<
+    L: Ledger + Send + Sync + 'static,
+    G: Gate + Sync,
+    R: Threads + Wait + Sync,
+>(
+    rt: &R,
+    alloc: Global,
+    desk: &Desk<L>,
+    prepared: Prepared,
+    records: &str,
+    partitions: usize,
+    analyzer: &mut dyn Analyzer,
+    reducer: &mut dyn Reducer,
+    gate: &G,
+) -> Result<Result<StepEnd<Works>, StepError>, Fail> {
+    let artifacts = all_works(alloc, records, partitions)?;
+    Ok(ended::<Letters, L, G, R>(
+        rt, alloc, desk, prepared, artifacts, analyzer, reducer, gate,
+    ))
+}
