@@ -1,0 +1,24 @@
+use Rattle.std.proofs.Common.{◌≡◌, ◌∙◌, ap, length, rules}
+use borrow.Pointer.Hide.{carried_sameᵐ}
+use Rattle.jb_mapper.specs.Mapping.{Mapping}
+use Rattle.jb_step.specs.Setup.{opening_rows}
+use Rattle.payroll.specs.Works.{payroll_rules}
+use Rattle.payroll.proofs.Evenly.{ranges-in-order}
+use Rattle.payroll.proofs.step.prepared_for.Goals as goal
+use Rattle.payroll.proofs.step.prepared_for.OwnLists as own
+
+pub returns-clause-payroll : goal.returns-clause-payroll
+returns-clause-payroll c =
+    let same : c.in_ok-prepared.prepared.rules ≡ payroll_rules = search rules in
+    record { setup = c.in_ok-prepared.ensures.setup; rules = same }
+
+pub returns-clause-new : goal.returns-clause-new
+returns-clause-new c none =
+    let its = c.in_ok-prepared.ensures.prepared in
+    let meant = carried_sameᵐ _ _ own.entry-1-1 (own.own-1.entry own.at-1-1) own.same-1-1 Mapping (λ j y. j.1.mapping y.now) _ in
+    let even = ap (λ mapping. mapping (length c.args.lines.now)) (meant ∙ c.new-mapper.ensures) in
+    record {
+      ranges = its.plan.ranges;
+      order = ranges-in-order _ _ c.args.threads its.plan even its.mapping;
+      rows = its.rows ∙ ap (opening_rows its.plan.ranges) none;
+    }

@@ -1,0 +1,14 @@
+use Rattle.std.proofs.Common.{◌≡◌, ◌∙◌, ◌∷◌, ap, map, rules, sym, Some}
+use Rattle.std.proofs.lemmas.Option.{slice_get-map}
+use Rattle.std.specs.Prelude.{option_map}
+use Rattle.payroll.proofs.Begun.{works-more}
+use Rattle.payroll.proofs.Sharing.{found}
+use Rattle.payroll.proofs.works.+works_for.Goals as goal
+
+pub returns : goal.returns
+returns t c =
+    let made : c.insert.new.self.items ≡ c.in_ok-works.works ∷ c.in_ok-all.all.items = search rules in
+    let lookup = c.in-Some-get.ensures.lookup in
+    let share = slice_get-map _ c.args.shares.now c.in-Some.partition.now ∙ ap (option_map _) (found c.args.shares.now _ _ lookup.0 lookup.1)
+    ∙ ap Some (sym (c.in_ok-works.ensures.slips ∙ c.deref.ensures.value)) in
+    works-more _ _ _ _ _ _ _ _ _ _ c.in-Some.ensures.cases.0 (ap (map _) made) c.in-Some-row.ensures c.in_ok-works.ensures.work share c.in_ok-all.ensures

@@ -1,0 +1,7 @@
+use Rattle.std.proofs.Common.{map, take}
+use Rattle.payroll.specs.Shares.{AreNumbered}
+use Rattle.payroll.proofs.works.shares_of.Given as goal
+
+-- the shares so far are as many as their rows say
+abbrev pub invariant-loop-partition : goal.invariant-loop-partition
+invariant-loop-partition l = AreNumbered (take l.partition l.prepared.rows) (map (λ share. share.items) l.shares.items)

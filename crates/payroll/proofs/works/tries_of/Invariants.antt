@@ -1,0 +1,7 @@
+use Rattle.std.proofs.Common.{ℕ}
+use Rattle.jb_artifacts.specs.Faults.{plans_of}
+use Rattle.payroll.specs.Works.{IsUnsteady}
+use Rattle.payroll.proofs.works.tries_of.Given as goal
+
+abbrev pub invariant-loop-index : goal.invariant-loop-index
+invariant-loop-index l = (k : ℕ) → IsUnsteady (plans_of l.tries k)

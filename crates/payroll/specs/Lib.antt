@@ -1,0 +1,5 @@
+pub mod Runs
+pub mod Shares
+pub mod Sheets
+pub mod Steps
+pub mod Works

@@ -1,0 +1,76 @@
+-- A time sheet and its pay slip, each a line of CSV.
+use Rattle.std.specs.Prelude.{ℕ, ◌≡◌, ◌+◌, ◌-◌, ◌*◌, ◌^◌, ◌&&◌, nat_le, nat_lt, if◌then◌else◌, List, [], ◌∷◌, length, map, Option, Some, None, decimal, option_map, option_and_then}
+use Rattle.std.specs.Char.{is_ascii_digit}
+use Rattle.csv.specs.Machine.{next_record}
+use Rattle.csv.specs.Reading.{AreRecords, default_config, strip_bom}
+use Rattle.csv.specs.Records.{field_at}
+use Rattle.csv.specs.Writing.{default_writer, row_text}
+use Rattle.csv.specs.declared.parser.State.TheVariants as st
+
+-- ---- lines of CSV
+
+-- the line of a record of these fields
+unfoldable pub line_of : List (List ℕ) → List ℕ
+line_of fields = row_text default_writer fields
+
+-- the fields of a line's first record, if it has one
+unfoldable pub fields_in : List ℕ → Option (List (List ℕ))
+fields_in line = option_map (λ p. p.0) (next_record default_config st.StartRecord [] [] (strip_bom line))
+
+-- the records of a text, each as a line of its own
+pub record AreLinesOf (text : List ℕ) (lines : List (List ℕ)) : Type 0 where
+  pub records : List (List (List ℕ))
+  pub read : AreRecords default_config st.StartRecord (strip_bom text) records
+  pub are : lines ≡ map line_of records
+
+-- ---- numbers
+
+-- a sum and a product that are below 2^64
+abbrev pub sum_of : ℕ → ℕ → Option ℕ
+sum_of a b = if nat_lt (a + b) (2 ^ 64) then Some (a + b) else None
+
+abbrev pub product_of : ℕ → ℕ → Option ℕ
+product_of a b = if nat_lt (a * b) (2 ^ 64) then Some (a * b) else None
+
+-- the number with this digit behind those of `front`, if it is below 2^64
+abbrev pub with_digit : (front digit : ℕ) → Option ℕ
+with_digit front digit = if is_ascii_digit digit then option_and_then (λ tens. sum_of tens (digit - 48)) (product_of front 10) else None
+
+-- the number with these digits behind those of `front`, if it is below 2^64
+abbrev pub number_from : (front : ℕ) → List ℕ → Option ℕ
+number_from front [] = Some front
+number_from front (digit ∷ rest) = option_and_then (λ number. number_from number rest) (with_digit front digit)
+
+-- the number of 1 to 20 digits, if it is below 2^64
+abbrev pub number_of : List ℕ → Option ℕ
+number_of digits = if nat_le 1 (length digits) && nat_le (length digits) 20 then number_from 0 digits else None
+
+-- ---- pay
+
+-- the pay in cents for so many hours at so many cents, if it is below 2^64
+abbrev pub pay_by : (hours rate : Option ℕ) → Option ℕ
+pay_by None rate = None
+pay_by (Some hours) None = None
+pay_by (Some hours) (Some rate) = product_of hours rate
+
+-- the name and the pay of a time sheet that has a name, hours and a rate
+abbrev pub named_pay : (name hours rate : Option (List ℕ)) → Option (List ℕ × ℕ)
+named_pay None hours rate = None
+named_pay (Some name) None rate = None
+named_pay (Some name) (Some hours) None = None
+named_pay (Some name) (Some hours) (Some rate) = option_map (λ pay. (name, pay)) (pay_by (number_of hours) (number_of rate))
+
+abbrev pub pay_in : (fields : List (List ℕ)) → Option (List ℕ × ℕ)
+pay_in fields = named_pay (field_at fields 0) (field_at fields 1) (field_at fields 2)
+
+abbrev pub slip_with : Option (List ℕ × ℕ) → Option (List ℕ)
+slip_with None = None
+slip_with (Some named) = Some (line_of (named.0 ∷ decimal named.1 ∷ []))
+
+abbrev pub slip_by : (fields : Option (List (List ℕ))) → Option (List ℕ)
+slip_by None = None
+slip_by (Some fields) = slip_with (pay_in fields)
+
+-- THE PAY SLIP OF A TIME SHEET, if it has one: its name, and its hours times its rate
+unfoldable pub slip_of : (line : List ℕ) → Option (List ℕ)
+slip_of line = slip_by (fields_in line)
