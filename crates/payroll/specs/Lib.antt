@@ -1,3 +1,5 @@
+pub mod Earlier
+pub mod Failures
 pub mod Runs
 pub mod Shares
 pub mod Sheets

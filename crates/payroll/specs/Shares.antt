@@ -3,6 +3,8 @@ use Rattle.std.specs.Prelude.{ℕ, ◌≡◌, ◌≤◌, nat_eq, if◌then◌els
 use Rattle.std.specs.Io.KnownBytes.{Appends}
 use Rattle.std.specs.List.{concat, enumerate_from, filter_map, flat_map}
 use Rattle.jb_artifacts.specs.Meaning.{Workplace}
+use Rattle.jb_collect.specs.declared.calls.Status.{Status}
+use Rattle.jb_collect.specs.declared.calls.Status.TheVariants as status
 use Rattle.jb_job.specs.declared.job.Range.{Range}
 use Rattle.jb_rules.specs.declared.row.Row.{Row}
 use Rattle.jb_rules.specs.declared.row.RowState.TheVariants.{Finished}
@@ -84,3 +86,19 @@ pub record IsPaid (text old new : Option (List ℕ)) : Type 0 where
   pub lines : List (List ℕ)
   pub read : IfSome text (λ bytes. AreLinesOf bytes lines)
   pub written : Appends old new (concat (all_slips lines))
+
+-- So far as the step is, that is the pay slips of each partition's time sheets before its checkpoint, one partition behind the other.
+pub record IsPaidSoFar (text old new : Option (List ℕ)) : Type 0 where
+  pub lines : List (List ℕ)
+  pub rows : List Row
+  pub shares : List (List (List ℕ))
+  pub read : IfSome text (λ bytes. AreLinesOf bytes lines)
+  pub so_far : IsSoFar lines rows shares
+  pub written : Appends old new (concat (joined shares))
+
+-- the exit status: 0 for COMPLETED, 1 for FAILED, 2 where it was stopped
+abbrev pub exit_status : Status → ℕ
+exit_status status.Completed = 0
+exit_status status.Failed = 1
+exit_status status.Stopped = 2
+exit_status status.Started = 2

@@ -1,5 +1,9 @@
 //! Why there are no pay slips.
 
+ghost use Rattle.std.specs.Prelude.{◌≡◌};
+ghost use Rattle.payroll.specs.Failures.{failure_text};
+ghost use Rattle.payroll.specs.declared.failure.Failure.TheVariants.{Csv, Memory, Step, Stream};
+
 use jb_step::StepError;
 use std::alloc::{AllocError, AllocFailed};
 use std::{fmt, io};
@@ -24,6 +28,8 @@ pub enum Failure {
 }
 
 impl fmt::Display for Failure {
+    ghost output = { λ failure. failure_text failure };
+
     fn fmt<W: fmt::Write>(&self, f: &mut fmt::Formatter<W>) -> fmt::Result {
         match self {
             Failure::Usage => f.write_str("usage: payroll THREADS ROUNDS [SAVED SLIPS] < SHEETS"),
@@ -38,30 +44,40 @@ impl fmt::Display for Failure {
 }
 
 impl From<AllocError> for Failure {
+    ghost from_gives = { λ _ failure. failure ≡ Memory };
+
     fn from(_: AllocError) -> Failure {
         Failure::Memory
     }
 }
 
 impl<T: Drop> From<AllocFailed<T>> for Failure {
+    ghost from_gives = { λ _ failure. failure ≡ Memory };
+
     fn from(_: AllocFailed<T>) -> Failure {
         Failure::Memory
     }
 }
 
 impl From<io::Error> for Failure {
+    ghost from_gives = { λ error failure. failure ≡ Stream error };
+
     fn from(error: io::Error) -> Failure {
         Failure::Stream(error)
     }
 }
 
 impl From<StepError> for Failure {
+    ghost from_gives = { λ error failure. failure ≡ Step error };
+
     fn from(error: StepError) -> Failure {
         Failure::Step(error)
     }
 }
 
 impl From<csv::Error> for Failure {
+    ghost from_gives = { λ error failure. failure ≡ Csv error };
+
     fn from(error: csv::Error) -> Failure {
         Failure::Csv(error)
     }

@@ -9,11 +9,12 @@
 //! - `works`: what the partitions work with, and `step`: the step. `laws`: what comes of it. `progress`: how far it is. `failure`: why there are no pay slips.
 #![tactic(auto)]
 
-ghost use Rattle.std.specs.Prelude.{◌≡◌, ◌≤◌, None, map, IfOk, OnOk};
+ghost use Rattle.std.specs.Prelude.{◌≡◌, ◌≤◌, None, map, IfOk, OnOk, IfSome};
 ghost use Rattle.std.specs.Io.KnownBytes.{Appends};
 ghost use Rattle.std.specs.List.{concat};
 ghost use Rattle.jb_collect.specs.declared.calls.Status.TheVariants.{Completed};
-ghost use Rattle.payroll.specs.Shares.{IsPaid, IsSoFar, all_slips, joined};
+ghost use Rattle.payroll.specs.Earlier.{AreHeldBy};
+ghost use Rattle.payroll.specs.Shares.{IsPaid, IsPaidSoFar, IsSoFar, all_slips, exit_status, joined};
 
 mod artifacts;
 mod failure;
@@ -161,11 +162,43 @@ fn write_slips<W: Write>(writer: &mut W, slips: &[Vec<Item>]) -> Result<(), Fail
 
 /// The saved rows and the pay slips of an earlier run, if there is one.
 fn earlier_of(alloc: Global, asked: &Asked) -> Result<(Option<Saved>, Vec<Item>), Failure>
-    ensures { asked.now.earlier ≡ None → IfOk result (λ earlier. earlier.0 ≡ None) }
+    ensures none { asked.now.earlier ≡ None → IfOk result (λ earlier. earlier.0 ≡ None) }
+    ensures some { IfSome asked.now.earlier (λ files. IfOk result (λ earlier. AreHeldBy files.0.items files.1.items earlier.0 earlier.1.items)) }
 {
     match &asked.earlier {
         None => Ok((None, Vec::new(alloc))),
         Some((saved, slips)) => Ok((Some(read_saved(alloc, saved)?), lines_of(alloc, slips)?)),
+    }
+}
+
+/// What a run leaves of these time sheets, behind the earlier run if there is one.
+fn left_of<T: Threads + Wait + Clock + Eprint + Copy + Send + Sync + 'static>(
+    rt: &T,
+    alloc: Global,
+    asked: &Asked,
+    lines: &[Item],
+) -> Result<Left, Failure>
+    ensures so_far { asked.now.earlier ≡ None → IfOk result (λ left. IsSoFar lines.now left.snapshot.rows.items (map (λ share. share.items) left.slips.items)) }
+    ensures all { asked.now.earlier ≡ None → IfOk result (λ left. left.status ≡ Completed → joined (map (λ share. share.items) left.slips.items) ≡ all_slips lines.now) }
+{
+    let (saved, earlier) = earlier_of(alloc, asked)?;
+    let blank = Blank::new(1_000_000_000_000);
+    run::<Brand, T>(rt, alloc, blank, lines, asked, saved, &earlier)
+}
+
+/// The exit status. The rows of a step that was stopped are told on standard error.
+fn told<R: Eprint>(rt: &R, alloc: Global, left: &Left) -> Result<u8, Failure>
+    ensures { IfOk result (λ status. status ≡ exit_status left.now.status) }
+{
+    match left.status {
+        Status::Completed => Ok(0),
+        Status::Failed => Ok(1),
+        Status::Stopped | Status::Started => {
+            let saved = Saved::of(alloc, NAME, &left.snapshot)?;
+            let text = saved_text(alloc, &saved)?;
+            eprintln!(rt; "{text}")?;
+            Ok(2)
+        }
     }
 }
 
@@ -177,25 +210,15 @@ fn answer<T: Threads + Wait + Clock + Eprint + Copy + Send + Sync + 'static, R: 
     reader: &mut R,
     writer: &mut W,
 ) -> Result<u8, Failure>
-    ensures { asked.now.earlier ≡ None → IfOk result (λ status. status ≡ 0 → IsPaid (R.remaining reader.old) (W.contents writer.old) (W.contents writer.new)) }
+    ensures so_far { asked.now.earlier ≡ None → OnOk result (IsPaidSoFar (R.remaining reader.old) (W.contents writer.old) (W.contents writer.new)) }
+    ensures all { asked.now.earlier ≡ None → IfOk result (λ status. status ≡ 0 → IsPaid (R.remaining reader.old) (W.contents writer.old) (W.contents writer.new)) }
 {
     let mut text = Vec::new(alloc);
     reader.read_to_end(&mut text)?;
     let lines = lines_of(alloc, &text)?;
-    let (saved, earlier) = earlier_of(alloc, asked)?;
-    let blank = Blank::new(1_000_000_000_000);
-    let left = run::<Brand, T>(rt, alloc, blank, &lines, asked, saved, &earlier)?;
+    let left = left_of(rt, alloc, asked, &lines)?;
     write_slips(writer, &left.slips)?;
-    match left.status {
-        Status::Completed => Ok(0),
-        Status::Failed => Ok(1),
-        Status::Stopped | Status::Started => {
-            let saved = Saved::of(alloc, NAME, &left.snapshot)?;
-            let text = saved_text(alloc, &saved)?;
-            eprintln!(rt; "{text}")?;
-            Ok(2)
-        }
-    }
+    told(rt, alloc, &left)
 }
 
 fn main(rt: HostRuntime) -> ExitCode {

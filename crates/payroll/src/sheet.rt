@@ -6,7 +6,7 @@ ghost use Rattle.csv.specs.Reading.{AreRecords, default_config, strip_bom};
 ghost use Rattle.csv.specs.Records.{fields_of};
 ghost use Rattle.csv.specs.Writing.{default_writer, row_text};
 ghost use Rattle.csv.specs.declared.parser.State.TheVariants as st;
-ghost use Rattle.payroll.specs.Sheets.{AreLinesOf, fields_in, line_of, number_from, number_of, pay_by, pay_in, slip_of, with_digit};
+ghost use Rattle.payroll.specs.Sheets.{AreLinesOf, fields_in, line_of, number_from, number_of, pay_by, pay_in, product_of, slip_of, sum_of, with_digit};
 
 use csv::{ByteRecord, Error, ReaderBuilder, WriterBuilder};
 use itoa::Buffer;
@@ -44,6 +44,20 @@ fn record_of(alloc: Global, line: &[u8]) -> Result<Option<ByteRecord>, Error>
     }
 }
 
+/// The sum, if it is below 2^64.
+fn sum_of(a: u64, b: u64) -> Option<u64>
+    ensures { result ≡ sum_of a b }
+{
+    a.checked_add(b)
+}
+
+/// The product, if it is below 2^64.
+fn product_of(a: u64, b: u64) -> Option<u64>
+    ensures { result ≡ product_of a b }
+{
+    a.checked_mul(b)
+}
+
 /// The number with this digit behind those of `front`, if it is below 2^64.
 fn with_digit(front: u64, digit: u8) -> Option<u64>
     ensures { result ≡ with_digit front digit }
@@ -51,7 +65,10 @@ fn with_digit(front: u64, digit: u8) -> Option<u64>
     if !digit.is_ascii_digit() {
         return None;
     }
-    front.checked_mul(10)?.checked_add(u64::from(digit - b'0'))
+    match product_of(front, 10) {
+        Some(tens) => sum_of(tens, u64::from(digit - b'0')),
+        None => None,
+    }
 }
 
 /// The number with these digits behind those of `front`, if it is below 2^64.
@@ -81,7 +98,7 @@ fn number_of(digits: &[u8]) -> Option<u64>
 fn pay_of(hours: &[u8], rate: &[u8]) -> Option<u64>
     ensures { result ≡ pay_by (number_of hours.now) (number_of rate.now) }
 {
-    number_of(hours)?.checked_mul(number_of(rate)?)
+    product_of(number_of(hours)?, number_of(rate)?)
 }
 
 /// The pay of a record, with the name that it is for.
