@@ -5,7 +5,9 @@ ghost use Rattle.jb_documents.specs.PlanDocument.{AsksFor};
 ghost use Rattle.jb_documents.specs.Worked.{three_equal, three_equal_document, two_rounds, two_rounds_document};
 
 use jb_cert::Certificate;
-use jb_documents::{FaultKind, read_claim, read_document, read_load, read_restart};
+use jb_documents::{
+    FaultKind, RestartDocument, read_claim, read_document, read_load, read_restart,
+};
 use std::alloc::{AllocError, Global};
 use std::test::Fail;
 
@@ -78,25 +80,36 @@ WrongShape(outputs) ,"resume":{"outputs":[[],["xd","xe"]],#"t","version":1}}
 OutOfRange(outputs) ,"resume":{"outputs":[["xa"],["xd","xe"],[]],#"t","version":1}}
 Saved(Step) ,"resume":{"outputs":[["xa","xb"],["xd","xe"],[]],#"t","version":1}}"#;
 
-/// What follows the job in the document of a line, and what the document is refused for, as it prints.
-fn restart_answer(alloc: Global, resume: &str) -> Result<String, Fail> {
-    let bytes = match resume.split_once('#') {
-        None => restart_of(alloc, resume)?,
+/// The document of what follows the job in a line.
+fn restart_bytes(alloc: Global, resume: &str) -> Result<Vec<u8>, AllocError> {
+    match resume.split_once('#') {
+        None => restart_of(alloc, resume),
         Some((left, right)) => {
             let whole = format!(in alloc; "{left}{STOPPED}{right}")?;
-            restart_of(alloc, whole.as_str())?
-        }
-    };
-    match read_restart(alloc, bytes) {
-        Err(fault) => Ok(format!(in alloc; "{fault}")?),
-        Ok(document) => {
-            let saved = document.resume.saved.rows().len();
-            let held = document.resume.outputs.as_slice().len();
-            let accepted = saved == 3 && held == 3 && document.steps.as_slice().len() == 1;
-            let name = if accepted { "accepted" } else { "another" };
-            Ok(String::from_str(alloc, name)?)
+            restart_of(alloc, whole.as_str())
         }
     }
+}
+
+/// What is said of a document that was read: that it is one of three rows, three outputs and one step, or another.
+fn said_of(document: &RestartDocument) -> &'static str {
+    let saved = document.resume.saved.rows().len();
+    let held = document.resume.outputs.as_slice().len();
+    if saved == 3 && held == 3 && document.steps.as_slice().len() == 1 {
+        "accepted"
+    } else {
+        "another"
+    }
+}
+
+/// What follows the job in the document of a line, and what the document is refused for, as it prints.
+fn restart_answer(alloc: Global, resume: &str) -> Result<String, Fail> {
+    let bytes = restart_bytes(alloc, resume)?;
+    let read = match read_restart(alloc, bytes) {
+        Err(fault) => return Ok(format!(in alloc; "{fault}")?),
+        Ok(document) => said_of(&document),
+    };
+    Ok(String::from_str(alloc, read)?)
 }
 
 #[test]

@@ -6,6 +6,7 @@ ghost use Rattle.jb_mapper.specs.EvenCover.{even_ranges};
 use jb_job::{Range, Ranges};
 use jb_mapper::{EvenMapper, FixedMapper, PartitionMapper};
 use jb_plan::{PartitionPlan, PlanError, checked};
+use std::test::Fail;
 
 /// The even covers of seven records by three partitions, of two by four, and of none by one.
 fn worked_covers()
@@ -96,11 +97,11 @@ fn an_even_plan_is_checked(rt: HostRuntime) {
 }
 
 #[test]
-fn a_plan_of_5_000_threads_is_refused(rt: HostRuntime) {
+fn a_plan_of_5_000_threads_is_refused(rt: HostRuntime) -> Result<(), Fail> {
     let mut mapper = EvenMapper::new(rt.alloc(), 3, 5_000, false);
-    assert!(rt;
-        mapper
-            .map(7)
-            .is_ok_and(|plan| matches!(checked(plan, 7), Err(PlanError::Threads)))
-    );
+    let Ok(plan) = mapper.map(7) else {
+        return Err(Fail::from("a plan"));
+    };
+    assert!(rt; matches!(checked(plan, 7), Err(PlanError::Threads)));
+    Ok(())
 }

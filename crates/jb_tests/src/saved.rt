@@ -4,7 +4,7 @@ use crate::repo::{opened, rows_of};
 use jb_cert::Certificate;
 use jb_job::read_tree;
 use jb_repo::Event;
-use jb_rules::RowState;
+use jb_rules::{Row, RowState};
 use jb_saved::{
     Saved, StepError, read_saved, rows_to_go_on, saved_text, saved_value, written_and_read,
 };
@@ -124,6 +124,17 @@ fn refused_texts(rt: HostRuntime) -> Result<(), Fail> {
     Ok(())
 }
 
+/// What is said of going on from these rows.
+fn going_on_with(
+    alloc: Global,
+    id: &str,
+    records: u64,
+    replace: bool,
+    saved: &Saved,
+) -> Result<String, Fail> {
+    said(alloc, rows_to_go_on(alloc, id, records, replace, saved))
+}
+
 /// Rows of step `s`, of at most seven records.
 #[test]
 fn going_on(rt: HostRuntime) -> Result<(), Fail> {
@@ -137,11 +148,22 @@ fn going_on(rt: HostRuntime) -> Result<(), Fail> {
     let rows = ROWS.lines().next().ok_or("no rows")?;
     let saved = read_rows(rt.alloc(), rows)?;
     for (id, records, replace, want) in cases {
-        let answer = rows_to_go_on(rt.alloc(), id, records, replace, &saved);
-        let answer = said(rt.alloc(), answer)?;
+        let answer = going_on_with(rt.alloc(), id, records, replace, &saved)?;
         assert_eq!(rt; answer.as_str(), want);
     }
     Ok(())
+}
+
+/// Whether the rows are those before, but that the failed ones wait again.
+fn wait_again(rows: &[Row], before: &[Row]) -> bool {
+    rows.len() == before.len()
+        && rows.iter().zip(before).all(|(row, before)| {
+            let mut want = *before;
+            if before.state == RowState::Failed {
+                want.state = RowState::Waiting;
+            }
+            *row == want
+        })
 }
 
 /// Failed rows wait again, and nothing else of them or of other rows changes.
@@ -151,14 +173,7 @@ fn failed_rows_go_on(rt: HostRuntime) -> Result<(), Fail> {
         let saved = read_rows(rt.alloc(), line)?;
         let rows = rows_to_go_on(rt.alloc(), "s", 7, false, &saved);
         let rows = rows.ok().ok_or("refused")?;
-        assert_eq!(rt; rows.len(), saved.rows().len());
-        for (row, before) in rows.iter().zip(saved.rows()) {
-            let mut want = *before;
-            if before.state == RowState::Failed {
-                want.state = RowState::Waiting;
-            }
-            assert_eq!(rt; *row, want, "{line}");
-        }
+        assert!(rt; wait_again(&rows, saved.rows()), "{line}");
     }
     Ok(())
 }

@@ -122,30 +122,35 @@ impl ItemProcessor for Waiting {
 
 type WaitingWorks = ArtifactsOf<TableReader, Waiting, ListWriter, CountCollector>;
 
+/// The artifacts of the partition with this first record.
+fn waiting_work(
+    alloc: Global,
+    partition: u32,
+    first: u64,
+    meeting: &Arc<Meeting>,
+) -> Result<WaitingWorks, Fail> {
+    let meeting = Arc::try_clone(meeting)?;
+    let own = works(alloc, RECORDS)?;
+    Ok(ArtifactsOf {
+        reader: own.reader,
+        processor: Waiting {
+            prefix: own.processor,
+            partition,
+            first,
+            meeting,
+        },
+        writer: own.writer,
+        collector: own.collector,
+    })
+}
+
 /// The artifacts of the four partitions.
 fn waiting_works(alloc: Global, meeting: &Arc<Meeting>) -> Result<Vec<WaitingWorks>, Fail> {
     let given = Given::read(alloc, RECORDS)?;
     let mut all = Vec::new(alloc);
     let mut partition: u32 = 0;
     for range in given.ranges() {
-        let ArtifactsOf {
-            reader,
-            processor: prefix,
-            writer,
-            collector,
-        } = works(alloc, RECORDS)?;
-        let processor = Waiting {
-            prefix,
-            partition,
-            first: range.lo,
-            meeting: Arc::try_clone(meeting)?,
-        };
-        all.push(ArtifactsOf {
-            reader,
-            processor,
-            writer,
-            collector,
-        })?;
+        all.push(waiting_work(alloc, partition, range.lo, meeting)?)?;
         partition = partition.saturating_add(1);
     }
     Ok(all)

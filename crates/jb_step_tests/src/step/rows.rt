@@ -10,7 +10,7 @@ use jb_chunk::{PartitionTask, run_alone};
 use jb_collect::{Analyzer, ListAnalyzer, ListReducer, Reducer};
 use jb_job::{ClassId, Range, Rules};
 use jb_rules::Row;
-use jb_step::StepEnd;
+use jb_step::{PlanNote, StepEnd};
 use jb_workers::NoGate;
 use std::alloc::Global;
 use std::marker::Brand;
@@ -401,17 +401,29 @@ pub(crate) fn add_course(
     analyzer: &dyn Analyzer,
     reducer: &dyn Reducer,
 ) -> Result<(), Fail> {
-    for plan in &end.plans {
+    add_plans(text, alloc, &end.plans)?;
+    add_heard(text, alloc, analyzer)?;
+    add_reduced(text, alloc, reducer)?;
+    let line = format!(in alloc; "{:?} {}\n", end.status, end.snapshot.events)?;
+    text.push_str(line.as_str())?;
+    Ok(())
+}
+
+/// Adds a line for each plan.
+fn add_plans(text: &mut String, alloc: Global, plans: &[PlanNote]) -> Result<(), Fail> {
+    for plan in plans {
         let line = format!(in alloc; "{} {} of {}\n", plan.certificate, plan.ran, plan.planned)?;
         text.push_str(line.as_str())?;
     }
+    Ok(())
+}
+
+/// Adds a line of what the analyzer heard.
+fn add_heard(text: &mut String, alloc: Global, analyzer: &dyn Analyzer) -> Result<(), Fail> {
     let heard = line_of(alloc, analyzer.calls())?;
     let heard = String::from_utf8_lossy(alloc, heard.as_slice())?;
     text.push_str(heard.as_str())?;
     text.push_str(".\n")?;
-    add_reduced(text, alloc, reducer)?;
-    let line = format!(in alloc; "{:?} {}\n", end.status, end.snapshot.events)?;
-    text.push_str(line.as_str())?;
     Ok(())
 }
 

@@ -185,19 +185,22 @@ struct Told<'a> {
     forgets: Option<u64>,
 }
 
+fn plan_of(alloc: Global, fault: &Fault) -> Result<FaultPlan, Fail> {
+    if fault.class >= 64 {
+        return Err(Fail::from("a class"));
+    }
+    let class = ClassId::new(fault.class);
+    if fault.always {
+        return Ok(FaultPlan::Bad(class));
+    }
+    let once = Vec::from_slice(alloc, &[class])?;
+    Ok(FaultPlan::Shaky(FaultList::from_vec(once)))
+}
+
 fn plans(alloc: Global, faults: &[Fault]) -> Result<FaultPlans, Fail> {
     let mut plans = FaultPlans::new(alloc);
     for fault in faults {
-        if fault.class >= 64 {
-            return Err(Fail::from("a class"));
-        }
-        let class = ClassId::new(fault.class);
-        let plan = if fault.always {
-            FaultPlan::Bad(class)
-        } else {
-            FaultPlan::Shaky(FaultList::from_vec(Vec::from_slice(alloc, &[class])?))
-        };
-        plans.insert(fault.record, plan)?;
+        plans.insert(fault.record, plan_of(alloc, fault)?)?;
     }
     Ok(plans)
 }
