@@ -4,6 +4,8 @@ mod Going
 mod Joining
 mod Putting
 mod Reading
+mod Resuming
 mod Sharing
 mod Steps
+mod Trying
 mod Writing

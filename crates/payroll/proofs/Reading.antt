@@ -1,5 +1,5 @@
 -- When time sheets can't be read, and which tries fail.
-use Rattle.std.proofs.Common.{◌≡◌, ℕ, ◌<◌, List, Bool, true, false, Option, Some, None, refl, ap, sym, subst, lit<}
+use Rattle.std.proofs.Common.{◌≡◌, ℕ, ◌<◌, List, [], ◌∷◌, Bool, true, false, Option, Some, None, refl, ap, sym, subst, lit<}
 use Rattle.std.proofs.Math.Bridge.{le_prop}
 use Rattle.std.proofs.Math.Path.{fun_ext}
 use Rattle.std.specs.Prelude.{cond, ◌==◌}
@@ -45,6 +45,9 @@ broken-is class e = same-class class.number 0 class.below (lit< tt) e
 pub unsteady-is : (class : ClassId) → class.number ≡ 1 → class ≡ unsteady_class
 unfolding classed
 unsteady-is class e = same-class class.number 1 class.below (lit< tt) e
+
+pub once-is : (class : ClassId) → class.number ≡ 1 → class ∷ [] ≡ unsteady_class ∷ []
+once-is class e = ap (λ c. c ∷ []) (unsteady-is class e)
 
 -- ---- FIRST TRIES
 

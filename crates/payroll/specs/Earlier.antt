@@ -3,6 +3,7 @@ use Rattle.std.specs.Prelude.{ℕ, ◌≡◌, List, Option, Some, Ok}
 use Rattle.jb_job.specs.Reading.{tree_of}
 use Rattle.jb_saved.specs.Reading.{answer_of}
 use Rattle.jb_saved.specs.SavedRows.{SavedRows}
+use Rattle.payroll.specs.Shares.{IsSoFar, joined}
 use Rattle.payroll.specs.Sheets.{AreLinesOf}
 
 -- the saved rows that the one file is read as, and the pay slips that are the records of the other
@@ -11,3 +12,19 @@ pub record AreHeldBy (rows slips : List ℕ) (saved : Option SavedRows) (lines :
   pub given : saved ≡ Some held
   pub read : answer_of (tree_of rows) ≡ Ok held
   pub lines_are : AreLinesOf slips lines
+
+-- THE SAVED ROWS AND THE PAY SLIPS OF A STOPPED RUN over these very time sheets: the slips are the shares of its partitions, joined
+pub record IsStoppedRun (lines : List (List ℕ)) (saved : Option SavedRows) (earlier : List (List ℕ)) : Type 0 where
+  pub held : SavedRows
+  pub given : saved ≡ Some held
+  pub shares : List (List (List ℕ))
+  pub so_far : IsSoFar lines held.rows shares
+  pub slips : joined shares ≡ earlier
+
+-- the same of the two files of an earlier run
+pub record AreOfStoppedRun (lines : List (List ℕ)) (rows slips : List ℕ) : Type 0 where
+  pub held : SavedRows
+  pub read : answer_of (tree_of rows) ≡ Ok held
+  pub shares : List (List (List ℕ))
+  pub so_far : IsSoFar lines held.rows shares
+  pub written : AreLinesOf slips (joined shares)

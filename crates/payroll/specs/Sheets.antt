@@ -1,5 +1,5 @@
 -- A time sheet and its pay slip, each a line of CSV.
-use Rattle.std.specs.Prelude.{ℕ, ◌≡◌, ◌+◌, ◌-◌, ◌*◌, ◌^◌, ◌&&◌, nat_le, nat_lt, if◌then◌else◌, List, [], ◌∷◌, length, map, Option, Some, None, decimal, option_map, option_and_then}
+use Rattle.std.specs.Prelude.{ℕ, ◌≡◌, ◌+◌, ◌-◌, ◌*◌, ◌^◌, ◌&&◌, nat_le, nat_lt, Bool, true, false, if◌then◌else◌, List, [], ◌∷◌, length, map, Option, Some, None, bytes_eq, codes, decimal, option_map, option_and_then}
 use Rattle.std.specs.Char.{is_ascii_digit}
 use Rattle.csv.specs.Machine.{next_record}
 use Rattle.csv.specs.Reading.{AreRecords, default_config, strip_bom}
@@ -74,3 +74,18 @@ slip_by (Some fields) = slip_with (pay_in fields)
 -- THE PAY SLIP OF A TIME SHEET, if it has one: its name, and its hours times its rate
 unfoldable pub slip_of : (line : List ℕ) → Option (List ℕ)
 slip_of line = slip_by (fields_in line)
+
+-- ---- first tries
+
+-- the field is the word "shaky"
+abbrev pub says_shaky : Option (List ℕ) → Bool
+says_shaky None = false
+says_shaky (Some field) = bytes_eq field (codes "shaky")
+
+abbrev pub shaky_by : (fields : Option (List (List ℕ))) → Bool
+shaky_by None = false
+shaky_by (Some fields) = says_shaky (field_at fields 3)
+
+-- THE FIRST TRY AT A TIME SHEET FAILS: its record has a fourth field, and that is the word "shaky"
+unfoldable pub is_shaky : (line : List ℕ) → Bool
+is_shaky line = shaky_by (fields_in line)

@@ -1,6 +1,6 @@
 -- What a partition works with, and when its calls fail.
 use Rattle.std.proofs.Common.{lit<}
-use Rattle.std.specs.Prelude.{ℕ, ◌≡◌, ◌-◌, List, [], ◌∷◌, Option, Some, None, slice_index_or, ⊤, take, drop}
+use Rattle.std.specs.Prelude.{ℕ, ◌≡◌, ◌+◌, ◌-◌, ◌&&◌, nat_le, nat_lt, Bool, if◌then◌else◌, List, [], ◌∷◌, length, Option, Some, None, slice_index_or, ⊤, take, drop}
 use Rattle.std.specs.List.{filter_map, range_with_len}
 use Rattle.jb_job.specs.Records.{RulesRecord}
 use Rattle.jb_job.specs.declared.class.ClassId.{ClassId}
@@ -9,7 +9,7 @@ use Rattle.jb_artifacts.specs.declared.faults.FaultPlan.TheVariants.{Sound, Bad,
 use Rattle.jb_artifacts.specs.Faults.{Plans}
 use Rattle.jb_artifacts.specs.Meaning.{Workplace}
 use Rattle.jb_rules.specs.declared.row.Row.{Row}
-use Rattle.payroll.specs.Sheets.{slip_of}
+use Rattle.payroll.specs.Sheets.{is_shaky, slip_of}
 
 -- ---- faults
 
@@ -43,6 +43,21 @@ abbrev pub IsUnsteady : FaultPlan → Type 0
 IsUnsteady Sound = ⊤
 IsUnsteady (Bad class) = class ≡ unsteady_class
 IsUnsteady (Shaky classes) = AreUnsteady classes
+
+-- one try that fails, and then none
+abbrev pub failing_once : FaultPlan
+failing_once = Shaky (unsteady_class ∷ [])
+
+abbrev pub try_plan : (fails : Bool) → FaultPlan
+try_plan fails = if fails then failing_once else Sound
+
+-- the number is one of the `count` from `first` on
+abbrev pub is_among : (first count : ℕ) → ℕ → Bool
+is_among first count k = nat_le first k && nat_lt k (first + count)
+
+-- THE TRIES AT THESE TIME SHEETS: the first one fails where the time sheet of the number is shaky, and no other one does
+unfoldable pub tries_plan : (first : ℕ) → (lines : List (List ℕ)) → ℕ → FaultPlan
+tries_plan first lines k = try_plan (is_among first (length lines) k && is_shaky (line_at first lines k))
 
 -- ---- what a partition works with
 

@@ -13,7 +13,7 @@ ghost use Rattle.std.specs.Prelude.{◌≡◌, ◌≤◌, None, map, IfOk, OnOk,
 ghost use Rattle.std.specs.Io.KnownBytes.{Appends};
 ghost use Rattle.std.specs.List.{concat};
 ghost use Rattle.jb_collect.specs.declared.calls.Status.TheVariants.{Completed};
-ghost use Rattle.payroll.specs.Earlier.{AreHeldBy};
+ghost use Rattle.payroll.specs.Earlier.{AreHeldBy, AreOfStoppedRun, IsStoppedRun};
 ghost use Rattle.payroll.specs.Shares.{IsPaid, IsPaidSoFar, IsSoFar, all_slips, exit_status, joined};
 
 mod artifacts;
@@ -105,6 +105,8 @@ fn run<
     requires all { blank.parts ≡ 1000000000000 }
     ensures so_far { saved ≡ None → IfOk result (λ left. IsSoFar lines.now left.snapshot.rows.items (map (λ share. share.items) left.slips.items)) }
     ensures all { saved ≡ None → IfOk result (λ left. left.status ≡ Completed → joined (map (λ share. share.items) left.slips.items) ≡ all_slips lines.now) }
+    ensures goes_on { IsStoppedRun lines.now saved earlier.now → IfOk result (λ left. IsSoFar lines.now left.snapshot.rows.items (map (λ share. share.items) left.slips.items)) }
+    ensures goes_on_whole { IsStoppedRun lines.now saved earlier.now → IfOk result (λ left. left.status ≡ Completed → joined (map (λ share. share.items) left.slips.items) ≡ all_slips lines.now) }
 {
     steps_keep_shares();
     let mut reducer = ListReducer::new(alloc, None);
@@ -180,6 +182,8 @@ fn left_of<T: Threads + Wait + Clock + Eprint + Copy + Send + Sync + 'static>(
 ) -> Result<Left, Failure>
     ensures so_far { asked.now.earlier ≡ None → IfOk result (λ left. IsSoFar lines.now left.snapshot.rows.items (map (λ share. share.items) left.slips.items)) }
     ensures all { asked.now.earlier ≡ None → IfOk result (λ left. left.status ≡ Completed → joined (map (λ share. share.items) left.slips.items) ≡ all_slips lines.now) }
+    ensures goes_on { IfSome asked.now.earlier (λ files. AreOfStoppedRun lines.now files.0.items files.1.items → IfOk result (λ left. IsSoFar lines.now left.snapshot.rows.items (map (λ share. share.items) left.slips.items))) }
+    ensures goes_on_whole { IfSome asked.now.earlier (λ files. AreOfStoppedRun lines.now files.0.items files.1.items → IfOk result (λ left. left.status ≡ Completed → joined (map (λ share. share.items) left.slips.items) ≡ all_slips lines.now)) }
 {
     let (saved, earlier) = earlier_of(alloc, asked)?;
     let blank = Blank::new(1_000_000_000_000);

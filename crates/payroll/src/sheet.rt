@@ -6,7 +6,7 @@ ghost use Rattle.csv.specs.Reading.{AreRecords, default_config, strip_bom};
 ghost use Rattle.csv.specs.Records.{fields_of};
 ghost use Rattle.csv.specs.Writing.{default_writer, row_text};
 ghost use Rattle.csv.specs.declared.parser.State.TheVariants as st;
-ghost use Rattle.payroll.specs.Sheets.{AreLinesOf, fields_in, line_of, number_from, number_of, pay_by, pay_in, product_of, slip_of, sum_of, with_digit};
+ghost use Rattle.payroll.specs.Sheets.{AreLinesOf, fields_in, is_shaky, line_of, number_from, number_of, pay_by, pay_in, product_of, slip_of, sum_of, with_digit};
 
 use csv::{ByteRecord, Error, ReaderBuilder, WriterBuilder};
 use itoa::Buffer;
@@ -128,7 +128,10 @@ pub fn slip_of(alloc: Global, line: &[u8]) -> Result<Option<Item>, Error>
 }
 
 /// Whether the first try at this time sheet fails.
-pub fn is_shaky(alloc: Global, line: &[u8]) -> Result<bool, Error> {
+#[tactic(auto, unfolding(crate::specs::Sheets::is_shaky))]
+pub fn is_shaky(alloc: Global, line: &[u8]) -> Result<bool, Error>
+    ensures { IfOk result (λ shaky. shaky ≡ is_shaky line.now) }
+{
     match record_of(alloc, line)? {
         Some(record) => Ok(record.get(3) == Some(SHAKY)),
         None => Ok(false),

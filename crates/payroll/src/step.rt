@@ -1,7 +1,8 @@
 //! The step: what it begins with, and its run.
 
-ghost use Rattle.std.specs.Prelude.{◌≡◌, ◌≤◌, None, map, IfOk};
+ghost use Rattle.std.specs.Prelude.{◌≡◌, ◌≤◌, None, map, IfOk, IfSome};
 ghost use Rattle.jb_collect.specs.declared.calls.Status.TheVariants.{Completed};
+ghost use Rattle.jb_saved.specs.GoingOn.{rows_again};
 ghost use Rattle.jb_step.specs.Ending.{given_back};
 ghost use Rattle.payroll.specs.Shares.{AreWhole, IsSoFar, newer_shares};
 ghost use Rattle.payroll.specs.Steps.{BeginsAnew, IsPayroll};
@@ -49,6 +50,7 @@ pub fn prepared_for(
     requires { threads ≤ 64 }
     ensures payroll { IfOk result IsPayroll }
     ensures new { saved ≡ None → IfOk result (BeginsAnew lines.now) }
+    ensures resumed { IfSome saved (λ held. IfOk result (λ prepared. prepared.rows ≡ rows_again held)) }
 {
     let count = lines.len() as u64;
     if count > MAX_RECORDS {

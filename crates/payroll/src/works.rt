@@ -3,9 +3,9 @@
 ghost use Rattle.std.specs.Prelude.{◌≡◌, ◌+◌, ◌<◌, ◌^◌, ℕ, length, map, IfOk, IfSome};
 ghost use Rattle.jb_artifacts.specs.Faults.{plans_of};
 ghost use Rattle.jb_step.specs.Setup.{unfinished};
-ghost use Rattle.payroll.specs.Shares.{AreNumbered};
+ghost use Rattle.payroll.specs.Shares.{AreNumbered, joined};
 ghost use Rattle.payroll.specs.Steps.{AreWorks, AreWorksOf};
-ghost use Rattle.payroll.specs.Works.{IsUnsteady, IsWork, sheets_of};
+ghost use Rattle.payroll.specs.Works.{IsUnsteady, IsWork, failing_once, sheets_of, tries_plan};
 
 use crate::artifacts::{Clerk, Sheets, Slips, UNSTEADY, Works};
 use crate::failure::Failure;
@@ -32,7 +32,8 @@ pub fn shares_of(
     prepared: &Prepared,
     earlier: &[Item],
 ) -> Result<Vec<Vec<Item>>, Failure>
-    ensures { IfOk result (λ shares. AreNumbered prepared.now.rows (map (λ share. share.items) shares.items)) }
+    ensures numbered { IfOk result (λ shares. AreNumbered prepared.now.rows (map (λ share. share.items) shares.items)) }
+    ensures joined { IfOk result (λ shares. joined (map (λ share. share.items) shares.items) ≡ earlier.now) }
 {
     let mut shares = Vec::new(alloc);
     let mut rest = earlier;
@@ -55,7 +56,8 @@ pub fn shares_of(
 
 /// The fault plan of a first try that fails.
 fn failing_once(alloc: Global) -> Result<FaultPlan, AllocError>
-    ensures { IfOk result IsUnsteady }
+    ensures unsteady { IfOk result IsUnsteady }
+    ensures once { IfOk result (λ plan. plan ≡ failing_once) }
 {
     let classes = Vec::from_slice(alloc, &[ClassId::new(UNSTEADY)])?;
     Ok(FaultPlan::Shaky(FaultList::from_vec(classes)))
@@ -64,7 +66,8 @@ fn failing_once(alloc: Global) -> Result<FaultPlan, AllocError>
 /// The fault plans of the tries at these time sheets, the first of which has the number `first`.
 fn tries_of(alloc: Global, lines: &[Item], first: u64) -> Result<FaultPlans, Failure>
     requires { first + length lines.now < 2 ^ 64 }
-    ensures { IfOk result (λ tries. (k : ℕ) → IsUnsteady (plans_of tries k)) }
+    ensures unsteady { IfOk result (λ tries. (k : ℕ) → IsUnsteady (plans_of tries k)) }
+    ensures tries { IfOk result (λ tries. (k : ℕ) → plans_of tries k ≡ tries_plan first lines.now k) }
 {
     let mut tries = FaultPlans::new(alloc);
     for index in 0..lines.len() {

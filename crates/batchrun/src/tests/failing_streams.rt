@@ -1,4 +1,18 @@
-//! Each read and each write of each word fails in turn, or is interrupted.
+//! Reads and writes of `perform` that fail, each in turn, that are short, or that are interrupted.
+//!
+//! The streams give and take one byte at each call. In the last turn of each loop no call fails, so that such short reads and
+//! writes are shown to change nothing.
+//!
+//! - Reads: `run`, `restart`, `plan` and `check`, on a document that is answered. Status 4, no further read, nothing on standard
+//!   output, and `stream failed` on standard error.
+//! - Writes on standard output: the same words and documents, and `--version`. Status 4, no further write there, the front of
+//!   the answer, `stream failed`, and as many reads as in a run where no call fails.
+//! - Writes on standard error: a document that each of the four words refuses, a read that failed, and a wrong word. Status 4, no
+//!   further write there, the front of the line, nothing on standard output, and as many reads as where no write fails.
+//! - Interrupted calls: every other call of all three streams where there is an answer, and every other write on standard error
+//!   where there is none. Status and texts are those of a run where none is interrupted.
+//!
+//! A flush never fails here, and the help isn't among the answers.
 
 use super::streams::{FailingReader, FailingWriter, Interrupted, arguments};
 use crate::perform::perform;
@@ -33,6 +47,47 @@ const ROWS: [Row; 4] = [
     ),
 ];
 
+/// A word, its document, the read that fails (0: none), the number of reads, what stands on standard error, and the status.
+type Fault = (&'static str, &'static str, u64, u64, &'static str, u8);
+
+const FAULTS: [Fault; 6] = [
+    ("run", "[]", 0, 3, "refused: WrongShape(unknown)\n", 3),
+    (
+        "restart",
+        r#"{"data":[{"records":["a"],"prefix":"x"}],"job":{"id":"j","step":[{"id":"s","chunk":{"item-count":2}}]},"resume":{"outputs":[[]],"saved":{"version":2}}}"#,
+        0,
+        152,
+        "refused: Saved(Version)\n",
+        3,
+    ),
+    (
+        "plan",
+        r#"{"threads":65}"#,
+        0,
+        15,
+        "refused: WrongShape(counts)\n",
+        3,
+    ),
+    (
+        "check",
+        r#"{"counts":[10000001],"threads":0,"rounds":7,"certificate":""}"#,
+        0,
+        62,
+        "refused: OutOfRange(counts)\n",
+        3,
+    ),
+    ("plan", "{}", 2, 2, "stream failed\n", 4),
+    (
+        "resume",
+        "{}",
+        0,
+        0,
+        "wrong word: `resume`\nbatchrun --help says which words there are\n",
+        5,
+    ),
+];
+
+// Each read fails in turn: nothing more is read, and nothing is written but that a stream failed.
 #[test]
 fn failing_reads(rt: HostRuntime) {
     let alloc = rt.alloc();
@@ -59,6 +114,7 @@ fn failing_reads(rt: HostRuntime) {
     }
 }
 
+// Each write on standard output fails in turn: nothing more is read, and nothing more is written but that a stream failed.
 #[test]
 fn failing_writes(rt: HostRuntime) {
     let alloc = rt.alloc();
@@ -67,7 +123,7 @@ fn failing_writes(rt: HostRuntime) {
         for fails_at in 1..length + 2 {
             let mut writer = FailingWriter::new(alloc, fails_at);
             let mut faults = Vec::new(alloc);
-            let mut reader = document.as_bytes();
+            let mut reader = FailingReader::new(document.as_bytes(), 0);
             let args = arguments(alloc, word);
             let code = perform(&rt, alloc, args, &mut reader, &mut writer, &mut faults);
             let fails = fails_at < length + 1;
@@ -76,6 +132,8 @@ fn failing_writes(rt: HostRuntime) {
                 output.as_bytes().starts_with(writer.bytes()),
                 "{word} {fails_at}"
             );
+            let reads = document.len() as u64 + 1;
+            assert_eq!(rt; reader.calls(), reads, "{word} {fails_at}");
             assert_eq!(rt; writer.calls(), fails_at.min(length), "{word} {fails_at}");
             let line = if fails { "stream failed\n" } else { "" };
             assert_eq!(rt; faults.as_slice(), line.as_bytes(), "{word} {fails_at}");
@@ -121,18 +179,45 @@ fn failing_writes_of_the_version(rt: HostRuntime) {
     }
 }
 
-// A fault writer that fails: the status is that of a failing stream.
+// Each write on standard error fails in turn: nothing more is read, and nothing more is written on either stream.
 #[test]
-fn failing_fault_writer(rt: HostRuntime) {
+fn failing_fault_writes(rt: HostRuntime) {
     let alloc = rt.alloc();
-    let mut output = Vec::new(alloc);
-    let mut writer = FailingWriter::new(alloc, 1);
-    let args = arguments(alloc, "run");
-    let mut reader = "[]".as_bytes();
-    let status = perform(&rt, alloc, args, &mut reader, &mut output, &mut writer);
-    assert_eq!(rt; status, 4);
-    assert!(rt; output.is_empty());
-    assert!(rt; writer.bytes().is_empty());
+    for (word, document, read_that_fails, reads, line, status) in FAULTS {
+        let length = line.len() as u64;
+        for fails_at in 1..length + 2 {
+            let mut reader = FailingReader::new(document.as_bytes(), read_that_fails);
+            let mut writer = FailingWriter::new(alloc, 1);
+            let mut faults = FailingWriter::new(alloc, fails_at);
+            let args = arguments(alloc, word);
+            let code = perform(&rt, alloc, args, &mut reader, &mut writer, &mut faults);
+            let fails = fails_at < length + 1;
+            assert_eq!(rt; code, if fails { 4 } else { status }, "{word} {fails_at}");
+            assert_eq!(rt; reader.calls(), reads, "{word} {fails_at}");
+            assert_eq!(rt; writer.calls(), 0, "{word} {fails_at}");
+            assert!(rt;
+                line.as_bytes().starts_with(faults.bytes()),
+                "{word} {fails_at}"
+            );
+            assert_eq!(rt; faults.calls(), fails_at.min(length), "{word} {fails_at}");
+        }
+    }
+}
+
+// Every other write on standard error is interrupted, and the others take one byte: the line is whole and stands there once.
+#[test]
+fn interrupted_faults(rt: HostRuntime) {
+    let alloc = rt.alloc();
+    for (word, document, read_that_fails, _, line, status) in FAULTS {
+        let mut reader = FailingReader::new(document.as_bytes(), read_that_fails);
+        let mut written = Vec::new(alloc);
+        let mut faults = Interrupted::new(FailingWriter::new(alloc, 0));
+        let args = arguments(alloc, word);
+        let code = perform(&rt, alloc, args, &mut reader, &mut written, &mut faults);
+        assert_eq!(rt; code, status, "{word}");
+        assert!(rt; written.is_empty(), "{word}");
+        assert_eq!(rt; faults.stream().bytes(), line.as_bytes(), "{word}");
+    }
 }
 
 // A document of more than 2,000,000 bytes, one at each read: none is lost, and no number of reads is too many.

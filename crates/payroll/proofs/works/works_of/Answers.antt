@@ -12,6 +12,6 @@ returns-clause-work c =
       lines_are = ap (λ (r : Reader). r.records) c.new.ensures ∙ own;
       reads = λ k. ap (λ (r : Reader). r.faults k) c.new.ensures ∙ ap (λ lines. reading_plans c.args.row.now.lo lines k) own;
       answers = λ k item. refl;
-      tries = λ k. subst (λ (p : Processor). IsUnsteady (p.faults k)) (sym c.new-2.ensures) (c.in_ok-tries_of.ensures k);
+      tries = λ k. subst (λ (p : Processor). IsUnsteady (p.faults k)) (sym c.new-2.ensures) (c.in_ok-tries_of.ensures.unsteady k);
       writes = λ k. refl;
     }
