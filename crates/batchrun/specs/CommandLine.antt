@@ -6,6 +6,7 @@ use Rattle.clap.specs.Words.{App, IsAmong, Row, Rule, Shape, Text, fault_of, fir
 use Rattle.clap.specs.declared.builder.action.ArgAction.TheVariants.{Set}
 use Rattle.clap.specs.declared.error.kind.ErrorKind.{ErrorKind}
 use Rattle.clap.specs.declared.error.kind.ErrorKind.TheVariants.{DisplayHelp, DisplayVersion}
+use Rattle.jb_job.specs.Limits.{max_rounds}
 use Rattle.batchrun.specs.declared.words.fault.UsageFault.{UsageFault}
 use Rattle.batchrun.specs.declared.words.fault.UsageFault.TheVariants as usage
 use Rattle.batchrun.specs.declared.words.request.Request.{Request}
@@ -47,10 +48,6 @@ word_in name = if bytes_eq name (codes "run") then Some Run
     else (if bytes_eq name (codes "check") then Some Check else None)))
 
 -- ---- the number of rounds
-
--- the most rounds that a line may ask for
-abbrev pub max_rounds : ℕ
-max_rounds = 1000000000
 
 -- a number, and decimal digits behind it, give a number up to the most
 abbrev pub rounds_from : ℕ → Text → Option ℕ

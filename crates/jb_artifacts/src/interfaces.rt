@@ -4,6 +4,9 @@
 //!
 //! No function takes an allocator: an artifact keeps its own. That checkpoints are a record's number and a count of
 //! results, and that faults are planned for each record, is this project's choice.
+//!
+//! A fault that can't be foretold from the artifact's value, as a file's or a database's, has no answer here but `Memory`:
+//! what may fail so is read first, outside the step, and then served (docs/ARTIFACTS.md).
 
 ghost use Rattle.std.specs.Prelude.{◌≡◌, ◌≤◌, ◌<◌, ℕ, List, length, Some, None, slice_get, option_copied, IfOk, OnOk};
 ghost use Rattle.jb_artifacts.specs.declared.view.RowView.{RowView};

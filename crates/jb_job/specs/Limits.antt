@@ -84,6 +84,16 @@ max_chunks = 10000000
 abbrev pub max_events : ℕ
 max_events = 1000000000
 
+-- parts of the ledger that a desk gives out, one for each commit that is on its way
+abbrev pub max_parts : ℕ
+max_parts = 1000000000000
+
+-- ---- the command line
+
+-- rounds that a line may ask for
+abbrev pub max_rounds : ℕ
+max_rounds = 1000000000
+
 -- ---- the documents
 
 -- bytes of a record

@@ -13,14 +13,12 @@ use crate::classes::Classes;
 use crate::error::JobError;
 use crate::field::Field;
 use crate::kinds::{number, object};
-use crate::limits::{MAX_ITEM_COUNT, MAX_RETRY_LIMIT, MAX_SKIP_LIMIT};
+use crate::limits::{
+    DEFAULT_ITEM_COUNT, DEFAULT_RETRY_LIMIT, MAX_ITEM_COUNT, MAX_RETRY_LIMIT, MAX_SKIP_LIMIT,
+};
 use crate::rules::Rules;
 use serde_json::Value;
 use std::alloc::Global;
-
-const DEFAULT_ITEM_COUNT: u64 = 10;
-
-const DEFAULT_RETRY_LIMIT: u64 = 1_000;
 
 #[tactic(auto, unfolding(crate::specs::Reading::optional))]
 fn item_count(chunk: &Value) -> Result<u64, JobError>

@@ -10,7 +10,8 @@ use jb_plan::PartitionPlan;
 /// Divides the records of a step among partitions (Jakarta Batch 2.1, "Partition Mapper").
 ///
 /// Its meaning is a plan or a fault class for each number of records. The plan isn't checked:
-/// [`jb_plan::checked`] does that.
+/// [`jb_plan::checked`] does that. A fault that can't be foretold from the mapper's value and the number has no answer
+/// here but `Memory`.
 pub trait PartitionMapper {
     ghost mapping: { Self → Mapping };
 

@@ -1,7 +1,7 @@
 //! What a step begins with.
 
 ghost use Rattle.std.specs.Prelude.{◌≡◌, ◌↔◌, ◌+◌, ◌++◌, ◌≤◌, [], Some, None, length, map, slice_get, option_copied, IfOk, IfErr, IsTrue, OnOk};
-ghost use Rattle.jb_job.specs.Limits.{max_partitions};
+ghost use Rattle.jb_job.specs.Limits.{max_partitions, max_parts};
 ghost use Rattle.jb_chunk.specs.Standing.{HasItemCount};
 ghost use Rattle.jb_step.specs.Setup.{IsSetup, fresh_rows, needs};
 ghost use Rattle.jb_saved.specs.GoingOn.{Refuses, step_faults};
@@ -118,12 +118,12 @@ impl Prepared {
         self.rows.get(partition as usize)
     }
 
-    /// A new desk for the step: it has the prepared rows, and no event yet. `blank` is a ledger's with 1,000,000,000,000 parts.
+    /// A new desk for the step: it has the prepared rows, and no event yet. `blank` is a ledger's with `MAX_PARTS` parts.
     /// The only error is want of memory for the rows.
     pub fn desk<L: Ledger>(&self, alloc: Global, blank: Blank) -> Result<Desk<L>, AllocError>
         requires name { blank.name ≡ L.name }
         requires parts { blank.parts ≡ L.parts }
-        requires all { blank.parts ≡ 1000000000000 }
+        requires all { blank.parts ≡ max_parts }
     {
         let rows = Vec::from_slice(alloc, self.rows())?;
         let repo = Repo::new(rows, self.threads(), self.item_count());

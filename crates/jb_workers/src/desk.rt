@@ -1,6 +1,7 @@
 //! A repository under one lock.
 
 ghost use Rattle.std.specs.Prelude.{◌≡◌, ◌+◌, ◌<◌, ◌||◌, [], true, false, OnOk, OnErr, IfOk, IfErr, IfSome};
+ghost use Rattle.jb_job.specs.Limits.{max_parts};
 ghost use Rattle.jb_repo.specs.declared.events.Event.TheVariants.{Begin, Round};
 ghost use Rattle.jb_repo.specs.History.{is_plan, is_stop, is_round};
 ghost use Rattle.jb_workers.specs.Events.{commit_in};
@@ -11,6 +12,7 @@ pub(crate) mod parts;
 
 use crate::desk::kept::Kept;
 use crate::desk::parts::Parts;
+use jb_job::MAX_PARTS;
 use jb_repo::{Event, Refused, Repo, Snapshot};
 use std::alloc::AllocError;
 use std::sync::atomic::{AtomicBool, Ordering};
@@ -28,15 +30,15 @@ pub struct Desk<L: Ledger> {
 }
 
 impl<L: Ledger> Desk<L> {
-    /// A desk over a repository with no event yet, and the ledger of its commits, which has 1,000,000,000,000 parts.
+    /// A desk over a repository with no event yet, and the ledger of its commits, which has `MAX_PARTS` parts.
     pub fn new(repo: Repo, blank: Blank) -> Desk<L>
         requires name { blank.name ≡ L.name }
         requires parts { blank.parts ≡ L.parts }
-        requires all { blank.parts ≡ 1000000000000 }
+        requires all { blank.parts ≡ max_parts }
         requires empty { repo.past ≡ [] }
     {
         let (book, share) = blank.open::<L>();
-        let spare = Parts::new(share, 1_000_000_000_000);
+        let spare = Parts::new(share, MAX_PARTS);
         Desk {
             kept: Mutex::new(Kept::new(repo, book, spare)),
             stopping: AtomicBool::new(false),

@@ -12,6 +12,7 @@
 ghost use Rattle.std.specs.Prelude.{◌≡◌, ◌≤◌, None, map, IfOk, OnOk, IfSome};
 ghost use Rattle.std.specs.Io.KnownBytes.{Appends};
 ghost use Rattle.std.specs.List.{concat};
+ghost use Rattle.jb_job.specs.Limits.{max_parts, max_threads};
 ghost use Rattle.jb_collect.specs.declared.calls.Status.TheVariants.{Completed};
 ghost use Rattle.payroll.specs.Earlier.{AreHeldBy, AreOfStoppedRun, IsStoppedRun};
 ghost use Rattle.payroll.specs.Shares.{IsPaid, IsPaidSoFar, IsSoFar, all_slips, exit_status, joined};
@@ -27,6 +28,7 @@ mod works;
 use failure::Failure;
 use jb_artifacts::Item;
 use jb_collect::{ListReducer, Status};
+use jb_job::{MAX_PARTS, MAX_THREADS};
 use jb_repo::Snapshot;
 use jb_step::{Saved, StepEnd, read_saved, saved_text};
 use laws::steps_keep_shares;
@@ -52,7 +54,7 @@ struct Asked {
     rounds: Option<u64>,
     /// The saved rows and the pay slips of an earlier run.
     earlier: Option<(Vec<u8>, Vec<u8>)>,
-    ghost few: { threads ≤ 64 },
+    ghost few: { threads ≤ max_threads },
 }
 
 fn words_of(rt: &HostRuntime) -> Result<Asked, Failure> {
@@ -61,7 +63,7 @@ fn words_of(rt: &HostRuntime) -> Result<Asked, Failure> {
     let rounds = words.next().ok_or(Failure::Usage)?;
     let threads = threads.parse::<u32>().ok().ok_or(Failure::Usage)?;
     let rounds = rounds.parse::<u64>().ok().ok_or(Failure::Usage)?;
-    if threads > 64 {
+    if threads > MAX_THREADS {
         return Err(Failure::Usage);
     }
     let earlier = match (words.next(), words.next()) {
@@ -102,7 +104,7 @@ fn run<
 ) -> Result<Left, Failure>
     requires name { blank.name ≡ L.name }
     requires parts { blank.parts ≡ L.parts }
-    requires all { blank.parts ≡ 1000000000000 }
+    requires all { blank.parts ≡ max_parts }
     ensures so_far { saved ≡ None → IfOk result (λ left. IsSoFar lines.now left.snapshot.rows.items (map (λ share. share.items) left.slips.items)) }
     ensures all { saved ≡ None → IfOk result (λ left. left.status ≡ Completed → joined (map (λ share. share.items) left.slips.items) ≡ all_slips lines.now) }
     ensures goes_on { IsStoppedRun lines.now saved earlier.now → IfOk result (λ left. IsSoFar lines.now left.snapshot.rows.items (map (λ share. share.items) left.slips.items)) }
@@ -186,7 +188,7 @@ fn left_of<T: Threads + Wait + Clock + Eprint + Copy + Send + Sync + 'static>(
     ensures goes_on_whole { IfSome asked.now.earlier (λ files. AreOfStoppedRun lines.now files.0.items files.1.items → IfOk result (λ left. left.status ≡ Completed → joined (map (λ share. share.items) left.slips.items) ≡ all_slips lines.now)) }
 {
     let (saved, earlier) = earlier_of(alloc, asked)?;
-    let blank = Blank::new(1_000_000_000_000);
+    let blank = Blank::new(MAX_PARTS);
     run::<Brand, T>(rt, alloc, blank, lines, asked, saved, &earlier)
 }
 

@@ -1,6 +1,7 @@
 //! The step: what it begins with, and its run.
 
 ghost use Rattle.std.specs.Prelude.{◌≡◌, ◌≤◌, None, map, IfOk, IfSome};
+ghost use Rattle.jb_job.specs.Limits.{max_threads};
 ghost use Rattle.jb_collect.specs.declared.calls.Status.TheVariants.{Completed};
 ghost use Rattle.jb_saved.specs.GoingOn.{rows_again};
 ghost use Rattle.jb_step.specs.Ending.{given_back};
@@ -47,7 +48,7 @@ pub fn prepared_for(
     reducer: &mut ListReducer,
     saved: Option<Saved>,
 ) -> Result<Prepared, Failure>
-    requires { threads ≤ 64 }
+    requires { threads ≤ max_threads }
     ensures payroll { IfOk result IsPayroll }
     ensures new { saved ≡ None → IfOk result (BeginsAnew lines.now) }
     ensures resumed { IfSome saved (λ held. IfOk result (λ prepared. prepared.rows ≡ rows_again held)) }

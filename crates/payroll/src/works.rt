@@ -11,7 +11,7 @@ use crate::artifacts::{Clerk, Sheets, Slips, UNSTEADY, Works};
 use crate::failure::Failure;
 use crate::sheet::is_shaky;
 use jb_artifacts::{ArtifactsOf, CountCollector, FaultList, FaultPlan, FaultPlans, Item, Meaning};
-use jb_job::ClassId;
+use jb_job::{ClassId, MAX_PARTITIONS};
 use jb_rules::Row;
 use jb_step::Prepared;
 use std::alloc::{AllocError, Global};
@@ -37,7 +37,7 @@ pub fn shares_of(
 {
     let mut shares = Vec::new(alloc);
     let mut rest = earlier;
-    for partition in 0..257 {
+    for partition in 0..MAX_PARTITIONS as u32 + 1 {
         let Some(row) = prepared.row(partition) else {
             return if rest.is_empty() {
                 Ok(shares)

@@ -1,6 +1,7 @@
 //! The rounds of a step, on a desk of its own.
 
 ghost use Rattle.std.specs.Prelude.{◌≡◌, ◌++◌, false, map, IfErr, IfOk};
+ghost use Rattle.jb_job.specs.Limits.{max_parts};
 ghost use Rattle.jb_collect.specs.Reduced.{calls_after};
 ghost use Rattle.jb_collect.specs.Taken.{well};
 ghost use Rattle.jb_step.specs.Ending.{IsRunError, IsRunOfStep, given_back, tasks_left};
@@ -43,7 +44,7 @@ fn run_failure(error: StepError) -> Failure
 }
 
 /// Runs the rounds of a prepared step on a desk of its own, in no more rounds than the limit. `blank` is a ledger's with
-/// 1,000,000,000,000 parts.
+/// `MAX_PARTS` parts.
 pub fn run_rounds<T: Threads + Wait + Sync, L: Ledger + Send + Sync + 'static>(
     rt: &T,
     alloc: Global,
@@ -56,7 +57,7 @@ pub fn run_rounds<T: Threads + Wait + Sync, L: Ledger + Send + Sync + 'static>(
 ) -> Result<StepEnd<OwnArtifacts>, Failure>
     requires name { blank.name ≡ L.name }
     requires parts { blank.parts ≡ L.parts }
-    requires all { blank.parts ≡ 1000000000000 }
+    requires all { blank.parts ≡ max_parts }
     requires fit { DoFit prepared (map ⟦<OwnArtifacts as Meaning>⟧.workplace artifacts.items) }
     ensures ran { IfOk result (λ end. IsRunOfStep prepared (map ⟦<OwnArtifacts as Meaning>⟧.workplace artifacts.items) round_limit
         (map well listener.old) (map well listener.new) end.plans.items end.snapshot (given_back ⟦<OwnArtifacts as Meaning>⟧.workplace end.artifacts.items)) }

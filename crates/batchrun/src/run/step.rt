@@ -18,7 +18,7 @@ use crate::run::told::write_step;
 use crate::streams::Failure;
 use jb_collect::{Analyzer, Reducer, Status};
 use jb_documents::{Resume, StepData};
-use jb_job::Step;
+use jb_job::{MAX_PARTS, Step};
 use jb_texts::StepsText;
 use std::alloc::Global;
 use std::marker::Brand;
@@ -57,7 +57,7 @@ pub fn run_step<T: Threads + Wait + Sync>(
     let outputs = outputs.as_slice();
     let artifacts = all_artifacts(alloc, &settings, &mut records, outputs, &prepared)?;
     let mut listener = Listener::new(alloc);
-    let blank = Blank::new(1_000_000_000_000);
+    let blank = Blank::new(MAX_PARTS);
     let end = run_rounds::<T, Brand>(
         rt,
         alloc,

@@ -37,8 +37,8 @@ The exit status says how it went:
   2  The job was stopped before its end.
   3  The document, a step's partition plan or its saved rows are refused, and
      standard error names the first fault.
-  4  There was no memory or no worker, or a step's repository wasn't its own, or
-     a stream failed: standard error says which.
+  4  There was no memory or no worker, or a step's repository wasn't its own or
+     refused an event, or a stream failed: standard error says which.
   5  The words ask for nothing, and standard error names the first wrong one.
 
 docs/FORMATS.md says what stands in documents and answers, and for each refusal

@@ -9,10 +9,8 @@ use crate::words::help::VERSION;
 use crate::words::request::{Line, Request, Word};
 use clap::error::ErrorKind;
 use clap::{Arg, ArgAction, ArgMatches, Command};
+use jb_job::MAX_ROUNDS;
 use std::alloc::{AllocError, Global};
-
-/// The most rounds that a line may ask for.
-const MAX_ROUNDS: u64 = 1_000_000_000;
 
 /// The program with no word.
 fn program<'a>(alloc: Global) -> Command<'a>

@@ -9,13 +9,10 @@ ghost use Rattle.jb_documents.specs.CheckDocument.{certificate_at, named_certifi
 
 use jb_cert::{Certificate, Plan, Slot};
 use jb_job::kinds::{each, number, required, triple, whole};
-use jb_job::{Field, JobError};
+use jb_job::{Field, JobError, MAX_PLACE};
 use serde_json::Value;
 use std::alloc::Global;
 use std::marker::Brand;
-
-/// The largest number of a lane or of a partition.
-const MAX_PLACE: u64 = 4_294_967_295;
 
 // A triple of lane, partition and chunk: its kind and its length, the kinds of its members, and then their ranges.
 #[tactic(auto, unfolding(crate::specs::CheckDocument::slot_at))]

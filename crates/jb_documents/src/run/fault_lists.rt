@@ -9,14 +9,10 @@ ghost use Rattle.jb_documents.specs.inside.Forms.{form_of};
 
 use super::faults::{ClassIds, FaultKind, PlannedFault, PlannedFaults, StepFaults};
 use jb_job::kinds::{each, list, object, triple, whole};
-use jb_job::{ClassId, Field, Job, JobError};
+use jb_job::{ClassId, Field, Job, JobError, MAX_ENTRIES, MAX_ENTRY_CLASSES};
 use serde_json::Value;
 use std::alloc::Global;
 use std::marker::Brand;
-
-const MAX_ENTRIES: usize = 10_000_000;
-
-const MAX_ENTRY_CLASSES: usize = 1_000;
 
 /// What follows the word of an entry: the name of a class, or the list of their names.
 #[derive(Drop)]

@@ -16,16 +16,10 @@ use super::records::Records;
 use super::step_data::StepData;
 use crate::taken::{take_field, take_list, take_object, take_text};
 use jb_job::kinds::{each_by_value, text};
-use jb_job::{Field, Job, JobError, MAX_RECORDS, Text};
+use jb_job::{Field, Job, JobError, MAX_AFFIX, MAX_RECORD, MAX_RECORDS, Text};
 use serde_json::Value;
 use std::alloc::Global;
 use std::marker::Brand;
-
-/// In bytes.
-const MAX_RECORD: usize = 4_096;
-
-/// In bytes.
-const MAX_AFFIX: usize = 64;
 
 #[tactic(auto, unfolding(crate::specs::StepFields::records_at))]
 fn records(alloc: Global, tree: Value) -> Result<Records, JobError>

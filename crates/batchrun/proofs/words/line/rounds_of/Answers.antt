@@ -4,7 +4,8 @@ use Rattle.std.specs.Char.{is_ascii_digit}
 use Rattle.std.proofs.lemmas.List.{at_drop_more}
 use Rattle.std.proofs.lemmas.Bool.Decides.{nat_tests}
 use Rattle.clap.specs.Words.{Text}
-use Rattle.batchrun.specs.CommandLine.{max_rounds, rounds_from, rounds_in}
+use Rattle.jb_job.specs.Limits.{max_rounds}
+use Rattle.batchrun.specs.CommandLine.{rounds_from, rounds_in}
 use Rattle.batchrun.proofs.words.line.rounds_of.Goals as goal
 
 -- a text that isn't empty is digits from its first byte on
