@@ -9,11 +9,11 @@ use Rattle.jb_rules.specs.Laws.{RowsStaySound}
 use Rattle.jb_rules.specs.States.{has_ended}
 use Rattle.jb_chunk.specs.Alone.{IsRunOf, IsOnTheWay, IsAlone, attempts_left}
 use Rattle.jb_chunk.specs.Attempt.{Ending}
-use Rattle.jb_chunk.specs.Laws.{OneEnd, CalmRunsArePlain, RunsAreShort, WaysJoin, WaysEnd, TasksStayReady, SamePlace, SameEnd, CommitsTakeOneChunk}
+use Rattle.jb_chunk.specs.Laws.{OneEnd, CalmRunsArePlain, RunsAreShort, WaysJoin, WaysEnd, TasksStayReady, TasksStandAtCheckpoints, SamePlace, SameEnd, CommitsTakeOneChunk}
 use Rattle.jb_chunk.specs.Standing.{TaskState, IsReady, taken_up}
 use Rattle.jb_chunk.proofs.Course.{IsOnCourse, Goes, ready-course, course-next, rollbacks-rise, ready-next, one-chunk}
 use Rattle.jb_chunk.proofs.Following.{plain-run, plain-alone}
-use Rattle.jb_chunk.proofs.Running.{finished-at}
+use Rattle.jb_chunk.proofs.Running.{block-in, finished-at}
 
 -- a run and one from where it led are one run
 run-append : (t : TaskState) (es : List Ending) (s : TaskState) (fs : List Ending) (e : TaskState) → IsRunOf t es s → IsRunOf s fs e → IsRunOf t (es ++ fs) e
@@ -75,6 +75,16 @@ ways-end law t s ready way ended = record {
   ended = ended;
   few = few-run law t way.attempts s (ready-course t ready) way.run;
 }
+
+pub tasks-stand-at-checkpoints : ChunksFollow → TasksStandAtCheckpoints
+tasks-stand-at-checkpoints law t s ready way =
+    let on = course-run law t way.attempts s (ready-course t ready) way.run in
+    record {
+      at_to = on.at_to;
+      place = on.place;
+      count = on.count;
+      chunk = λ waiting. block-in law s (on.some_left waiting) on.redo_to on.item_counted;
+    }
 
 -- READY ALL ALONG
 

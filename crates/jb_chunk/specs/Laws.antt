@@ -1,5 +1,5 @@
 -- What holds of a task's attempts, wherever they lead.
-use Rattle.std.specs.Prelude.{ℕ, ◌≡◌, ◌≤◌, ◌-◌, ◌↔◌, ◌⊎◌, true, List, ◌∷◌, length}
+use Rattle.std.specs.Prelude.{ℕ, ◌≡◌, ◌≤◌, ◌<◌, ◌-◌, ◌↔◌, ◌⊎◌, true, List, ◌∷◌, length}
 use Rattle.jb_job.specs.declared.job.Range.{Range}
 use Rattle.jb_plan.specs.Blocks.{blocks}
 use Rattle.jb_rules.specs.declared.counts.Counts.{Counts}
@@ -45,6 +45,18 @@ WaysEnd = (t s : TaskState) → IsReady t → IsOnTheWay t s → has_ended s.row
 -- wherever its attempts lead, a task is ready, unless its rollbacks are beyond their limit
 abbrev pub TasksStayReady : Type 0
 TasksStayReady = (t s : TaskState) → IsReady t → IsOnTheWay t s → s.row.counts.rollback ≤ max_rollbacks → IsReady s
+
+-- a task at its checkpoint: its reader stands there, as many results are written as its row says, and while it waits its next
+-- chunk has a record and lies in its range
+pub record IsAtCheckpoint (t : TaskState) : Type 0 where
+  pub at_to : t.row.at ≤ t.row.hi
+  pub place : t.work.reader.place ≡ t.row.at
+  pub count : length t.work.writer.written ≡ t.row.written
+  pub chunk : t.row.state ≡ state.Waiting → (t.row.at < (block_of t).hi) × ((block_of t).hi ≤ t.row.hi)
+
+-- and however many its rollbacks are, it stands at its checkpoint
+abbrev pub TasksStandAtCheckpoints : Type 0
+TasksStandAtCheckpoints = (t s : TaskState) → IsReady t → IsOnTheWay t s → IsAtCheckpoint s
 
 -- TAKING UP AGAIN
 

@@ -1,6 +1,6 @@
 //! The laws of a task's attempts. The functions do nothing: their contracts are the laws.
 
-ghost use Rattle.jb_chunk.specs.Laws.{OneEnd, CalmRunsArePlain, RunsAreShort, WaysJoin, WaysEnd, TasksStayReady, SamePlace, SameEnd, CommitsTakeOneChunk, RowsLiveOn};
+ghost use Rattle.jb_chunk.specs.Laws.{OneEnd, CalmRunsArePlain, RunsAreShort, WaysJoin, WaysEnd, TasksStayReady, TasksStandAtCheckpoints, SamePlace, SameEnd, CommitsTakeOneChunk, RowsLiveOn};
 
 use jb_plan::chunks_follow_one_another;
 use jb_rules::rows_stay_sound;
@@ -38,6 +38,14 @@ pub fn tasks_stay_ready()
 {
     chunks_follow_one_another();
     rows_stay_sound();
+}
+
+/// Wherever its attempts lead, a task stands at its checkpoint: its reader there, with as many results as its row says,
+/// and while it waits with a chunk that has a record and lies in its range.
+pub fn tasks_stand_at_checkpoints()
+    ensures { TasksStandAtCheckpoints }
+{
+    chunks_follow_one_another();
 }
 
 /// Each attempt takes the row a step further in its life, and one that commits takes just the first of the chunks that

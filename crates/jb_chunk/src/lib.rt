@@ -26,7 +26,8 @@ mod tried;
 
 pub use alone::{Alone, AloneEnd, run_alone};
 pub use laws::{
-    attempts_are_steps, runs_end_alike, runs_lead_to_an_end, tasks_go_on, tasks_stay_ready,
+    attempts_are_steps, runs_end_alike, runs_lead_to_an_end, tasks_go_on,
+    tasks_stand_at_checkpoints, tasks_stay_ready,
 };
 pub use outcome::{Done, Outcome};
 pub use partition_artifacts::PartitionArtifacts;

@@ -6,7 +6,6 @@ use Rattle.std.proofs.lemmas.List.Elements.{filter_map-append}
 use Rattle.std.proofs.lemmas.Bool.Decides.{nat_tests}
 use Rattle.jb_job.specs.declared.class.ClassId.{ClassId}
 use Rattle.jb_job.specs.Records.{RulesRecord}
-use Rattle.jb_plan.specs.Blocks.{ChunksFollow}
 use Rattle.jb_rules.specs.declared.choice.Choice.{Choice}
 use Rattle.jb_rules.specs.declared.choice.Choice.TheVariants.{Skip, Retry, Fail}
 use Rattle.jb_rules.specs.Decide.{choice_by}
@@ -20,14 +19,12 @@ use Rattle.jb_artifacts.specs.Writer.{Numbered, texts_of, failing, fault_of, wri
 use Rattle.jb_artifacts.specs.Meaning.{Workplace}
 use Rattle.jb_chunk.specs.declared.end.End.{End}
 use Rattle.jb_chunk.specs.declared.end.End.TheVariants.{Written, Unwritten, Rolled, Failed}
-use Rattle.jb_chunk.specs.Alone.{IsRunOf}
-use Rattle.jb_chunk.specs.Attempt.{Trial, Ending, trial_of, block_of, found_in, settled_at, end_of, end_after, end_at, end_by, work_with, read_end, write_plans, ending_by}
+use Rattle.jb_chunk.specs.Alone.{IsOnTheWay, IsRunOf}
+use Rattle.jb_chunk.specs.Attempt.{Trial, Ending, attempt_of, trial_of, block_of, found_in, settled_at, end_of, end_after, end_at, end_by, work_with, read_end, write_plans, ending_by}
 use Rattle.jb_chunk.specs.Block.{entry, entry_by, process_entry, results, settles, settling, stops, is_skip, choice_at, skips_before, used_between}
 use Rattle.jb_chunk.specs.Entries.{fault_in, text_in, numbered}
-use Rattle.jb_chunk.specs.Standing.{TaskState}
-use Rattle.jb_chunk.proofs.Course.{IsOnCourse, ready-course, course-next}
-use Rattle.jb_chunk.proofs.Running.{block-in}
-use Rattle.jb_chunk.proofs.Settling.{numbers-split}
+use Rattle.jb_chunk.specs.Laws.{TasksStandAtCheckpoints, WaysJoin}
+use Rattle.jb_chunk.specs.Standing.{IsReady, TaskState}
 use Rattle.payroll.specs.Runs.{HasSlips, IsSamePart, PartsStay, SlipsGoOn}
 use Rattle.payroll.specs.Sheets.{slip_of}
 use Rattle.payroll.specs.Works.{IsWork, IsUnsteady, unsteady_class, payroll_rules, plan_by, reading_plans, line_at, sheets_of, slips_between}
@@ -187,6 +184,19 @@ block-slips first lines t r is le none =
     texts-are t.work (λ k. slip_of (line_at first lines k)) (t.hi - t.row.at) t.row.at
     (λ k from to. entry-slip first lines t.rules t.row t.work k r is (none-fails (settles t.rules t.row t.work) (t.hi - t.row.at) t.row.at none k from to))
 
+-- numbers up to one of them, and those from there on
+numbers-split : (lo n m : ℕ) → range_with_len lo (n + m) ≡ range_with_len lo n ++ range_with_len (lo + n) m
+numbers-split lo zero m =
+    let len : 0 + m ≡ m = omega arith in
+    let start : lo ≡ lo + 0 = omega arith in
+    ap (range_with_len lo) len ∙ ap (λ a. range_with_len a m) start
+numbers-split lo (suc n) m =
+    let len : suc n + m ≡ suc (n + m) = omega arith in
+    let start : lo + 1 + n ≡ lo + suc n = omega arith in
+    ap (range_with_len lo) len
+    ∙ ap (λ xs. lo ∷ xs) (numbers-split (lo + 1) n m)
+    ∙ ap (λ a. lo ∷ range_with_len (lo + 1) n ++ range_with_len a m) start
+
 -- the pay slips up to a checkpoint, and those from there on
 slips-join : (first : ℕ) (lines : List (List ℕ)) (lo at hi : ℕ) → lo ≤ at → at ≤ hi → slips_between first lines lo at ++ slips_between first lines at hi ≡ slips_between first lines lo hi
 unfolding slips_between
@@ -301,19 +311,23 @@ attempt-by lines t (Failed class) is lt has number =
       whole = λ e. absurd cc;
     }
 
-run-slips : ChunksFollow → (lines : List (List ℕ)) (es : List Ending) (t s : TaskState) → IsOnCourse t → HasSlips lines t → IsRunOf t es s → HasSlips lines s
-run-slips law lines [] t s on has run = subst (HasSlips lines) (sym run) has
-run-slips law lines (e ∷ es) t s on has run =
-    let waiting = run.0 in
-    let block = block-in law t (on.some_left waiting) on.redo_to on.item_counted in
-    let goes = (course-next law t on waiting).0 in
-    let next = attempt-by lines t (end_of (trial_of t)) refl block.0 has goes.count in
-    let made : HasSlips lines e.task = subst (λ (x : Ending). HasSlips lines x.task) (sym run.1) next in
-    let course : IsOnCourse e.task = subst (λ (x : Ending). IsOnCourse x.task) (sym run.1) goes in
-    run-slips law lines es e.task s course made run.2
+-- an attempt leads further on the way
+way-on : WaysJoin → (start t s : TaskState) (e : Ending) → IsOnTheWay start t → t.row.state ≡ state.Waiting → e ≡ attempt_of t → s ≡ e.task → IsOnTheWay start s
+way-on join start t s e way waiting is to = join start t s way (record { attempts = e ∷ []; run = (waiting, is, to) })
 
-pub slips-go : ChunksFollow → SlipsGoOn
-slips-go law lines t s ready has way = run-slips law lines way.attempts t s (ready-course t ready) has way.run
+-- each place on the way has its pay slips if the one before has
+run-slips : TasksStandAtCheckpoints → WaysJoin → (lines : List (List ℕ)) (start : TaskState) → IsReady start
+    → (es : List Ending) (t s : TaskState) → IsOnTheWay start t → HasSlips lines t → IsRunOf t es s → HasSlips lines s
+run-slips stand join lines start ready [] t s way has run = subst (HasSlips lines) (sym run) has
+run-slips stand join lines start ready (e ∷ es) t s way has run =
+    let waiting = run.0 in
+    let on = way-on join start t e.task e way waiting run.1 refl in
+    let number : IsNumbered (attempt_of t).task = subst (λ (x : Ending). IsNumbered x.task) run.1 (stand start e.task ready on).count in
+    let next = attempt-by lines t (end_of (trial_of t)) refl ((stand start t ready way).chunk waiting).0 has number in
+    run-slips stand join lines start ready es e.task s on (subst (λ (x : Ending). HasSlips lines x.task) (sym run.1) next) run.2
+
+pub slips-go : TasksStandAtCheckpoints → WaysJoin → SlipsGoOn
+slips-go stand join lines t s ready has way = run-slips stand join lines t ready way.attempts t s (record { attempts = []; run = refl }) has way.run
 
 -- ---- THE PARTITION AND ITS RANGE
 
