@@ -1,4 +1,4 @@
-//! Worked values of the definitions, and the ready artifacts where there is memory enough.
+//! Worked values of the definitions, and the ready artifacts, where there is memory enough and where it is refused.
 
 ghost use Rattle.std.specs.Prelude.{◌≡◌, ◌++◌, [], ◌∷◌, Some, None, codes, if◌then◌else◌, ◌==◌, true, false};
 ghost use Rattle.jb_artifacts.specs.declared.faults.FaultPlan.TheVariants.{Sound, Bad, Shaky};
@@ -14,7 +14,8 @@ use jb_artifacts::{
 };
 use jb_job::{ArtifactError, ClassId};
 use jb_rules::Counts;
-use std::alloc::Global;
+use std::alloc::{AllocError, Global};
+use std::process::Abort;
 use std::test::Fail;
 
 /// Worked values, computed from the definitions alone.
@@ -101,4 +102,77 @@ fn one_record_after_a_fault(rt: HostRuntime) -> Result<(), Fail> {
     let text = CountCollector::new(alloc).collect(&view)?.into_vec();
     assert_eq!(rt; text.as_slice(), b"0:2:0:end".as_slice());
     Ok(())
+}
+
+/// The bytes of what a call answered, if it answered well; else there was no memory for it.
+fn answered(rt: &impl Abort, answer: &Result<Option<Item>, ArtifactError>, bytes: &[u8]) -> bool {
+    match answer {
+        Ok(Some(item)) => {
+            assert_eq!(rt; item.as_slice(), bytes);
+            true
+        }
+        Ok(None) => {
+            assert!(rt; false, "nothing");
+            false
+        }
+        Err(fault) => {
+            assert_eq!(rt; *fault, ArtifactError::Memory);
+            false
+        }
+    }
+}
+
+/// The record is read, or the reader stays where it was.
+fn reads(rt: &impl Abort, alloc: Global, records: Vec<Item>) {
+    let mut reader = TableReader::new(alloc, 0, records, FaultPlans::new(alloc));
+    if !answered(rt, &reader.read_item(), b"a") {
+        assert_eq!(rt; reader.place(), 0);
+        assert!(rt; answered(rt, &reader.read_item(), b"a"));
+    }
+    assert_eq!(rt; reader.place(), 1);
+}
+
+/// The result is made, at the second call if not at the first.
+fn processes(rt: &impl Abort, alloc: Global, prefix: Item) {
+    let mut processor = PrefixProcessor::new(alloc, prefix, None, FaultPlans::new(alloc));
+    if !answered(rt, &processor.process_item(0, b"a"), b"xa") {
+        assert!(rt; answered(rt, &processor.process_item(0, b"a"), b"xa"));
+    }
+}
+
+/// The result is written, or the list stays as it was.
+fn writes(rt: &impl Abort, alloc: Global, results: &[(u64, Item)]) {
+    let mut writer = ListWriter::new(alloc, Vec::new(alloc), FaultPlans::new(alloc));
+    if let Err(fault) = writer.write_items(results) {
+        assert_eq!(rt; fault, ArtifactError::Memory);
+        assert_eq!(rt; writer.count(), 0);
+        assert_eq!(rt; writer.write_items(results), Ok(()));
+    }
+    assert_eq!(rt; writer.count(), 1);
+    assert_eq!(rt; writer.item_at(0), Some(b"xa".as_slice()));
+}
+
+/// A list of this record.
+fn list_of(alloc: Global, text: &[u8]) -> Result<Vec<Item>, AllocError> {
+    let mut records = Vec::new(alloc);
+    records.push(Item::copy_of(alloc, text)?)?;
+    Ok(records)
+}
+
+/// With any one request refused, each call answers in full, or want of memory, and then in full.
+#[test]
+fn wants_memory_or_answers_in_full(rt: HostRuntime) {
+    let alloc = rt.alloc();
+    let Ok(records) = list_of(alloc, b"a") else {
+        return;
+    };
+    reads(&rt, alloc, records);
+    let Ok(prefix) = Item::copy_of(alloc, b"x") else {
+        return;
+    };
+    processes(&rt, alloc, prefix);
+    let Ok(result) = Item::copy_of(alloc, b"xa") else {
+        return;
+    };
+    writes(&rt, alloc, &[(0, result)]);
 }

@@ -1,6 +1,7 @@
-//! Values of worked rows, and what no clause says.
+//! Values of worked rows, what no clause says, and memory that is refused.
 
 mod calls;
+pub(crate) mod memory;
 mod own;
 mod rows;
 mod worked;

@@ -6,9 +6,11 @@ ghost use Rattle.jb_documents.specs.Worked.{three_equal, three_equal_document, t
 
 use jb_cert::Certificate;
 use jb_documents::{
-    FaultKind, RestartDocument, read_claim, read_document, read_load, read_restart,
+    Document, FaultKind, RestartDocument, read_claim, read_document, read_load, read_restart,
 };
+use jb_job::JobError;
 use std::alloc::{AllocError, Global};
+use std::process::Abort;
 use std::test::Fail;
 
 // This fact speaks of no code.
@@ -19,6 +21,23 @@ fn worked_documents()
 
 fn bytes_of(alloc: Global, text: &str) -> Result<Vec<u8>, AllocError> {
     Vec::from_slice(alloc, text.as_bytes())
+}
+
+/// A document of one step with two records.
+const ONE_STEP: &str =
+    r#"{"job":{"id":"j","exception-classes":["E"],"step":[{"id":"s","chunk":{}}]},
+        "data":[{"records":["a","b"],"drop":"x","faults":{"read":[[0,"bad","E"],[1,"shaky",["E"]]]}}]}"#;
+
+/// Sees that it is that document.
+fn has_one_step(rt: &impl Abort, document: &Document) {
+    assert_eq!(rt; document.steps.as_slice().len(), 1);
+    for step in document.steps.as_slice() {
+        let second = step.records.as_slice().last().expect(rt, "a record");
+        assert_eq!(rt; second.as_str(), "b");
+        let fault = step.faults.read.as_slice().last().expect(rt, "a fault");
+        assert_eq!(rt; fault.number, 1);
+        assert!(rt; matches!(&fault.kind, FaultKind::Shaky(_)));
+    }
 }
 
 #[test]
@@ -36,16 +55,20 @@ fn documents_are_read(rt: HostRuntime) {
     assert_eq!(rt; claim.plan.rounds.len(), 2);
     assert_eq!(rt; claim.certificate, Certificate::Longest(1));
 
-    let text = r#"{"job":{"id":"j","exception-classes":["E"],"step":[{"id":"s","chunk":{}}]},
-        "data":[{"records":["a","b"],"drop":"x","faults":{"read":[[0,"bad","E"],[1,"shaky",["E"]]]}}]}"#;
-    let bytes = bytes_of(rt.alloc(), text).expect(&rt, "memory");
+    let bytes = bytes_of(rt.alloc(), ONE_STEP).expect(&rt, "memory");
     let document = read_document(rt.alloc(), bytes).expect(&rt, "a document");
-    for step in document.steps.as_slice() {
-        let second = step.records.as_slice().last().expect(&rt, "a record");
-        assert_eq!(rt; second.as_str(), "b");
-        let fault = step.faults.read.as_slice().last().expect(&rt, "a fault");
-        assert_eq!(rt; fault.number, 1);
-        assert!(rt; matches!(&fault.kind, FaultKind::Shaky(_)));
+    has_one_step(&rt, &document);
+}
+
+/// With any one request refused, the document is read in full or there is no memory for it.
+#[test]
+fn wants_memory_or_answers_in_full(rt: HostRuntime) {
+    let Ok(bytes) = bytes_of(rt.alloc(), ONE_STEP) else {
+        return;
+    };
+    match read_document(rt.alloc(), bytes) {
+        Ok(document) => has_one_step(&rt, &document),
+        Err(fault) => assert_eq!(rt; fault, JobError::Memory),
     }
 }
 

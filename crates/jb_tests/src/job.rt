@@ -24,9 +24,9 @@ fn worked_rows()
 const RANGES: &str =
     r#"{"id":"j","step":[{"chunk":{"item-count":2},"id":"s","partition":{"plan":{"ranges":[[0,2],[2,3]],"threads":1}}}]}"#;
 
-/// Where an allocation is refused, the answer is Memory and no other.
+/// `tests/refused-memory` runs it also with each of its requests for memory refused in turn: then the answer is Memory and no other.
 #[test]
-fn fixed_ranges(rt: HostRuntime) {
+fn ranges_are_read_or_memory_is_wanted(rt: HostRuntime) {
     worked_rows();
     match read_job(rt.alloc(), RANGES.as_bytes()) {
         Err(fault) => assert_eq!(rt; fault, JobError::Memory),
@@ -46,7 +46,7 @@ const CLASSES: &str =
     r#"{"exception-classes":["E","F","E","é"],"id":"j","step":[{"chunk":{"retry-limit":0,"skip-limit":1,"retryable-exception-classes":{"include":["*"],"exclude":["F"]},"skippable-exception-classes":{"include":["é","E"]}},"id":"s","partition":{"plan":{"override":true,"partitions":3}}}]}"#;
 
 #[test]
-fn classes_and_limits(rt: HostRuntime) -> Result<(), Fail> {
+fn classes_are_read_or_memory_is_wanted(rt: HostRuntime) -> Result<(), Fail> {
     let tree = read_tree(rt.alloc(), CLASSES.as_bytes())?;
     let job = job_of(rt.alloc(), &tree)?;
     let numbers = ["E", "F", "é", "*"].map(|name| job.class(name).map(ClassId::number));
@@ -104,7 +104,7 @@ fn three_members(rt: HostRuntime) -> Result<(), Fail> {
     Ok(())
 }
 
-/// What `?` makes of refused memory, and how it prints.
+/// That `?` makes want of memory of an `AllocError`, and the line that is printed for it. No request is refused here.
 #[test]
 fn no_memory(rt: HostRuntime) -> Result<(), Fail> {
     assert_eq!(rt; ArtifactError::from(AllocError), ArtifactError::Memory);

@@ -9,6 +9,8 @@ mod artifacts;
 #[cfg(test)]
 mod chunk;
 #[cfg(test)]
+mod collect;
+#[cfg(test)]
 mod documents;
 #[cfg(test)]
 mod job;

@@ -3,7 +3,7 @@
 ghost use Rattle.std.specs.Prelude.{◌≡◌, [], ◌∷◌};
 ghost use Rattle.jb_mapper.specs.EvenCover.{even_ranges};
 
-use jb_job::{Range, Ranges};
+use jb_job::{ArtifactError, Range, Ranges};
 use jb_mapper::{EvenMapper, FixedMapper, PartitionMapper};
 use jb_plan::{PartitionPlan, PlanError, checked};
 use std::test::Fail;
@@ -104,4 +104,23 @@ fn a_plan_of_5_000_threads_is_refused(rt: HostRuntime) -> Result<(), Fail> {
     };
     assert!(rt; matches!(checked(plan, 7), Err(PlanError::Threads)));
     Ok(())
+}
+
+/// With any one request refused, both mappers answer the whole plan or want of memory, and then the whole plan.
+#[test]
+fn wants_memory_or_answers_in_full(rt: HostRuntime) {
+    let mut even = EvenMapper::new(rt.alloc(), 3, 2, false);
+    let plan = match even.map(7) {
+        Ok(plan) => plan,
+        Err(fault) => {
+            assert_eq!(rt; fault, ArtifactError::Memory);
+            assert!(rt; gives(&mut even, 7, &[(0, 3), (3, 5), (5, 7)], 2, false));
+            return;
+        }
+    };
+    let mut fixed = FixedMapper::new(plan);
+    if let Err(fault) = fixed.map(7) {
+        assert_eq!(rt; fault, ArtifactError::Memory);
+    }
+    assert!(rt; gives(&mut fixed, 7, &[(0, 3), (3, 5), (5, 7)], 2, false));
 }

@@ -468,7 +468,29 @@ fn apply_lawful(rt: &impl Abort, repo: &mut Repo, event: Event) {
     assert!(rt; repo.history().len() == events + 1);
 }
 
-/// Run also with each request for memory refused in turn.
+/// After an accepted Begin each of the four ends of its chunk is accepted, whichever request for memory is refused: none of them
+/// makes one. `tests/refused-memory` refuses each in turn.
+#[test]
+fn memory_refused_before_each_end(rt: HostRuntime) {
+    let class = ClassId::new(0);
+    let ends = [
+        Event::Commit(0, TWO_RECORDS, 2),
+        Event::Roll(0, class),
+        Event::Fail(0, class),
+        Event::Drop(0),
+    ];
+    for end in ends {
+        let Ok(mut repo) = two_partitions(&rt, rt.alloc()) else {
+            return;
+        };
+        apply_lawful(&rt, &mut repo, Event::Plan(1, Certificate::Longest(0)));
+        apply_lawful(&rt, &mut repo, Event::Begin(0, 0));
+        assert!(rt; repo.apply(end).is_ok(), "{end:?}");
+        assert_eq!(rt; repo.history().len(), 3);
+    }
+}
+
+/// `tests/refused-memory` runs it also with each of its requests for memory refused in turn.
 #[test]
 fn memory_refused(rt: HostRuntime) {
     let Ok(mut repo) = two_partitions(&rt, rt.alloc()) else {

@@ -184,7 +184,8 @@ fn prints_faults_and_certificates(rt: HostRuntime) -> Result<(), Fail> {
     Ok(())
 }
 
-// With any one allocation refused, a call answers in full or with want of memory.
+// With any one allocation refused, a call answers in full or with want of memory. `tests/refused-memory` runs it with each
+// refused in turn.
 #[test]
 fn wants_memory_or_answers_in_full(rt: HostRuntime) {
     let counts = [3, 3, 3];

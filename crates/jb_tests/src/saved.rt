@@ -2,13 +2,14 @@
 
 use crate::repo::{opened, rows_of};
 use jb_cert::Certificate;
-use jb_job::read_tree;
+use jb_job::{Range, read_tree};
 use jb_repo::Event;
 use jb_rules::{Row, RowState};
 use jb_saved::{
     Saved, StepError, read_saved, rows_to_go_on, saved_text, saved_value, written_and_read,
 };
 use std::alloc::{AllocError, Global};
+use std::process::Abort;
 use std::test::Fail;
 
 /// Rows of a step `s`, without the object around them: seven records in three partitions after one round, the same once it is done,
@@ -196,4 +197,92 @@ fn snapshots_are_saved(rt: HostRuntime) -> Result<(), Fail> {
     let answer = said(rt.alloc(), Saved::of(rt.alloc(), "s", &snapshot))?;
     assert_eq!(rt; answer.as_str(), "Rows(1)");
     Ok(())
+}
+
+/// As many rows as a table has, of one record each.
+fn most_rows(alloc: Global) -> Result<Vec<Row>, AllocError> {
+    let mut rows = Vec::new(alloc);
+    for lo in 0..256 {
+        rows.push(Row::fresh(Range { lo, hi: lo + 1 }))?;
+    }
+    Ok(rows)
+}
+
+/// The text of those rows.
+fn most_text(alloc: Global) -> Result<String, AllocError> {
+    let mut rows = String::new(alloc);
+    for lo in 0..256u64 {
+        let comma = if lo == 0 { "" } else { "," };
+        let hi = lo + 1;
+        let row = format!(in alloc;
+            r#"{comma}[{lo},{hi},{lo},{lo},0,0,0,0,0,0,0,0,0,0,"waiting"]"#
+        )?;
+        rows.push_str(row.as_str())?;
+    }
+    text_of(alloc, rows.as_str())
+}
+
+/// Those rows, saved of what a repository shows.
+fn most_saved(rt: &impl Abort, alloc: Global) -> Result<Saved, Fail> {
+    let snapshot = opened(rt, most_rows(alloc)?, 64, 1).snapshot()?;
+    let saved = Saved::of(alloc, "s", &snapshot).ok().ok_or("refused")?;
+    assert_eq!(rt; saved.rows(), snapshot.rows.as_slice());
+    Ok(saved)
+}
+
+/// Whether their text is the one that was written out apart.
+fn most_written(alloc: Global, saved: &Saved) -> Result<bool, AllocError> {
+    let want = most_text(alloc)?;
+    let text = saved_text(alloc, saved)?;
+    Ok(text.as_str() == want.as_str())
+}
+
+/// Whether they are what is read of their text.
+fn most_read(alloc: Global, saved: &Saved) -> Result<bool, AllocError> {
+    let text = saved_text(alloc, saved)?;
+    let read = read_saved(alloc, text.as_bytes());
+    Ok(read.is_ok_and(|read| read.rows() == saved.rows()))
+}
+
+/// A table of as many rows as there may be is saved, written and read.
+#[test]
+fn a_table_of_256_rows(rt: HostRuntime) -> Result<(), Fail> {
+    let saved = most_saved(&rt, rt.alloc())?;
+    assert_eq!(rt; saved.rows().len(), 256);
+    assert!(rt; most_written(rt.alloc(), &saved)?);
+    assert!(rt; most_read(rt.alloc(), &saved)?);
+    let again = written_and_read(rt.alloc(), &saved);
+    assert!(rt; again.is_ok_and(|again| again.rows() == saved.rows()));
+    Ok(())
+}
+
+/// The text of two fresh rows of two records each.
+const TWO_ROWS: &str =
+    r#"{"rows":[[0,2,0,0,0,0,0,0,0,0,0,0,0,0,"waiting"],[2,4,2,2,0,0,0,0,0,0,0,0,0,0,"waiting"]],"step":"s","version":1}"#;
+
+/// A text of saved rows is written and read in full, or there is no memory for it.
+fn writes_and_reads(rt: &impl Abort, alloc: Global, saved: &Saved) {
+    let Ok(text) = saved_text(alloc, saved) else {
+        return;
+    };
+    assert_eq!(rt; text.as_str(), TWO_ROWS);
+    match read_saved(alloc, text.as_bytes()) {
+        Ok(read) => assert_eq!(rt; read.rows(), saved.rows()),
+        Err(fault) => assert_eq!(rt; fault, StepError::Memory),
+    }
+}
+
+/// With any one request refused, a call answers in full or with want of memory.
+#[test]
+fn wants_memory_or_answers_in_full(rt: HostRuntime) {
+    let Ok(rows) = rows_of(rt.alloc(), &[(0, 2), (2, 4)]) else {
+        return;
+    };
+    let Ok(snapshot) = opened(&rt, rows, 1, 2).snapshot() else {
+        return;
+    };
+    match Saved::of(rt.alloc(), "s", &snapshot) {
+        Ok(saved) => writes_and_reads(&rt, rt.alloc(), &saved),
+        Err(fault) => assert_eq!(rt; fault, StepError::Memory),
+    }
 }

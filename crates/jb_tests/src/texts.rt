@@ -1,4 +1,4 @@
-//! The definitions give the worked texts: these facts speak of no code.
+//! The definitions give the worked texts, of which no code is spoken; and a report where memory is refused.
 
 ghost use Rattle.std.specs.Prelude.{◌≡◌, codes, None, Some, false, true};
 ghost use Rattle.jb_cert.specs.declared.plans.PlanFault.TheVariants.{OutOfOrder};
@@ -6,6 +6,14 @@ ghost use Rattle.jb_texts.specs.CheckText.{check_text};
 ghost use Rattle.jb_texts.specs.PlanText.{text_of_load};
 ghost use Rattle.jb_texts.specs.Report.{report_text};
 ghost use Rattle.jb_texts.specs.Worked.{nothing, one_long, one_long_text, seven_records, seven_records_text, three_equal, three_equal_text};
+
+use jb_cert::Certificate;
+use jb_collect::{AnalyzerCall, ReducerCall, Status};
+use jb_job::Range;
+use jb_rules::Row;
+use jb_step::PlanNote;
+use jb_texts::{ReportText, StepsText};
+use std::alloc::{AllocError, Global};
 
 fn worked_plans()
     ensures three_equal { text_of_load three_equal ≡ three_equal_text }
@@ -27,4 +35,41 @@ fn definitions_meet_worked_rows(_rt: HostRuntime) {
     worked_plans();
     worked_report();
     worked_findings();
+}
+
+/// The report of a step with one partition, which has no record.
+const NO_RECORD: &str =
+    r#"{"job":"j","status":"COMPLETED","steps":[{"heard":[["COMPLETED"]],"outputs":[[]],"plans":[["Longest(0)",2,2]],"reducer":["begin"],"saved":{"rows":[[0,0,0,0,0,0,0,0,0,0,0,0,0,0,"done"]],"step":"s","version":1},"status":"COMPLETED","step":"s"}]}"#;
+
+fn report_of(alloc: Global) -> Result<ReportText, AllocError> {
+    let note = PlanNote {
+        certificate: Certificate::Longest(0),
+        planned: 2,
+        ran: 2,
+    };
+    let row = Row::fresh(Range { lo: 0, hi: 0 });
+    let mut steps = StepsText::new(alloc)?;
+    steps.begin_step(alloc, 1, &[AnalyzerCall::Status(0, Status::Completed)])?;
+    steps.add_no_outputs()?;
+    steps.end_step(
+        alloc,
+        &[row],
+        &[note],
+        &[ReducerCall::Begin],
+        Status::Completed,
+        "s",
+    )?;
+    ReportText::new(alloc, "j", Status::Completed, steps)
+}
+
+/// With any one request refused, the report is the whole one or there is no memory for it.
+#[test]
+fn wants_memory_or_answers_in_full(rt: HostRuntime) {
+    let Ok(report) = report_of(rt.alloc()) else {
+        return;
+    };
+    let mut text = Vec::new(rt.alloc());
+    if report.write_to(&mut text).is_ok() {
+        assert_eq!(rt; text.strip_suffix(b"\n"), Some(NO_RECORD.as_bytes()));
+    }
 }

@@ -52,9 +52,9 @@ const STEP: &str = "step";
 /// Records and their partitions.
 ///
 /// They are written as a text: each letter is a record, and each `/` ends a partition. Behind a letter stands how its calls
-/// fail: `!` each time that it is processed, `?` the first time, `<` each time that it is read, `>` each time that it is
-/// written. The class of `?` is 1, that of the others 0. `~` is no fault: the first time that the record is processed, there is
-/// no memory.
+/// fail: `!` each time that it is processed, `?` the first time, `<` each time that it is read, `(` the first time, `>` each time
+/// that it is written, `)` the first time. The class of `?`, `(` and `)` is 1, that of the others 0. `~` is no fault: the first time
+/// that the record is processed, there is no memory. A record `-` is filtered.
 #[derive(Drop)]
 pub(crate) struct Given {
     records: Vec<Item>,
@@ -63,6 +63,8 @@ pub(crate) struct Given {
     processes: FaultPlans,
     writes: FaultPlans,
     wanting: Option<u64>,
+    /// The records that fail each time that they are processed.
+    bad: Vec<u64>,
 }
 
 impl Given {
@@ -74,6 +76,7 @@ impl Given {
             processes: FaultPlans::new(alloc),
             writes: FaultPlans::new(alloc),
             wanting: None,
+            bad: Vec::new(alloc),
         };
         for sign in text.as_bytes() {
             given.take(alloc, *sign)?;
@@ -90,13 +93,15 @@ impl Given {
                 let lo = self.ranges.last().map_or(0, |range| range.hi);
                 self.ranges.push(Range { lo, hi: count })?;
             }
-            b'!' => self.processes.insert(last, bad)?,
-            b'?' => {
-                let classes = FaultList::from_vec(Vec::from_slice(alloc, &[ClassId::new(1)])?);
-                self.processes.insert(last, FaultPlan::Shaky(classes))?;
+            b'!' => {
+                self.bad.push(last)?;
+                self.processes.insert(last, bad)?;
             }
+            b'?' => self.processes.insert(last, once(alloc)?)?,
             b'<' => self.reads.insert(last, bad)?,
+            b'(' => self.reads.insert(last, once(alloc)?)?,
             b'>' => self.writes.insert(last, bad)?,
+            b')' => self.writes.insert(last, once(alloc)?)?,
             b'~' => self.wanting = Some(last),
             letter => self.records.push(Item::copy_of(alloc, &[letter])?)?,
         }
@@ -125,8 +130,9 @@ impl Given {
     /// The artifacts of one partition, whose writer has these results.
     fn works(self, alloc: Global, written: Vec<Item>) -> Result<Works, AllocError> {
         let prefix = Item::copy_of(alloc, b"x")?;
+        let filtered = Item::copy_of(alloc, b"-")?;
         let processor = Processor {
-            prefix: PrefixProcessor::new(alloc, prefix, None, self.processes),
+            prefix: PrefixProcessor::new(alloc, prefix, Some(filtered), self.processes),
             wanting: self.wanting,
         };
         Ok(ArtifactsOf {
@@ -138,22 +144,35 @@ impl Given {
     }
 }
 
+/// A fault of class 1, once.
+fn once(alloc: Global) -> Result<FaultPlan, AllocError> {
+    let classes = Vec::from_slice(alloc, &[ClassId::new(1)])?;
+    Ok(FaultPlan::Shaky(FaultList::from_vec(classes)))
+}
+
 /// The artifacts of one partition of the records.
 pub(crate) fn works(alloc: Global, text: &str) -> Result<Works, Fail> {
     Ok(Given::read(alloc, text)?.works(alloc, Vec::new(alloc))?)
 }
 
-/// The artifacts of one partition of records that none of its rules left out, whose writer has what the row says was written.
+/// The artifacts of one partition of records of which none was left out but those that fail each time that they are processed,
+/// whose writer has what was written up to the row's place.
 pub(crate) fn works_from(alloc: Global, text: &str, row: &Row) -> Result<Works, Fail> {
     let given = Given::read(alloc, text)?;
     let mut written = Vec::new(alloc);
-    let records = given.records.iter().skip(row.lo as usize);
-    for record in records.take(row.written as usize) {
-        let mut result = Vec::from_slice(alloc, b"x")?;
-        result.extend_from_slice(record.as_slice())?;
-        written.push(Item::from_vec(result))?;
+    for (number, record) in (0..MAX_RECORDS).zip(given.records.iter()) {
+        if row.lo <= number && number < row.at && !given.bad.contains(&number) {
+            written.push(result_of(alloc, record)?)?;
+        }
     }
     Ok(given.works(alloc, written)?)
+}
+
+/// What the processor makes of the record.
+fn result_of(alloc: Global, record: &Item) -> Result<Item, AllocError> {
+    let mut result = Vec::from_slice(alloc, b"x")?;
+    result.extend_from_slice(record.as_slice())?;
+    Ok(Item::from_vec(result))
 }
 
 /// The artifacts of so many partitions of the records.

@@ -2,10 +2,11 @@
 
 ghost use Rattle.std.specs.Prelude.{◌≡◌};
 
+use crate::step::restarts::{Between, add_answer, gone_on};
 use crate::step::rows::{Asked, PLAIN};
 use crate::step::runs::{ended_with, started};
 use jb_cert::Certificate;
-use jb_collect::{ListAnalyzer, ListReducer, Reducer};
+use jb_collect::{ListAnalyzer, ListReducer, Reducer, Status};
 use jb_repo::Event;
 use jb_step::{Prepared, StepError, read_saved};
 use jb_workers::{Desk, NoGate};
@@ -27,6 +28,8 @@ enum Wrong {
     OneThread,
     /// Its partition had as many rollbacks as it may, and can't begin.
     AtLimit,
+    /// The same of its second partition, while the first one commits.
+    SecondAtLimit,
 }
 
 const RECORDS: &str = "ab/c/";
@@ -34,6 +37,37 @@ const RECORDS: &str = "ab/c/";
 /// The saved row of one record, whose partition was rolled back 1,000,000,000,000 times.
 const AT_LIMIT: &str =
     "{\"rows\":[[0,1,0,0,0,0,0,0,0,1000000000000,0,0,0,0,\"waiting\"]],\"step\":\"step\",\"version\":1}";
+
+/// The same of the second of two records, each in a partition of its own.
+const SECOND_AT_LIMIT: &str =
+    "{\"rows\":[[0,1,0,0,0,0,0,0,0,0,0,0,0,0,\"waiting\"],[1,2,1,1,0,0,0,0,0,1000000000000,0,0,0,0,\"waiting\"]],\"step\":\"step\",\"version\":1}";
+
+/// Six records. Of either partition chunks of two and of three records are equally many.
+const SIX: &str = "abcd/ef/";
+
+/// Why a step of two records a chunk has no answer on the desk of the same with three, how many events and plans stand in the
+/// history, and the reducer's calls: the desk refused the Commit of partition 0, and Round isn't there.
+const REFUSED: &str = "Repository(2) 5 1
+Begin Rollback After(Rollback) .
+";
+
+/// What its partitions come to then.
+const LEFT: &str = "0 0 0 0 | 0 0 0 0 0 0 0 0 | Waiting
+6 4 0 2 | 2 2 1 0 0 0 0 0 | Finished xe xf
+";
+
+/// The course of the restart.
+const RESTARTED: &str = "[0]
+Longest(0) 2 of 2
+0:2:2 0:4:4 0:4:4:end 0 Completed .
+Begin Before After(Commit) .
+Completed 7
+";
+
+/// What the partitions of the whole step come to.
+const WHOLE: &str = "4 0 0 4 | 4 4 2 0 0 0 0 0 | Finished xa xb xc xd
+6 4 0 2 | 2 2 1 0 0 0 0 0 | Finished xe xf
+";
 
 /// The records of the step and those of its desk's rows, the desk's threads, and the saved rows of both, if they have any.
 #[derive(Clone, Copy)]
@@ -50,6 +84,7 @@ fn rows_of(wrong: Wrong) -> Rows {
         Wrong::Planned => (RECORDS, RECORDS, 2, None),
         Wrong::OneThread => (RECORDS, RECORDS, 1, None),
         Wrong::AtLimit => ("a/", "a/", 2, Some(AT_LIMIT)),
+        Wrong::SecondAtLimit => ("a/b/", "a/b/", 2, Some(SECOND_AT_LIMIT)),
     };
     Rows {
         own,
@@ -85,13 +120,15 @@ fn desk_of<L: Ledger>(alloc: Global, blank: Blank, rows: &Rows) -> Result<Desk<L
     Ok(prepared.desk::<L>(alloc, blank)?)
 }
 
-/// Why the step has no answer, and how many calls its reducer took.
+/// Why a step has no answer, how many calls its reducer took, and how many events and commits its desk has.
+type Answer = (StepError, usize, u64, u64);
+
 fn refusal<L: Ledger + Send + Sync + 'static, R: Threads + Wait + Sync>(
     rt: &R,
     alloc: Global,
     blank: Blank,
     wrong: Wrong,
-) -> Result<(StepError, usize), Fail>
+) -> Result<Answer, Fail>
     requires name { blank.name ≡ L.name }
     requires parts { blank.parts ≡ L.parts }
     requires all { blank.parts ≡ 1000000000000 }
@@ -117,25 +154,101 @@ fn refusal<L: Ledger + Send + Sync + 'static, R: Threads + Wait + Sync>(
         &mut reducer,
         &NoGate,
     )?;
+    let after = desk.status(rt)?;
     match end {
         Ok(_) => Err(Fail::from("no answer")),
-        Err(error) => Ok((error, reducer.calls().len())),
+        Err(error) => Ok((
+            error,
+            reducer.calls().len(),
+            after.events,
+            after.totals.commit,
+        )),
     }
 }
 
-/// The first row that differs is named, else the number of rows; the reducer heard `begin`, `rollback` and `after`.
+/// The first row that differs is named, else the number of rows; the reducer heard `begin`, `rollback` and `after`. Of a round that
+/// has no answer the Commits stand in the history, and Round doesn't.
 #[test]
 fn desks_are_refused(rt: HostRuntime) -> Result<(), Fail> {
     let cases = [
-        (Wrong::OtherRows, 1),
-        (Wrong::Planned, 2),
-        (Wrong::OneThread, 2),
-        (Wrong::AtLimit, 1),
+        (Wrong::OtherRows, 1, 0, 0),
+        (Wrong::Planned, 2, 1, 0),
+        (Wrong::OneThread, 2, 0, 0),
+        (Wrong::AtLimit, 1, 1, 0),
+        (Wrong::SecondAtLimit, 2, 3, 1),
     ];
-    for (wrong, partition) in cases {
+    for (wrong, partition, events, commits) in cases {
         let blank = Blank::new(1_000_000_000_000);
         let answer = refusal::<Brand, _>(&rt, rt.alloc(), blank, wrong)?;
-        assert_eq!(rt; answer, (StepError::Repository(partition), 3));
+        let error = StepError::Repository(partition);
+        assert!(rt; answer == (error, 3, events, commits));
     }
+    Ok(())
+}
+
+/// A desk of the six records, with three a chunk.
+fn desk_of_threes<L: Ledger>(alloc: Global, blank: Blank) -> Result<Desk<L>, Fail>
+    requires name { blank.name ≡ L.name }
+    requires parts { blank.parts ≡ L.parts }
+    requires all { blank.parts ≡ 1000000000000 }
+{
+    let asked = Asked {
+        item_count: 3,
+        ..PLAIN
+    };
+    let mut other = ListReducer::new(alloc, None);
+    let prepared = started(alloc, asked, SIX, &mut other, None)?;
+    Ok(prepared.desk::<L>(alloc, blank)?)
+}
+
+/// Runs the six records, with two a chunk, on such a desk: how the step is refused.
+fn refused_round<L: Ledger + Send + Sync + 'static, R: Threads + Wait + Sync>(
+    rt: &R,
+    alloc: Global,
+    blank: Blank,
+    between: &mut Between,
+) -> Result<String, Fail>
+    requires name { blank.name ≡ L.name }
+    requires parts { blank.parts ≡ L.parts }
+    requires all { blank.parts ≡ 1000000000000 }
+{
+    let desk = desk_of_threes::<L>(alloc, blank)?;
+    let mut analyzer = ListAnalyzer::new(alloc, None);
+    let mut reducer = ListReducer::new(alloc, None);
+    let prepared = started(alloc, PLAIN, SIX, &mut reducer, None)?;
+    let end = ended_with::<L, NoGate, R>(
+        rt,
+        alloc,
+        &desk,
+        prepared,
+        SIX,
+        2,
+        &mut analyzer,
+        &mut reducer,
+        &NoGate,
+    )?;
+    let snapshot = desk.status(rt)?;
+    let mut course = String::new(alloc);
+    add_answer(&mut course, alloc, &snapshot, &end, &analyzer, &reducer)?;
+    between.take(alloc, SIX, &snapshot, end)?;
+    Ok(course)
+}
+
+/// After a round without an answer nothing that was committed is lost: from the rows of its desk, which is only read, new artifacts
+/// and a new desk go on, and the step ends as the one that nothing disturbs.
+#[test]
+fn a_refused_round_is_gone_on_from(rt: HostRuntime) -> Result<(), Fail> {
+    let alloc = rt.alloc();
+    let mut between = Between::nothing(alloc);
+    let blank = Blank::new(1_000_000_000_000);
+    let refused = refused_round::<Brand, _>(&rt, alloc, blank, &mut between)?;
+    assert_eq!(rt; refused.as_str(), REFUSED);
+    let partitions = between.partitions(alloc)?;
+    assert_eq!(rt; partitions.as_str(), LEFT);
+    let (status, course) = gone_on(&rt, alloc, PLAIN, SIX, false, None, &mut between)?;
+    assert!(rt; status == Some(Status::Completed));
+    assert_eq!(rt; course.as_str(), RESTARTED);
+    let partitions = between.partitions(alloc)?;
+    assert_eq!(rt; partitions.as_str(), WHOLE);
     Ok(())
 }

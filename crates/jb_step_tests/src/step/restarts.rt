@@ -9,12 +9,13 @@ use crate::step::given::{
 use crate::step::rows::{
     Asked, Case, ONE_SKIP, PLAIN, SEVEN, add_course, add_partition, add_reduced, case_at,
 };
-use crate::step::runs::started;
+use crate::step::runs::started_or_not;
 use jb_artifacts::ArtifactsOf;
 use jb_collect::{Analyzer, ListAnalyzer, ListReducer, Reducer, Status};
 use jb_repo::Snapshot;
 use jb_rules::Row;
 use jb_step::{Prepared, Saved, StepEnd, StepError};
+use jb_workers::Desk;
 use std::alloc::Global;
 use std::marker::Brand;
 use std::mem;
@@ -210,7 +211,7 @@ impl Between {
     }
 
     /// The saved rows and the artifacts that the next run begins with.
-    fn give_up(&mut self, alloc: Global) -> (Option<Saved>, Vec<(u32, Works)>) {
+    pub(crate) fn give_up(&mut self, alloc: Global) -> (Option<Saved>, Vec<(u32, Works)>) {
         let left = mem::replace(&mut self.unfinished, Vec::new(alloc));
         (self.saved.take(), left)
     }
@@ -294,7 +295,7 @@ impl Between {
 }
 
 /// The artifacts that were handed back; or, where a restart has records of its own, new ones with the writers of those.
-fn works_again(
+pub(crate) fn works_again(
     alloc: Global,
     unfinished: Vec<(u32, Works)>,
     records: Option<&str>,
@@ -319,7 +320,7 @@ fn with_writer(own: Works, new: Works) -> Works {
 }
 
 /// Goes on from what the run before left, on the plan of these records; `others` where these aren't its own. The status, if
-/// the run has an answer, and its course.
+/// the run has an answer, and its course; where it got no desk, the line of `no_desk`.
 pub(crate) fn gone_on<R: Threads + Wait + Sync>(
     rt: &R,
     alloc: Global,
@@ -329,23 +330,83 @@ pub(crate) fn gone_on<R: Threads + Wait + Sync>(
     rounds: Option<u64>,
     between: &mut Between,
 ) -> Result<(Option<Status>, String), Fail> {
-    let mut analyzer = ListAnalyzer::new(alloc, None);
     let mut reducer = ListReducer::new(alloc, None);
     let (saved, left) = between.give_up(alloc);
-    let prepared = started(alloc, asked, records, &mut reducer, saved)?;
-    let mut course = format!(in alloc; "{:?}\n", prepared.needs())?;
     let artifacts = works_again(alloc, left, if others { Some(records) } else { None })?;
-    let blank = Blank::new(1_000_000_000_000);
-    let (snapshot, end) = run_on::<Brand, R>(
+    match started_or_not(alloc, asked, records, &mut reducer, saved)? {
+        Ok(prepared) => {
+            let blank = Blank::new(1_000_000_000_000);
+            let records = String::from_str(alloc, records)?;
+            run_on::<Brand, R>(
+                rt, alloc, blank, prepared, artifacts, &records, rounds, reducer, between,
+            )
+        }
+        Err(error) => no_desk(alloc, error),
+    }
+}
+
+/// Why there is no desk.
+fn no_desk(alloc: Global, error: StepError) -> Result<(Option<Status>, String), Fail> {
+    Ok((None, format!(in alloc; "no desk: {error:?}\n")?))
+}
+
+/// Makes the run's desk, and runs at most so many rounds.
+fn run_on<L: Ledger + Send + Sync + 'static, R: Threads + Wait + Sync>(
+    rt: &R,
+    alloc: Global,
+    blank: Blank,
+    prepared: Prepared,
+    artifacts: Vec<Works>,
+    records: &String,
+    rounds: Option<u64>,
+    reducer: ListReducer,
+    between: &mut Between,
+) -> Result<(Option<Status>, String), Fail>
+    requires name { blank.name ≡ L.name }
+    requires parts { blank.parts ≡ L.parts }
+    requires all { blank.parts ≡ 1000000000000 }
+{
+    match prepared.desk::<L>(alloc, blank) {
+        Ok(desk) => run_at::<L, R>(
+            rt,
+            alloc,
+            &desk,
+            prepared,
+            artifacts,
+            records.as_str(),
+            rounds,
+            reducer,
+            between,
+        ),
+        Err(_) => no_desk(alloc, StepError::Memory),
+    }
+}
+
+/// Runs at most so many rounds, and keeps what the run leaves.
+fn run_at<L: Ledger + Send + Sync + 'static, R: Threads + Wait + Sync>(
+    rt: &R,
+    alloc: Global,
+    desk: &Desk<L>,
+    prepared: Prepared,
+    artifacts: Vec<Works>,
+    records: &str,
+    rounds: Option<u64>,
+    mut reducer: ListReducer,
+    between: &mut Between,
+) -> Result<(Option<Status>, String), Fail> {
+    let mut analyzer = ListAnalyzer::new(alloc, None);
+    let mut course = format!(in alloc; "{:?}\n", prepared.needs())?;
+    let end = stopped_after::<Letters, L, R>(
         rt,
         alloc,
-        blank,
+        desk,
         prepared,
         artifacts,
-        rounds,
         &mut analyzer,
         &mut reducer,
-    )?;
+        rounds,
+    );
+    let snapshot = desk.status(rt)?;
     add_answer(&mut course, alloc, &snapshot, &end, &analyzer, &reducer)?;
     let status = between.take(alloc, records, &snapshot, end)?;
     if status.is_none() {
@@ -354,31 +415,9 @@ pub(crate) fn gone_on<R: Threads + Wait + Sync>(
     Ok((status, course))
 }
 
-/// Runs at most so many rounds, and answers what the table shows then, too.
-fn run_on<L: Ledger + Send + Sync + 'static, R: Threads + Wait + Sync>(
-    rt: &R,
-    alloc: Global,
-    blank: Blank,
-    prepared: Prepared,
-    artifacts: Vec<Works>,
-    rounds: Option<u64>,
-    analyzer: &mut ListAnalyzer,
-    reducer: &mut ListReducer,
-) -> Result<(Snapshot, Result<StepEnd<Works>, StepError>), Fail>
-    requires name { blank.name ≡ L.name }
-    requires parts { blank.parts ≡ L.parts }
-    requires all { blank.parts ≡ 1000000000000 }
-{
-    let desk = prepared.desk::<L>(alloc, blank)?;
-    let end = stopped_after::<Letters, L, R>(
-        rt, alloc, &desk, prepared, artifacts, analyzer, reducer, rounds,
-    );
-    Ok((desk.status(rt)?, end))
-}
-
 /// Adds the course of a run; where it has no answer, why, the numbers of events and of plans of its history, and the reducer's
 /// calls.
-fn add_answer(
+pub(crate) fn add_answer(
     course: &mut String,
     alloc: Global,
     snapshot: &Snapshot,
@@ -469,11 +508,11 @@ fn stopped_at<R: Threads + Wait + Sync>(
 
 #[test]
 fn stops_change_nothing(rt: HostRuntime) -> Result<(), Fail> {
-    for number in 0..13 {
+    for number in 0..14 {
         let Some(case) = case_at(number) else {
             return Err(Fail::from("a case"));
         };
-        for stop in 0..5 {
+        for stop in 0..6 {
             for threads in 1..5 {
                 let (status, partitions) = stopped_at(&rt, rt.alloc(), &case, stop, threads)?;
                 assert!(rt; matches!(status, Some(Status::Completed | Status::Failed)));

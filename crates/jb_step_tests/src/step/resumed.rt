@@ -35,6 +35,19 @@ Begin Rollback After(Rollback) .
 Stopped 7
 ";
 
+/// What its partitions come to then.
+const STOPPED: &str = "2 0 0 2 | 2 2 1 0 0 0 0 0 | Waiting xa xb
+5 3 0 2 | 2 2 1 0 0 0 0 0 | Finished xd xe
+5 5 0 0 | 0 0 0 0 0 0 0 0 | Waiting
+";
+
+/// The course of the whole step.
+const WHOLE: &str = "Longest(0) 2 of 2
+0:2:2 1:5:2 1:5:2:end 1 Completed 0:3:3 0:3:3:end 0 Completed 2:7:2 2:7:2:end 2 Completed .
+Begin Before After(Commit) .
+Completed 11
+";
+
 /// Why the step has no answer, and how many calls its reducer took.
 fn refusal(
     alloc: Global,
@@ -80,27 +93,53 @@ fn saved_rows_are_refused(rt: HostRuntime) -> Result<(), Fail> {
     Ok(())
 }
 
-/// Asks for a stop when lane 1 begins in the first round.
+/// Where a lane comes by.
+#[derive(Clone, Copy, PartialEq, Eq)]
+struct Place {
+    lane: u32,
+    round: u64,
+    leaving: bool,
+}
+
+/// Asks for a stop at this place.
 #[derive(Drop)]
 struct Stopping<L: Ledger> {
     desk: Arc<Desk<L>>,
+    place: Place,
+}
+
+impl<L: Ledger> Stopping<L> {
+    fn come_by(&self, place: Place) {
+        if place == self.place {
+            self.desk.request_stop();
+        }
+    }
 }
 
 impl<L: Ledger + Send + Sync> Gate for Stopping<L> {
     fn arrive(&self, lane: u32, round: u64) {
-        if lane == 1 && round == 0 {
-            self.desk.request_stop();
-        }
+        self.come_by(Place {
+            lane,
+            round,
+            leaving: false,
+        });
     }
 
-    fn leave(&self, _lane: u32, _round: u64) {}
+    fn leave(&self, lane: u32, round: u64) {
+        self.come_by(Place {
+            lane,
+            round,
+            leaving: true,
+        });
+    }
 }
 
-/// The round is run to its end, and no other is begun.
+/// The round of this place is run to its end, and no other is begun.
 fn stop<L: Ledger + Send + Sync + 'static, R: Threads + Wait + Sync>(
     rt: &R,
     alloc: Global,
     blank: Blank,
+    place: Place,
     between: &mut Between,
 ) -> Result<String, Fail>
     requires name { blank.name ≡ L.name }
@@ -113,6 +152,7 @@ fn stop<L: Ledger + Send + Sync + 'static, R: Threads + Wait + Sync>(
     let desk = Arc::new(alloc, prepared.desk::<L>(alloc, blank)?)?;
     let gate = Stopping {
         desk: Arc::try_clone(&desk)?,
+        place,
     };
     let end = ended_with::<L, Stopping<L>, R>(
         rt,
@@ -131,17 +171,46 @@ fn stop<L: Ledger + Send + Sync + 'static, R: Threads + Wait + Sync>(
     Ok(course)
 }
 
-/// The restart ends as the step that nothing stops.
+/// A stop that lane 1 asks for as it begins in the first round: what the round committed stands, and the restart ends as the step
+/// that nothing stops.
 #[test]
 fn a_stop_in_a_round(rt: HostRuntime) -> Result<(), Fail> {
     let alloc = rt.alloc();
     let mut between = Between::nothing(alloc);
     let blank = Blank::new(1_000_000_000_000);
-    let course = stop::<Brand, _>(&rt, alloc, blank, &mut between)?;
+    let place = Place {
+        lane: 1,
+        round: 0,
+        leaving: false,
+    };
+    let course = stop::<Brand, _>(&rt, alloc, blank, place, &mut between)?;
     assert_eq!(rt; course.as_str(), COURSE);
+    let partitions = between.partitions(alloc)?;
+    assert_eq!(rt; partitions.as_str(), STOPPED);
     let (status, _) = gone_on(&rt, alloc, PLAIN, RECORDS, false, None, &mut between)?;
     assert!(rt; status == Some(Status::Completed));
     let partitions = between.partitions(alloc)?;
     assert_eq!(rt; partitions.as_str(), SEVEN);
+    Ok(())
+}
+
+/// Where a stop is asked for in the last round, as lane 1 begins or as lane 0 is done, the step is completed, and no stop stands in
+/// its history.
+#[test]
+fn a_stop_in_the_last_round(rt: HostRuntime) -> Result<(), Fail> {
+    let alloc = rt.alloc();
+    for (lane, leaving) in [(1, false), (0, true)] {
+        let mut between = Between::nothing(alloc);
+        let blank = Blank::new(1_000_000_000_000);
+        let place = Place {
+            lane,
+            round: 1,
+            leaving,
+        };
+        let course = stop::<Brand, _>(&rt, alloc, blank, place, &mut between)?;
+        assert_eq!(rt; course.as_str(), WHOLE);
+        let partitions = between.partitions(alloc)?;
+        assert_eq!(rt; partitions.as_str(), SEVEN);
+    }
     Ok(())
 }

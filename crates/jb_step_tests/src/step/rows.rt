@@ -267,6 +267,29 @@ Completed 7
             partitions: "3 0 0 2 | 2 2 2 0 1 0 0 0 | Finished xb xc
 ",
         },
+        13 => Case {
+            records: "a<b!c>d-e?/f(ghi)/jk/",
+            asked: Asked {
+                rules: Rules {
+                    retryable: 2,
+                    skip_limit: Some(3),
+                    ..ONE_SKIP
+                },
+                ..PLAIN
+            },
+            course: "Longest(0) 1 of 3
+Longest(1) 2 of 3
+Longest(0) 1 of 2
+Longest(1) 2 of 2
+0:2:0 0:4:0 1:7:1 1:8:2 0:5:0 0:6:1 0:6:1:end 0 Completed 1:9:3 1:10:4 1:10:4:end 1 Completed 2:12:2 2:12:2:end 2 Completed .
+Begin Before After(Commit) .
+Completed 34
+",
+            partitions: "6 6 1 1 | 5 1 4 1 1 1 1 1 | Finished xe
+10 10 2 4 | 4 4 4 2 0 0 0 0 | Finished xf xg xh xi
+12 10 0 2 | 2 2 1 0 0 0 0 0 | Finished xj xk
+",
+        },
         _ => return None,
     })
 }
@@ -462,7 +485,7 @@ fn partitions_of(alloc: Global, case: &Case, end: &StepEnd<Works>) -> Result<Str
 #[test]
 fn steps(rt: HostRuntime) -> Result<(), Fail> {
     let alloc = rt.alloc();
-    for number in 0..13 {
+    for number in 0..14 {
         let Some(case) = case_at(number) else {
             return Err(Fail::from("a case"));
         };

@@ -20,10 +20,21 @@ pub(crate) fn started(
     reducer: &mut ListReducer,
     saved: Option<Saved>,
 ) -> Result<Prepared, Fail> {
+    Ok(started_or_not(alloc, asked, records, reducer, saved)??)
+}
+
+/// The same, or why the run can't begin.
+pub(crate) fn started_or_not(
+    alloc: Global,
+    asked: Asked,
+    records: &str,
+    reducer: &mut ListReducer,
+    saved: Option<Saved>,
+) -> Result<Result<Prepared, StepError>, Fail> {
     let given = Given::read(alloc, records)?;
     let count = given.count();
     let mut mapper = FixedMapper::new(given.plan(asked.threads));
-    let prepared = begun_from(
+    begun_from(
         alloc,
         asked.item_count,
         asked.rules,
@@ -31,8 +42,7 @@ pub(crate) fn started(
         &mut mapper,
         reducer,
         saved,
-    )?;
-    Ok(prepared?)
+    )
 }
 
 /// Runs the step to its end, with new artifacts for so many partitions of the records.

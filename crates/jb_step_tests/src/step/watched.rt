@@ -2,8 +2,8 @@
 
 ghost use Rattle.std.specs.Prelude.{◌≡◌};
 
-use crate::step::given::{Letters, Works, all_works, ended};
-use crate::step::restarts::{Between, gone_on};
+use crate::step::given::{Letters, Works, ended};
+use crate::step::restarts::{Between, works_again};
 use crate::step::rows::{Asked, PLAIN, SEVEN};
 use crate::step::runs::started;
 use jb_collect::{ListAnalyzer, ListReducer, Status};
@@ -45,7 +45,7 @@ fn adds_up(snapshot: &Snapshot) -> bool {
     sum == snapshot.totals && snapshot.rows.iter().all(|row| row.sound())
 }
 
-/// Looks at the table until the step is over: whether it always added up, with no fewer commits than before.
+/// Looks at the table until it was read after the step was over: whether it always added up, with no fewer commits than before.
 fn watch<L: Ledger, R: Wait>(rt: &R, desk: &Desk<L>, over: &AtomicBool) -> bool {
     let mut commits = 0;
     for _ in 0..10_000_000 {
@@ -55,12 +55,21 @@ fn watch<L: Ledger, R: Wait>(rt: &R, desk: &Desk<L>, over: &AtomicBool) -> bool 
                 return false;
             }
             commits = snapshot.totals.commit;
-        }
-        if is_last {
-            return true;
+            if is_last {
+                return true;
+            }
         }
     }
     false
+}
+
+/// Asks for a stop, if there are so many commits.
+fn ask_once<L: Ledger, R: Wait>(rt: &R, desk: &Desk<L>, commits: u64) {
+    if let Ok(snapshot) = desk.status(rt) {
+        if commits <= snapshot.totals.commit {
+            desk.request_stop();
+        }
+    }
 }
 
 /// From this number of commits on asks for a stop, until the step is over.
@@ -69,16 +78,12 @@ fn ask<L: Ledger, R: Wait>(rt: &R, desk: &Desk<L>, over: &AtomicBool, commits: u
         if over.load(Ordering::SeqCst) {
             return;
         }
-        if let Ok(snapshot) = desk.status(rt) {
-            if commits <= snapshot.totals.commit {
-                desk.request_stop();
-            }
-        }
+        ask_once(rt, desk, commits);
     }
 }
 
 /// Runs the step while one thread looks at its table and another asks for a stop: its end, and whether all was well with the
-/// table.
+/// table. The stop is asked for a first time before the step runs, so that a step with so many commits is stopped.
 fn run_between<'s, E, L: Ledger + Send + Sync + 'static, R: Threads + Wait + Sync + 's>(
     scope: &Scope<'s, E>,
     rt: &'s R,
@@ -91,6 +96,7 @@ fn run_between<'s, E, L: Ledger + Send + Sync + 'static, R: Threads + Wait + Syn
     commits: u64,
 ) -> (Result<StepEnd<Works>, StepError>, bool) {
     let mut analyzer = ListAnalyzer::new(alloc, None);
+    ask_once(rt, desk, commits);
     let watcher = scope.spawn(move || watch(&*rt, &*desk, &*over));
     let asker = scope.spawn(move || ask(&*rt, &*desk, &*over, commits));
     let end = ended::<Letters, L, NoGate, R>(
@@ -132,7 +138,7 @@ fn in_scope<L: Ledger + Send + Sync + 'static, R: Threads + Wait + Sync>(
     })
 }
 
-/// Runs the step so: its status, and whether all was well with its table.
+/// Runs the step so, from what the run before left: its status, and whether all was well with its table.
 fn run_watched<L: Ledger + Send + Sync + 'static, R: Threads + Wait + Sync>(
     rt: &R,
     alloc: Global,
@@ -146,9 +152,10 @@ fn run_watched<L: Ledger + Send + Sync + 'static, R: Threads + Wait + Sync>(
     requires all { blank.parts ≡ 1000000000000 }
 {
     let mut reducer = ListReducer::new(alloc, None);
-    let prepared = started(alloc, asked, RECORDS, &mut reducer, None)?;
+    let (saved, left) = between.give_up(alloc);
+    let artifacts = works_again(alloc, left, None)?;
+    let prepared = started(alloc, asked, RECORDS, &mut reducer, saved)?;
     let desk = prepared.desk::<L>(alloc, blank)?;
-    let artifacts = all_works(alloc, RECORDS, 3)?;
     let over = AtomicBool::new(false);
     let (end, is_well) = in_scope(
         rt, alloc, &desk, &over, prepared, reducer, artifacts, commits,
@@ -159,40 +166,49 @@ fn run_watched<L: Ledger + Send + Sync + 'static, R: Threads + Wait + Sync>(
     Ok((status, is_well))
 }
 
-/// Runs the step so, and where it was stopped restarts it once more: whether all was well with its table and it is completed, and
-/// its partitions.
+/// Runs the step so, and goes on until it isn't stopped, each time with a stop from one commit more on: whether all was always well
+/// with its table and it is completed, how often it was stopped, and its partitions.
 fn watched<R: Threads + Wait + Sync>(
     rt: &R,
     alloc: Global,
     asked: Asked,
     commits: u64,
-) -> Result<(bool, String), Fail> {
-    let mut between = Between::nothing(alloc);
-    let blank = Blank::new(1_000_000_000_000);
-    let (status, is_well) = run_watched::<Brand, R>(
-        rt,
-        alloc,
-        blank,
-        asked,
-        commits,
-        &mut between,
-    )?;
-    let mut last = Some(status);
-    if status == Status::Stopped {
-        (last, _) = gone_on(rt, alloc, asked, RECORDS, false, None, &mut between)?;
+) -> Result<(bool, u64, String), Fail> {
+    let mut between = Between::first(alloc, RECORDS)?;
+    let mut stops = 0;
+    let mut status = Status::Stopped;
+    let mut is_well = true;
+    for run in 0..8 {
+        if status == Status::Stopped && is_well {
+            let blank = Blank::new(1_000_000_000_000);
+            let from = commits.saturating_add(run);
+            (status, is_well) = run_watched::<Brand, R>(
+                rt,
+                alloc,
+                blank,
+                asked,
+                from,
+                &mut between,
+            )?;
+            if status == Status::Stopped {
+                stops = run + 1;
+            }
+        }
     }
     let partitions = between.partitions(alloc)?;
-    Ok((is_well && last == Some(Status::Completed), partitions))
+    Ok((is_well && status == Status::Completed, stops, partitions))
 }
 
-/// Stopped or not, and restarted where it was, the step comes to the same.
+/// However often it is stopped, the step comes to the same once it isn't; and it is stopped at least once where the stop is asked
+/// for before it runs.
 #[test]
 fn a_table_is_watched(rt: HostRuntime) -> Result<(), Fail> {
     for (threads, commits) in [(1, 0), (1, 1), (1, 2), (2, 0), (2, 2), (3, 1), (4, 0)] {
         let mut asked = PLAIN;
         asked.threads = threads;
-        let (is_well, partitions) = watched(&rt, rt.alloc(), asked, commits)?;
+        let (is_well, stops, partitions) = watched(&rt, rt.alloc(), asked, commits)?;
         assert!(rt; is_well);
+        assert!(rt; commits > 0 || stops > 0);
         assert_eq!(rt; partitions.as_str(), SEVEN);
     }
     Ok(())

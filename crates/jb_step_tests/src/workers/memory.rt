@@ -95,7 +95,7 @@ fn run_short<
     Some(())
 }
 
-/// Run also with each request for memory refused in turn.
+/// `tests/refused-memory` runs it also with each request for memory refused in turn.
 #[test]
 fn memory_refused(rt: HostRuntime) {
     let alloc = rt.alloc();

@@ -5,12 +5,12 @@ ghost use Rattle.jb_rules.specs.declared.row.RowState.TheVariants.{Waiting};
 ghost use Rattle.jb_job.specs.Limits.{max_rollbacks};
 
 use jb_artifacts::{
-    ArtifactsOf, Collector, CountCollector, FaultList, FaultPlan, FaultPlans, Item, ItemProcessor,
-    ItemReader, ItemWriter, ListWriter, PrefixProcessor, RowView, TableReader,
+    Artifacts, ArtifactsOf, Collector, CountCollector, FaultList, FaultPlan, FaultPlans, Item,
+    ItemProcessor, ItemReader, ItemWriter, ListWriter, PrefixProcessor, RowView, TableReader,
 };
-use jb_chunk::{Outcome, PartitionTask, Task};
+use jb_chunk::{Outcome, PartitionArtifacts, PartitionTask, Task};
 use jb_job::{ArtifactError, ClassId, MAX_ROLLBACKS, Range, Rules};
-use jb_rules::Row;
+use jb_rules::{Counts, Row};
 use std::alloc::{AllocError, Global};
 use std::sync::Arc;
 use std::sync::atomic::{AtomicU64, Ordering};
@@ -137,7 +137,7 @@ impl Collector for CountedCollector {
     }
 }
 
-type Counting = Task<ArtifactsOf<CountedReader, CountedProcessor, CountedWriter, CountedCollector>>;
+type Counting = ArtifactsOf<CountedReader, CountedProcessor, CountedWriter, CountedCollector>;
 
 /// The calls of reader, processor, writer and collector.
 #[derive(Drop)]
@@ -146,6 +146,31 @@ struct AllCalls {
     processes: Calls,
     writes: Calls,
     collects: Calls,
+}
+
+impl AllCalls {
+    fn new(alloc: Global) -> Result<AllCalls, AllocError> {
+        Ok(AllCalls {
+            reads: Calls::new(alloc)?,
+            processes: Calls::new(alloc)?,
+            writes: Calls::new(alloc)?,
+            collects: Calls::new(alloc)?,
+        })
+    }
+
+    /// A line of an attempt that ended so and left this row: the calls in it, of reader, processor, writer and collector, and
+    /// where the row stands.
+    fn line(&self, alloc: Global, end: &str, row: &Row) -> Result<String, AllocError> {
+        let reads = self.reads.taken();
+        let processes = self.processes.taken();
+        let writes = self.writes.taken();
+        let collects = self.collects.taken();
+        let at = row.at;
+        let written = row.written;
+        format!(in alloc;
+            "{end} {reads} {processes} {writes} {collects} at {at}, {written} written\n"
+        )
+    }
 }
 
 /// The fault of a record's calls.
@@ -185,6 +210,12 @@ struct Told<'a> {
     forgets: Option<u64>,
 }
 
+impl Told<'_> {
+    fn records(&self) -> u64 {
+        self.lines.lines().count() as u64
+    }
+}
+
 fn plan_of(alloc: Global, fault: &Fault) -> Result<FaultPlan, Fail> {
     if fault.class >= 64 {
         return Err(Fail::from("a class"));
@@ -205,39 +236,59 @@ fn plans(alloc: Global, faults: &[Fault]) -> Result<FaultPlans, Fail> {
     Ok(plans)
 }
 
-/// A task over the lines, two at a time, with a processor that puts an x before each and filters those that begin with z. Faults
-/// of class 0 are skipped, those of class 1 retried.
-fn begun(alloc: Global, told: &Told<'_>, calls: &AllCalls) -> Result<Counting, Fail> {
+fn reader_of(alloc: Global, told: &Told<'_>, calls: &AllCalls) -> Result<CountedReader, Fail> {
+    let calls = calls.reads.shared()?;
+    let faults = plans(alloc, told.reads)?;
     let mut lines = Vec::new(alloc);
     for line in told.lines.lines() {
         lines.push(Item::copy_of(alloc, line.as_bytes())?)?;
     }
-    let hi = lines.len() as u64;
+    let table = TableReader::new(alloc, 0, lines, faults);
+    Ok(CountedReader { table, calls })
+}
+
+/// A processor that puts an x before each line and filters those that begin with z.
+fn processor_of(
+    alloc: Global,
+    told: &Told<'_>,
+    calls: &AllCalls,
+) -> Result<CountedProcessor, Fail> {
+    let calls = calls.processes.shared()?;
+    let faults = plans(alloc, told.processes)?;
     let prefix = Item::copy_of(alloc, b"x")?;
     let dropped = Some(Item::copy_of(alloc, b"z")?);
-    let processes = plans(alloc, told.processes)?;
-    let artifacts = ArtifactsOf {
-        reader: CountedReader {
-            table: TableReader::new(alloc, 0, lines, plans(alloc, told.reads)?),
-            calls: calls.reads.shared()?,
-        },
-        processor: CountedProcessor {
-            prefixer: PrefixProcessor::new(alloc, prefix, dropped, processes),
-            forgets: told.forgets,
-            calls: calls.processes.shared()?,
-        },
-        writer: CountedWriter {
-            list: ListWriter::new(alloc, Vec::new(alloc), plans(alloc, told.writes)?),
-            calls: calls.writes.shared()?,
-        },
+    Ok(CountedProcessor {
+        prefixer: PrefixProcessor::new(alloc, prefix, dropped, faults),
+        forgets: told.forgets,
+        calls,
+    })
+}
+
+fn writer_of(alloc: Global, told: &Told<'_>, calls: &AllCalls) -> Result<CountedWriter, Fail> {
+    let calls = calls.writes.shared()?;
+    let list = ListWriter::new(alloc, Vec::new(alloc), plans(alloc, told.writes)?);
+    Ok(CountedWriter { list, calls })
+}
+
+/// Artifacts over the lines.
+fn counting(alloc: Global, told: &Told<'_>, calls: &AllCalls) -> Result<Counting, Fail> {
+    Ok(ArtifactsOf {
+        reader: reader_of(alloc, told, calls)?,
+        processor: processor_of(alloc, told, calls)?,
+        writer: writer_of(alloc, told, calls)?,
         collector: CountedCollector {
             counter: CountCollector::new(alloc),
             calls: calls.collects.shared()?,
         },
-    };
+    })
+}
+
+/// A task over so many records, two at a time, if the artifacts serve them. Faults of class 0 are skipped, those of class 1
+/// retried.
+pub(crate) fn begun<A: PartitionArtifacts + Send>(hi: u64, artifacts: A) -> Option<Task<A>> {
     let row = Row::fresh(Range { lo: 0, hi });
     if !row.sound() || !row.state.is_waiting() || !Task::fits(&artifacts, &row) {
-        return Err(Fail::from("a task"));
+        return None;
     }
     let rules = Rules {
         skippable: 0b01,
@@ -245,11 +296,11 @@ fn begun(alloc: Global, told: &Told<'_>, calls: &AllCalls) -> Result<Counting, F
         skip_limit: None,
         retry_limit: 10,
     };
-    Ok(Task::start(0, row, rules, 2, artifacts))
+    Some(Task::start(0, row, rules, 2, artifacts))
 }
 
 /// Whether a chunk may be attempted after this row.
-fn waits(row: &Row) -> bool
+pub(crate) fn waits(row: &Row) -> bool
     ensures { result ≡ true → (row.now.state ≡ Waiting) × (row.now.counts.rollback < max_rollbacks) }
 {
     row.state.is_waiting() && row.counts.rollback < MAX_ROLLBACKS
@@ -264,17 +315,13 @@ fn name_of(outcome: &Outcome) -> &'static str {
     }
 }
 
-/// Attempts one chunk after another. A line for each tells how it ended, and the calls of reader, processor, writer and collector in
-/// it. Without memory the row stays as it was.
-fn attempts_of(alloc: Global, told: &Told<'_>) -> Result<String, Fail> {
-    let calls = AllCalls {
-        reads: Calls::new(alloc)?,
-        processes: Calls::new(alloc)?,
-        writes: Calls::new(alloc)?,
-        collects: Calls::new(alloc)?,
-    };
-    let mut task = begun(alloc, told, &calls)?;
-    let mut log = String::new(alloc);
+/// Attempts one chunk after another, each of which adds its line to the log. Without memory the row stays as it was.
+fn attempts<T: PartitionTask>(
+    alloc: Global,
+    mut task: T,
+    calls: &AllCalls,
+    log: &mut String,
+) -> Result<T, Fail> {
     for _ in 0..20 {
         let row = *task.row();
         if !task.is_ready() || !waits(&row) {
@@ -282,22 +329,76 @@ fn attempts_of(alloc: Global, told: &Told<'_>) -> Result<String, Fail> {
         }
         let done = task.attempt(alloc);
         task = done.task;
-        let end = name_of(&done.outcome);
-        let reads = calls.reads.taken();
-        let processes = calls.processes.taken();
-        let writes = calls.writes.taken();
-        let collects = calls.collects.taken();
-        let line = format!(in alloc; "{end} {reads} {processes} {writes} {collects}\n")?;
+        let line = calls.line(alloc, name_of(&done.outcome), task.row())?;
         log.push_str(line.as_str())?;
         if (*task.row() == row) != (done.outcome == Outcome::NoMemory) {
             return Err(Fail::from("a row"));
         }
     }
-    Ok(log)
+    Ok(task)
 }
 
+/// A partition whose chunks were attempted: its row, a line for each attempt, and its outputs, each with a blank behind it.
+#[derive(Drop)]
+struct Ran {
+    row: Row,
+    log: String,
+    outputs: Vec<u8>,
+}
+
+fn add_output(outputs: &mut Vec<u8>, text: Option<&[u8]>) -> Result<(), Fail> {
+    outputs.extend_from_slice(text.ok_or("an output")?)?;
+    outputs.push(b' ')?;
+    Ok(())
+}
+
+/// Attempts what was told.
+fn run(alloc: Global, told: &Told<'_>) -> Result<Ran, Fail> {
+    let calls = AllCalls::new(alloc)?;
+    let mut log = String::new(alloc);
+    let artifacts = counting(alloc, told, &calls)?;
+    let task = begun(told.records(), artifacts).ok_or("a task")?;
+    let task = attempts(alloc, task, &calls, &mut log)?;
+    let row = *task.row();
+    let writer = task.into_artifacts().writer;
+    let mut outputs = Vec::new(alloc);
+    for i in 0..writer.count() {
+        add_output(&mut outputs, writer.item_at(i))?;
+    }
+    Ok(Ran { row, log, outputs })
+}
+
+/// The attempts at thirteen records: a chunk with a filtered item, one in which a read is skipped after it had found no memory, a
+/// retry by single records, a chunk of filtered items, a skipped write call, and a retried one.
+const LOG: &str = "committed 2 2 1 1 at 2, 1 written
+no memory 2 1 0 0 at 2, 1 written
+committed 2 1 1 1 at 4, 2 written
+rolled 2 2 0 0 at 4, 2 written
+committed 1 1 1 1 at 5, 3 written
+committed 1 1 1 1 at 6, 4 written
+committed 2 2 0 1 at 8, 4 written
+committed 2 2 1 1 at 10, 4 written
+rolled 2 2 1 0 at 10, 4 written
+committed 1 1 1 1 at 11, 5 written
+committed 1 1 1 1 at 12, 6 written
+committed 1 1 1 2 at 13, 7 written
+";
+
+/// What those attempts counted.
+const COUNTS: Counts = Counts {
+    read: 12,
+    write: 7,
+    commit: 9,
+    rollback: 2,
+    read_skip: 1,
+    process_skip: 0,
+    filter: 3,
+    write_skip: 1,
+};
+
 /// Each record that is tried is read once, and processed once if it was read. The writer is called once for a chunk that has a
-/// result, the collector once for each that is committed and once more at the end.
+/// result, the collector once for each that is committed and once more at the end. After an attempt that found no memory the next
+/// one is as if it were the first.
 #[test]
 fn a_partition_with_skips_and_rollbacks(rt: HostRuntime) -> Result<(), Fail> {
     let told = Told {
@@ -307,23 +408,10 @@ fn a_partition_with_skips_and_rollbacks(rt: HostRuntime) -> Result<(), Fail> {
         writes: &[always(9, 0), once(10, 1)],
         forgets: Some(3),
     };
-    let log = attempts_of(rt.alloc(), &told)?;
-    assert_eq!(rt;
-        log.as_str(),
-        "committed 2 2 1 1
-no memory 2 1 0 0
-committed 2 1 1 1
-rolled 2 2 0 0
-committed 1 1 1 1
-committed 1 1 1 1
-committed 2 2 0 1
-committed 2 2 1 1
-rolled 2 2 1 0
-committed 1 1 1 1
-committed 1 1 1 1
-committed 1 1 1 2
-"
-    );
+    let ran = run(rt.alloc(), &told)?;
+    assert_eq!(rt; ran.log.as_str(), LOG);
+    assert_eq!(rt; ran.row.counts, COUNTS);
+    assert_eq!(rt; ran.outputs.as_slice(), b"xa xd xe xf xk xl xm ".as_slice());
     Ok(())
 }
 
@@ -337,14 +425,78 @@ fn partitions_that_fail(rt: HostRuntime) -> Result<(), Fail> {
         writes: &[],
         forgets: None,
     };
-    let log = attempts_of(rt.alloc(), &processed)?;
-    assert_eq!(rt; log.as_str(), "failed 1 1 0 0\n");
+    let ran = run(rt.alloc(), &processed)?;
+    assert_eq!(rt; ran.log.as_str(), "failed 1 1 0 0 at 0, 0 written\n");
     let written = Told {
         processes: &[],
         writes: &[always(2, 2)],
         ..processed
     };
-    let log = attempts_of(rt.alloc(), &written)?;
-    assert_eq!(rt; log.as_str(), "committed 2 2 1 1\nfailed 1 1 1 0\n");
+    let ran = run(rt.alloc(), &written)?;
+    assert_eq!(rt;
+        ran.log.as_str(),
+        "committed 2 2 1 1 at 2, 2 written\nfailed 1 1 1 0 at 2, 2 written\n"
+    );
+    Ok(())
+}
+
+/// The same artifacts, each in a box.
+fn boxed(alloc: Global, told: &Told<'_>, calls: &AllCalls) -> Result<Artifacts, Fail> {
+    let each = counting(alloc, told, calls)?;
+    Ok(Artifacts {
+        reader: Box::new(alloc, each.reader)?,
+        processor: Box::new(alloc, each.processor)?,
+        writer: Box::new(alloc, each.writer)?,
+        collector: Box::new(alloc, each.collector)?,
+    })
+}
+
+/// Reads record 0, processes it, writes its result and tells of it, by one call each.
+fn do_a_record<A: PartitionArtifacts>(alloc: Global, mut artifacts: A) -> Result<(), Fail> {
+    let range = Range { lo: 0, hi: 1 };
+    let row = Row::fresh(range);
+    if !artifacts.serves(&row) {
+        return Err(Fail::from("a reader"));
+    }
+    artifacts.rewind(0);
+    let item = artifacts.read_item().ok().ok_or("an item")?;
+    let answer = artifacts.process_item(0, item.as_slice()).ok();
+    let result = answer.flatten().ok_or("a result")?;
+    let results = Vec::from_array(alloc, [(0, result)])?;
+    artifacts.write_items(&results).ok().ok_or("a write")?;
+    artifacts.collect(&view_of(range))?;
+    Ok(())
+}
+
+fn view_of(range: Range) -> RowView {
+    RowView {
+        partition: 0,
+        lo: range.lo,
+        hi: range.hi,
+        at: range.hi,
+        counts: Counts::ZERO,
+        last: false,
+    }
+}
+
+/// A call of artifacts in boxes is one call of what stands in the box, as it is without boxes.
+#[test]
+fn artifacts_in_boxes(rt: HostRuntime) -> Result<(), Fail> {
+    let alloc = rt.alloc();
+    let told = Told {
+        lines: "a",
+        reads: &[],
+        processes: &[],
+        writes: &[],
+        forgets: None,
+    };
+    let row = Row::fresh(Range { lo: 0, hi: 1 });
+    let calls = AllCalls::new(alloc)?;
+    do_a_record(alloc, counting(alloc, &told, &calls)?)?;
+    let line = calls.line(alloc, "bare", &row)?;
+    assert_eq!(rt; line.as_str(), "bare 1 1 1 1 at 0, 0 written\n");
+    do_a_record(alloc, boxed(alloc, &told, &calls)?)?;
+    let line = calls.line(alloc, "boxed", &row)?;
+    assert_eq!(rt; line.as_str(), "boxed 1 1 1 1 at 0, 0 written\n");
     Ok(())
 }

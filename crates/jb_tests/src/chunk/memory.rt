@@ -1,0 +1,67 @@
+//! An attempt whose memory is refused, and the one after it.
+
+use super::calls::{begun, waits};
+use jb_artifacts::{
+    ArtifactsOf, CountCollector, FaultPlans, Item, ItemWriter, ListWriter, PrefixProcessor,
+    TableReader,
+};
+use jb_chunk::{Done, Outcome, PartitionTask, Task};
+use std::alloc::Global;
+use std::process::Abort;
+use std::test::*;
+
+pub(crate) type Plain = Task<ArtifactsOf<TableReader, PrefixProcessor, ListWriter, CountCollector>>;
+
+/// A task over two letters, which are one chunk, with a processor that puts an x before each.
+fn letters(alloc: Global) -> Option<Plain> {
+    let mut records = Vec::new(alloc);
+    for byte in b"ab" {
+        records.push(Item::copy_of(alloc, &[*byte]).ok()?).ok()?;
+    }
+    let prefix = Item::copy_of(alloc, b"x").ok()?;
+    let artifacts = ArtifactsOf {
+        reader: TableReader::new(alloc, 0, records, FaultPlans::new(alloc)),
+        processor: PrefixProcessor::new(alloc, prefix, None, FaultPlans::new(alloc)),
+        writer: ListWriter::new(alloc, Vec::new(alloc), FaultPlans::new(alloc)),
+        collector: CountCollector::new(alloc),
+    };
+    begun(2, artifacts)
+}
+
+/// An attempt at the task's chunk, if it may be attempted.
+fn attempted(alloc: Global, task: Plain) -> Option<Done<Plain>> {
+    if !task.is_ready() || !waits(task.row()) {
+        return None;
+    }
+    Some(task.attempt(alloc))
+}
+
+/// The attempt that committed the chunk: the first, or the second where the first found no memory and left the row as it was.
+/// None where there was no memory for the task.
+pub(crate) fn committed(rt: &impl Abort, alloc: Global) -> Option<Done<Plain>> {
+    let task = letters(alloc)?;
+    let row = *task.row();
+    let done = attempted(alloc, task)?;
+    if done.outcome != Outcome::NoMemory {
+        return Some(done);
+    }
+    assert!(rt; done.values.is_empty() && *done.task.row() == row);
+    let again = attempted(alloc, done.task);
+    assert!(rt; again.is_some());
+    again
+}
+
+/// With any one request refused, the chunk is committed or finds no memory; and then the same task commits it.
+#[test]
+fn wants_memory_or_answers_in_full(rt: HostRuntime) {
+    let Some(done) = committed(&rt, rt.alloc()) else {
+        return;
+    };
+    assert!(rt; matches!(done.outcome, Outcome::Committed(_)));
+    let row = *done.task.row();
+    assert_eq!(rt; (row.at, row.written, row.counts.commit), (2, 2, 1));
+    assert_eq!(rt; done.values.len(), 2);
+    let writer = done.task.into_artifacts().writer;
+    assert_eq!(rt; writer.count(), 2);
+    assert_eq!(rt; writer.item_at(1), Some(b"xb".as_slice()));
+}

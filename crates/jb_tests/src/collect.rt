@@ -1,0 +1,26 @@
+//! A round delivered to the ready analyzer where memory is refused.
+
+use crate::chunk::memory::committed;
+use jb_collect::{Analyzer, AnalyzerCall, ListAnalyzer, Status, deliver};
+use jb_job::ArtifactError;
+
+/// With any one request refused, the analyzer is told all of an attempt, or there is no memory for one of the calls.
+#[test]
+fn wants_memory_or_answers_in_full(rt: HostRuntime) {
+    let Some(done) = committed(&rt, rt.alloc()) else {
+        return;
+    };
+    let mut analyzer = ListAnalyzer::new(rt.alloc(), None);
+    match deliver(&[done], &mut analyzer) {
+        Ok(()) => {
+            let calls = analyzer.calls();
+            assert_eq!(rt; calls.len(), 3);
+            let last = calls.last();
+            assert!(rt; matches!(last, Some(AnalyzerCall::Status(0, Status::Completed))));
+        }
+        Err(fault) => {
+            assert_eq!(rt; fault, ArtifactError::Memory);
+            assert!(rt; analyzer.calls().len() < 3);
+        }
+    }
+}
