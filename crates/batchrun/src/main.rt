@@ -1,17 +1,8 @@
-//! Runs a batch job, plans rounds of chunks or checks such a plan, from a JSON document on standard input.
-//!
-//! - `words`: the command line, and what each of its words does.
-//! - `run`: the run of a job, its steps and their partitions.
-//! - `streams`: the document's bytes, and why there is no answer.
-//! - `perform`: the program over any arguments, any reader and any two writers.
+//! Runs a batch job, plans rounds of chunks or checks such a plan, from a JSON document on standard input: the process's arguments
+//! and streams are handed to `jb_program`.
 #![tactic(auto)]
 
-mod perform;
-mod run;
-mod streams;
-mod words;
-
-use perform::perform;
+use jb_program::perform;
 use std::env;
 use std::process::ExitCode;
 

@@ -15,7 +15,7 @@
 //! A flush never fails here, and the help isn't among the answers.
 
 use super::streams::{FailingReader, FailingWriter, Interrupted, arguments};
-use crate::perform::perform;
+use jb_program::perform;
 
 /// A word, its document, what it prints and its status.
 type Row = (&'static str, &'static str, &'static str, u8);

@@ -1,6 +1,0 @@
-use Rattle.batchrun.proofs.Failed.{failure_by_status}
-use Rattle.batchrun.proofs.perform.perform.Goals as goal
-
-pub returns-clause-failed : goal.returns-clause-failed
-returns-clause-failed g c =
-    failure_by_status c.answer-answer.result c.status_of.result c.status_of.ensures.answered c.answer-answer.ensures.status c.answer-answer.ensures.failed c.status_of.ensures.failed

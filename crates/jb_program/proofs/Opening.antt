@@ -1,0 +1,180 @@
+-- The rows that a step begins with, or goes on from: where they stand, and that the records and the writers serve them.
+use Rattle.std.proofs.Common.{◌≡◌, ℕ, zero, suc, ◌+◌, ◌-◌, ◌≤◌, ◌⊎◌, ◌&&◌, Bool, true, false, cond, not, nat_lt, nat_le, List, [], ◌∷◌, ◌++◌, length, map, drop, slice_get, Option, Some, None, Ok, Err, refl, ap, sym, subst, arith}
+use Rattle.std.specs.Prelude.{◌==◌, ◌||◌, All, IfSome, bytes_eq}
+use Rattle.std.specs.List.{AllByRecursion, list_all, zip}
+use Rattle.std.proofs.lemmas.Bool.Decides.{nat_tests}
+use Rattle.std.proofs.lemmas.List.{length-drop, length-take-le}
+use Rattle.std.proofs.lemmas.List.Elements.{All-from_recursion}
+use Rattle.jb_job.specs.Records.{StepRecord}
+use Rattle.jb_job.specs.Reading.{Read, out_of_range, wrong_shape}
+use Rattle.jb_job.specs.declared.field.Field.TheVariants as field
+use Rattle.jb_job.specs.declared.job.Range.{Range}
+use Rattle.jb_plan.specs.Plans.{IsRunnable, IsWithin}
+use Rattle.jb_plan.specs.declared.plan.PartitionPlan.{PartitionPlan}
+use Rattle.jb_rules.specs.Rows.{dropped_row, fresh_row, range_of}
+use Rattle.jb_rules.specs.Sound.{IsSoundRow}
+use Rattle.jb_rules.specs.States.{is_failed}
+use Rattle.jb_rules.specs.declared.row.Row.{Row}
+use Rattle.jb_rules.specs.declared.row.RowState.TheVariants as state
+use Rattle.jb_saved.specs.GoingOn.{again, fault_if, is_past}
+use Rattle.jb_saved.specs.declared.place.SavedPlace.TheVariants.{Step, Records, Override}
+use Rattle.jb_step.specs.Setup.{IsSetup, Setup, fresh_rows, opening_rows, saved_faults}
+use Rattle.jb_documents.specs.ResumeFields.{Texts, held_at, holds}
+use Rattle.jb_documents.specs.declared.restart.resume.Resume.{Resume}
+use Rattle.jb_program.specs.PartitionRun.{held_by, records_in}
+use Rattle.jb_program.specs.StepRun.{AreHeld, outputs_of, saved_of, setup_with}
+
+-- a row waits or is finished, its records are there, and its writer holds what it committed
+pub record IsOpening (records : ℕ) (outputs : List (List (List ℕ))) (partition : ℕ) (row : Row) : Type 0 where
+  pub sound : IsSoundRow row
+  pub begun : (row.state ≡ state.Waiting) ⊎ (row.state ≡ state.Finished)
+  pub within : IsWithin records (range_of row)
+  pub served : row.written ≤ length (held_by outputs partition)
+
+-- the same of all rows, the first of which has this number
+abbrev pub AreOpening : (records : ℕ) → (outputs : List (List (List ℕ))) → (partition : ℕ) → List Row → Type 0
+AreOpening records outputs k [] = Unit {0}
+AreOpening records outputs k (row ∷ rows) = IsOpening records outputs k row × AreOpening records outputs (k + 1) rows
+
+-- ---- by place
+
+from-places : (records : ℕ) (outputs : List (List (List ℕ))) (k : ℕ) (rows : List Row) → ((i : ℕ) (row : Row) → slice_get rows i ≡ Some row → IsOpening records outputs (k + i) row) → AreOpening records outputs k rows
+from-places records outputs k [] at = tt
+from-places records outputs k (row ∷ rows) at =
+    let none : k + 0 ≡ k = omega arith in (
+      subst (λ n. IsOpening records outputs n row) none (at 0 row refl),
+      from-places records outputs (k + 1) rows (λ i r is. let one : k + suc i ≡ k + 1 + i = omega arith in subst (λ n. IsOpening records outputs n r) one (at (suc i) r is)),
+    )
+
+-- ---- no row ends past the last record
+
+pub within-rest : (records : ℕ) (range : Range) (ranges : List Range) → All (IsWithin records) (range ∷ ranges) → All (IsWithin records) ranges
+within-rest records range ranges within = λ i d below. within (suc i) d (omega (arith, below))
+
+pub within-first : (records : ℕ) (range : Range) (ranges : List Range) → All (IsWithin records) (range ∷ ranges) → IsWithin records range
+within-first records range ranges within = within zero range (omega arith)
+
+fresh-below : (records : ℕ) (ranges : List Range) → All (IsWithin records) ranges → (i : ℕ) (row : Row) → slice_get (fresh_rows ranges) i ≡ Some row → (row.hi ≤ records) × (row.written ≤ 0)
+fresh-below records [] within i row is = absurd (cc is)
+fresh-below records (range ∷ ranges) within zero row is =
+    let same : fresh_row range ≡ row = cc in
+    subst (λ (r : Row). (r.hi ≤ records) × (r.written ≤ 0)) same ((within-first records range ranges within).1, omega arith)
+fresh-below records (range ∷ ranges) within (suc i) row is = fresh-below records ranges (within-rest records range ranges within) i row is
+
+or-first : (a b : Bool) → (a || b) ≡ false → a ≡ false
+or-first true b is = is
+or-first false b is = refl
+
+or-second : (a b : Bool) → (a || b) ≡ false → b ≡ false
+or-second true b is = absurd (cc is)
+or-second false b is = is
+
+again-by : (failed : Bool) (row : Row) → ((cond failed (dropped_row row) row).hi ≡ row.hi) × ((cond failed (dropped_row row) row).written ≡ row.written)
+again-by true row = (refl, refl)
+again-by false row = (refl, refl)
+
+again-below : (records : ℕ) (rows : List Row) → is_past records rows ≡ false → (i : ℕ) (row : Row) → slice_get (map again rows) i ≡ Some row → row.hi ≤ records
+again-below records [] past i row is = absurd (cc is)
+again-below records (r ∷ rows) past zero row is =
+    let same : again r ≡ row = cc in
+    let first : nat_lt records r.hi ≡ false = or-first (nat_lt records r.hi) (is_past records rows) past in
+    let below : r.hi ≤ records = grind (arith, nat_tests, first) in
+    let kept = (again-by (is_failed r.state) r).0 in
+    subst (λ (one : Row). one.hi ≤ records) same (omega (arith, below, kept))
+again-below records (r ∷ rows) past (suc i) row is = again-below records rows (or-second (nat_lt records r.hi) (is_past records rows) past) i row is
+
+not-past : (step past replace : Bool) → fault_if step Step ++ fault_if past Records ++ fault_if replace Override ≡ [] → past ≡ false
+not-past true past replace is = absurd (cc is)
+not-past false true replace is = absurd (cc is)
+not-past false false replace is = refl
+
+below-by : (step : StepRecord) (records : ℕ) (plan : PartitionPlan) (resume : Option Resume) → IsRunnable records plan → saved_faults step records plan.replace (saved_of resume) ≡ []
+    → (i : ℕ) (row : Row) → slice_get (opening_rows plan.ranges (saved_of resume)) i ≡ Some row → row.hi ≤ records
+below-by step records plan None runnable accepted i row is = (fresh-below records plan.ranges runnable.within i row is).0
+below-by step records plan (Some resume) runnable accepted i row is =
+    again-below records resume.saved.rows (not-past (not (bytes_eq resume.saved.step step.id)) (is_past records resume.saved.rows) plan.replace accepted) i row is
+
+-- ---- each writer holds what was committed
+
+held-if : (long all : Bool) (outputs : List Texts) → ◌≡◌ {A = Read (List Texts)} (cond long (cond all (Ok outputs) (Err (out_of_range field.Outputs))) (Err (wrong_shape field.Outputs))) (Ok outputs) → (long ≡ true) × (all ≡ true)
+held-if true true outputs is = (refl, refl)
+held-if true false outputs is = absurd (cc is)
+held-if false all outputs is = absurd (cc is)
+
+are-held : (resume : Resume) → AreHeld resume → ((length resume.outputs == length resume.saved.rows) ≡ true) × (list_all holds (zip resume.outputs resume.saved.rows) ≡ true)
+unfolding held_at
+are-held resume held = held-if (length resume.outputs == length resume.saved.rows) (list_all holds (zip resume.outputs resume.saved.rows)) resume.outputs held
+
+and-first : (a b : Bool) → (a && b) ≡ true → a ≡ true
+and-first true b is = refl
+and-first false b is = is
+
+and-second : (a b : Bool) → (a && b) ≡ true → b ≡ true
+and-second true b is = is
+and-second false b is = absurd (cc is)
+
+again-served : (outputs : List Texts) (rows : List Row) → length outputs ≡ length rows → list_all holds (zip outputs rows) ≡ true
+    → (i : ℕ) (row : Row) → slice_get (map again rows) i ≡ Some row → row.written ≤ length (held_by outputs i)
+again-served outputs [] long all i row is = absurd (cc is)
+again-served [] (r ∷ rows) long all i row is = absurd (omega (arith, long))
+again-served (texts ∷ outputs) (r ∷ rows) long all zero row is =
+    let same : again r ≡ row = cc in
+    let first : nat_le r.written (length texts) ≡ true = and-first (holds (texts, r)) (list_all holds (zip outputs rows)) all in
+    let served : r.written ≤ length texts = grind (arith, nat_tests, first) in
+    let kept = (again-by (is_failed r.state) r).1 in
+    subst (λ (one : Row). one.written ≤ length texts) same (omega (arith, served, kept))
+again-served (texts ∷ outputs) (r ∷ rows) long all (suc i) row is =
+    again-served outputs rows (omega (arith, long)) (and-second (holds (texts, r)) (list_all holds (zip outputs rows)) all) i row is
+
+served-by : (records : ℕ) (plan : PartitionPlan) (resume : Option Resume) → IsRunnable records plan → IfSome resume AreHeld
+    → (i : ℕ) (row : Row) → slice_get (opening_rows plan.ranges (saved_of resume)) i ≡ Some row → row.written ≤ length (held_by (outputs_of resume) i)
+served-by records plan None runnable held i row is =
+    let none = (fresh-below records plan.ranges runnable.within i row is).1 in
+    omega (arith, none)
+served-by records plan (Some resume) runnable held i row is =
+    let kept = are-held resume held in
+    let one = kept.0 in
+    let long : length resume.outputs ≡ length resume.saved.rows = grind (arith, nat_tests, one) in
+    again-served resume.outputs resume.saved.rows long kept.1 i row is
+
+-- ---- all of it
+
+-- what a step was prepared with: its plan can be run, and nothing is wrong with the rows that it goes on from
+pub record IsPreparedWith (step : StepRecord) (records : ℕ) (plan : PartitionPlan) (resume : Option Resume) (s : Setup) : Type 0 where
+  pub runnable : IsRunnable records plan
+  pub accepted : saved_faults step records plan.replace (saved_of resume) ≡ []
+  pub is : s ≡ setup_with step plan (saved_of resume)
+  pub setup : IsSetup s
+  pub held : IfSome resume AreHeld
+
+pub opening : (step : StepRecord) (records : ℕ) (plan : PartitionPlan) (resume : Option Resume) (s : Setup) → IsPreparedWith step records plan resume s → AreOpening records (outputs_of resume) 0 s.rows
+opening step records plan resume s given =
+    let rows : s.rows ≡ opening_rows plan.ranges (saved_of resume) = ap (λ (t : Setup). t.rows) given.is in
+    from-places records (outputs_of resume) 0 s.rows (λ i row at.
+    let there : slice_get (opening_rows plan.ranges (saved_of resume)) i ≡ Some row = subst (λ (rs : List Row). slice_get rs i ≡ Some row) rows at in
+    let sound = (given.setup.openable.idle i row at).0 in
+    let from = sound.placed.at_from in
+    let to = sound.placed.at_to in
+    let below = below-by step records plan resume given.runnable given.accepted i row there in
+    let none : 0 + i ≡ i = omega arith in
+    subst (λ n. IsOpening records (outputs_of resume) n row) (sym none) (record {
+      sound = sound;
+      begun = given.setup.begun i row at;
+      within = (omega (arith, from, to), below);
+      served = served-by records plan resume given.runnable given.held i row there;
+    }))
+
+within-all : (records : ℕ) (outputs : List (List (List ℕ))) (k : ℕ) (rows : List Row) → AreOpening records outputs k rows → AllByRecursion (IsWithin records) (map range_of rows)
+within-all records outputs k [] are = tt
+within-all records outputs k (row ∷ rows) are = (are.0.within, within-all records outputs (k + 1) rows are.1)
+
+pub within-rows : (records : ℕ) (outputs : List (List (List ℕ))) (k : ℕ) (rows : List Row) → AreOpening records outputs k rows → All (IsWithin records) (map range_of rows)
+within-rows records outputs k rows are = All-from_recursion (IsWithin records) (map range_of rows) (within-all records outputs k rows are)
+
+-- the records of a range, where they are there
+pub counted : (records : List (List ℕ)) (range : Range) → IsWithin (length records) range → length (records_in records range) ≡ range.hi - range.lo
+counted records range within =
+    let order = within.0 in
+    let below = within.1 in
+    let long = length-drop range.lo records in
+    length-take-le (range.hi - range.lo) (drop range.lo records) (omega (arith, order, below, long))

@@ -1,0 +1,222 @@
+-- The partitions of a step's run, each by itself.
+use Rattle.std.proofs.Common.{◌≡◌, ℕ, ◌+◌, ◌≤◌, ◌<◌, Bool, true, false, cond, List, [], ◌∷◌, length, map, take, Option, Some, None, refl, ap, ap₂, sym, ◌∙◌, subst, arith}
+use Rattle.std.specs.Prelude.{◌==◌, nat_eq, find, slice_index_or}
+use Rattle.std.proofs.lemmas.List.{length-take-le}
+use Rattle.std.specs.List.{enumerate_from, zip, AllByRecursion}
+use Rattle.std.specs.Str.Lossy.{utf8_lossy}
+use Rattle.std.proofs.lemmas.Bool.Decides.{nat_tests}
+use Rattle.jb_job.specs.Limits.{max_retry_limit}
+use Rattle.jb_job.specs.Records.{StepRecord}
+use Rattle.jb_rules.specs.Rows.{fresh_row}
+use Rattle.jb_rules.specs.States.{has_ended, is_finished}
+use Rattle.jb_rules.specs.declared.row.Row.{Row}
+use Rattle.jb_artifacts.specs.Meaning.{Workplace}
+use Rattle.jb_chunk.specs.Alone.{IsAlone, IsOnTheWay, IsRunOf}
+use Rattle.jb_chunk.specs.Attempt.{Ending, end_of, ending_by, trial_of}
+use Rattle.jb_chunk.specs.declared.end.End.{End}
+use Rattle.jb_chunk.specs.declared.end.End.TheVariants as end
+use Rattle.jb_chunk.specs.Standing.{HasItemCount, IsReady, TaskState, started}
+use Rattle.jb_repo.specs.declared.snapshot.Snapshot.{Snapshot}
+use Rattle.jb_step.specs.Ending.{tasks_left}
+use Rattle.jb_step.specs.Setup.{Setup, row_now, rows_now}
+use Rattle.jb_step.specs.Ways.{AreOnTheWay}
+use Rattle.jb_documents.specs.declared.run.step_data.StepData.{StepData}
+use Rattle.jb_texts.specs.Report.{PartitionReport}
+use Rattle.jb_program.specs.declared.run.settings.StepSettings.{StepSettings}
+use Rattle.jb_program.specs.JobRun.{settings_of}
+use Rattle.jb_program.specs.inside.Below.{LawsBelow}
+use Rattle.jb_program.specs.PartitionRun.{ArePartitionRuns, IsPartitionRun, begun_with, held_by, report_of, work_for}
+use Rattle.jb_program.specs.StepRun.{committed_of, outputs_in, partitions_left}
+use Rattle.jb_program.proofs.Opening.{AreOpening, IsOpening}
+use Rattle.jb_program.proofs.Partitions.{same-report}
+use Rattle.jb_program.proofs.Unfinished.{fits-row, open_from, open-above, open-more, open-none}
+
+-- ---- a partition's first task
+
+-- what is known of a step's settings
+pub record AreKept (settings : StepSettings) : Type 0 where
+  pub items : HasItemCount settings.item_count
+  pub retried : settings.rules.retry_limit ≤ max_retry_limit
+
+-- a partition is ready when it begins, or goes on
+first-ready : (settings : StepSettings) (records : List (List ℕ)) (outputs : List (List (List ℕ))) (p : ℕ) (row : Row) → AreKept settings → IsOpening (length records) outputs p row
+    → IsReady (begun_with settings records outputs p row)
+first-ready settings records outputs p row kept is =
+    let serves = fits-row settings records outputs p row is in
+    let long : length (take row.written (held_by outputs p)) ≡ row.written = length-take-le row.written (held_by outputs p) is.served in
+    record {
+      sound = is.sound;
+      item_counted = kept.items;
+      retried = kept.retried;
+      fits = record { from = serves.from; to = serves.to; count = omega (arith, long) };
+      place = refl;
+      count = long;
+    }
+
+-- wherever its own attempts lead it, that is what it leaves by itself
+pub leaves : LawsBelow → (settings : StepSettings) (records : List (List ℕ)) (outputs : List (List (List ℕ))) (p : ℕ) (row : Row) (left : TaskState) → AreKept settings → IsOpening (length records) outputs p row
+    → IsOnTheWay (begun_with settings records outputs p row) left → IsPartitionRun (begun_with settings records outputs p row) (report_of left)
+leaves below settings records outputs p row left kept is way =
+    let begun = begun_with settings records outputs p row in
+    let ready = first-ready settings records outputs p row kept is in
+    let alone : has_ended left.row.state ≡ true → IsAlone begun left = λ ended. below.ends begun left ready way ended in
+    record {
+      task = left;
+      is_left = refl;
+      on_the_way = way;
+      alone = alone;
+      plain = λ ended calm. same-report left begun (below.plain begun left ready is.begun calm (alone ended));
+    }
+
+-- ---- an attempt leaves the partition's number as it is
+
+partition-by : (t : TaskState) (e : End) → (ending_by t e).task.partition ≡ t.partition
+partition-by t end.Written = refl
+partition-by t end.Unwritten = refl
+partition-by t (end.Rolled class) = refl
+partition-by t (end.Failed class) = refl
+
+same-number : (t s : TaskState) (attempts : List Ending) → IsRunOf t attempts s → s.partition ≡ t.partition
+same-number t s [] run = ap (λ (u : TaskState). u.partition) run
+same-number t s (e ∷ es) run = same-number e.task s es run.2 ∙ ap (λ (f : Ending). f.task.partition) run.1 ∙ partition-by t (end_of (trial_of t))
+
+-- ---- all partitions
+
+-- a partition's report by what is left of all
+abbrev pub report_at : (outputs : List (List (List ℕ))) → List TaskState → List (ℕ × Workplace) → ℕ × Row → PartitionReport
+report_at outputs table left n = record {
+  row = row_now table n.0 n.1;
+  outputs = outputs_in (committed_of outputs (n.0, row_now table n.0 n.1)) (find (λ one. one.0 == n.0) left);
+}
+
+abbrev pub reports_from : (outputs : List (List (List ℕ))) → List TaskState → List (ℕ × Workplace) → ℕ → List Row → List PartitionReport
+reports_from outputs table left k rows = map (report_at outputs table left) (enumerate_from k rows)
+
+-- the first tasks, where these partitions are to be run
+abbrev tasks_of : StepRecord → StepData → (outputs : List (List (List ℕ))) → List (ℕ × Row) → List TaskState
+tasks_of step supply outputs ns = map (λ n. started n.0.0 n.0.1 step.rules step.item_count n.1) (zip ns (map (work_for (settings_of step supply) supply.records outputs) ns))
+
+-- a partition that is not among these has its first row, and no writer came back from it
+abbrev IsAbove : ℕ → List (ℕ × Workplace) → Type 0
+IsAbove k left = AllByRecursion (λ (a : ℕ × Workplace). k < a.0) left
+
+none-now : (b : Bool) (row other rest : Row) → b ≡ false → rest ≡ other → cond b row rest ≡ other
+none-now true row other rest e is = let never : ⊥ = cc in absurd never
+none-now false row other rest e is = is
+
+other-now : (s : Setup) (snapshot : Snapshot) (k : ℕ) (row : Row) (left : List (ℕ × Workplace)) → IsAbove k left → row_now (tasks_left s snapshot left) k row ≡ row
+other-now s snapshot k row [] above = refl
+other-now s snapshot k row (a ∷ left) above =
+    let here = above.0 in
+    let differs : nat_eq a.0 k ≡ false = grind (arith, nat_tests, here) in
+    none-now (nat_eq a.0 k) _ row (row_now (tasks_left s snapshot left) k row) differs (other-now s snapshot k row left above.1)
+
+none-found : (b : Bool) (a : ℕ × Workplace) (rest : Option (ℕ × Workplace)) → b ≡ false → rest ≡ None → cond b (Some a) rest ≡ None
+none-found true a rest e is = let never : ⊥ = cc in absurd never
+none-found false a rest e is = is
+
+other-found : (k : ℕ) (left : List (ℕ × Workplace)) → IsAbove k left → find (λ one. one.0 == k) left ≡ None
+other-found k [] above = refl
+other-found k (a ∷ left) above =
+    let here = above.0 in
+    let differs : (a.0 == k) ≡ false = grind (arith, nat_tests, here) in
+    none-found (a.0 == k) a (find (λ one. one.0 == k) left) differs (other-found k left above.1)
+
+-- what is left of a partition doesn't count for the ones behind it
+rest-from : (outputs : List (List (List ℕ))) (s : Setup) (snapshot : Snapshot) (a : ℕ × Workplace) (left : List (ℕ × Workplace)) (k : ℕ) (rows : List Row) → a.0 < k
+    → reports_from outputs (tasks_left s snapshot (a ∷ left)) (a ∷ left) k rows ≡ reports_from outputs (tasks_left s snapshot left) left k rows
+rest-from outputs s snapshot a left k [] before = refl
+rest-from outputs s snapshot a left k (row ∷ rows) before =
+    let now : nat_eq a.0 k ≡ false = grind (arith, nat_tests, before) in
+    let found : (a.0 == k) ≡ false = now in
+    let same : row_now (tasks_left s snapshot (a ∷ left)) k row ≡ row_now (tasks_left s snapshot left) k row =
+    ap (λ b. cond b (slice_index_or snapshot.rows.items a.0 (fresh_row (record { lo = 0; hi = 0 }))) (row_now (tasks_left s snapshot left) k row)) now in
+    let other : find (λ one. one.0 == k) (a ∷ left) ≡ find (λ one. one.0 == k) left = ap (λ b. cond b (Some a) (find (λ one. one.0 == k) left)) found in
+    ap₂ ◌∷◌
+    (λ i. record { row = same i; outputs = outputs_in (committed_of outputs (k, same i)) (other i) })
+    (rest-from outputs s snapshot a left (k + 1) rows (omega (arith, before)))
+
+-- all that came back is behind a partition, if all that began is
+left-above : (step : StepRecord) (supply : StepData) (outputs : List (List (List ℕ))) (s : Setup) (snapshot : Snapshot) (k : ℕ) (ns : List (ℕ × Row)) (left : List (ℕ × Workplace)) → AllByRecursion (λ (m : ℕ × Row). k < m.0) ns
+    → AreOnTheWay (tasks_of step supply outputs ns) (tasks_left s snapshot left) → IsAbove k left
+left-above step supply outputs s snapshot k [] [] above way = tt
+left-above step supply outputs s snapshot k [] (a ∷ left) above way = absurd way
+left-above step supply outputs s snapshot k (n ∷ ns) [] above way = tt
+left-above step supply outputs s snapshot k (n ∷ ns) (a ∷ left) above way =
+    let same : a.0 ≡ n.0 = same-number _ _ way.0.attempts way.0.run in
+    let here = above.0 in
+    (omega (arith, same, here), left-above step supply outputs s snapshot k ns left above.1 way.1)
+
+-- ---- the induction
+
+abbrev Runs : StepRecord → StepData → (outputs : List (List (List ℕ))) → Setup → Snapshot → ℕ → List Row → List (ℕ × Row) → Type 0
+Runs step supply outputs s snapshot k rows ns =
+    (left : List (ℕ × Workplace)) → AreOnTheWay (tasks_of step supply outputs ns) (tasks_left s snapshot left)
+    → ArePartitionRuns (begun_with (settings_of step supply) supply.records outputs) k rows (reports_from outputs (tasks_left s snapshot left) left k rows)
+
+-- one partition more, which was finished before
+none-more : LawsBelow → (step : StepRecord) (supply : StepData) (outputs : List (List (List ℕ))) (s : Setup) (snapshot : Snapshot) (k : ℕ) (row : Row) (rows : List Row) → AreKept (settings_of step supply)
+    → IsOpening (length supply.records) outputs k row → Runs step supply outputs s snapshot (k + 1) rows (open_from (k + 1) rows) → Runs step supply outputs s snapshot k (row ∷ rows) (open_from (k + 1) rows)
+none-more below step supply outputs s snapshot k row rows kept opens rest left way =
+    let settings = settings_of step supply in
+    let begun = begun_with settings supply.records outputs k row in
+    let above = left-above step supply outputs s snapshot k (open_from (k + 1) rows) left (open-above k (k + 1) rows (omega arith)) way in
+    let table = tasks_left s snapshot left in
+    let now : row ≡ row_now table k row = sym (other-now s snapshot k row left above) in
+    let found : None ≡ find (λ one. one.0 == k) left = sym (other-found k left above) in
+    let is : report_of begun ≡ report_at outputs table left (k, row) = λ i. record { row = now i; outputs = outputs_in (committed_of outputs (k, now i)) (found i) } in (
+      subst (λ (one : PartitionReport). IsPartitionRun begun one) is (leaves below settings supply.records outputs k row begun kept opens (record { attempts = []; run = refl })),
+      rest left way,
+    )
+
+-- one partition more, which was run
+one-more : LawsBelow → (step : StepRecord) (supply : StepData) (outputs : List (List (List ℕ))) (s : Setup) (snapshot : Snapshot) (k : ℕ) (row : Row) (rows : List Row) → AreKept (settings_of step supply)
+    → IsOpening (length supply.records) outputs k row → Runs step supply outputs s snapshot (k + 1) rows (open_from (k + 1) rows) → Runs step supply outputs s snapshot k (row ∷ rows) ((k, row) ∷ open_from (k + 1) rows)
+one-more below step supply outputs s snapshot k row rows kept opens rest [] way = absurd way
+one-more below step supply outputs s snapshot k row rows kept opens rest (a ∷ left) way =
+    let settings = settings_of step supply in
+    let begun = begun_with settings supply.records outputs k row in
+    let same : a.0 ≡ k = same-number _ _ way.0.attempts way.0.run in
+    let before : a.0 < k + 1 = omega (arith, same) in
+    let yes : nat_eq a.0 k ≡ true = grind (arith, nat_tests, same) in
+    let found : (a.0 == k) ≡ true = yes in
+    let table = tasks_left s snapshot (a ∷ left) in
+    let after = slice_index_or snapshot.rows.items a.0 (fresh_row (record { lo = 0; hi = 0 })) in
+    let is : record { row = after; outputs = map utf8_lossy a.1.writer.written } ≡ report_at outputs table (a ∷ left) (k, row) = λ i. record {
+      row = ap (λ b. cond b after (row_now (tasks_left s snapshot left) k row)) (sym yes) i;
+      outputs = ap (λ b. outputs_in (committed_of outputs (k, row_now table k row)) (cond b (Some a) (find (λ one. one.0 == k) left))) (sym found) i;
+    } in (
+      subst (λ (one : PartitionReport). IsPartitionRun begun one) is (leaves below settings supply.records outputs k row _ kept opens way.0),
+      subst (λ (others : List PartitionReport). ArePartitionRuns (begun_with settings supply.records outputs) (k + 1) rows others) (sym (rest-from outputs s snapshot a left (k + 1) rows before)) (rest left way.1),
+    )
+
+next : LawsBelow → (step : StepRecord) (supply : StepData) (outputs : List (List (List ℕ))) (s : Setup) (snapshot : Snapshot) (k : ℕ) (row : Row) (rows : List Row) (finished : Bool) → AreKept (settings_of step supply)
+    → IsOpening (length supply.records) outputs k row → is_finished row.state ≡ finished → Runs step supply outputs s snapshot (k + 1) rows (open_from (k + 1) rows) → Runs step supply outputs s snapshot k (row ∷ rows) (open_from k (row ∷ rows))
+next below step supply outputs s snapshot k row rows true kept opens is rest =
+    subst (λ ns. Runs step supply outputs s snapshot k (row ∷ rows) ns) (sym (open-none k row rows is)) (none-more below step supply outputs s snapshot k row rows kept opens rest)
+next below step supply outputs s snapshot k row rows false kept opens is rest =
+    subst (λ ns. Runs step supply outputs s snapshot k (row ∷ rows) ns) (sym (open-more k row rows is)) (one-more below step supply outputs s snapshot k row rows kept opens rest)
+
+runs-from : LawsBelow → (step : StepRecord) (supply : StepData) (outputs : List (List (List ℕ))) (s : Setup) (snapshot : Snapshot) (k : ℕ) (rows : List Row) → AreKept (settings_of step supply)
+    → AreOpening (length supply.records) outputs k rows → Runs step supply outputs s snapshot k rows (open_from k rows)
+runs-from below step supply outputs s snapshot k [] kept opens = λ left way. refl
+runs-from below step supply outputs s snapshot k (row ∷ rows) kept opens =
+    next below step supply outputs s snapshot k row rows (is_finished row.state) kept opens.0 refl (runs-from below step supply outputs s snapshot (k + 1) rows kept opens.1)
+
+-- ---- as the report has them
+
+left-from : (outputs : List (List (List ℕ))) (table : List TaskState) (left : List (ℕ × Workplace)) (k : ℕ) (rows : List Row)
+    → map (λ n. record { row = n.1; outputs = outputs_in (committed_of outputs n) (find (λ one. one.0 == n.0) left) }) (enumerate_from k (map (λ n. row_now table n.0 n.1) (enumerate_from k rows))) ≡ reports_from outputs table left k rows
+left-from outputs table left k [] = refl
+left-from outputs table left k (row ∷ rows) = ap (λ others. report_at outputs table left (k, row) ∷ others) (left-from outputs table left (k + 1) rows)
+
+-- each partition left what it leaves by itself
+pub partition-runs : LawsBelow → (step : StepRecord) (supply : StepData) (outputs : List (List (List ℕ))) (s : Setup) (snapshot : Snapshot) (left : List (ℕ × Workplace)) → AreKept (settings_of step supply)
+    → AreOpening (length supply.records) outputs 0 s.rows → AreOnTheWay (tasks_of step supply outputs (open_from 0 s.rows)) (tasks_left s snapshot left)
+    → snapshot.rows.items ≡ rows_now s.rows (tasks_left s snapshot left)
+    → ArePartitionRuns (begun_with (settings_of step supply) supply.records outputs) 0 s.rows (partitions_left outputs snapshot.rows.items left)
+partition-runs below step supply outputs s snapshot left kept opens way rows =
+    let table = tasks_left s snapshot left in
+    subst (λ (reports : List PartitionReport). ArePartitionRuns (begun_with (settings_of step supply) supply.records outputs) 0 s.rows reports)
+    (sym (ap (λ all. partitions_left outputs all left) rows ∙ left-from outputs table left 0 s.rows))
+    (runs-from below step supply outputs s snapshot 0 s.rows kept opens left way)

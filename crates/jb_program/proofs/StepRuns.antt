@@ -1,0 +1,140 @@
+-- A step's report tells of a run of the step.
+use Rattle.std.proofs.Common.{◌≡◌, ℕ, suc, ◌+◌, ◌≤◌, ◌⊎◌, inl, inr, List, [], ◌∷◌, ◌++◌, length, map, Option, Result, Ok, Err, false, refl, ap, sym, ◌∙◌, subst, arith}
+use Rattle.std.specs.Prelude.{All, IfErr, IfSome, IsErrAnd}
+use Rattle.std.specs.List.{enumerate_from}
+use Rattle.jb_job.specs.Limits.{max_partitions}
+use Rattle.jb_job.specs.Records.{StepRecord}
+use Rattle.jb_plan.specs.Plans.{IsRunnable, IsWithin}
+use Rattle.jb_rules.specs.Rows.{range_of}
+use Rattle.jb_rules.specs.declared.row.Row.{Row}
+use Rattle.jb_artifacts.specs.Meaning.{Workplace}
+use Rattle.jb_chunk.specs.Standing.{TaskState}
+use Rattle.jb_collect.specs.declared.calls.AnalyzerCall.{AnalyzerCall}
+use Rattle.jb_collect.specs.declared.calls.ReducerCall.{ReducerCall}
+use Rattle.jb_collect.specs.declared.calls.ReducerCall.TheVariants.{Begin}
+use Rattle.jb_collect.specs.declared.calls.Status.{Status}
+use Rattle.jb_collect.specs.Reduced.{calls_after}
+use Rattle.jb_collect.specs.Taken.{calls_of, well}
+use Rattle.jb_repo.specs.declared.snapshot.Snapshot.{Snapshot}
+use Rattle.jb_saved.specs.SavedRows.{SavedRows}
+use Rattle.jb_step.specs.declared.notes.PlanNote.{PlanNote}
+use Rattle.jb_step.specs.Ending.{IsRunOfStep, tasks_left}
+use Rattle.jb_step.specs.Prepare.{DoFit}
+use Rattle.jb_step.specs.Setup.{IsSetup, Setup, first_tasks, row_now, rows_now, saved_faults}
+use Rattle.jb_step.specs.Statuses.{status_of, went_well}
+use Rattle.jb_step.specs.Ways.{AreOnTheWay}
+use Rattle.jb_documents.specs.declared.restart.resume.Resume.{Resume}
+use Rattle.jb_documents.specs.declared.run.step_data.StepData.{StepData}
+use Rattle.jb_program.specs.declared.run.settings.StepSettings.{StepSettings}
+use Rattle.jb_program.specs.declared.streams.failure.Failure.{Failure}
+use Rattle.jb_program.specs.declared.streams.failure.Failure.TheVariants as failure
+use Rattle.jb_program.specs.inside.Below.{LawsBelow}
+use Rattle.jb_program.specs.JobRun.{IsStepRefused, IsStepRun, plan_for, plan_of_step, settings_of, setup_of, works_of}
+use Rattle.jb_program.specs.Refusals.{IsBroken}
+use Rattle.jb_program.specs.StepRun.{AreHeld, IsNotBegun, outputs_of, partitions_left, saved_of, setup_with, works_for}
+use Rattle.jb_program.proofs.Callbacks.{well-calls}
+use Rattle.jb_program.proofs.Opening.{AreOpening, IsPreparedWith, opening, within-rows}
+use Rattle.jb_program.proofs.PartitionRuns.{AreKept, partition-runs}
+use Rattle.jb_program.proofs.Unfinished.{works-fit}
+
+-- ---- what a step begins with
+
+pub prepared-with : (step : StepRecord) (count : ℕ) (resume : Option Resume) (saved : Option SavedRows) (prepared : Setup) → saved ≡ saved_of resume → IsRunnable count (plan_for step.spec count)
+    → saved_faults step count step.spec.replace saved ≡ [] → prepared ≡ setup_with step (plan_for step.spec count) saved → IsSetup prepared → IfSome resume AreHeld → IsPreparedWith step count (plan_for step.spec count) resume prepared
+prepared-with step count resume saved prepared same runnable accepted is setup held = record {
+  runnable = runnable;
+  accepted = sym (ap (saved_faults step count step.spec.replace) same) ∙ accepted;
+  is = is ∙ ap (setup_with step (plan_for step.spec count)) same;
+  setup = setup;
+  held = held;
+}
+
+-- this is what the step was prepared with, and these are its records and what its writers held
+pub record AreGiven (step : StepRecord) (resume : Option Resume) (count : ℕ) (prepared : Setup) (records : List (List ℕ)) (outputs : List (List (List ℕ))) : Type 0 where
+  pub counted : count ≡ length records
+  pub prepares : IsPreparedWith step count (plan_for step.spec count) resume prepared
+  pub outputs_are : outputs ≡ outputs_of resume
+
+opens : (step : StepRecord) (resume : Option Resume) (count : ℕ) (prepared : Setup) (records : List (List ℕ)) (outputs : List (List (List ℕ))) → AreGiven step resume count prepared records outputs
+    → AreOpening (length records) outputs 0 prepared.rows
+opens step resume count prepared records outputs given =
+    subst (λ n. AreOpening n outputs 0 prepared.rows) given.counted
+    (subst (λ (os : List (List (List ℕ))). AreOpening count os 0 prepared.rows) (sym given.outputs_are) (opening step count (plan_for step.spec count) resume prepared given.prepares))
+
+-- the records of the prepared rows are there
+pub within-prepared : (step : StepRecord) (resume : Option Resume) (count : ℕ) (prepared : Setup) (records : List (List ℕ)) (outputs : List (List (List ℕ))) → AreGiven step resume count prepared records outputs
+    → All (IsWithin (length records)) (map range_of prepared.rows)
+within-prepared step resume count prepared records outputs given = within-rows (length records) outputs 0 prepared.rows (opens step resume count prepared records outputs given)
+
+-- the artifacts serve the rows
+pub works-serve : (step : StepRecord) (resume : Option Resume) (count : ℕ) (prepared : Setup) (records : List (List ℕ)) (outputs : List (List (List ℕ))) (settings : StepSettings) (works : List Workplace)
+    → AreGiven step resume count prepared records outputs → works ≡ works_for settings records outputs prepared.rows → DoFit prepared works
+works-serve step resume count prepared records outputs settings works given are =
+    subst (λ ws. DoFit prepared ws) (sym are) (works-fit settings records outputs 0 prepared.rows (opens step resume count prepared records outputs given))
+
+-- ---- its rows
+
+long-from : (table : List TaskState) (k : ℕ) (rows : List Row) → length (map (λ (n : ℕ × Row). row_now table n.0 n.1) (enumerate_from k rows)) ≡ length rows
+long-from table k [] = refl
+long-from table k (row ∷ rows) = ap suc (long-from table (k + 1) rows)
+
+-- there are as many as there were
+pub few-rows : (prepared : Setup) (table : List TaskState) (rows : List Row) → IsSetup prepared → rows ≡ rows_now prepared.rows table → length rows ≤ max_partitions
+few-rows prepared table rows setup are =
+    let one = ap length are in
+    let two = long-from table 0 prepared.rows in
+    let few = setup.openable.few_rows in
+    omega (arith, one, two, few)
+
+-- ---- its report
+
+-- the report that is written has the partitions, plans, calls and status of a run
+pub step-run : LawsBelow → (step : StepRecord) (supply : StepData) (round_limit : Option ℕ) (resume : Option Resume) (count : ℕ) (prepared : Setup) (records : List (List ℕ)) (outputs : List (List (List ℕ))) (settings : StepSettings)
+    (works : List Workplace) (snapshot : Snapshot) (left : List (ℕ × Workplace)) (id : List ℕ) (status : Status) (plans : List PlanNote) (heard silent listened : List AnalyzerCall) (reducer begun recorded : List ReducerCall)
+    → AreGiven step resume count prepared records outputs → records ≡ supply.records → settings ≡ settings_of step supply → AreKept settings → works ≡ works_for settings records outputs prepared.rows
+    → silent ≡ [] → IsRunOfStep prepared works round_limit (map well silent) (map well listened) plans snapshot left → AreOnTheWay (first_tasks prepared works) (tasks_left prepared snapshot left)
+    → status ≡ status_of snapshot.rows.items false → begun ≡ Begin ∷ [] → recorded ≡ begun ++ calls_after (went_well snapshot.rows.items false) false
+    → id ≡ step.id → heard ≡ calls_of (map well listened) → reducer ≡ calls_of (map well recorded)
+    → IsStepRun step supply round_limit resume (record { id = id; status = status; partitions = partitions_left outputs snapshot.rows.items left; heard = heard; plans = plans; reducer = reducer })
+step-run below step supply round_limit resume count prepared records outputs settings works snapshot left id status plans heard silent listened reducer begun recorded given records-are settings-are kept are quiet run way stands begins calls id-is heard-is reducer-is =
+    let s = setup_of step supply resume in
+    let theirs = outputs_of resume in
+    let all : count ≡ length supply.records = given.counted ∙ ap length records-are in
+    let prepares : IsPreparedWith step (length supply.records) (plan_of_step step supply) resume prepared = subst (λ n. IsPreparedWith step n (plan_for step.spec n) resume prepared) all given.prepares in
+    let setup : prepared ≡ s = prepares.is in
+    let works-are : works ≡ works_of step supply resume = are ∙ (λ i. works_for (settings-are i) (records-are i) (given.outputs_are i) (setup i).rows) in
+    let ran : IsRunOfStep s (works_of step supply resume) round_limit [] (map well listened) plans snapshot left =
+    subst (λ (t : Setup). IsRunOfStep t (works_of step supply resume) round_limit [] (map well listened) plans snapshot left) setup (subst (λ ws. IsRunOfStep prepared ws round_limit [] (map well listened) plans snapshot left) works-are (subst (λ cs. IsRunOfStep prepared works round_limit (map well cs) (map well listened) plans snapshot left) quiet run)) in
+    let on : AreOnTheWay (first_tasks s (works_of step supply resume)) (tasks_left s snapshot left) =
+    subst (λ (t : Setup). AreOnTheWay (first_tasks t (works_of step supply resume)) (tasks_left t snapshot left)) setup (subst (λ ws. AreOnTheWay (first_tasks prepared ws) (tasks_left prepared snapshot left)) works-are way) in
+    let keeps : AreKept (settings_of step supply) = subst (λ (t : StepSettings). AreKept t) settings-are kept in
+    let stand : AreOpening (length supply.records) theirs 0 s.rows = subst (λ (t : Setup). AreOpening (length supply.records) theirs 0 t.rows) setup (opening step (length supply.records) (plan_of_step step supply) resume prepared prepares) in
+    let heard-all : heard ≡ listened = heard-is ∙ well-calls listened in
+    let whole : partitions_left theirs snapshot.rows.items left ≡ partitions_left outputs snapshot.rows.items left = ap (λ (os : List (List (List ℕ))). partitions_left os snapshot.rows.items left) (sym given.outputs_are) in
+    record {
+      runnable = prepares.runnable;
+      accepted = prepares.accepted;
+      id = id-is;
+      partitions = rw (← whole) (partition-runs below step supply theirs s snapshot left keeps stand on (ran.rows ∙ ap (rows_now s.rows) (sym ran.tasks)));
+      told = record {
+        snapshot = snapshot;
+        left = left;
+        run = subst (λ cs. IsRunOfStep s (works_of step supply resume) round_limit [] (map well cs) plans snapshot left) (sym heard-all) ran;
+        partitions = sym whole;
+        status = stands;
+        reducer = reducer-is ∙ well-calls recorded ∙ calls ∙ ap (λ cs. cs ++ calls_after (went_well snapshot.rows.items false) false) begins;
+      };
+    }
+
+-- ---- why there is none
+
+-- an error that is handed on as it is
+pub handed-on : (r : Result Status Failure) (e : Failure) (P : Failure → Type 0) → IsErrAnd r (λ one. one ≡ e) → P e → IfErr r P
+handed-on (Ok status) e P is holds = tt
+handed-on (Err one) e P is holds = subst P (sym is) holds
+
+pub refused : (step : StepRecord) (supply : StepData) (resume : Option Resume) (saved : Option SavedRows) (count : ℕ) (e : Failure) → count ≡ length supply.records → saved ≡ saved_of resume
+    → (e ≡ failure.Memory) ⊎ IsNotBegun step count (plan_for step.spec count) saved e → IsBroken e ⊎ IsStepRefused step supply resume e
+refused step supply resume saved count e counted same (inl memory) = inl (subst IsBroken (sym memory) tt)
+refused step supply resume saved count e counted same (inr first) =
+    inr (subst (λ n. IsNotBegun step n (plan_for step.spec n) (saved_of resume) e) counted (subst (λ (rows : Option SavedRows). IsNotBegun step count (plan_for step.spec count) rows e) same first))

@@ -1,0 +1,125 @@
+-- The unfinished partitions: their rows, and the records of their ranges.
+use Rattle.std.proofs.Common.{◌≡◌, ℕ, zero, suc, ◌+◌, ◌<◌, true, nat_lt, List, [], ◌∷◌, ◌++◌, drop, length, map, get_or, slice_get, Some, None, refl, ap, sym, subst, ◌∙◌, arith, append_assoc}
+use Rattle.std.specs.Prelude.{All, AllPairs, slice_index_or}
+use Rattle.std.specs.List.{AllByRecursion, enumerate_from}
+use Rattle.std.proofs.lemmas.List.{drop_more, get_or-drop, get_or-map, length-drop, length-map, map-append}
+use Rattle.std.proofs.lemmas.List.Elements.{All-filter, recursion_from_All}
+use Rattle.std.proofs.lemmas.List.Kept.{AllPairs-filter}
+use Rattle.std.proofs.lemmas.List.FromFn.{get_or-enumerate_from, length-enumerate_from}
+use Rattle.std.proofs.lemmas.Option.{get_or_from_slice_get, slice_get-get_or, slice_get_read, slice_get_within}
+use Rattle.std.proofs.lemmas.Bool.Decides.{nat_tests}
+use Rattle.jb_job.specs.declared.job.Range.{Range}
+use Rattle.jb_artifacts.specs.Meaning.{Workplace}
+use Rattle.jb_plan.specs.Plans.{IsWithin}
+use Rattle.jb_plan.specs.Ranges.{AreDisjoint, HaveNoneInCommon}
+use Rattle.jb_rules.specs.Rows.{range_of}
+use Rattle.jb_rules.specs.declared.row.Row.{Row}
+use Rattle.jb_step.specs.Setup.{needs, unfinished}
+use Rattle.jb_program.specs.declared.run.settings.StepSettings.{StepSettings}
+use Rattle.jb_program.specs.PartitionRun.{held_by, records_in, work_for, workplace_of}
+
+-- the row of an unfinished one is the step's, and its records are there
+pub record Stands (rows : List Row) (records : ℕ) (n : ℕ × Row) : Type 0 where
+  pub row : slice_get rows n.0 ≡ Some n.1
+  pub within : IsWithin records (range_of n.1)
+
+all-stand : (rows : List Row) (records : ℕ) → All (IsWithin records) (map range_of rows) → All (Stands rows records) (enumerate_from 0 rows)
+all-stand rows records within k d before =
+    let inside : k < length rows = omega (arith, length-enumerate_from 0 rows, before) in
+    let none : 0 + k ≡ k = omega arith in
+    let here : get_or (enumerate_from 0 rows) k d ≡ (k, get_or rows k d.1) = get_or-enumerate_from 0 rows k d inside ∙ ap (λ i. (i, get_or rows k d.1)) none in
+    let counted : k < length (map range_of rows) = rw (length-map rows range_of) inside in
+    let own : Stands rows records (k, get_or rows k d.1) = record {
+      row = slice_get-get_or rows k d.1 inside;
+      within = subst (IsWithin records) (get_or-map range_of rows k d.1 (range_of d.1) inside) (within k (range_of d.1) counted);
+    } in
+    subst (Stands rows records) (sym here) own
+
+pub unfinished-stand : (rows : List Row) (records : ℕ) → All (IsWithin records) (map range_of rows) → All (Stands rows records) (unfinished rows)
+unfinished-stand rows records within = All-filter _ (Stands rows records) (enumerate_from 0 rows) (all-stand rows records within)
+
+-- two partitions have no record in common
+abbrev pub AreApart : ℕ × Row → ℕ × Row → Type 0
+AreApart a b = HaveNoneInCommon (range_of a.1) (range_of b.1)
+
+all-apart : (rows : List Row) → AreDisjoint (map range_of rows) → AllPairs AreApart (enumerate_from 0 rows)
+all-apart rows disjoint i j d before within =
+    let second : j < length rows = omega (arith, length-enumerate_from 0 rows, within) in
+    let first : i < length rows = omega (arith, second, before) in
+    let counted : j < length (map range_of rows) = rw (length-map rows range_of) second in
+    let one : get_or (enumerate_from 0 rows) i d ≡ (0 + i, get_or rows i d.1) = get_or-enumerate_from 0 rows i d first in
+    let other : get_or (enumerate_from 0 rows) j d ≡ (0 + j, get_or rows j d.1) = get_or-enumerate_from 0 rows j d second in
+    let apart : HaveNoneInCommon (range_of (get_or rows i d.1)) (range_of (get_or rows j d.1)) =
+    subst (λ r. HaveNoneInCommon r (range_of (get_or rows j d.1))) (get_or-map range_of rows i d.1 (range_of d.1) first)
+    (subst (λ r. HaveNoneInCommon (get_or (map range_of rows) i (range_of d.1)) r) (get_or-map range_of rows j d.1 (range_of d.1) second) (disjoint i j (range_of d.1) before counted)) in
+    subst (λ n. AreApart n (get_or (enumerate_from 0 rows) j d)) (sym one) (subst (λ m. AreApart (0 + i, get_or rows i d.1) m) (sym other) apart)
+
+pub unfinished-apart : (rows : List Row) → AreDisjoint (map range_of rows) → AllPairs AreApart (unfinished rows)
+unfinished-apart rows disjoint = AllPairs-filter AreApart _ (enumerate_from 0 rows) (all-apart rows disjoint)
+
+-- ---- the unfinished partitions, one after another
+
+at-place : (ns : List (ℕ × Row)) (k p : ℕ) → slice_get (map (λ n. n.0) ns) k ≡ Some p → (row : Row) × (slice_get ns k ≡ Some (p, row))
+at-place [] k p h = absurd (cc h)
+at-place (n ∷ ns) zero p h = let same : n.0 ≡ p = cc in (n.1, ap (λ q. Some (q, n.1)) same)
+at-place (n ∷ ns) (suc k) p h = at-place ns k p h
+
+-- the one at this place: its row is the step's, and its records are there
+pub record IsNext (rows : List Row) (records k p : ℕ) (row : Row) : Type 0 where
+  pub place : slice_get (unfinished rows) k ≡ Some (p, row)
+  pub stands : Stands rows records (p, row)
+
+-- a partition read from the list of the unfinished
+pub listed-at : (ps qs : List ℕ) (k p : ℕ) → (true ≡ nat_lt k (length ps)) × (p ≡ slice_index_or ps k p) → ps ≡ qs → slice_get qs k ≡ Some p
+listed-at ps qs k p read same =
+    let below : k < length ps = grind (arith, nat_tests, read.0) in
+    subst (λ (list : List ℕ). slice_get list k ≡ Some p) same (slice_get_read ps (length ps) k p refl below read.1)
+
+next-one : (rows : List Row) (records k p : ℕ) → All (IsWithin records) (map range_of rows) → slice_get (needs rows) k ≡ Some p → (row : Row) × IsNext rows records k p row
+next-one rows records k p within h =
+    let at = at-place (unfinished rows) k p h in
+    let n : ℕ × Row = (p, at.0) in
+    let inside : k < length (unfinished rows) = slice_get_within (unfinished rows) k n at.1 in
+    let here : get_or (unfinished rows) k n ≡ n = get_or_from_slice_get (unfinished rows) k n n at.1 in
+    (at.0, record { place = at.1; stands = subst (Stands rows records) here (unfinished-stand rows records within k n inside) })
+
+pub no-row : (rows : List Row) (records k p : ℕ) → All (IsWithin records) (map range_of rows) → slice_get (needs rows) k ≡ Some p → slice_get rows p ≡ None → ⊥
+no-row rows records k p within h none = let known = (next-one rows records k p within h).1.stands.row in cc
+
+pub next-row : (rows : List Row) (records k p : ℕ) (row : Row) → All (IsWithin records) (map range_of rows) → slice_get (needs rows) k ≡ Some p → slice_get rows p ≡ Some row → IsNext rows records k p row
+next-row rows records k p row within h is =
+    let next = next-one rows records k p within h in
+    let known : slice_get rows p ≡ Some next.0 = next.1.stands.row in
+    let same : next.0 ≡ row = cc in
+    subst (IsNext rows records k p) same next.1
+
+-- the records of the later ones stay where those of this one leave
+kept-behind : (settings : StepSettings) (outputs : List (List (List ℕ))) (old now : List (List ℕ)) (range : Range) (ns : List (ℕ × Row))
+    → AllByRecursion (λ m. HaveNoneInCommon range (range_of m.1)) ns → ((other : Range) → HaveNoneInCommon range other → records_in now other ≡ records_in old other)
+    → map (work_for settings now outputs) ns ≡ map (work_for settings old outputs) ns
+kept-behind settings outputs old now range [] apart others = refl
+kept-behind settings outputs old now range (m ∷ ns) apart others =
+    let same = others (range_of m.1) apart.0 in
+    (λ i. workplace_of settings (same i) (held_by outputs m.0) (range_of m.1) ∷ kept-behind settings outputs old now range ns apart.1 others i)
+
+pub works-more : (settings : StepSettings) (outputs : List (List (List ℕ))) (rows : List Row) (old now : List (List ℕ)) (records k p : ℕ) (row : Row) → AreDisjoint (map range_of rows) → IsNext rows records k p row
+    → ((other : Range) → HaveNoneInCommon (range_of row) other → records_in now other ≡ records_in old other)
+    → map (work_for settings old outputs) (drop k (unfinished rows)) ≡ work_for settings old outputs (p, row) ∷ map (work_for settings now outputs) (drop (k + 1) (unfinished rows))
+works-more settings outputs rows old now records k p row disjoint next others =
+    let ns = unfinished rows in
+    let n : ℕ × Row = (p, row) in
+    let inside : k < length ns = slice_get_within ns k n next.place in
+    let here : get_or ns k n ≡ n = get_or_from_slice_get ns k n n next.place in
+    let apart : All (λ m. HaveNoneInCommon (range_of row) (range_of m.1)) (drop (k + 1) ns) = λ j d within.
+    let past : k + 1 + j < length ns = omega (arith, length-drop (k + 1) ns, within) in
+    let first : get_or ns k d ≡ n = get_or_from_slice_get ns k n d next.place in
+    subst (λ m. HaveNoneInCommon (range_of row) (range_of m.1)) (sym (get_or-drop (k + 1) ns j d))
+    (subst (λ m. AreApart m (get_or ns (k + 1 + j) d)) first (unfinished-apart rows disjoint k (k + 1 + j) d (omega arith) past)) in
+    ap (map (work_for settings old outputs)) (drop_more ns k n inside ∙ ap (λ m. m ∷ drop (k + 1) ns) here)
+    ∙ ap (λ ws. work_for settings old outputs n ∷ ws) (sym (kept-behind settings outputs old now (range_of row) (drop (k + 1) ns) (recursion_from_All _ (drop (k + 1) ns) apart) others))
+
+-- one partition's artifacts more, before those of the later ones
+pub works-added : {A : Type 0} (work : A → Workplace) (all pushed : List A) (own : A) (rest whole : List Workplace) → pushed ≡ all ++ own ∷ [] → whole ≡ work own ∷ rest
+    → map work pushed ++ rest ≡ map work all ++ whole
+works-added work all pushed own rest whole adds is =
+    ap (λ list. map work list ++ rest) adds ∙ ap (λ ws. ws ++ rest) (map-append work all (own ∷ [])) ∙ append_assoc (map work all) (work own ∷ []) rest ∙ ap (λ ws. map work all ++ ws) (sym is)

@@ -1,0 +1,30 @@
+use Rattle.std.proofs.Common.{rules, tests, ◌≡◌, ◌++◌, ◌==◌, find, List, OnOk, ℕ, map, Some, None, option_map, ap, sym, subst, ◌∙◌}
+use Rattle.std.proofs.lemmas.Iterator.{YieldsList-from_slice}
+use Rattle.std.proofs.lemmas.Iterator.Search.{find_from_yields_List}
+use Rattle.std.specs.Str.Lossy.{utf8_lossy}
+use Rattle.jb_texts.specs.Report.{texts_tree}
+use Rattle.jb_texts.specs.ReportTokens.{tokens_of}
+use Rattle.jb_program.specs.StepRun.{committed_of}
+use Rattle.jb_program.proofs.Told.{outputs-found, outputs-missing}
+use Rattle.jb_program.proofs.run.told.write_outputs_of.Goals as goal
+
+pub returns-in-Some : goal.returns-in-Some
+returns-in-Some c =
+    let p = c.args.partition in
+    let left = c.args.left.now in
+    let before = committed_of c.args.outputs.now (p, c.args.row.now) in
+    let found : option_map (λ one. one.now) c.find.result ≡ find (λ one. one.0 == p) left =
+    find_from_yields_List (λ one. one.0 == p) _ _ c.find.result c.find.ensures.ran (YieldsList-from_slice left (cc)) (λ x b q k. search (rules, tests)) in
+    let here : find (λ one. one.0 == p) left ≡ Some c.in-Some.field-0.now = sym found ∙ ap (option_map (λ one. one.now)) c.in-Some.is in
+    subst (λ (outs : List (List ℕ)). OnOk c.add_outputs.result (c.add_outputs.new.self ≡ c.args.text.now ++ tokens_of (texts_tree outs))) (outputs-found _ left p c.in-Some.field-0.now before here) c.add_outputs.ensures
+
+pub returns-in_ok-writer-in-None : goal.returns-in_ok-writer-in-None
+returns-in_ok-writer-in-None c =
+    let p = c.args.partition in
+    let left = c.args.left.now in
+    let before = committed_of c.args.outputs.now (p, c.args.row.now) in
+    let found : option_map (λ one. one.now) c.find.result ≡ find (λ one. one.0 == p) left =
+    find_from_yields_List (λ one. one.0 == p) _ _ c.find.result c.find.ensures.ran (YieldsList-from_slice left (cc)) (λ x b q k. search (rules, tests)) in
+    let missing : find (λ one. one.0 == p) left ≡ None = sym found ∙ ap (option_map (λ one. one.now)) c.in-None.is in
+    subst (λ (outs : List (List ℕ)). OnOk c.add_outputs-in-None.result (c.add_outputs-in-None.new.self ≡ c.args.text.now ++ tokens_of (texts_tree outs)))
+    (ap (map utf8_lossy) c.in_ok-writer-in-None.ensures ∙ outputs-missing _ left p before missing) c.add_outputs-in-None.ensures

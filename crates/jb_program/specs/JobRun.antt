@@ -1,0 +1,117 @@
+-- The run of a job, and its restart: its steps in order, up to the first that isn't completed (Jakarta Batch 2.1: the steps
+-- of a job run one after another; that such a one ends the job, and all else here, is this project's choice).
+use Rattle.std.specs.Prelude.{ℕ, ◌≡◌, ◌-◌, ◌+◌, ◌⊎◌, if◌then◌else◌, List, [], ◌∷◌, drop, length, slice_get, bytes_eq, Option, Some, None}
+use Rattle.jb_job.specs.Records.{SpecRecord, StepRecord}
+use Rattle.jb_job.specs.declared.job.Range.{Range}
+use Rattle.jb_plan.specs.declared.plan.PartitionPlan.{PartitionPlan}
+use Rattle.jb_plan.specs.Plans.{IsRunnable}
+use Rattle.jb_mapper.specs.EvenCover.{even_ranges}
+use Rattle.jb_documents.specs.declared.run.step_data.StepData.{StepData}
+use Rattle.jb_documents.specs.declared.run.document.Document.{Document}
+use Rattle.jb_documents.specs.declared.restart.document.RestartDocument.{RestartDocument}
+use Rattle.jb_documents.specs.declared.restart.resume.Resume.{Resume}
+use Rattle.jb_artifacts.specs.Meaning.{Workplace}
+use Rattle.jb_collect.specs.declared.calls.Status.{Status}
+use Rattle.jb_collect.specs.declared.calls.Status.TheVariants.{Completed}
+use Rattle.jb_step.specs.Setup.{Setup, saved_faults}
+use Rattle.jb_texts.specs.Report.{Report, StepReport}
+use Rattle.jb_program.specs.declared.run.settings.StepSettings.{StepSettings}
+use Rattle.jb_program.specs.declared.streams.failure.Failure.{Failure}
+use Rattle.jb_program.specs.PartitionRun.{ArePartitionRuns, begun_with}
+use Rattle.jb_program.specs.StepRun.{IsNotBegun, IsToldOf, outputs_of, saved_of, setup_with, works_for}
+
+-- ---- a step
+
+-- the ranges that a step's plan gives, or as many even ones as it asks for
+abbrev pub ranges_for : SpecRecord → Option (List Range) → (records : ℕ) → List Range
+ranges_for spec None records = even_ranges records spec.partitions
+ranges_for spec (Some ranges) records = ranges
+
+-- the partition plan of a step with so many records
+abbrev pub plan_for : SpecRecord → (records : ℕ) → PartitionPlan
+plan_for spec records = record { ranges = ranges_for spec spec.ranges records; threads = spec.threads; replace = spec.replace }
+
+-- the same for a step and what it works on
+abbrev pub plan_of_step : StepRecord → StepData → PartitionPlan
+plan_of_step step supply = plan_for step.spec (length supply.records)
+
+-- what its partitions have in common
+abbrev pub settings_of : StepRecord → StepData → StepSettings
+settings_of step supply = record { rules = step.rules; item_count = step.item_count; prefix = supply.prefix; drop = supply.drop; faults = supply.faults }
+
+-- what it begins with, anew or from what the run before left
+abbrev pub setup_of : StepRecord → StepData → Option Resume → Setup
+setup_of step supply resume = setup_with step (plan_of_step step supply) (saved_of resume)
+
+-- what the partitions work with that aren't finished
+abbrev pub works_of : StepRecord → StepData → Option Resume → List Workplace
+works_of step supply resume = works_for (settings_of step supply) supply.records (outputs_of resume) (setup_of step supply resume).rows
+
+-- The step's plan can be run, nothing is wrong with the rows that it goes on from, and its report tells of a run of it: each
+-- partition left what it leaves by itself, and the plans, what was heard, the reducer's calls and the status are the run's.
+pub record IsStepRun (step : StepRecord) (supply : StepData) (round_limit : Option ℕ) (resume : Option Resume) (report : StepReport) : Type 0 where
+  pub runnable : IsRunnable (length supply.records) (plan_of_step step supply)
+  pub accepted : saved_faults step (length supply.records) step.spec.replace (saved_of resume) ≡ []
+  pub id : report.id ≡ step.id
+  pub partitions : ArePartitionRuns (begun_with (settings_of step supply) supply.records (outputs_of resume)) 0 (setup_of step supply resume).rows report.partitions
+  pub told : IsToldOf (setup_of step supply resume) (works_of step supply resume) (outputs_of resume) round_limit report
+
+-- The step is refused: its plan, or else what it would go on from, for the first fault.
+abbrev pub IsStepRefused : StepRecord → StepData → Option Resume → Failure → Type 0
+IsStepRefused step supply resume e = IsNotBegun step (length supply.records) (plan_of_step step supply) (saved_of resume) e
+
+-- ---- the steps
+
+-- These are the reports of the steps: each step runs that follows on completed ones alone. The first may go on from what the
+-- run before left, the others begin anew; the limit is that of each step by itself.
+abbrev pub AreStepRuns : List StepRecord → List StepData → (round_limit : Option ℕ) → Option Resume → List StepReport → Type 0
+AreStepRuns [] supplies round_limit resume reports = reports ≡ []
+AreStepRuns (step ∷ steps) [] round_limit resume reports = reports ≡ []
+AreStepRuns (step ∷ steps) (supply ∷ supplies) round_limit resume [] = ⊥
+AreStepRuns (step ∷ steps) (supply ∷ supplies) round_limit resume (report ∷ reports) =
+    IsStepRun step supply round_limit resume report
+    × (report.status ≡ Completed → AreStepRuns steps supplies round_limit None reports)
+    × ((report.status ≡ Completed → ⊥) → reports ≡ [])
+
+-- A step that follows on completed ones is refused so.
+abbrev pub IsRefusedAtStep : List StepRecord → List StepData → (round_limit : Option ℕ) → Option Resume → Failure → Type 0
+IsRefusedAtStep [] supplies round_limit resume e = ⊥
+IsRefusedAtStep (step ∷ steps) [] round_limit resume e = ⊥
+IsRefusedAtStep (step ∷ steps) (supply ∷ supplies) round_limit resume e =
+    IsStepRefused step supply resume e
+    ⊎ ((report : StepReport) × IsStepRun step supply round_limit resume report × (report.status ≡ Completed) × IsRefusedAtStep steps supplies round_limit None e)
+
+-- ---- the job
+
+abbrev pub status_in : Option StepReport → Status
+status_in None = Completed
+status_in (Some report) = report.status
+
+-- The job's status is that of its last step that ran.
+pub record IsJobRun (document : Document) (round_limit : Option ℕ) (report : Report) : Type 0 where
+  pub job : report.job ≡ document.job.id
+  pub steps : AreStepRuns document.job.steps document.steps round_limit None report.steps
+  pub ended : report.status ≡ status_in (slice_get report.steps (length report.steps - 1))
+
+-- ---- its restart
+
+-- how many steps stand before the one of this id
+abbrev pub earlier : (id : List ℕ) → List StepRecord → ℕ
+earlier id [] = 0
+earlier id (step ∷ steps) = if bytes_eq step.id id then 0 else earlier id steps + 1
+
+-- how many steps of the document were done before
+abbrev pub done_before : RestartDocument → ℕ
+done_before document = earlier document.resume.saved.step document.job.steps
+
+-- The steps before the one that the saved rows name aren't run and aren't in the report; that one goes on from what the run
+-- before left, and the later ones run as ever.
+pub record IsRestartRun (document : RestartDocument) (round_limit : Option ℕ) (report : Report) : Type 0 where
+  pub job : report.job ≡ document.job.id
+  pub steps : AreStepRuns (drop (done_before document) document.job.steps) (drop (done_before document) document.steps) round_limit (Some document.resume) report.steps
+  pub ended : report.status ≡ status_in (slice_get report.steps (length report.steps - 1))
+
+-- A step that comes to its turn is refused so.
+abbrev pub IsRestartRefused : RestartDocument → (round_limit : Option ℕ) → Failure → Type 0
+IsRestartRefused document round_limit e =
+    IsRefusedAtStep (drop (done_before document) document.job.steps) (drop (done_before document) document.steps) round_limit (Some document.resume) e

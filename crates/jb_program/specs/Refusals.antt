@@ -1,0 +1,43 @@
+-- How the words fail.
+use Rattle.std.specs.Prelude.{◌≡◌}
+use Rattle.jb_job.specs.declared.error.JobError.{JobError}
+use Rattle.jb_job.specs.declared.error.JobError.TheVariants as fault
+use Rattle.jb_saved.specs.declared.error.StepError.{StepError}
+use Rattle.jb_saved.specs.declared.error.StepError.TheVariants as error
+use Rattle.jb_program.specs.declared.streams.failure.Failure.{Failure}
+use Rattle.jb_program.specs.declared.streams.failure.Failure.TheVariants as failure
+
+-- want of memory is no fault of a document
+abbrev pub IsFault : JobError → Type 0
+IsFault fault.Memory = ⊥
+IsFault _ = Unit
+
+-- a run that breaks off: there is no memory, a worker can't be started, or the repository isn't the step's own
+abbrev pub IsBroken : Failure → Type 0
+IsBroken failure.Memory = Unit
+IsBroken failure.Workers = Unit
+IsBroken (failure.Repository _) = Unit
+IsBroken _ = ⊥
+
+-- the failure that a run tells of its step's error; the program's own artifacts and callbacks have no other
+abbrev pub IsFailureOf : StepError → Failure → Type 0
+IsFailureOf (error.Repository partition) e = e ≡ failure.Repository partition
+IsFailureOf error.Workers e = e ≡ failure.Workers
+IsFailureOf error.Memory e = e ≡ failure.Memory
+IsFailureOf _ e = ⊥
+
+-- plan and check: a fault of the document, want of memory, or a failing stream
+abbrev pub IsFailure : Failure → Type 0
+IsFailure (failure.Document fault) = IsFault fault
+IsFailure failure.Memory = Unit
+IsFailure failure.Stream = Unit
+IsFailure _ = ⊥
+
+-- run and restart: also a fault of a step's partition plan or of the saved rows, a worker that can't be started, or a
+-- repository that isn't the step's own
+abbrev pub IsRunFailure : Failure → Type 0
+IsRunFailure (failure.Plan _) = Unit
+IsRunFailure (failure.Saved _) = Unit
+IsRunFailure failure.Workers = Unit
+IsRunFailure (failure.Repository _) = Unit
+IsRunFailure e = IsFailure e

@@ -1,0 +1,90 @@
+-- The run of a step: what it begins with, or goes on from, and what its report tells of it.
+use Rattle.std.specs.Prelude.{ℕ, ◌≡◌, ◌==◌, false, List, [], map, take, find, slice_get, Option, Some, None, Ok, is_none}
+use Rattle.std.specs.List.{enumerate_from}
+use Rattle.std.specs.Str.Lossy.{utf8_lossy}
+use Rattle.jb_job.specs.Records.{StepRecord}
+use Rattle.jb_job.specs.declared.field.Field.TheVariants as field
+use Rattle.jb_plan.specs.Plans.{IsRunnable, threads_of}
+use Rattle.jb_plan.specs.Faults.{IsFirst, plan_errors}
+use Rattle.jb_plan.specs.declared.plan.PartitionPlan.{PartitionPlan}
+use Rattle.jb_rules.specs.declared.row.Row.{Row}
+use Rattle.jb_artifacts.specs.Meaning.{Workplace}
+use Rattle.jb_repo.specs.declared.snapshot.Snapshot.{Snapshot}
+use Rattle.jb_collect.specs.Reduced.{reducer_calls}
+use Rattle.jb_collect.specs.Taken.{well}
+use Rattle.jb_saved.specs.SavedRows.{SavedRows}
+use Rattle.jb_step.specs.Ending.{IsRunOfStep}
+use Rattle.jb_step.specs.Setup.{Setup, opening_rows, saved_faults, unfinished}
+use Rattle.jb_step.specs.Statuses.{status_of, went_well}
+use Rattle.jb_documents.specs.ResumeFields.{held_at}
+use Rattle.jb_documents.specs.declared.restart.resume.Resume.{Resume}
+use Rattle.jb_texts.specs.Report.{PartitionReport, StepReport}
+use Rattle.jb_program.specs.declared.run.settings.StepSettings.{StepSettings}
+use Rattle.jb_program.specs.declared.streams.failure.Failure.{Failure}
+use Rattle.jb_program.specs.declared.streams.failure.Failure.TheVariants as failure
+use Rattle.jb_program.specs.PartitionRun.{held_by, work_for}
+
+-- ---- what it goes on from
+
+-- the rows that the run before left, if there was one
+abbrev pub saved_of : Option Resume → Option SavedRows
+saved_of None = None
+saved_of (Some resume) = Some resume.saved
+
+-- what its writers held
+abbrev pub outputs_of : Option Resume → List (List (List ℕ))
+outputs_of None = []
+outputs_of (Some resume) = resume.outputs
+
+-- there are as many writers as rows, and each holds what its row committed
+abbrev pub AreHeld : Resume → Type 0
+AreHeld resume = held_at field.Outputs resume.outputs resume.saved.rows ≡ Ok resume.outputs
+
+-- ---- what it begins with
+
+-- the rows of all partitions, new ones or those of the run before, on the plan's threads
+abbrev pub setup_with : StepRecord → PartitionPlan → Option SavedRows → Setup
+setup_with step plan saved = record {
+  rows = opening_rows plan.ranges saved;
+  rules = step.rules;
+  item_count = step.item_count;
+  threads = threads_of plan;
+  begun_anew = is_none saved;
+}
+
+-- The step isn't begun: its plan has a first fault, or it can be run and the saved rows have one.
+abbrev pub IsNotBegun : StepRecord → (records : ℕ) → PartitionPlan → Option SavedRows → Failure → Type 0
+IsNotBegun step records plan saved (failure.Plan fault) = IsFirst fault (plan_errors records plan)
+IsNotBegun step records plan saved (failure.Saved place) =
+    IsRunnable records plan × (slice_get (saved_faults step records plan.replace saved) 0 ≡ Some place)
+IsNotBegun step records plan saved _ = ⊥
+
+-- what the partitions work with that aren't finished
+abbrev pub works_for : StepSettings → (records : List (List ℕ)) → (outputs : List (List (List ℕ))) → List Row → List Workplace
+works_for settings records outputs rows = map (work_for settings records outputs) (unfinished rows)
+
+-- ---- what its report tells
+
+-- the results in a writer as texts, or those that were committed before where the partition needed none
+abbrev pub outputs_in : (before : List (List ℕ)) → Option (ℕ × Workplace) → List (List ℕ)
+outputs_in before None = map utf8_lossy before
+outputs_in before (Some left) = map utf8_lossy left.1.writer.written
+
+-- the results that a partition committed, of those that its writer held
+abbrev pub committed_of : (outputs : List (List (List ℕ))) → ℕ × Row → List (List ℕ)
+committed_of outputs n = take n.1.written (held_by outputs n.0)
+
+-- each partition with its row, and what is in the writer that came back from it; from a finished one none did
+abbrev pub partitions_left : (outputs : List (List (List ℕ))) → List Row → (left : List (ℕ × Workplace)) → List PartitionReport
+partitions_left outputs rows left =
+    map (λ n. record { row = n.1; outputs = outputs_in (committed_of outputs n) (find (λ one. one.0 == n.0) left) }) (enumerate_from 0 rows)
+
+-- Some run of the step in no more rounds than the limit: the report has its partitions, its plans and its status, all that
+-- its analyzer heard, and all calls of its reducer. Each call of the two was answered well.
+pub record IsToldOf (s : Setup) (works : List Workplace) (outputs : List (List (List ℕ))) (round_limit : Option ℕ) (report : StepReport) : Type 0 where
+  pub snapshot : Snapshot
+  pub left : List (ℕ × Workplace)
+  pub run : IsRunOfStep s works round_limit [] (map well report.heard) report.plans snapshot left
+  pub partitions : report.partitions ≡ partitions_left outputs snapshot.rows.items left
+  pub status : report.status ≡ status_of snapshot.rows.items false
+  pub reducer : report.reducer ≡ reducer_calls false false (went_well snapshot.rows.items false) false

@@ -1,0 +1,98 @@
+//! The program over any arguments, any reader and any two writers.
+
+ghost use Rattle.std.specs.Prelude.{◌≡◌, ◌<◌, ◌≤◌, map, Some, IfErr, IfOk, OnOk};
+ghost use Rattle.std.specs.Io.KnownBytes.{Keeps};
+ghost use Rattle.jb_program.specs.declared.words.request.Request.{Request};
+ghost use Rattle.jb_program.specs.Answer.{IsAnswer};
+ghost use Rattle.jb_program.specs.Failures.{HasFailed, IsAsked, IsTold};
+ghost use Rattle.jb_program.specs.ProcessWords.{process_words};
+
+use crate::streams::{Failure, write_failure};
+use crate::words::{
+    Request, Word, arguments, line_of, restart, run, run_check, run_plan, words_after_name,
+    write_help, write_version,
+};
+use std::alloc::Global;
+use std::env::Args;
+use std::io;
+use std::io::{Read, Write};
+use std::sync::Wait;
+use std::thread::Threads;
+
+/// Does what the words ask.
+fn answer_words<'a, T: Threads + Wait + Sync, R: Read, W: Write>(
+    rt: &T,
+    alloc: Global,
+    words: &'a [&'a str],
+    reader: &mut R,
+    writer: &mut W,
+) -> Result<u8, Failure>
+    ensures answered { IfOk result (λ status. (request : Request) × IsAsked (Some (map (λ w. w.now) words.now)) request × IsAnswer request (R.remaining reader.old) (W.contents writer.old) (W.contents writer.new) status) }
+    ensures status { IfOk result (λ status. status < 3) }
+    ensures failed { IfErr result (HasFailed (Some (map (λ w. w.now) words.now)) (R.remaining reader.old) (W.contents writer.old) (W.contents writer.new)) }
+{
+    let request = line_of(alloc, words)?;
+    match request {
+        Request::Help(topic) => write_help(topic, writer),
+        Request::Version => write_version(writer),
+        Request::Work(line) => match line.word {
+            Word::Run => run(rt, alloc, line.rounds, reader, writer),
+            Word::Restart => restart(rt, alloc, line.rounds, reader, writer),
+            Word::Plan => run_plan(alloc, reader, writer),
+            Word::Check => run_check(alloc, reader, writer),
+        },
+    }
+}
+
+/// Does what the process's arguments ask.
+fn answer<T: Threads + Wait + Sync, R: Read, W: Write>(
+    rt: &T,
+    alloc: Global,
+    args: io::Result<Args>,
+    reader: &mut R,
+    writer: &mut W,
+) -> Result<u8, Failure>
+    ensures answered { IfOk result (λ status. (request : Request) × IsAsked (process_words args) request × IsAnswer request (R.remaining reader.old) (W.contents writer.old) (W.contents writer.new) status) }
+    ensures status { IfOk result (λ status. status < 3) }
+    ensures failed { IfErr result (HasFailed (process_words args) (R.remaining reader.old) (W.contents writer.old) (W.contents writer.new)) }
+{
+    let args = arguments(alloc, args)?;
+    let words = words_after_name(alloc, &args)?;
+    answer_words(rt, alloc, &words, reader, writer)
+}
+
+/// The exit status of an answer, or of a failure, which is written to the fault writer.
+fn status_of<F: Write>(answer: Result<u8, Failure>, fault_writer: &mut F) -> u8
+    ensures answered { IfOk answer (λ status. result ≡ status) }
+    ensures quiet { OnOk answer (Keeps (F.contents fault_writer.old) (F.contents fault_writer.new)) }
+    ensures failed { IfErr answer (λ failure. IsTold failure (F.contents fault_writer.old) (F.contents fault_writer.new) result) }
+{
+    match answer {
+        Ok(status) => status,
+        Err(failure) => match write_failure(&failure, fault_writer) {
+            Ok(()) => failure.status(),
+            Err(_) => Failure::Stream.status(),
+        },
+    }
+}
+
+/// Does what the process's arguments ask, and gives the exit status: 0, 1 and 2 for an answer, which the writer then holds; 3
+/// where the document, a step's partition plan or its saved rows are refused, by its first fault; 4 where there is no memory or
+/// no worker, the repository isn't the step's own, or a stream fails; 5 where the words ask for nothing. What is wrong is written
+/// to the fault writer.
+pub fn perform<T: Threads + Wait + Sync, R: Read, W: Write, F: Write>(
+    rt: &T,
+    alloc: Global,
+    args: io::Result<Args>,
+    reader: &mut R,
+    writer: &mut W,
+    fault_writer: &mut F,
+) -> u8
+    ensures answered { result < 3 → (request : Request) × IsAsked (process_words args) request × IsAnswer request (R.remaining reader.old) (W.contents writer.old) (W.contents writer.new) result }
+    ensures status { result ≤ 5 }
+    ensures quiet { result < 3 → Keeps (F.contents fault_writer.old) (F.contents fault_writer.new) }
+    ensures failed { 3 ≤ result → (failure : Failure) × HasFailed (process_words args) (R.remaining reader.old) (W.contents writer.old) (W.contents writer.new) failure × IsTold failure (F.contents fault_writer.old) (F.contents fault_writer.new) result }
+{
+    let answer = answer(rt, alloc, args, reader, writer);
+    status_of(answer, fault_writer)
+}

@@ -1,0 +1,64 @@
+//! What the writers of a step held when it stopped.
+
+ghost use Rattle.std.specs.Prelude.{◌≡◌, ◌++◌, ◌≤◌, [], drop, length, take, IfOk, OnOk};
+ghost use Rattle.jb_program.specs.PartitionRun.{held_by};
+ghost use Rattle.jb_program.specs.StepRun.{outputs_of, saved_of};
+
+use jb_artifacts::{FaultPlans, Item, ItemWriter, ListWriter};
+use jb_documents::{Outputs, Resume, WriterTexts};
+use jb_job::Text;
+use jb_saved::Saved;
+use std::alloc::{AllocError, Global};
+
+/// The rows and the outputs of the run before, if there was one.
+pub fn taken(alloc: Global, resume: Option<Resume>) -> (Option<Saved>, Outputs)
+    ensures saved { result.0 ≡ saved_of resume }
+    ensures outputs { result.1 ≡ outputs_of resume }
+{
+    match resume {
+        None => (None, Outputs::new(Vec::new(alloc))),
+        Some(resume) => {
+            let Resume { outputs, saved } = resume;
+            (Some(saved), outputs)
+        }
+    }
+}
+
+/// Copies of the texts.
+fn items_of(alloc: Global, texts: &[Text]) -> Result<Vec<Item>, AllocError>
+    ensures { IfOk result (λ items. items.items ≡ texts.now) }
+{
+    let mut items = Vec::with_capacity(alloc, texts.len())?;
+    for text in texts {
+        items.push(Item::copy_of(alloc, text.as_str().as_bytes())?)?;
+    }
+    Ok(items)
+}
+
+/// Copies of the texts that this partition's writer held.
+pub fn held_items(
+    alloc: Global,
+    outputs: &[WriterTexts],
+    partition: u32,
+) -> Result<Vec<Item>, AllocError>
+    ensures { IfOk result (λ items. items.items ≡ held_by outputs.now partition) }
+{
+    match outputs.get(partition as usize) {
+        None => Ok(Vec::new(alloc)),
+        Some(texts) => items_of(alloc, texts.as_slice()),
+    }
+}
+
+/// A writer that holds what this partition committed: the first texts that it held, of this number.
+pub fn committed_by(
+    alloc: Global,
+    outputs: &[WriterTexts],
+    partition: u32,
+    written: u64,
+) -> Result<ListWriter, AllocError>
+    ensures { IfOk result (λ w. (⟦<ListWriter as ItemWriter>⟧.writer w).written ≡ take written (held_by outputs.now partition)) }
+{
+    let mut items = held_items(alloc, outputs, partition)?;
+    items.truncate(written as usize);
+    Ok(ListWriter::new(alloc, items, FaultPlans::new(alloc)))
+}

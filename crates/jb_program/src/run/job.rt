@@ -1,0 +1,130 @@
+//! The steps of a job, one after another.
+
+ghost use Rattle.std.specs.Prelude.{◌≡◌, ◌-◌, ◌⊎◌, ◌++◌, drop, flat_map, length, slice_get, List, None, Some, IfErr, IfOk, IfSome};
+ghost use Rattle.jb_texts.specs.Report.{Report, StepReport, report_text};
+ghost use Rattle.jb_texts.specs.ReportTokens.{step_tokens};
+ghost use Rattle.jb_program.specs.Refusals.{IsBroken};
+ghost use Rattle.jb_program.specs.JobRun.{AreStepRuns, IsJobRun, IsRefusedAtStep, IsRestartRefused, IsRestartRun, earlier, status_in};
+ghost use Rattle.jb_program.specs.StepRun.{AreHeld};
+
+use crate::run::step::run_step;
+use crate::streams::Failure;
+use jb_collect::Status;
+use jb_documents::{Document, RestartDocument, Resume, StepData};
+use jb_job::Step;
+use jb_texts::{ReportText, StepsText};
+use std::alloc::Global;
+use std::sync::Wait;
+use std::thread::Threads;
+
+/// Runs the steps, up to the first that isn't completed, and writes their reports. The first goes on from what the run before
+/// left, if there was one. The status is that of the last step that ran.
+fn run_steps<T: Threads + Wait + Sync>(
+    rt: &T,
+    alloc: Global,
+    steps: &[Step],
+    mut supplies: Vec<StepData>,
+    round_limit: Option<u64>,
+    resume: Option<Resume>,
+    text: &mut StepsText,
+) -> Result<Status, Failure>
+    requires held { IfSome resume AreHeld }
+    ensures ran { IfOk result (λ status. (reports : List StepReport) × AreStepRuns steps.now supplies.items round_limit resume reports
+        × (status ≡ status_in (slice_get reports (length reports - 1))) × (text.new ≡ text.old ++ flat_map step_tokens reports)) }
+    ensures why { IfErr result (λ e. IsBroken e ⊎ IsRefusedAtStep steps.now supplies.items round_limit resume e) }
+{
+    let Some((step, steps)) = steps.split_first() else {
+        return Ok(Status::Completed);
+    };
+    if supplies.is_empty() {
+        return Ok(Status::Completed);
+    }
+    let supply = supplies.remove(0);
+    match run_step(rt, alloc, step, supply, round_limit, resume, text)? {
+        Status::Completed => run_steps(rt, alloc, steps, supplies, round_limit, None, text),
+        status => Ok(status),
+    }
+}
+
+/// Runs the steps from the one on whose rows were saved, which goes on from them.
+fn run_later_steps<T: Threads + Wait + Sync>(
+    rt: &T,
+    alloc: Global,
+    steps: &[Step],
+    mut supplies: Vec<StepData>,
+    round_limit: Option<u64>,
+    resume: Resume,
+    text: &mut StepsText,
+) -> Result<Status, Failure>
+    requires held { AreHeld resume }
+    ensures ran { IfOk result (λ status. (reports : List StepReport)
+        × AreStepRuns (drop (earlier resume.saved.step steps.now) steps.now) (drop (earlier resume.saved.step steps.now) supplies.items) round_limit (Some resume) reports
+        × (status ≡ status_in (slice_get reports (length reports - 1))) × (text.new ≡ text.old ++ flat_map step_tokens reports)) }
+    ensures why { IfErr result (λ e. IsBroken e
+        ⊎ IsRefusedAtStep (drop (earlier resume.saved.step steps.now) steps.now) (drop (earlier resume.saved.step steps.now) supplies.items) round_limit (Some resume) e) }
+{
+    let Some((step, rest)) = steps.split_first() else {
+        return Ok(Status::Completed);
+    };
+    if supplies.is_empty() {
+        return Ok(Status::Completed);
+    }
+    if step.id() == resume.saved.step_id() {
+        return run_steps(rt, alloc, steps, supplies, round_limit, Some(resume), text);
+    }
+    supplies.remove(0);
+    run_later_steps(rt, alloc, rest, supplies, round_limit, resume, text)
+}
+
+/// Runs the document's job, each step in no more rounds than the limit, and gives the job's status and its report. The failure is
+/// want of memory or of a worker, a repository that isn't the step's own, or the first refusal of a step that comes to its turn.
+pub fn run_job<T: Threads + Wait + Sync>(
+    rt: &T,
+    alloc: Global,
+    document: Document,
+    round_limit: Option<u64>,
+) -> Result<(Status, ReportText), Failure>
+    ensures ran { IfOk result (λ ran. (report : Report) × IsJobRun document round_limit report × (ran.0 ≡ report.status) × (ran.1 ≡ report_text report)) }
+    ensures why { IfErr result (λ e. IsBroken e ⊎ IsRefusedAtStep document.job.steps document.steps round_limit None e) }
+{
+    let Document { job, steps } = document;
+    let mut text = StepsText::new(alloc)?;
+    let status = run_steps(
+        rt,
+        alloc,
+        job.steps.as_slice(),
+        steps.into_vec(),
+        round_limit,
+        None,
+        &mut text,
+    )?;
+    let report = ReportText::new(alloc, job.id.as_str(), status, text)?;
+    Ok((status, report))
+}
+
+/// Restarts the document's job at the step whose rows were saved, each step in no more rounds than the limit, and gives the job's
+/// status and its report. The outputs are the writers' own (`read_restart` gives no others). The failure is as in `run_job`.
+pub fn restart_job<T: Threads + Wait + Sync>(
+    rt: &T,
+    alloc: Global,
+    document: RestartDocument,
+    round_limit: Option<u64>,
+) -> Result<(Status, ReportText), Failure>
+    requires held { AreHeld document.resume }
+    ensures ran { IfOk result (λ ran. (report : Report) × IsRestartRun document round_limit report × (ran.0 ≡ report.status) × (ran.1 ≡ report_text report)) }
+    ensures why { IfErr result (λ e. IsBroken e ⊎ IsRestartRefused document round_limit e) }
+{
+    let RestartDocument { job, steps, resume } = document;
+    let mut text = StepsText::new(alloc)?;
+    let status = run_later_steps(
+        rt,
+        alloc,
+        job.steps.as_slice(),
+        steps.into_vec(),
+        round_limit,
+        resume,
+        &mut text,
+    )?;
+    let report = ReportText::new(alloc, job.id.as_str(), status, text)?;
+    Ok((status, report))
+}

@@ -1,0 +1,85 @@
+//! The rounds of a step, on a desk of its own.
+
+ghost use Rattle.std.specs.Prelude.{◌≡◌, ◌++◌, false, map, IfErr, IfOk};
+ghost use Rattle.jb_job.specs.Limits.{max_parts};
+ghost use Rattle.jb_collect.specs.Reduced.{calls_after};
+ghost use Rattle.jb_collect.specs.Taken.{well};
+ghost use Rattle.jb_step.specs.Ending.{IsRunError, IsRunOfStep, given_back, tasks_left};
+ghost use Rattle.jb_step.specs.Prepare.{DoFit};
+ghost use Rattle.jb_step.specs.Setup.{first_tasks};
+ghost use Rattle.jb_step.specs.Statuses.{status_of, went_well};
+ghost use Rattle.jb_step.specs.Ways.{AreOnTheWay};
+ghost use Rattle.jb_saved.specs.declared.error.StepError.TheVariants.{WrongArtifacts};
+ghost use Rattle.jb_program.specs.Refusals.{IsBroken, IsFailureOf};
+
+use crate::run::artifacts::OwnArtifacts;
+use crate::run::callbacks::{Listener, Recorder};
+use crate::streams::Failure;
+use jb_artifacts::Meaning;
+use jb_chunk::Task;
+use jb_step::{Prepared, StepEnd, StepError};
+use jb_workers::NoGate;
+use std::alloc::Global;
+use std::sync::Wait;
+use std::sync::ledger::{Blank, Ledger};
+use std::thread::Threads;
+
+/// Why the run of a step whose artifacts fit has no end.
+fn run_failure(error: StepError) -> Failure
+    requires causes { IsRunError error }
+    requires fit { error ≡ WrongArtifacts → ⊥ }
+    ensures why { IsFailureOf error result }
+    ensures broken { IsBroken result }
+{
+    match error {
+        StepError::Repository(partition) => Failure::Repository(partition),
+        StepError::Workers => Failure::Workers,
+        StepError::Memory => Failure::Memory,
+        StepError::Plan(_) => unreachable!(),
+        StepError::Mapper(_) => unreachable!(),
+        StepError::Reducer(_) => unreachable!(),
+        StepError::WrongArtifacts => unreachable!(),
+        StepError::Saved(_) => unreachable!(),
+    }
+}
+
+/// Runs the rounds of a prepared step on a desk of its own, in no more rounds than the limit. `blank` is a ledger's with
+/// `MAX_PARTS` parts.
+pub fn run_rounds<T: Threads + Wait + Sync, L: Ledger + Send + Sync + 'static>(
+    rt: &T,
+    alloc: Global,
+    blank: Blank,
+    prepared: Prepared,
+    artifacts: Vec<OwnArtifacts>,
+    round_limit: Option<u64>,
+    listener: &mut Listener,
+    recorder: &mut Recorder,
+) -> Result<StepEnd<OwnArtifacts>, Failure>
+    requires name { blank.name ≡ L.name }
+    requires parts { blank.parts ≡ L.parts }
+    requires all { blank.parts ≡ max_parts }
+    requires fit { DoFit prepared (map ⟦<OwnArtifacts as Meaning>⟧.workplace artifacts.items) }
+    ensures ran { IfOk result (λ end. IsRunOfStep prepared (map ⟦<OwnArtifacts as Meaning>⟧.workplace artifacts.items) round_limit
+        (map well listener.old) (map well listener.new) end.plans.items end.snapshot (given_back ⟦<OwnArtifacts as Meaning>⟧.workplace end.artifacts.items)) }
+    ensures on_the_way { IfOk result (λ end. AreOnTheWay (first_tasks prepared (map ⟦<OwnArtifacts as Meaning>⟧.workplace artifacts.items))
+        (tasks_left prepared end.snapshot (given_back ⟦<OwnArtifacts as Meaning>⟧.workplace end.artifacts.items))) }
+    ensures status { IfOk result (λ end. end.status ≡ status_of end.snapshot.rows.items false) }
+    ensures reducer { IfOk result (λ end. recorder.new ≡ recorder.old ++ calls_after (went_well end.snapshot.rows.items false) false) }
+    ensures why { IfErr result IsBroken }
+{
+    let desk = prepared.desk::<L>(alloc, blank)?;
+    match jb_step::run_step::<Task<OwnArtifacts>, L, NoGate, T>(
+        rt,
+        alloc,
+        &desk,
+        prepared,
+        artifacts,
+        listener,
+        recorder,
+        round_limit,
+        &NoGate,
+    ) {
+        Ok(end) => Ok(end),
+        Err(error) => Err(run_failure(error)),
+    }
+}

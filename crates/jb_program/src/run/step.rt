@@ -1,0 +1,81 @@
+//! One step of a job.
+
+ghost use Rattle.std.specs.Prelude.{◌≡◌, ◌⊎◌, ◌++◌, IfErr, IfOk, IfSome};
+ghost use Rattle.jb_texts.specs.Report.{StepReport};
+ghost use Rattle.jb_texts.specs.ReportTokens.{step_tokens};
+ghost use Rattle.jb_program.specs.JobRun.{IsStepRefused, IsStepRun};
+ghost use Rattle.jb_program.specs.Refusals.{IsBroken};
+ghost use Rattle.jb_program.specs.StepRun.{AreHeld};
+
+use crate::run::artifacts::all_artifacts;
+use crate::run::callbacks::{Listener, Recorder};
+use crate::run::held::taken;
+use crate::run::laws::laws_below;
+use crate::run::preparing::prepared_step;
+use crate::run::rounds::run_rounds;
+use crate::run::settings::settings_for;
+use crate::run::told::write_step;
+use crate::streams::Failure;
+use jb_collect::{Analyzer, Reducer, Status};
+use jb_documents::{Resume, StepData};
+use jb_job::{MAX_PARTS, Step};
+use jb_texts::StepsText;
+use std::alloc::Global;
+use std::marker::Brand;
+use std::sync::Wait;
+use std::sync::ledger::Blank;
+use std::thread::Threads;
+
+/// Runs a step: prepares it by its partition plan, or by what the run before left, runs its partitions over its threads in no
+/// more rounds than the limit, and writes the step's report. What it works on is used up.
+pub fn run_step<T: Threads + Wait + Sync>(
+    rt: &T,
+    alloc: Global,
+    step: &Step,
+    supply: StepData,
+    round_limit: Option<u64>,
+    resume: Option<Resume>,
+    text: &mut StepsText,
+) -> Result<Status, Failure>
+    requires held { IfSome resume AreHeld }
+    ensures ran { IfOk result (λ status. (report : StepReport) × IsStepRun step.now supply round_limit resume report × (status ≡ report.status) × (text.new ≡ text.old ++ step_tokens report)) }
+    ensures why { IfErr result (λ e. IsBroken e ⊎ IsStepRefused step.now supply resume e) }
+{
+    let StepData {
+        records,
+        prefix,
+        drop,
+        faults,
+    } = supply;
+    laws_below();
+    let (saved, outputs) = taken(alloc, resume);
+    let mut recorder = Recorder::new(alloc);
+    let count = records.as_slice().len() as u64;
+    let prepared = prepared_step(alloc, step, count, saved, &mut recorder)?;
+    let mut records = records.into_vec();
+    let settings = settings_for(step, prefix, drop, faults);
+    let outputs = outputs.as_slice();
+    let artifacts = all_artifacts(alloc, &settings, &mut records, outputs, &prepared)?;
+    let mut listener = Listener::new(alloc);
+    let blank = Blank::new(MAX_PARTS);
+    let end = run_rounds::<T, Brand>(
+        rt,
+        alloc,
+        blank,
+        prepared,
+        artifacts,
+        round_limit,
+        &mut listener,
+        &mut recorder,
+    )?;
+    write_step(
+        alloc,
+        step.id(),
+        &end,
+        outputs,
+        listener.calls(),
+        recorder.calls(),
+        text,
+    )?;
+    Ok(end.status)
+}

@@ -1,0 +1,236 @@
+//! The command line: the words after the program's name.
+
+ghost use Rattle.std.specs.Prelude.{◌≡◌, ◌∷◌, ◌++◌, [], codes, map, option_map, true, false, None, IfErr, IfOk, IfSome};
+ghost use Rattle.clap.specs.Words.{app_of, subcommand_rows_of, with_subcommand};
+ghost use Rattle.jb_program.specs.CommandLine.{app, help_app, limited_app, program as program_app, request_in, rounds_in, topic_at, topic_in, word_app, work_in, word_in, AreUnknown, Asks, CanGoOn, CannotGoOn, IsWrong};
+
+use crate::words::fault::{LineFault, UsageFault};
+use crate::words::help::VERSION;
+use crate::words::request::{Line, Request, Word};
+use clap::error::ErrorKind;
+use clap::{Arg, ArgAction, ArgMatches, Command};
+use jb_job::MAX_ROUNDS;
+use std::alloc::{AllocError, Global};
+
+/// The program with no word.
+fn program<'a>(alloc: Global) -> Command<'a>
+    ensures { app_of result ≡ program_app }
+{
+    Command::new(alloc, "batchrun")
+        .no_binary_name(true)
+        .disable_help_subcommand(true)
+        .version(VERSION)
+}
+
+/// The program with a word more, which takes no arguments.
+fn with_word<'a>(
+    alloc: Global,
+    program: Command<'a>,
+    name: &'a str,
+) -> Result<Command<'a>, AllocError>
+    ensures { IfOk result (λ c. app_of c ≡ with_subcommand (app_of program.entry) (word_app name.entry.now)) }
+{
+    let command = program.subcommand(Command::new(alloc, name))?;
+    Ok(command)
+}
+
+/// The program with a word more, which takes a number of rounds.
+fn with_limited<'a>(
+    alloc: Global,
+    program: Command<'a>,
+    name: &'a str,
+) -> Result<Command<'a>, AllocError>
+    ensures { IfOk result (λ c. app_of c ≡ with_subcommand (app_of program.entry) (limited_app name.entry.now)) }
+{
+    let rounds = Arg::new(alloc, "rounds")
+        .long("rounds")
+        .action(ArgAction::Set);
+    let word = Command::new(alloc, name).arg(rounds)?;
+    let command = program.subcommand(word)?;
+    Ok(command)
+}
+
+/// The program with the word `help` more, which takes a word.
+fn with_help<'a>(alloc: Global, program: Command<'a>) -> Result<Command<'a>, AllocError>
+    ensures { IfOk result (λ c. app_of c ≡ with_subcommand (app_of program.entry) help_app) }
+{
+    let help = Command::new(alloc, "help").arg(Arg::new(alloc, "word"))?;
+    let command = program.subcommand(help)?;
+    Ok(command)
+}
+
+/// The command line of the program.
+fn command<'a>(alloc: Global) -> Result<Command<'a>, AllocError>
+    ensures { IfOk result (λ c. app_of c ≡ app) }
+{
+    let with_run = with_limited(alloc, program(alloc), "run")?;
+    let with_restart = with_limited(alloc, with_run, "restart")?;
+    let with_plan = with_word(alloc, with_restart, "plan")?;
+    let with_check = with_word(alloc, with_plan, "check")?;
+    let command = with_help(alloc, with_check)?;
+    Ok(command)
+}
+
+fn word_of(name: &str) -> Option<Word>
+    ensures { result ≡ word_in name.now }
+{
+    match name {
+        "run" => Some(Word::Run),
+        "restart" => Some(Word::Restart),
+        "plan" => Some(Word::Plan),
+        "check" => Some(Word::Check),
+        _ => None,
+    }
+}
+
+/// The help that `help` gives: of the program, or of the word behind it.
+fn topic_of(name: Option<&str>) -> Option<Request>
+    ensures { result ≡ topic_in (option_map (λ n. n.now) name.entry) }
+{
+    match name {
+        None => Some(Request::Help(None)),
+        Some(name) => match word_of(name) {
+            Some(word) => Some(Request::Help(Some(word))),
+            None => None,
+        },
+    }
+}
+
+/// The number that decimal digits write, if it isn't past the most rounds.
+fn rounds_of(text: &str) -> Option<u64>
+    ensures { result ≡ rounds_in text.now }
+{
+    let digits = text.as_bytes();
+    if digits.is_empty() {
+        return None;
+    }
+    let mut value: u64 = 0;
+    for digit in digits {
+        if !digit.is_ascii_digit() {
+            return None;
+        }
+        if value > MAX_ROUNDS {
+            return None;
+        }
+        value = value * 10 + (*digit - b'0') as u64;
+    }
+    if value <= MAX_ROUNDS {
+        Some(value)
+    } else {
+        None
+    }
+}
+
+/// What a word asks for by itself, or with the number of rounds that is given.
+fn work_of(name: &str, given: Option<&str>) -> Option<Request>
+    ensures { result ≡ work_in name.now (option_map (λ n. n.now) given.entry) }
+{
+    let word = word_of(name)?;
+    match given {
+        None => Some(Request::Work(Line { word, rounds: None })),
+        Some(text) => match rounds_of(text) {
+            Some(rounds) => Some(Request::Work(Line {
+                word,
+                rounds: Some(rounds),
+            })),
+            None => None,
+        },
+    }
+}
+
+/// What the matches ask for.
+fn request_of(matches: &ArgMatches<'_>) -> Option<Request>
+    ensures { result ≡ request_in (subcommand_rows_of matches.now) }
+{
+    let Some((name, rest)) = matches.subcommand() else {
+        return None;
+    };
+    match name {
+        "help" => topic_of(rest.get_str("word")),
+        _ => work_of(name, rest.get_str("rounds")),
+    }
+}
+
+/// What a call for help is about: the first word, if it is one that does something with a document.
+fn topic_before(words: &[&str]) -> Option<Word>
+    ensures { result ≡ topic_at (map (λ w. w.now) words.now) }
+{
+    match words.split_first() {
+        Some((first, _)) => word_of(first),
+        None => None,
+    }
+}
+
+/// What the words ask for, if they ask for something.
+fn asked<'a>(alloc: Global, words: &'a [&'a str]) -> Result<Option<Request>, LineFault>
+    ensures asks { IfOk result (λ request. IfSome request (Asks (map (λ w. w.now) words.now))) }
+    ensures nothing { IfOk result (λ request. request ≡ None → AreUnknown (map (λ w. w.now) words.now)) }
+    ensures err { IfErr result (λ e. e ≡ LineFault.Memory) }
+{
+    let command = command(alloc)?;
+    match command.try_get_matches_from(words) {
+        Ok(matches) => Ok(request_of(&matches)),
+        Err(fault) => match fault.kind() {
+            ErrorKind::OutOfMemory => Err(LineFault::Memory),
+            ErrorKind::DisplayHelp => Ok(Some(Request::Help(topic_before(words)))),
+            ErrorKind::DisplayVersion => Ok(Some(Request::Version)),
+            _ => Ok(None),
+        },
+    }
+}
+
+/// The words with a number behind them.
+fn with_a_number<'a>(alloc: Global, words: &'a [&'a str]) -> Result<Vec<&'a str>, AllocError>
+    ensures { IfOk result (λ longer. map (λ w. w.now) longer.items ≡ map (λ w. w.now) words.now ++ codes "0" ∷ []) }
+{
+    let mut longer = Vec::with_capacity(alloc, words.len() + 1)?;
+    for word in words {
+        longer.push(*word)?;
+    }
+    longer.push("0")?;
+    Ok(longer)
+}
+
+/// Whether the words ask for something, or would if a number stood behind them.
+fn can_go_on<'a>(alloc: Global, words: &'a [&'a str]) -> Result<bool, LineFault>
+    ensures yes { IfOk result (λ can. can ≡ true → CanGoOn (map (λ w. w.now) words.now)) }
+    ensures no { IfOk result (λ can. can ≡ false → CannotGoOn (map (λ w. w.now) words.now)) }
+    ensures err { IfErr result (λ e. e ≡ LineFault.Memory) }
+{
+    if asked(alloc, words)?.is_some() {
+        return Ok(true);
+    }
+    let longer = with_a_number(alloc, words)?;
+    Ok(asked(alloc, &longer)?.is_some())
+}
+
+/// The fault of words that ask for nothing: the first word up to which no number behind them would help, else the last, or that
+/// there is none.
+fn fault_in<'a>(alloc: Global, words: &'a [&'a str]) -> Result<UsageFault, LineFault>
+    requires { AreUnknown (map (λ w. w.now) words.now) }
+    ensures wrong { IfOk result (λ fault. IsWrong fault (Some (map (λ w. w.now) words.now))) }
+    ensures err { IfErr result (λ e. e ≡ LineFault.Memory) }
+{
+    let Some((last, others)) = words.split_last() else {
+        return Ok(UsageFault::NoWord);
+    };
+    for place in 0..others.len() {
+        if !can_go_on(alloc, &words[..place + 1])? {
+            return Ok(UsageFault::Wrong(words[place].to_string(alloc)?));
+        }
+    }
+    let last: &str = last;
+    Ok(UsageFault::Wrong(last.to_string(alloc)?))
+}
+
+/// What the words after the program's name ask for. Where they ask for nothing, they are refused as `Usage`, with the first word
+/// up to which they do so whatever number stands behind, or the last where its number is missing.
+pub fn line_of<'a>(alloc: Global, words: &'a [&'a str]) -> Result<Request, LineFault>
+    ensures ok { IfOk result (Asks (map (λ w. w.now) words.now)) }
+    ensures err { IfErr result (λ e. (fault : UsageFault) → e ≡ LineFault.Usage fault → IsWrong fault (Some (map (λ w. w.now) words.now))) }
+{
+    match asked(alloc, words)? {
+        Some(request) => Ok(request),
+        None => Err(LineFault::Usage(fault_in(alloc, words)?)),
+    }
+}
