@@ -7,4 +7,5 @@ pub mod RestartDocument
 pub mod ResumeFields
 pub mod RunDocument
 pub mod StepFields
+pub mod Taken
 pub mod Worked

@@ -1,10 +1,11 @@
 //! The object `partition`: what a step asks of its partitions.
 
 ghost use Rattle.std.specs.Prelude.{◌≡◌, ◌≤◌, [], All, IfOk, Some, None, false, is_some, length};
+ghost use Rattle.std.specs.Option.{ForSome};
 ghost use Rattle.serde_json.specs.Find.{get};
 ghost use Rattle.serde_json.specs.View.{view, items_view};
 ghost use Rattle.jb_job.specs.Names.{name_of};
-ghost use Rattle.jb_job.specs.Reading.{Gives, GivesExactly, each_at, number_at, optional};
+ghost use Rattle.jb_job.specs.Reading.{Gives, GivesExactly, each_at, flag_at, number_at, optional};
 ghost use Rattle.jb_job.specs.Kept.{IsNumbered};
 ghost use Rattle.jb_job.specs.Limits.{max_partitions_asked, max_ranges, max_threads_asked};
 ghost use Rattle.jb_job.specs.JobRecord.{range_pair_at, own_ranges_at, plan_at, partition_at};
@@ -89,7 +90,32 @@ fn threads(plan: &Value) -> Result<u32, JobError>
     }
 }
 
-#[tactic(auto, unfolding(crate::specs::JobRecord::plan_at, crate::specs::Reading::optional))]
+/// Whether a restart begins anew, which it doesn't where the plan says nothing of it.
+#[tactic(auto, unfolding(crate::specs::Reading::optional))]
+fn replace(plan: &Value) -> Result<bool, JobError>
+    ensures { GivesExactly (λ b. b) result (optional flag_at false field.Override (view plan.now)) }
+{
+    match plan.get(Field::Override.name()) {
+        None => Ok(false),
+        Some(replace) => flag(Field::Override, replace),
+    }
+}
+
+/// The ranges, where there are any.
+#[tactic(auto, unfolding(crate::specs::Reading::optional))]
+fn given_ranges(alloc: Global, counted: bool, plan: &Value) -> Result<Option<Ranges>, JobError>
+    ensures exact { Gives (λ r. r) result (optional (own_ranges_at counted) None field.Ranges (view plan.now)) }
+    ensures few { IfOk result (λ ranges. ForSome ranges (λ r. length r ≤ max_ranges)) }
+    ensures numbered { IfOk result (λ ranges. ForSome ranges (All IsNumbered)) }
+    ensures alone { IfOk result (λ ranges. ForSome ranges (λ _. counted ≡ false)) }
+{
+    match plan.get(Field::Ranges.name()) {
+        None => Ok(None),
+        Some(ranges) => Ok(Some(own_ranges(alloc, counted, ranges)?)),
+    }
+}
+
+#[tactic(auto, unfolding(crate::specs::JobRecord::plan_at))]
 fn plan(alloc: Global, tree: &Value) -> Result<Spec, JobError>
     ensures { Gives (λ s. s) result (plan_at field.Plan (view tree.now)) }
 {
@@ -106,14 +132,8 @@ fn plan(alloc: Global, tree: &Value) -> Result<Spec, JobError>
     let counted = plan.get(Field::Partitions.name()).is_some();
     let partitions = partitions(plan)?;
     let threads = threads(plan)?;
-    let replace = match plan.get(Field::Override.name()) {
-        None => false,
-        Some(replace) => flag(Field::Override, replace)?,
-    };
-    let ranges = match plan.get(Field::Ranges.name()) {
-        None => None,
-        Some(ranges) => Some(own_ranges(alloc, counted, ranges)?),
-    };
+    let replace = replace(plan)?;
+    let ranges = given_ranges(alloc, counted, plan)?;
     Ok(Spec::new(partitions, threads, replace, ranges))
 }
 

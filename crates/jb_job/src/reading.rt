@@ -2,10 +2,10 @@
 
 ghost use Rattle.std.specs.Prelude.{◌≡◌, ◌≤◌, [], IfOk, length};
 ghost use Rattle.serde_json.specs.View.{view, items_view};
-ghost use Rattle.jb_job.specs.Reading.{Gives, GivesExactly, GivesOfText, each_at, tree_of};
+ghost use Rattle.jb_job.specs.Reading.{Gives, GivesExactly, GivesOfText, each_at, optional, required, text_at, tree_of};
 ghost use Rattle.jb_job.specs.Kept.{IsName};
-ghost use Rattle.jb_job.specs.Limits.{max_steps};
-ghost use Rattle.jb_job.specs.JobRecord.{new_id_at, step_at, job_at};
+ghost use Rattle.jb_job.specs.Limits.{max_name, max_steps};
+ghost use Rattle.jb_job.specs.JobRecord.{classes_at, new_id_at, one_partition, partition_at, steps_at, step_at, job_at};
 ghost use Rattle.jb_job.specs.declared.field.Field.TheVariants as field;
 
 use crate::chunk::chunk_parts;
@@ -39,7 +39,18 @@ fn new_id<'a>(earlier: &[Step], tree: &'a Value) -> Result<&'a str, JobError>
     }
 }
 
-#[tactic(auto, unfolding(crate::specs::JobRecord::step_at, crate::specs::Reading::required, crate::specs::Reading::optional))]
+/// What a step asks of its partitions: one, where it says nothing of them.
+#[tactic(auto, unfolding(crate::specs::Reading::optional))]
+fn step_spec(alloc: Global, step: &Value) -> Result<Spec, JobError>
+    ensures { Gives (λ s. s) result (optional partition_at one_partition field.Partition (view step.now)) }
+{
+    match step.get(Field::Partition.name()) {
+        None => Ok(Spec::new(1, 0, false, None)),
+        Some(given) => partition_spec(alloc, given),
+    }
+}
+
+#[tactic(auto, unfolding(crate::specs::JobRecord::step_at, crate::specs::Reading::required))]
 fn step(alloc: Global, classes: &Classes, earlier: &[Step], tree: &Value) -> Result<Step, JobError>
     ensures { Gives (λ s. s) result (step_at classes.now earlier.now (view tree.now)) }
 {
@@ -50,10 +61,7 @@ fn step(alloc: Global, classes: &Classes, earlier: &[Step], tree: &Value) -> Res
     )?;
     let id = new_id(earlier, required(Field::Id, step)?)?;
     let (item_count, rules) = chunk_parts(alloc, classes, required(Field::Chunk, step)?)?;
-    let spec = match step.get(Field::Partition.name()) {
-        None => Spec::new(1, 0, false, None),
-        Some(given) => partition_spec(alloc, given)?,
-    };
+    let spec = step_spec(alloc, step)?;
     let id = Name::new(String::from_str(alloc, id)?);
     Ok(Step::new(id, item_count, rules, spec))
 }
@@ -69,8 +77,37 @@ fn steps(alloc: Global, classes: &Classes, items: &Vec<Value>) -> Result<Steps, 
     Ok(Steps::new(steps))
 }
 
+/// The id of a job.
+#[tactic(auto, unfolding(crate::specs::Reading::required))]
+fn job_id(job: &Value) -> Result<&str, JobError>
+    ensures exact { GivesExactly (λ s. s.now) result (required (text_at 1 max_name) field.Id (view job.now)) }
+    ensures named { IfOk result (λ s. IsName s.now) }
+{
+    text(1, MAX_NAME, Field::Id, required(Field::Id, job)?)
+}
+
+/// The classes that a job declares, none where it has no list of them.
+#[tactic(auto, unfolding(crate::specs::Reading::optional))]
+fn job_classes(alloc: Global, job: &Value) -> Result<Classes, JobError>
+    ensures { Gives (λ c. c) result (optional classes_at [] field.ExceptionClasses (view job.now)) }
+{
+    match job.get(Field::ExceptionClasses.name()) {
+        None => Ok(Classes::new(IndexSet::new(alloc))),
+        Some(names) => class_list(alloc, names),
+    }
+}
+
+/// The steps of a job with these classes.
+#[tactic(auto, unfolding(crate::specs::JobRecord::steps_at, crate::specs::Reading::required))]
+fn job_steps(alloc: Global, classes: &Classes, job: &Value) -> Result<Steps, JobError>
+    ensures { Gives (λ s. s) result (required (steps_at classes.now) field.Step (view job.now)) }
+{
+    let items = list(1, MAX_STEPS, Field::Step, required(Field::Step, job)?)?;
+    steps(alloc, classes, items)
+}
+
 /// The Job that the tree stands for, or its first fault.
-#[tactic(auto, unfolding(crate::specs::JobRecord::job_at, crate::specs::JobRecord::steps_at, crate::specs::Reading::required, crate::specs::Reading::optional))]
+#[tactic(auto, unfolding(crate::specs::JobRecord::job_at))]
 pub fn job_of(alloc: Global, tree: &Value) -> Result<Job, JobError>
     ensures { Gives (λ j. j) result (job_at (view tree.now)) }
 {
@@ -79,13 +116,9 @@ pub fn job_of(alloc: Global, tree: &Value) -> Result<Job, JobError>
         &[Field::Id, Field::ExceptionClasses, Field::Step],
         tree,
     )?;
-    let id = text(1, MAX_NAME, Field::Id, required(Field::Id, job)?)?;
-    let classes = match job.get(Field::ExceptionClasses.name()) {
-        None => Classes::new(IndexSet::new(alloc)),
-        Some(names) => class_list(alloc, names)?,
-    };
-    let items = list(1, MAX_STEPS, Field::Step, required(Field::Step, job)?)?;
-    let steps = steps(alloc, &classes, items)?;
+    let id = job_id(job)?;
+    let classes = job_classes(alloc, job)?;
+    let steps = job_steps(alloc, &classes, job)?;
     Ok(Job {
         id: Name::new(String::from_str(alloc, id)?),
         classes,

@@ -10,10 +10,9 @@ ghost use Rattle.jb_documents.specs.RestartDocument.{GivesRestart, IsRestart, Is
 use super::fault::RestartFault;
 use super::resume::Resume;
 use super::resume_fields::resume;
-use crate::run::{DataList, data_list};
+use crate::run::{DataList, document_data, document_job};
 use crate::taken::{take_field, take_object};
-use jb_job::kinds::required;
-use jb_job::{Field, Job, JobError, job_of, read_tree};
+use jb_job::{Field, Job, JobError, read_tree};
 use serde_json::Value;
 use std::alloc::Global;
 
@@ -42,9 +41,9 @@ fn document_of(alloc: Global, tree: Value) -> Result<RestartDocument, RestartFau
 {
     let table = [Field::Job, Field::Data, Field::Resume];
     let document = take_object(Field::Unknown, &table, tree)?;
-    let job = job_of(alloc, required(Field::Job, &document)?)?;
+    let job = document_job(alloc, &document)?;
     let (data, left) = take_parts(document);
-    let steps = data_list(alloc, &job, data.ok_or(JobError::WrongShape(Field::Data))?)?;
+    let steps = document_data(alloc, &job, data)?;
     let left = left.ok_or(JobError::WrongShape(Field::Resume))?;
     let resume = resume(alloc, job.steps.as_slice(), left)?;
     Ok(RestartDocument { job, steps, resume })

@@ -1,11 +1,13 @@
 //! The document of `run`: a job record, and the data of each of its steps.
 
-ghost use Rattle.std.specs.Prelude.{◌≡◌, ◌==◌, length, IfOk, IfErr};
+ghost use Rattle.std.specs.Prelude.{◌≡◌, ◌==◌, length, option_map, IfOk, IfErr};
 ghost use Rattle.serde_json.specs.Events.{items_len};
 ghost use Rattle.serde_json.specs.View.{view, items_view};
 ghost use Rattle.jb_job.specs.declared.field.Field.TheVariants as field;
-ghost use Rattle.jb_job.specs.Reading.{Gives};
+ghost use Rattle.jb_job.specs.JobRecord.{job_at};
+ghost use Rattle.jb_job.specs.Reading.{Gives, required};
 ghost use Rattle.jb_documents.specs.RunDocument.{IsDocument, IsRefusedDocument, data_list_at, document_at};
+ghost use Rattle.jb_documents.specs.Taken.{taken};
 
 use super::step_data::StepData;
 use super::step_fields::step_data;
@@ -71,7 +73,7 @@ fn is_one_for_each_step(job: &Job, items: &Vec<Value>) -> bool
 
 /// The list of data, one for each of the job's steps.
 #[tactic(auto, unfolding(crate::specs::RunDocument::data_list_at))]
-pub(crate) fn data_list(alloc: Global, job: &Job, tree: Value) -> Result<DataList, JobError>
+fn data_list(alloc: Global, job: &Job, tree: Value) -> Result<DataList, JobError>
     ensures { Gives (λ ds. ds) result (data_list_at job.now field.Data (view tree)) }
 {
     let items = take_array(Field::Data, tree)?;
@@ -84,15 +86,34 @@ pub(crate) fn data_list(alloc: Global, job: &Job, tree: Value) -> Result<DataLis
     Ok(DataList::new(steps))
 }
 
+/// The job of a document.
+#[tactic(auto, unfolding(jb_job::specs::Reading::required))]
+pub(crate) fn document_job(alloc: Global, document: &Value) -> Result<Job, JobError>
+    ensures { Gives (λ job. job) result (required (λ _. job_at) field.Job (view document.now)) }
+{
+    job_of(alloc, required(Field::Job, document)?)
+}
+
+/// The list of data that was taken out of a document, which has to be there.
+pub(crate) fn document_data(
+    alloc: Global,
+    job: &Job,
+    found: Option<Value>,
+) -> Result<DataList, JobError>
+    ensures { Gives (λ ds. ds) result (taken (data_list_at job.now) field.Data (option_map view found)) }
+{
+    data_list(alloc, job, found.ok_or(JobError::WrongShape(Field::Data))?)
+}
+
 /// The document that the tree stands for, or its first fault.
 #[tactic(auto, unfolding(crate::specs::RunDocument::document_at, jb_job::specs::Reading::required))]
 fn document_of(alloc: Global, tree: Value) -> Result<Document, JobError>
     ensures { Gives (λ d. d) result (document_at (view tree)) }
 {
     let document = take_object(Field::Unknown, &[Field::Job, Field::Data], tree)?;
-    let job = job_of(alloc, required(Field::Job, &document)?)?;
+    let job = document_job(alloc, &document)?;
     let (taken, _job_tree) = take_field(Field::Data, document);
-    let steps = data_list(alloc, &job, taken.ok_or(JobError::WrongShape(Field::Data))?)?;
+    let steps = document_data(alloc, &job, taken)?;
     Ok(Document { job, steps })
 }
 

@@ -9,6 +9,7 @@ ghost use Rattle.jb_job.specs.Names.{name_of};
 ghost use Rattle.jb_job.specs.Reading.{Gives, optional, text_at};
 ghost use Rattle.jb_documents.specs.FaultLists.{no_faults, step_faults_at};
 ghost use Rattle.jb_documents.specs.StepFields.{data_at, drop_at, records_at};
+ghost use Rattle.jb_documents.specs.Taken.{taken};
 
 use super::fault_lists::step_faults;
 use super::faults::StepFaults;
@@ -78,6 +79,13 @@ fn take_records(tree: Value) -> (Option<Value>, Value)
     take_field(Field::Records, tree)
 }
 
+/// The records that were taken out of an object, which have to be there.
+fn taken_records(alloc: Global, found: Option<Value>) -> Result<Records, JobError>
+    ensures { Gives (λ r. r) result (taken records_at field.Records (option_map view found)) }
+{
+    records(alloc, found.ok_or(JobError::WrongShape(Field::Records))?)
+}
+
 /// The data of one of the job's steps that the tree stands for, or its first fault.
 #[tactic(auto, unfolding(crate::specs::StepFields::data_at, jb_job::specs::Reading::required, jb_job::specs::Reading::optional))]
 pub fn step_data(alloc: Global, job: &Job, tree: Value) -> Result<StepData, JobError>
@@ -89,7 +97,7 @@ pub fn step_data(alloc: Global, job: &Job, tree: Value) -> Result<StepData, JobE
         tree,
     )?;
     let (taken, rest) = take_records(data);
-    let records = records(alloc, taken.ok_or(JobError::WrongShape(Field::Records))?)?;
+    let records = taken_records(alloc, taken)?;
     let prefix = prefix(alloc, &rest)?;
     let drop = dropped(alloc, &rest)?;
     let count = records.as_slice().len() as u64;

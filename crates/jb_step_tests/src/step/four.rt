@@ -182,12 +182,17 @@ fn met<L: Ledger + Send + Sync + 'static, R: Threads + Wait + Clock + Abort + Co
     Ok((end.status, end.snapshot.events))
 }
 
-/// The four partitions' lanes meet in both rounds, and their processors meet in the first one.
-fn meet<L: Ledger + Send + Sync + 'static, R: Threads + Wait + Clock + Abort + Copy + Send + Sync>(
+/// The same, on a desk of its own.
+fn met_on<
+    L: Ledger + Send + Sync + 'static,
+    R: Threads + Wait + Clock + Abort + Copy + Send + Sync,
+>(
     rt: &R,
     alloc: Global,
     blank: Blank,
-) -> Result<(), Fail>
+    processors: &Arc<Meeting>,
+    gate: &Lanes<R>,
+) -> Result<(Status, u64), Fail>
     requires name { blank.name ≡ L.name }
     requires parts { blank.parts ≡ L.parts }
     requires all { blank.parts ≡ 1000000000000 }
@@ -199,12 +204,25 @@ fn meet<L: Ledger + Send + Sync + 'static, R: Threads + Wait + Clock + Abort + C
     let mut reducer = ListReducer::new(alloc, None);
     let prepared = started(alloc, asked, RECORDS, &mut reducer, None)?;
     let desk = prepared.desk::<L>(alloc, blank)?;
+    met::<L, R>(rt, alloc, &desk, prepared, processors, &mut reducer, gate)
+}
+
+/// The four partitions' lanes meet in both rounds, and their processors meet in the first one.
+fn meet<L: Ledger + Send + Sync + 'static, R: Threads + Wait + Clock + Abort + Copy + Send + Sync>(
+    rt: &R,
+    alloc: Global,
+    blank: Blank,
+) -> Result<(), Fail>
+    requires name { blank.name ≡ L.name }
+    requires parts { blank.parts ≡ L.parts }
+    requires all { blank.parts ≡ 1000000000000 }
+{
     let gate = Lanes {
         rt: *rt,
         rounds: [Meeting::new(), Meeting::new()],
     };
     let processors = Arc::new(alloc, Meeting::new())?;
-    let end = met::<L, R>(rt, alloc, &desk, prepared, &processors, &mut reducer, &gate)?;
+    let end = met_on::<L, R>(rt, alloc, blank, &processors, &gate)?;
     assert_eq!(rt; gate.rounds[0].seen(), [4, 0]);
     assert_eq!(rt; gate.rounds[1].seen(), [4, 0]);
     assert_eq!(rt; processors.seen(), [4, 0]);

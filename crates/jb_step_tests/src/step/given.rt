@@ -85,23 +85,31 @@ impl Given {
     }
 
     fn take(&mut self, alloc: Global, sign: u8) -> Result<(), AllocError> {
-        let count = self.count();
-        let last = count.saturating_sub(1);
+        let last = self.count().saturating_sub(1);
         let bad = FaultPlan::Bad(ClassId::new(0));
+        match sign {
+            b'!' => self.take_bad(last, bad),
+            b'<' => self.reads.insert(last, bad),
+            b'>' => self.writes.insert(last, bad),
+            b'?' => self.processes.insert(last, once(alloc)?),
+            b'(' => self.reads.insert(last, once(alloc)?),
+            b')' => self.writes.insert(last, once(alloc)?),
+            sign => self.take_record(alloc, last, sign),
+        }
+    }
+
+    fn take_bad(&mut self, last: u64, plan: FaultPlan) -> Result<(), AllocError> {
+        self.bad.push(last)?;
+        self.processes.insert(last, plan)
+    }
+
+    fn take_record(&mut self, alloc: Global, last: u64, sign: u8) -> Result<(), AllocError> {
         match sign {
             b'/' => {
                 let lo = self.ranges.last().map_or(0, |range| range.hi);
-                self.ranges.push(Range { lo, hi: count })?;
+                let hi = self.count();
+                self.ranges.push(Range { lo, hi })?;
             }
-            b'!' => {
-                self.bad.push(last)?;
-                self.processes.insert(last, bad)?;
-            }
-            b'?' => self.processes.insert(last, once(alloc)?)?,
-            b'<' => self.reads.insert(last, bad)?,
-            b'(' => self.reads.insert(last, once(alloc)?)?,
-            b'>' => self.writes.insert(last, bad)?,
-            b')' => self.writes.insert(last, once(alloc)?)?,
             b'~' => self.wanting = Some(last),
             letter => self.records.push(Item::copy_of(alloc, &[letter])?)?,
         }

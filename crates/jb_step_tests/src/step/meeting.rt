@@ -6,6 +6,8 @@ use crate::step::rows::PLAIN;
 use crate::step::runs::{ended_with, started};
 use crate::workers::meeting::Meeting;
 use jb_collect::{ListAnalyzer, ListReducer, Status};
+use jb_step::Prepared;
+use jb_workers::Desk;
 use std::alloc::Global;
 use std::marker::Brand;
 use std::process::Abort;
@@ -17,6 +19,31 @@ use std::time::Clock;
 
 const RECORDS: &str = "ab/cd/";
 
+/// The step's status, and the number of its events.
+fn met<L: Ledger + Send + Sync + 'static, R: Threads + Wait + Clock + Abort + Copy + Send + Sync>(
+    rt: &R,
+    alloc: Global,
+    desk: &Desk<L>,
+    prepared: Prepared,
+    reducer: &mut ListReducer,
+    gate: &Meeting<L, R>,
+) -> Result<(Status, u64), Fail> {
+    let mut analyzer = ListAnalyzer::new(alloc, None);
+    let end = ended_with::<L, Meeting<L, R>, R>(
+        rt,
+        alloc,
+        desk,
+        prepared,
+        RECORDS,
+        2,
+        &mut analyzer,
+        reducer,
+        gate,
+    )?;
+    let end = end.ok().ok_or("an end")?;
+    Ok((end.status, end.snapshot.events))
+}
+
 /// Two partitions of one chunk each meet in the one round of their step.
 fn meet<L: Ledger + Send + Sync + 'static, R: Threads + Wait + Clock + Abort + Copy + Send + Sync>(
     rt: &R,
@@ -27,25 +54,13 @@ fn meet<L: Ledger + Send + Sync + 'static, R: Threads + Wait + Clock + Abort + C
     requires parts { blank.parts ≡ L.parts }
     requires all { blank.parts ≡ 1000000000000 }
 {
-    let mut analyzer = ListAnalyzer::new(alloc, None);
     let mut reducer = ListReducer::new(alloc, None);
     let prepared = started(alloc, PLAIN, RECORDS, &mut reducer, None)?;
     let desk = Arc::new(alloc, prepared.desk::<L>(alloc, blank)?)?;
     let gate = Meeting::new(*rt, Arc::try_clone(&desk)?);
-    let end = ended_with::<L, Meeting<L, R>, R>(
-        rt,
-        alloc,
-        &desk,
-        prepared,
-        RECORDS,
-        2,
-        &mut analyzer,
-        &mut reducer,
-        &gate,
-    )?;
-    let end = end.ok().ok_or("an end")?;
+    let end = met::<L, R>(rt, alloc, &desk, prepared, &mut reducer, &gate)?;
     assert_eq!(rt; gate.seen(), [0, 0, 1]);
-    assert_eq!(rt; (end.status, end.snapshot.events), (Status::Completed, 6));
+    assert_eq!(rt; end, (Status::Completed, 6));
     Ok(())
 }
 

@@ -2,13 +2,14 @@
 
 ghost use Rattle.std.specs.Prelude.{◌≡◌};
 
+use crate::step::given::Works;
 use crate::step::restarts::{Between, add_answer, gone_on};
 use crate::step::rows::{Asked, PLAIN};
 use crate::step::runs::{ended_with, started};
 use jb_cert::Certificate;
 use jb_collect::{ListAnalyzer, ListReducer, Reducer, Status};
 use jb_repo::Event;
-use jb_step::{Prepared, StepError, read_saved};
+use jb_step::{Prepared, StepEnd, StepError, read_saved};
 use jb_workers::{Desk, NoGate};
 use std::alloc::Global;
 use std::marker::Brand;
@@ -123,6 +124,41 @@ fn desk_of<L: Ledger>(alloc: Global, blank: Blank, rows: &Rows) -> Result<Desk<L
 /// Why a step has no answer, how many calls its reducer took, and how many events and commits its desk has.
 type Answer = (StepError, usize, u64, u64);
 
+/// The desk of such rows, with what is wrong with it.
+fn wrong_desk<L: Ledger, R: Wait>(
+    rt: &R,
+    alloc: Global,
+    blank: Blank,
+    rows: &Rows,
+    wrong: Wrong,
+) -> Result<Desk<L>, Fail>
+    requires name { blank.name ≡ L.name }
+    requires parts { blank.parts ≡ L.parts }
+    requires all { blank.parts ≡ 1000000000000 }
+{
+    let desk = desk_of::<L>(alloc, blank, rows)?;
+    if wrong == Wrong::Planned {
+        let planned = desk.apply(rt, Event::Plan(1, Certificate::FullLoad));
+        planned.ok().ok_or("a plan")?;
+    }
+    Ok(desk)
+}
+
+fn answer_of<L: Ledger, R: Wait>(
+    rt: &R,
+    desk: &Desk<L>,
+    reducer: &ListReducer,
+    error: StepError,
+) -> Result<Answer, Fail> {
+    let after = desk.status(rt)?;
+    Ok((
+        error,
+        reducer.calls().len(),
+        after.events,
+        after.totals.commit,
+    ))
+}
+
 fn refusal<L: Ledger + Send + Sync + 'static, R: Threads + Wait + Sync>(
     rt: &R,
     alloc: Global,
@@ -137,11 +173,7 @@ fn refusal<L: Ledger + Send + Sync + 'static, R: Threads + Wait + Sync>(
     let mut reducer = ListReducer::new(alloc, None);
     let mut analyzer = ListAnalyzer::new(alloc, None);
     let prepared = start(alloc, rows.own, 2, rows.saved, &mut reducer)?;
-    let desk = desk_of::<L>(alloc, blank, &rows)?;
-    if wrong == Wrong::Planned {
-        let planned = desk.apply(rt, Event::Plan(1, Certificate::FullLoad));
-        planned.ok().ok_or("a plan")?;
-    }
+    let desk = wrong_desk::<L, R>(rt, alloc, blank, &rows, wrong)?;
     let partitions = prepared.needs().len();
     let end = ended_with::<L, NoGate, R>(
         rt,
@@ -154,15 +186,9 @@ fn refusal<L: Ledger + Send + Sync + 'static, R: Threads + Wait + Sync>(
         &mut reducer,
         &NoGate,
     )?;
-    let after = desk.status(rt)?;
     match end {
         Ok(_) => Err(Fail::from("no answer")),
-        Err(error) => Ok((
-            error,
-            reducer.calls().len(),
-            after.events,
-            after.totals.commit,
-        )),
+        Err(error) => answer_of(rt, &desk, &reducer, error),
     }
 }
 
@@ -201,6 +227,23 @@ fn desk_of_threes<L: Ledger>(alloc: Global, blank: Blank) -> Result<Desk<L>, Fai
     Ok(prepared.desk::<L>(alloc, blank)?)
 }
 
+/// How the step ended, and what it left.
+fn told<L: Ledger, R: Wait>(
+    rt: &R,
+    alloc: Global,
+    desk: &Desk<L>,
+    end: Result<StepEnd<Works>, StepError>,
+    analyzer: &ListAnalyzer,
+    reducer: &ListReducer,
+    between: &mut Between,
+) -> Result<String, Fail> {
+    let snapshot = desk.status(rt)?;
+    let mut course = String::new(alloc);
+    add_answer(&mut course, alloc, &snapshot, &end, analyzer, reducer)?;
+    between.take(alloc, SIX, &snapshot, end)?;
+    Ok(course)
+}
+
 /// Runs the six records, with two a chunk, on such a desk: how the step is refused.
 fn refused_round<L: Ledger + Send + Sync + 'static, R: Threads + Wait + Sync>(
     rt: &R,
@@ -227,11 +270,7 @@ fn refused_round<L: Ledger + Send + Sync + 'static, R: Threads + Wait + Sync>(
         &mut reducer,
         &NoGate,
     )?;
-    let snapshot = desk.status(rt)?;
-    let mut course = String::new(alloc);
-    add_answer(&mut course, alloc, &snapshot, &end, &analyzer, &reducer)?;
-    between.take(alloc, SIX, &snapshot, end)?;
-    Ok(course)
+    told(rt, alloc, &desk, end, &analyzer, &reducer, between)
 }
 
 /// After a round without an answer nothing that was committed is lost: from the rows of its desk, which is only read, new artifacts

@@ -1,6 +1,7 @@
 //! Why a step has no answer.
 
-ghost use Rattle.std.specs.Prelude.{◌≡◌, Err};
+ghost use Rattle.std.specs.Prelude.{◌≡◌, Err, IfOk};
+ghost use Rattle.jb_chunk.specs.Standing.{IsReady};
 ghost use Rattle.jb_mapper.specs.Mapping.{Mapping};
 
 use crate::step::given::{Given, Letters, begun, works};
@@ -61,19 +62,25 @@ impl PartitionMapper for Failing {
     }
 }
 
+/// The task of partition 0.
+fn own_task(alloc: Global) -> Result<Letters, Fail>
+    ensures { IfOk result (λ task. IsReady (⟦<Letters as PartitionTask>⟧.standing task)) }
+{
+    let row = Row::fresh(Range { lo: 0, hi: 2 });
+    let artifacts = works(alloc, RECORDS)?;
+    if !row.sound() || !row.state.is_waiting() || !Letters::fits(&artifacts, &row) {
+        return Err(Fail::from("a task"));
+    }
+    Ok(Letters::start(0, row, RULES, 2, artifacts))
+}
+
 /// Commits partition 0 on the desk.
 fn run_own<L: Ledger + Send + Sync + 'static, R: Threads + Wait + Sync>(
     rt: &R,
     alloc: Global,
     desk: &Desk<L>,
 ) -> Result<(), Fail> {
-    let row = Row::fresh(Range { lo: 0, hi: 2 });
-    let artifacts = works(alloc, RECORDS)?;
-    if !row.sound() || !row.state.is_waiting() || !Letters::fits(&artifacts, &row) {
-        return Err(Fail::from("a task"));
-    }
-    let task = Letters::start(0, row, RULES, 2, artifacts);
-    let round = with_work(Vec::new(alloc), 0, task).ok_or("a work")?;
+    let round = with_work(Vec::new(alloc), 0, own_task(alloc)?).ok_or("a work")?;
     let planned = desk.apply(rt, Event::Plan(1, Certificate::FullLoad));
     planned.ok().ok_or("a plan")?;
     let dones = desk.run_round(rt, alloc, &NoGate, round);
@@ -98,6 +105,39 @@ fn start(
     begun(alloc, 2, RULES, 3, &mut mapper, reducer)
 }
 
+/// Why the prepared step has no answer.
+fn refusal_of<L: Ledger + Send + Sync + 'static, R: Threads + Wait + Sync>(
+    rt: &R,
+    alloc: Global,
+    blank: Blank,
+    wrong: Wrong,
+    prepared: Prepared,
+    reducer: &mut ListReducer,
+) -> Result<StepError, Fail>
+    requires name { blank.name ≡ L.name }
+    requires parts { blank.parts ≡ L.parts }
+    requires all { blank.parts ≡ 1000000000000 }
+{
+    let desk = prepared.desk::<L>(alloc, blank)?;
+    if wrong == Wrong::OwnRound {
+        run_own(rt, alloc, &desk)?;
+    }
+    let mut analyzer = ListAnalyzer::new(alloc, None);
+    let partitions = if wrong == Wrong::OneShort { 1 } else { 2 };
+    let end = ended_with::<L, NoGate, R>(
+        rt,
+        alloc,
+        &desk,
+        prepared,
+        RECORDS,
+        partitions,
+        &mut analyzer,
+        reducer,
+        &NoGate,
+    )?;
+    Ok(end.err().ok_or("no answer")?)
+}
+
 /// Why the step has no answer, and how many calls its reducer took.
 fn refusal<L: Ledger + Send + Sync + 'static, R: Threads + Wait + Sync>(
     rt: &R,
@@ -115,31 +155,11 @@ fn refusal<L: Ledger + Send + Sync + 'static, R: Threads + Wait + Sync>(
         None
     };
     let mut reducer = ListReducer::new(alloc, fault);
-    let mut analyzer = ListAnalyzer::new(alloc, None);
-    let prepared = match start(alloc, wrong, &mut reducer)? {
-        Ok(prepared) => prepared,
-        Err(error) => return Ok((error, reducer.calls().len())),
+    let error = match start(alloc, wrong, &mut reducer)? {
+        Ok(prepared) => refusal_of::<L, R>(rt, alloc, blank, wrong, prepared, &mut reducer)?,
+        Err(error) => error,
     };
-    let desk = prepared.desk::<L>(alloc, blank)?;
-    if wrong == Wrong::OwnRound {
-        run_own(rt, alloc, &desk)?;
-    }
-    let partitions = if wrong == Wrong::OneShort { 1 } else { 2 };
-    let end = ended_with::<L, NoGate, R>(
-        rt,
-        alloc,
-        &desk,
-        prepared,
-        RECORDS,
-        partitions,
-        &mut analyzer,
-        &mut reducer,
-        &NoGate,
-    )?;
-    match end {
-        Ok(_) => Err(Fail::from("no answer")),
-        Err(error) => Ok((error, reducer.calls().len())),
-    }
+    Ok((error, reducer.calls().len()))
 }
 
 #[test]

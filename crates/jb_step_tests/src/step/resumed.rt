@@ -9,7 +9,7 @@ use crate::step::runs::{ended_with, started};
 use jb_collect::{ListAnalyzer, ListReducer, Reducer, Status};
 use jb_mapper::FixedMapper;
 use jb_plan::PlanError;
-use jb_step::{SavedPlace, StepError, read_saved};
+use jb_step::{Prepared, SavedPlace, StepError, read_saved};
 use jb_workers::{Desk, Gate};
 use std::alloc::Global;
 use std::marker::Brand;
@@ -134,6 +134,33 @@ impl<L: Ledger + Send + Sync> Gate for Stopping<L> {
     }
 }
 
+/// Runs the step on the desk that the gate stops, and gives its course.
+fn stop_at<L: Ledger + Send + Sync + 'static, R: Threads + Wait + Sync>(
+    rt: &R,
+    alloc: Global,
+    gate: &Stopping<L>,
+    prepared: Prepared,
+    reducer: &mut ListReducer,
+    between: &mut Between,
+) -> Result<String, Fail> {
+    let mut analyzer = ListAnalyzer::new(alloc, None);
+    let end = ended_with::<L, Stopping<L>, R>(
+        rt,
+        alloc,
+        &gate.desk,
+        prepared,
+        RECORDS,
+        3,
+        &mut analyzer,
+        reducer,
+        gate,
+    )?;
+    let end = end.ok().ok_or("an end")?;
+    let course = course_of(alloc, &end, &analyzer, reducer)?;
+    between.keep(alloc, end)?;
+    Ok(course)
+}
+
 /// The round of this place is run to its end, and no other is begun.
 fn stop<L: Ledger + Send + Sync + 'static, R: Threads + Wait + Sync>(
     rt: &R,
@@ -146,29 +173,17 @@ fn stop<L: Ledger + Send + Sync + 'static, R: Threads + Wait + Sync>(
     requires parts { blank.parts ≡ L.parts }
     requires all { blank.parts ≡ 1000000000000 }
 {
-    let mut analyzer = ListAnalyzer::new(alloc, None);
     let mut reducer = ListReducer::new(alloc, None);
     let prepared = started(alloc, PLAIN, RECORDS, &mut reducer, None)?;
     let desk = Arc::new(alloc, prepared.desk::<L>(alloc, blank)?)?;
-    let gate = Stopping {
-        desk: Arc::try_clone(&desk)?,
-        place,
-    };
-    let end = ended_with::<L, Stopping<L>, R>(
+    stop_at::<L, R>(
         rt,
         alloc,
-        &desk,
+        &Stopping { desk, place },
         prepared,
-        RECORDS,
-        3,
-        &mut analyzer,
         &mut reducer,
-        &gate,
-    )?;
-    let end = end.ok().ok_or("an end")?;
-    let course = course_of(alloc, &end, &analyzer, &reducer)?;
-    between.keep(alloc, end)?;
-    Ok(course)
+        between,
+    )
 }
 
 /// A stop that lane 1 asks for as it begins in the first round: what the round committed stands, and the restart ends as the step

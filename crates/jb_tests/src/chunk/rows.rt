@@ -4,11 +4,14 @@ use jb_artifacts::{
     ArtifactsOf, CountCollector, FaultPlan, FaultPlans, Item, ItemWriter, ListWriter,
     PrefixProcessor, TableReader,
 };
-use jb_chunk::{AloneEnd, PartitionTask, Task, run_alone};
+use jb_chunk::{Alone, AloneEnd, PartitionTask, Task, run_alone};
 use jb_job::{ClassId, Range, Rules};
 use jb_rules::{Row, RowState};
 use std::alloc::Global;
 use std::test::*;
+
+/// What a partition works with.
+type Works = ArtifactsOf<TableReader, PrefixProcessor, ListWriter, CountCollector>;
 
 /// The plans by which the calls for record 1 always fail, with the class of number 0.
 fn bad_one(alloc: Global) -> Result<FaultPlans, Fail> {
@@ -33,6 +36,37 @@ fn letters(alloc: Global) -> Result<Vec<Item>, Fail> {
     Ok(records)
 }
 
+/// What a partition of these records works with.
+fn works(
+    alloc: Global,
+    records: Vec<Item>,
+    processes: FaultPlans,
+    writes: FaultPlans,
+) -> Result<Works, Fail> {
+    let prefix = Item::copy_of(alloc, b"x")?;
+    Ok(ArtifactsOf {
+        reader: TableReader::new(alloc, 0, records, FaultPlans::new(alloc)),
+        processor: PrefixProcessor::new(alloc, prefix, None, processes),
+        writer: ListWriter::new(alloc, Vec::new(alloc), writes),
+        collector: CountCollector::new(alloc),
+    })
+}
+
+/// What the partition left.
+fn left(alloc: Global, alone: Alone<Task<Works>>) -> Result<Ran, Fail> {
+    let row = *alone.task.row();
+    let artifacts = alone.task.into_artifacts();
+    let last = match artifacts.writer.item_at(row.written.saturating_sub(1)) {
+        Some(text) => Vec::from_slice(alloc, text)?,
+        None => Vec::new(alloc),
+    };
+    Ok(Ran {
+        row,
+        end: alone.end,
+        last,
+    })
+}
+
 /// Runs a partition of these records alone, with a processor that puts an x before each. The class of number 0 is
 /// skippable and the classes `retryable` are retried. Answers the last output too.
 fn run(
@@ -44,13 +78,7 @@ fn run(
     writes: FaultPlans,
 ) -> Result<Ran, Fail> {
     let hi = records.len() as u64;
-    let prefix = Item::copy_of(alloc, b"x")?;
-    let artifacts = ArtifactsOf {
-        reader: TableReader::new(alloc, 0, records, FaultPlans::new(alloc)),
-        processor: PrefixProcessor::new(alloc, prefix, None, processes),
-        writer: ListWriter::new(alloc, Vec::new(alloc), writes),
-        collector: CountCollector::new(alloc),
-    };
+    let artifacts = works(alloc, records, processes, writes)?;
     let row = Row::fresh(Range { lo: 0, hi });
     if !row.sound() || row.state != RowState::Waiting || !Task::fits(&artifacts, &row) {
         return Err(Fail::from("a task"));
@@ -64,18 +92,8 @@ fn run(
         skip_limit: Some(1),
         retry_limit: 1000,
     };
-    let alone = run_alone(alloc, Task::start(0, row, rules, item_count, artifacts));
-    let row = *alone.task.row();
-    let artifacts = alone.task.into_artifacts();
-    let last = match artifacts.writer.item_at(row.written.saturating_sub(1)) {
-        Some(text) => Vec::from_slice(alloc, text)?,
-        None => Vec::new(alloc),
-    };
-    Ok(Ran {
-        row,
-        end: alone.end,
-        last,
-    })
+    let task = Task::start(0, row, rules, item_count, artifacts);
+    left(alloc, run_alone(alloc, task))
 }
 
 #[test]
