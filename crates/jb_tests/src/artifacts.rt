@@ -15,7 +15,6 @@ use jb_artifacts::{
 use jb_job::{ArtifactError, ClassId};
 use jb_rules::Counts;
 use std::alloc::{AllocError, Global};
-use std::process::Abort;
 use std::test::Fail;
 
 /// Worked values, computed from the definitions alone.
@@ -58,39 +57,75 @@ fn failing_once(alloc: Global, class: ClassId) -> Result<FaultPlans, Fail> {
     Ok(plans)
 }
 
-/// What a call answers, without its value.
-fn told<T: Drop>(answer: Result<T, ArtifactError>) -> Result<(), ArtifactError> {
+/// What each of those plans answers at the first call for record 1.
+fn fault() -> ArtifactError {
+    ArtifactError::Fault(ClassId::new(3))
+}
+
+/// Items of these texts.
+fn items(alloc: Global, texts: &[&str]) -> Result<Vec<Item>, AllocError> {
+    let mut items = Vec::new(alloc);
+    for text in texts {
+        items.push(Item::copy_of(alloc, text.as_bytes())?)?;
+    }
+    Ok(items)
+}
+
+/// What a call failed with.
+fn fault_of<T: Drop>(answer: Result<T, ArtifactError>) -> Option<ArtifactError> {
     match answer {
-        Ok(_) => Ok(()),
-        Err(error) => Err(error),
+        Ok(_) => None,
+        Err(fault) => Some(fault),
     }
 }
 
-/// Two records are read, processed, written and told of; each call for record 1 fails once.
-#[test]
-fn one_record_after_a_fault(rt: HostRuntime) -> Result<(), Fail> {
-    let alloc = rt.alloc();
-    let class = ClassId::new(3);
-    let fault = Err(ArtifactError::Fault(class));
-    let mut records = Vec::new(alloc);
-    for text in ["a", "b"] {
-        records.push(Item::copy_of(alloc, text.as_bytes())?)?;
+/// Whether a call answered with these bytes.
+fn holds(answer: &Result<Option<Item>, ArtifactError>, bytes: &[u8]) -> bool {
+    match answer {
+        Ok(Some(item)) => item.as_slice() == bytes,
+        _ => false,
     }
-    let mut reader = TableReader::new(alloc, 0, records, failing_once(alloc, class)?);
-    assert_eq!(rt; told(reader.read_item()), Ok(()));
-    assert_eq!(rt; told(reader.read_item()), fault);
+}
+
+/// Record 0 is read, and record 1 after a fault.
+#[test]
+fn a_record_read_after_a_fault(rt: HostRuntime) -> Result<(), Fail> {
+    let alloc = rt.alloc();
+    let plans = failing_once(alloc, ClassId::new(3))?;
+    let mut reader = TableReader::new(alloc, 0, items(alloc, &["a", "b"])?, plans);
+    assert!(rt; holds(&reader.read_item(), b"a"));
+    assert!(rt; fault_of(reader.read_item()) == Some(fault()));
+    Ok(())
+}
+
+/// Record 1 is processed after a fault.
+#[test]
+fn a_record_processed_after_a_fault(rt: HostRuntime) -> Result<(), Fail> {
+    let alloc = rt.alloc();
+    let plans = failing_once(alloc, ClassId::new(3))?;
     let prefix = Item::copy_of(alloc, b"x")?;
-    let mut processor = PrefixProcessor::new(alloc, prefix, None, failing_once(alloc, class)?);
-    assert_eq!(rt; told(processor.process_item(1, b"b")), fault);
-    let Ok(Some(result)) = processor.process_item(1, b"b") else {
-        return Err(Fail::from("a result"));
-    };
-    assert_eq!(rt; result.as_slice(), b"xb".as_slice());
-    let mut writer = ListWriter::new(alloc, Vec::new(alloc), failing_once(alloc, class)?);
-    let results = [(1, result)];
-    assert_eq!(rt; writer.write_items(&results), fault);
-    assert_eq!(rt; writer.write_items(&results), Ok(()));
-    assert_eq!(rt; writer.item_at(0), Some(b"xb".as_slice()));
+    let mut processor = PrefixProcessor::new(alloc, prefix, None, plans);
+    assert!(rt; fault_of(processor.process_item(1, b"b")) == Some(fault()));
+    assert!(rt; holds(&processor.process_item(1, b"b"), b"xb"));
+    Ok(())
+}
+
+/// The result of record 1 is written after a fault.
+#[test]
+fn a_result_written_after_a_fault(rt: HostRuntime) -> Result<(), Fail> {
+    let alloc = rt.alloc();
+    let plans = failing_once(alloc, ClassId::new(3))?;
+    let mut writer = ListWriter::new(alloc, Vec::new(alloc), plans);
+    let results = [(1, Item::copy_of(alloc, b"xb")?)];
+    assert!(rt; writer.write_items(&results) == Err(fault()));
+    assert!(rt; writer.write_items(&results) == Ok(()));
+    assert!(rt; writer.item_at(0) == Some(b"xb".as_slice()));
+    Ok(())
+}
+
+/// The end of a partition of two records is told of.
+#[test]
+fn an_end_collected(rt: HostRuntime) -> Result<(), Fail> {
     let view = RowView {
         partition: 0,
         lo: 0,
@@ -99,80 +134,71 @@ fn one_record_after_a_fault(rt: HostRuntime) -> Result<(), Fail> {
         counts: Counts::ZERO,
         last: true,
     };
-    let text = CountCollector::new(alloc).collect(&view)?.into_vec();
-    assert_eq!(rt; text.as_slice(), b"0:2:0:end".as_slice());
+    let text = CountCollector::new(rt.alloc()).collect(&view)?.into_vec();
+    assert!(rt; text.as_slice() == b"0:2:0:end".as_slice());
     Ok(())
 }
 
-/// The bytes of what a call answered, if it answered well; else there was no memory for it.
-fn answered(rt: &impl Abort, answer: &Result<Option<Item>, ArtifactError>, bytes: &[u8]) -> bool {
+/// Whether there was no memory for what a call was to answer.
+fn wants_memory(answer: &Result<Option<Item>, ArtifactError>) -> bool {
     match answer {
-        Ok(Some(item)) => {
-            assert_eq!(rt; item.as_slice(), bytes);
-            true
-        }
-        Ok(None) => {
-            assert!(rt; false, "nothing");
-            false
-        }
-        Err(fault) => {
-            assert_eq!(rt; *fault, ArtifactError::Memory);
-            false
-        }
+        Err(fault) => *fault == ArtifactError::Memory,
+        Ok(_) => false,
     }
 }
 
-/// The record is read, or the reader stays where it was.
-fn reads(rt: &impl Abort, alloc: Global, records: Vec<Item>) {
-    let mut reader = TableReader::new(alloc, 0, records, FaultPlans::new(alloc));
-    if !answered(rt, &reader.read_item(), b"a") {
-        assert_eq!(rt; reader.place(), 0);
-        assert!(rt; answered(rt, &reader.read_item(), b"a"));
+/// Whether the record is read, if not at the first call at the second, before which the reader stays where it was.
+fn reads(reader: &mut TableReader) -> bool {
+    let answer = reader.read_item();
+    if wants_memory(&answer) {
+        return reader.place() == 0 && holds(&reader.read_item(), b"a") && reader.place() == 1;
     }
-    assert_eq!(rt; reader.place(), 1);
+    holds(&answer, b"a") && reader.place() == 1
 }
 
-/// The result is made, at the second call if not at the first.
-fn processes(rt: &impl Abort, alloc: Global, prefix: Item) {
-    let mut processor = PrefixProcessor::new(alloc, prefix, None, FaultPlans::new(alloc));
-    if !answered(rt, &processor.process_item(0, b"a"), b"xa") {
-        assert!(rt; answered(rt, &processor.process_item(0, b"a"), b"xa"));
+/// Whether the result is made, if not at the first call at the second.
+fn processes(processor: &mut PrefixProcessor) -> bool {
+    let answer = processor.process_item(0, b"a");
+    if wants_memory(&answer) {
+        return holds(&processor.process_item(0, b"a"), b"xa");
     }
+    holds(&answer, b"xa")
 }
 
-/// The result is written, or the list stays as it was.
-fn writes(rt: &impl Abort, alloc: Global, results: &[(u64, Item)]) {
-    let mut writer = ListWriter::new(alloc, Vec::new(alloc), FaultPlans::new(alloc));
+/// Whether the writer holds this result alone.
+fn has_one(writer: &ListWriter, bytes: &[u8]) -> bool {
+    writer.count() == 1 && writer.item_at(0) == Some(bytes)
+}
+
+/// Whether the result is written, if not at the first call at the second, before which the list stays as it was.
+fn writes(writer: &mut ListWriter, results: &[(u64, Item)]) -> bool {
     if let Err(fault) = writer.write_items(results) {
-        assert_eq!(rt; fault, ArtifactError::Memory);
-        assert_eq!(rt; writer.count(), 0);
-        assert_eq!(rt; writer.write_items(results), Ok(()));
+        if fault != ArtifactError::Memory || writer.count() != 0 {
+            return false;
+        }
+        return writer.write_items(results) == Ok(()) && has_one(writer, b"xa");
     }
-    assert_eq!(rt; writer.count(), 1);
-    assert_eq!(rt; writer.item_at(0), Some(b"xa".as_slice()));
+    has_one(writer, b"xa")
 }
 
-/// A list of this record.
-fn list_of(alloc: Global, text: &[u8]) -> Result<Vec<Item>, AllocError> {
-    let mut records = Vec::new(alloc);
-    records.push(Item::copy_of(alloc, text)?)?;
-    Ok(records)
+/// What the three work with: a record, a prefix and a result.
+fn three_items(alloc: Global) -> Result<(Vec<Item>, Item, Item), AllocError> {
+    let records = items(alloc, &["a"])?;
+    let prefix = Item::copy_of(alloc, b"x")?;
+    let result = Item::copy_of(alloc, b"xa")?;
+    Ok((records, prefix, result))
 }
 
 /// With any one request refused, each call answers in full, or want of memory, and then in full.
 #[test]
 fn wants_memory_or_answers_in_full(rt: HostRuntime) {
     let alloc = rt.alloc();
-    let Ok(records) = list_of(alloc, b"a") else {
+    let Ok((records, prefix, result)) = three_items(alloc) else {
         return;
     };
-    reads(&rt, alloc, records);
-    let Ok(prefix) = Item::copy_of(alloc, b"x") else {
-        return;
-    };
-    processes(&rt, alloc, prefix);
-    let Ok(result) = Item::copy_of(alloc, b"xa") else {
-        return;
-    };
-    writes(&rt, alloc, &[(0, result)]);
+    assert!(rt; reads(&mut TableReader::new(alloc, 0, records, FaultPlans::new(alloc))));
+    let mut processor = PrefixProcessor::new(alloc, prefix, None, FaultPlans::new(alloc));
+    assert!(rt; processes(&mut processor));
+    let mut writer = ListWriter::new(alloc, Vec::new(alloc), FaultPlans::new(alloc));
+    assert!(rt; writes(&mut writer, &[(0, result)]));
 }

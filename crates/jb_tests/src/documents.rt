@@ -6,11 +6,11 @@ ghost use Rattle.jb_documents.specs.Worked.{three_equal, three_equal_document, t
 
 use jb_cert::Certificate;
 use jb_documents::{
-    Document, FaultKind, RestartDocument, read_claim, read_document, read_load, read_restart,
+    Document, FaultKind, RestartDocument, StepData, read_claim, read_document, read_load,
+    read_restart,
 };
 use jb_job::JobError;
 use std::alloc::{AllocError, Global};
-use std::process::Abort;
 use std::test::Fail;
 
 // This fact speaks of no code.
@@ -28,36 +28,53 @@ const ONE_STEP: &str =
     r#"{"job":{"id":"j","exception-classes":["E"],"step":[{"id":"s","chunk":{}}]},
         "data":[{"records":["a","b"],"drop":"x","faults":{"read":[[0,"bad","E"],[1,"shaky",["E"]]]}}]}"#;
 
-/// Sees that it is that document.
-fn has_one_step(rt: &impl Abort, document: &Document) {
-    assert_eq!(rt; document.steps.as_slice().len(), 1);
-    for step in document.steps.as_slice() {
-        let second = step.records.as_slice().last().expect(rt, "a record");
-        assert_eq!(rt; second.as_str(), "b");
-        let fault = step.faults.read.as_slice().last().expect(rt, "a fault");
-        assert_eq!(rt; fault.number, 1);
-        assert!(rt; matches!(&fault.kind, FaultKind::Shaky(_)));
+/// Whether the step has that second record, and that second fault in reading.
+fn is_that_step(step: &StepData) -> bool {
+    match (
+        step.records.as_slice().last(),
+        step.faults.read.as_slice().last(),
+    ) {
+        (Some(record), Some(fault)) => {
+            let is_shaky = matches!(&fault.kind, FaultKind::Shaky(_));
+            record.as_str() == "b" && fault.number == 1 && is_shaky
+        }
+        _ => false,
     }
 }
 
-#[test]
-fn documents_are_read(rt: HostRuntime) {
-    worked_documents();
-    let bytes = bytes_of(rt.alloc(), r#"{"counts":[3,3,3],"threads":2}"#).expect(&rt, "memory");
-    let load = read_load(rt.alloc(), bytes).expect(&rt, "a document");
-    assert_eq!(rt; load.counts(), [3u64, 3, 3].as_slice());
-    assert_eq!(rt; load.threads(), 2);
+/// Whether it is that document.
+fn has_one_step(document: &Document) -> bool {
+    for step in document.steps.as_slice() {
+        if !is_that_step(step) {
+            return false;
+        }
+    }
+    document.steps.as_slice().len() == 1
+}
 
+#[test]
+fn a_load_is_read(rt: HostRuntime) -> Result<(), Fail> {
+    worked_documents();
+    let bytes = bytes_of(rt.alloc(), r#"{"counts":[3,3,3],"threads":2}"#)?;
+    let load = read_load(rt.alloc(), bytes)?;
+    assert!(rt; load.counts() == [3u64, 3, 3].as_slice() && load.threads() == 2);
+    Ok(())
+}
+
+#[test]
+fn a_claim_is_read(rt: HostRuntime) -> Result<(), Fail> {
     let text =
         r#"{"counts":[2,1],"threads":2,"rounds":[[[0,0,0],[1,1,0]],[[0,0,1]]],"certificate":1}"#;
-    let bytes = bytes_of(rt.alloc(), text).expect(&rt, "memory");
-    let claim = read_claim(rt.alloc(), bytes).expect(&rt, "a document");
-    assert_eq!(rt; claim.plan.rounds.len(), 2);
-    assert_eq!(rt; claim.certificate, Certificate::Longest(1));
+    let claim = read_claim(rt.alloc(), bytes_of(rt.alloc(), text)?)?;
+    assert!(rt; claim.plan.rounds.len() == 2 && claim.certificate == Certificate::Longest(1));
+    Ok(())
+}
 
-    let bytes = bytes_of(rt.alloc(), ONE_STEP).expect(&rt, "memory");
-    let document = read_document(rt.alloc(), bytes).expect(&rt, "a document");
-    has_one_step(&rt, &document);
+#[test]
+fn a_document_is_read(rt: HostRuntime) -> Result<(), Fail> {
+    let document = read_document(rt.alloc(), bytes_of(rt.alloc(), ONE_STEP)?)?;
+    assert!(rt; has_one_step(&document));
+    Ok(())
 }
 
 /// With any one request refused, the document is read in full or there is no memory for it.
@@ -67,8 +84,8 @@ fn wants_memory_or_answers_in_full(rt: HostRuntime) {
         return;
     };
     match read_document(rt.alloc(), bytes) {
-        Ok(document) => has_one_step(&rt, &document),
-        Err(fault) => assert_eq!(rt; fault, JobError::Memory),
+        Ok(document) => assert!(rt; has_one_step(&document)),
+        Err(fault) => assert!(rt; fault == JobError::Memory),
     }
 }
 
@@ -140,7 +157,7 @@ fn restarts_are_read(rt: HostRuntime) -> Result<(), Fail> {
     for line in RESTARTS.lines() {
         let (want, resume) = line.split_once(' ').ok_or("no text")?;
         let answer = restart_answer(rt.alloc(), resume)?;
-        assert_eq!(rt; answer.as_str(), want, "{line}");
+        assert!(rt; answer.as_str() == want, "{line}");
     }
     Ok(())
 }

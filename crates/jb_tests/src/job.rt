@@ -24,20 +24,33 @@ fn worked_rows()
 const RANGES: &str =
     r#"{"id":"j","step":[{"chunk":{"item-count":2},"id":"s","partition":{"plan":{"ranges":[[0,2],[2,3]],"threads":1}}}]}"#;
 
+/// Whether the step has two ranges, and two items in a chunk.
+fn has_two_ranges(step: &Step) -> bool {
+    match step.spec().ranges() {
+        Some(ranges) => ranges.as_slice().len() == 2 && step.item_count() == 2,
+        None => false,
+    }
+}
+
+/// Whether they are such steps, and those of a job.
+fn are_of_two_ranges(steps: Steps) -> bool {
+    let mut are = Steps::fit(steps.as_slice());
+    for step in steps.into_vec() {
+        are = are && has_two_ranges(&step);
+    }
+    are
+}
+
 /// `tests/refused-memory` runs it also with each of its requests for memory refused in turn: then the answer is Memory and no other.
 #[test]
 fn ranges_are_read_or_memory_is_wanted(rt: HostRuntime) {
     worked_rows();
     match read_job(rt.alloc(), RANGES.as_bytes()) {
-        Err(fault) => assert_eq!(rt; fault, JobError::Memory),
+        Err(fault) => assert!(rt; fault == JobError::Memory),
         Ok(job) => {
             let Job { id, steps, .. } = job;
-            assert_eq!(rt; id.into_string().as_str(), "j");
-            assert!(rt; Steps::fit(steps.as_slice()));
-            for step in steps.into_vec() {
-                let ranges = step.spec().ranges().map(|ranges| ranges.as_slice().len());
-                assert_eq!(rt; (step.item_count(), ranges), (2, Some(2)));
-            }
+            assert!(rt; are_of_two_ranges(steps));
+            assert!(rt; id.into_string().as_str() == "j");
         }
     }
 }
@@ -45,28 +58,45 @@ fn ranges_are_read_or_memory_is_wanted(rt: HostRuntime) {
 const CLASSES: &str =
     r#"{"exception-classes":["E","F","E","é"],"id":"j","step":[{"chunk":{"retry-limit":0,"skip-limit":1,"retryable-exception-classes":{"include":["*"],"exclude":["F"]},"skippable-exception-classes":{"include":["é","E"]}},"id":"s","partition":{"plan":{"override":true,"partitions":3}}}]}"#;
 
+/// The number of a class of the job.
+fn number_of(job: &Job, name: &str) -> Option<u8> {
+    let class = job.class(name)?;
+    Some(class.number())
+}
+
+/// Whether the job knows these classes by their numbers, and `*` is none.
+fn has_classes(job: &Job) -> bool {
+    number_of(job, "E") == Some(0)
+        && number_of(job, "F") == Some(1)
+        && number_of(job, "é") == Some(2)
+        && number_of(job, "*") == None
+}
+
+/// Whether the step follows the rules that it asks for.
+fn has_rules(step: &Step) -> bool {
+    let rules = Rules {
+        skippable: 0b101,
+        retryable: u64::MAX - 0b10,
+        skip_limit: Some(1),
+        retry_limit: 0,
+    };
+    step.item_count() == 10 && step.rules() == rules
+}
+
+/// Whether the step has that id, and asks for three partitions in place of those before.
+fn has_three_partitions(step: Step) -> bool {
+    let (id, spec) = step.into_parts();
+    let numbers = (spec.partitions(), spec.threads(), spec.replace());
+    numbers == (3, 0, true) && spec.into_ranges().is_none() && id.as_str() == "s"
+}
+
 #[test]
 fn classes_are_read_or_memory_is_wanted(rt: HostRuntime) -> Result<(), Fail> {
     let tree = read_tree(rt.alloc(), CLASSES.as_bytes())?;
     let job = job_of(rt.alloc(), &tree)?;
-    let numbers = ["E", "F", "é", "*"].map(|name| job.class(name).map(ClassId::number));
-    assert_eq!(rt; numbers, [Some(0), Some(1), Some(2), None]);
-    let Job { steps, .. } = job;
-    for step in steps.into_vec() {
-        let rules = Rules {
-            skippable: 0b101,
-            retryable: u64::MAX - 0b10,
-            skip_limit: Some(1),
-            retry_limit: 0,
-        };
-        assert_eq!(rt; (step.item_count(), step.rules()), (10, rules));
-        let (id, spec) = step.into_parts();
-        assert_eq!(rt; id.as_str(), "s");
-        assert_eq!(rt;
-            (spec.partitions(), spec.threads(), spec.replace()),
-            (3, 0, true)
-        );
-        assert!(rt; spec.into_ranges().is_none());
+    assert!(rt; has_classes(&job));
+    for step in job.steps.into_vec() {
+        assert!(rt; has_rules(&step) && has_three_partitions(step));
     }
     Ok(())
 }
@@ -89,7 +119,7 @@ fn items_of(tree: Value) -> Result<Vec<Value>, Fail> {
 fn members_moved(rt: HostRuntime) -> Result<(), Fail> {
     let items = items_of(read_tree(rt.alloc(), b"[7,8]")?)?;
     let numbers = numbers(rt.alloc(), items)?;
-    assert_eq!(rt; numbers.as_slice(), [7, 8].as_slice());
+    assert!(rt; numbers.as_slice() == [7, 8].as_slice());
     Ok(())
 }
 
@@ -97,18 +127,16 @@ fn members_moved(rt: HostRuntime) -> Result<(), Fail> {
 fn three_members(rt: HostRuntime) -> Result<(), Fail> {
     let tree = read_tree(rt.alloc(), b"[7,[],9]")?;
     let (first, second, third) = triple(Field::Rounds, &tree)?;
-    let fault = whole(Field::Rounds, second).err();
-    assert_eq!(rt; fault, Some(JobError::WrongShape(Field::Rounds)));
-    let ends = (whole(Field::Rounds, first)?, whole(Field::Rounds, third)?);
-    assert_eq!(rt; ends, (7, 9));
+    assert!(rt; whole(Field::Rounds, second) == Err(JobError::WrongShape(Field::Rounds)));
+    assert!(rt; whole(Field::Rounds, first) == Ok(7) && whole(Field::Rounds, third) == Ok(9));
     Ok(())
 }
 
 /// That `?` makes want of memory of an `AllocError`, and the line that is printed for it. No request is refused here.
 #[test]
 fn no_memory(rt: HostRuntime) -> Result<(), Fail> {
-    assert_eq!(rt; ArtifactError::from(AllocError), ArtifactError::Memory);
+    assert!(rt; ArtifactError::from(AllocError) == ArtifactError::Memory);
     let line = format!(in rt.alloc(); "{}", JobError::from(AllocError))?;
-    assert_eq!(rt; line.as_str(), "no memory");
+    assert!(rt; line.as_str() == "no memory");
     Ok(())
 }

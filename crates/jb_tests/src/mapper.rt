@@ -6,6 +6,7 @@ ghost use Rattle.jb_mapper.specs.EvenCover.{even_ranges};
 use jb_job::{ArtifactError, Range, Ranges};
 use jb_mapper::{EvenMapper, FixedMapper, PartitionMapper};
 use jb_plan::{PartitionPlan, PlanError, checked};
+use std::alloc::{AllocError, Global};
 use std::test::Fail;
 
 /// The even covers of seven records by three partitions, of two by four, and of none by one.
@@ -15,6 +16,16 @@ fn worked_covers()
     ensures none { even_ranges 0 1 ≡ record { lo = 0; hi = 0 } ∷ [] }
 {}
 
+/// Whether the ranges have these bounds.
+fn have_bounds(ranges: &[Range], bounds: &[(u64, u64)]) -> bool {
+    for (range, bound) in ranges.iter().zip(bounds) {
+        if (range.lo, range.hi) != *bound {
+            return false;
+        }
+    }
+    ranges.len() == bounds.len()
+}
+
 /// Whether the mapper answers just this plan.
 fn gives(
     mapper: &mut dyn PartitionMapper,
@@ -23,15 +34,13 @@ fn gives(
     threads: u32,
     replace: bool,
 ) -> bool {
-    let Ok(plan) = mapper.map(records) else {
-        return false;
-    };
-    let ranges = plan.ranges.as_slice();
-    ranges.len() == bounds.len()
-        && ranges.iter().zip(bounds).all(|(range, bound)| range.lo == bound.0
-            && range.hi == bound.1)
-        && plan.threads == threads
-        && plan.replace == replace
+    match mapper.map(records) {
+        Ok(plan) => {
+            let has_numbers = plan.threads == threads && plan.replace == replace;
+            has_numbers && have_bounds(plan.ranges.as_slice(), bounds)
+        }
+        Err(_) => false,
+    }
 }
 
 #[test]
@@ -45,82 +54,89 @@ fn even_plans(rt: HostRuntime) {
     assert!(rt; gives(&mut four, 2, &[(0, 1), (1, 2), (2, 2), (2, 2)], 0, true));
 }
 
-#[test]
-fn fixed_plans(rt: HostRuntime) {
-    let alloc = rt.alloc();
-    let Ok(ranges) = Vec::from_slice(alloc, &[Range { lo: 4, hi: 6 }, Range { lo: 0, hi: 3 }])
-    else {
-        return;
-    };
-    let mut mapper = FixedMapper::new(PartitionPlan {
+/// The mapper of a plan of two ranges.
+fn two_ranges(alloc: Global) -> Result<FixedMapper, AllocError> {
+    let ranges = Vec::from_slice(alloc, &[Range { lo: 4, hi: 6 }, Range { lo: 0, hi: 3 }])?;
+    Ok(FixedMapper::new(PartitionPlan {
         ranges: Ranges::new(ranges),
         threads: 5,
         replace: true,
-    });
+    }))
+}
+
+#[test]
+fn fixed_plans(rt: HostRuntime) -> Result<(), Fail> {
+    let mut mapper = two_ranges(rt.alloc())?;
     assert!(rt; gives(&mut mapper, 7, &[(4, 6), (0, 3)], 5, true));
     assert!(rt; gives(&mut mapper, 0, &[(4, 6), (0, 3)], 5, true));
+    Ok(())
 }
 
-/// As many partitions as a mapper is asked for.
+/// Whether these are the even ranges of as many records as a step has, by as many partitions as a mapper is asked for.
+fn are_4_096(ranges: &[Range]) -> bool {
+    match (ranges.first(), ranges.last()) {
+        (Some(first), Some(last)) => {
+            let bounds = (first.hi, last.lo, last.hi);
+            ranges.len() == 4_096 && bounds == (2_442, 9_997_559, 10_000_000)
+        }
+        _ => false,
+    }
+}
+
+/// As many partitions as a mapper is asked for: an even plan, and its copy.
 #[test]
-fn plans_of_4_096_partitions(rt: HostRuntime) {
-    let mut even = EvenMapper::new(rt.alloc(), 4_096, 64, true);
-    let Ok(plan) = even.map(10_000_000) else {
-        assert!(rt; false, "an even plan");
-        return;
-    };
-    let mut fixed = FixedMapper::new(plan);
-    let Ok(plan) = fixed.map(0) else {
-        assert!(rt; false, "its copy");
-        return;
-    };
-    let ranges = plan.ranges.as_slice();
-    assert_eq!(rt; ranges.len(), 4_096);
-    assert_eq!(rt; ranges.first().map(|range| range.hi), Some(2_442));
-    assert_eq!(rt; ranges.last().map(|range| range.lo), Some(9_997_559));
-    assert_eq!(rt; ranges.last().map(|range| range.hi), Some(10_000_000));
+fn plans_of_4_096_partitions(rt: HostRuntime) -> Result<(), Fail> {
+    let plan = EvenMapper::new(rt.alloc(), 4_096, 64, true).map(10_000_000);
+    let copy = FixedMapper::new(plan.ok().ok_or("a plan")?).map(0);
+    assert!(rt; are_4_096(copy.ok().ok_or("its copy")?.ranges.as_slice()));
+    Ok(())
+}
+
+/// What the check of a plan says: its threads, or the refusal.
+fn threads_of(plan: PartitionPlan, records: u64) -> Result<u32, PlanError> {
+    match checked(plan, records) {
+        Ok(plan) => Ok(plan.threads()),
+        Err(fault) => Err(fault),
+    }
 }
 
 #[test]
-fn an_even_plan_is_checked(rt: HostRuntime) {
-    let mut mapper = EvenMapper::new(rt.alloc(), 256, 0, false);
-    assert!(rt;
-        mapper.map(1_000).is_ok_and(|plan| checked(plan, 1_000).is_ok_and(|plan| plan.threads()
-            == 64))
-    );
-    let mut mapper = EvenMapper::new(rt.alloc(), 257, 0, false);
-    assert!(rt;
-        mapper
-            .map(1_000)
-            .is_ok_and(|plan| checked(plan, 1_000).is_err())
-    );
+fn an_even_plan_is_checked(rt: HostRuntime) -> Result<(), Fail> {
+    let most = EvenMapper::new(rt.alloc(), 256, 0, false).map(1_000);
+    assert!(rt; threads_of(most.ok().ok_or("a plan")?, 1_000) == Ok(64));
+    let more = EvenMapper::new(rt.alloc(), 257, 0, false).map(1_000);
+    assert!(rt; threads_of(more.ok().ok_or("a plan")?, 1_000) == Err(PlanError::TooMany));
+    Ok(())
 }
 
 #[test]
 fn a_plan_of_5_000_threads_is_refused(rt: HostRuntime) -> Result<(), Fail> {
-    let mut mapper = EvenMapper::new(rt.alloc(), 3, 5_000, false);
-    let Ok(plan) = mapper.map(7) else {
-        return Err(Fail::from("a plan"));
-    };
-    assert!(rt; matches!(checked(plan, 7), Err(PlanError::Threads)));
+    let plan = EvenMapper::new(rt.alloc(), 3, 5_000, false).map(7);
+    assert!(rt; threads_of(plan.ok().ok_or("a plan")?, 7) == Err(PlanError::Threads));
     Ok(())
+}
+
+/// What a mapper of seven records answers, if not want of memory; in place of that, the plan of the second call.
+fn answer(mapper: &mut dyn PartitionMapper) -> Result<PartitionPlan, ArtifactError> {
+    match mapper.map(7) {
+        Err(ArtifactError::Memory) => mapper.map(7),
+        answer => answer,
+    }
+}
+
+/// Whether the plan is the even one of seven records by three partitions.
+fn is_of_three(plan: &PartitionPlan) -> bool {
+    let has_numbers = plan.threads == 2 && !plan.replace;
+    has_numbers && have_bounds(plan.ranges.as_slice(), &[(0, 3), (3, 5), (5, 7)])
 }
 
 /// With any one request refused, both mappers answer the whole plan or want of memory, and then the whole plan.
 #[test]
-fn wants_memory_or_answers_in_full(rt: HostRuntime) {
-    let mut even = EvenMapper::new(rt.alloc(), 3, 2, false);
-    let plan = match even.map(7) {
-        Ok(plan) => plan,
-        Err(fault) => {
-            assert_eq!(rt; fault, ArtifactError::Memory);
-            assert!(rt; gives(&mut even, 7, &[(0, 3), (3, 5), (5, 7)], 2, false));
-            return;
-        }
-    };
-    let mut fixed = FixedMapper::new(plan);
-    if let Err(fault) = fixed.map(7) {
-        assert_eq!(rt; fault, ArtifactError::Memory);
-        assert!(rt; gives(&mut fixed, 7, &[(0, 3), (3, 5), (5, 7)], 2, false));
-    }
+fn wants_memory_or_answers_in_full(rt: HostRuntime) -> Result<(), Fail> {
+    let plan = answer(&mut EvenMapper::new(rt.alloc(), 3, 2, false));
+    let plan = plan.ok().ok_or("an even plan")?;
+    assert!(rt; is_of_three(&plan));
+    let copy = answer(&mut FixedMapper::new(plan));
+    assert!(rt; is_of_three(&copy.ok().ok_or("its copy")?));
+    Ok(())
 }

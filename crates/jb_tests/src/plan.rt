@@ -33,13 +33,12 @@ fn worked_faults()
 #[test]
 fn blocks_of_a_range(rt: HostRuntime) {
     worked_blocks();
-    assert_eq!(rt; chunks_left(1, 3, 7, 2), 4);
-    assert_eq!(rt; next_chunk(1, 3, 7, 2), Some(Range { lo: 1, hi: 2 }));
-    assert_eq!(rt; next_chunk(3, 3, 7, 2), Some(Range { lo: 3, hi: 5 }));
-    assert_eq!(rt; next_chunk(6, 3, 7, 2), Some(Range { lo: 6, hi: 7 }));
-    assert_eq!(rt; next_chunk(7, 7, 7, 2), None);
-    assert_eq!(rt; chunks_left(7, 7, 7, 2), 0);
-    assert_eq!(rt; chunks_left(0, 0, MAX_RECORDS, 1), MAX_RECORDS);
+    assert!(rt; next_chunk(1, 3, 7, 2) == Some(Range { lo: 1, hi: 2 }));
+    assert!(rt; next_chunk(3, 3, 7, 2) == Some(Range { lo: 3, hi: 5 }));
+    assert!(rt; next_chunk(6, 3, 7, 2) == Some(Range { lo: 6, hi: 7 }));
+    assert!(rt; next_chunk(7, 7, 7, 2) == None);
+    assert!(rt; chunks_left(1, 3, 7, 2) == 4 && chunks_left(7, 7, 7, 2) == 0);
+    assert!(rt; chunks_left(0, 0, MAX_RECORDS, 1) == MAX_RECORDS);
 }
 
 /// A plan of these ranges.
@@ -63,10 +62,9 @@ fn refusal_of(alloc: Global, ends: &[(u64, u64)], threads: u32) -> Result<String
     }
 }
 
-#[test]
-fn refusals_in_order(rt: HostRuntime) -> Result<(), Fail> {
-    worked_faults();
-    let cases: [(&[(u64, u64)], u32, &str); 11] = [
+/// Ranges and threads of plans on seven records, and what each is refused for.
+fn refusals() -> [(&'static [(u64, u64)], u32, &'static str); 11] {
+    [
         (&[], 4_097, "NoPartition"),
         (&[(3, 2)], 1, "Reversed(0)"),
         (&[(0, 8)], 1, "PastEnd(0)"),
@@ -78,16 +76,23 @@ fn refusals_in_order(rt: HostRuntime) -> Result<(), Fail> {
         (&[(0, 3), (2, 2), (3, 7)], 0, ""),
         (&[(0, 7)], 4_096, ""),
         (&[(0, 7)], 4_097, "Threads"),
-    ];
-    for (ends, threads, want) in cases {
+    ]
+}
+
+#[test]
+fn refusals_in_order(rt: HostRuntime) -> Result<(), Fail> {
+    worked_faults();
+    for (ends, threads, want) in refusals() {
         let text = refusal_of(rt.alloc(), ends, threads)?;
-        assert_eq!(rt; text.as_str(), want);
+        assert!(rt; text.as_str() == want);
     }
-    assert_eq!(rt;
-        ranges_in(&[Range { lo: 0, hi: 3 }, Range { lo: 2, hi: 7 }], 7),
-        Ok(())
-    );
     Ok(())
+}
+
+#[test]
+fn ranges_that_overlap(rt: HostRuntime) {
+    let ranges = [Range { lo: 0, hi: 3 }, Range { lo: 2, hi: 7 }];
+    assert!(rt; ranges_in(&ranges, 7) == Ok(()));
 }
 
 /// So many empty ranges.
@@ -98,6 +103,17 @@ fn empty_ranges(alloc: Global, count: usize, threads: u32) -> Result<PartitionPl
         threads,
         replace: false,
     })
+}
+
+/// The threads of a plan of so many ranges for no record, if it is accepted. It replaces nothing.
+fn threads_of(alloc: Global, count: usize, asked: u32) -> Result<u32, Fail> {
+    let plan = checked(empty_ranges(alloc, count, asked)?, 0)
+        .ok()
+        .ok_or("a plan")?;
+    if plan.ranges().len() != count || plan.replace() {
+        return Err(Fail::from("another plan"));
+    }
+    Ok(plan.threads())
 }
 
 #[test]
@@ -111,16 +127,16 @@ fn numbers_of_ranges_and_threads(rt: HostRuntime) -> Result<(), Fail> {
         (1, 4_096, 64),
         (3, 2, 2),
     ] {
-        match checked(empty_ranges(rt.alloc(), count, asked)?, 0) {
-            Ok(plan) => {
-                assert_eq!(rt; plan.threads(), want);
-                assert_eq!(rt; plan.ranges().len(), count);
-                assert!(rt; !plan.replace());
-            }
-            Err(fault) => assert!(rt; false, "{fault}"),
-        }
+        assert!(rt; threads_of(rt.alloc(), count, asked)? == want);
     }
-    let replacing = checked(given_plan(rt.alloc(), &[(0, 7)], 1)?, 7);
-    assert!(rt; replacing.is_ok_and(|plan| plan.replace()));
+    Ok(())
+}
+
+#[test]
+fn a_plan_that_replaces(rt: HostRuntime) -> Result<(), Fail> {
+    let plan = checked(given_plan(rt.alloc(), &[(0, 7)], 1)?, 7)
+        .ok()
+        .ok_or("a plan")?;
+    assert!(rt; plan.replace());
     Ok(())
 }

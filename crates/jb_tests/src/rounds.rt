@@ -7,73 +7,142 @@ use jb_rounds::{RoundCursor, plan};
 use std::alloc::{AllocError, Global};
 use std::test::Fail;
 
-// The load that is left when a round has run a chunk of each partition whose bit is set, if it can. A load of up to
-// four counts up to four is a number in base five, the first count its lowest digit.
-fn load_after(load: usize, round: u32) -> Option<usize> {
-    let mut left: usize = 0;
-    for (place, bit) in [(1, 1), (5, 2), (25, 4), (125, 8)] {
-        let count = load / place % 5;
-        let run = usize::from(round & bit != 0);
-        left = left.saturating_add(count.checked_sub(run)?.saturating_mul(place));
-    }
-    Some(left)
+// What is left of one count of a load when a round has run a chunk of its partition or not, if it can. A load of up to four counts
+// up to four is a number in base five, the first count its lowest digit; `place` is what a one is worth in the count's digit.
+fn count_after(load: usize, place: usize, runs: bool) -> Option<usize> {
+    let count = load.checked_div(place)? % 5;
+    let left = count.checked_sub(usize::from(runs))?;
+    Some(left.saturating_mul(place))
 }
 
-// The fewest rounds of each load of up to four counts up to four, by trying every set of partitions as a round.
+// The load that is left when a round has run a chunk of each partition whose bit is set, if it can.
+fn load_after(load: usize, round: u32) -> Option<usize> {
+    let first = count_after(load, 1, round & 1 != 0)?;
+    let second = count_after(load, 5, round & 2 != 0)?;
+    let third = count_after(load, 25, round & 4 != 0)?;
+    let fourth = count_after(load, 125, round & 8 != 0)?;
+    Some(
+        first
+            .saturating_add(second)
+            .saturating_add(third)
+            .saturating_add(fourth),
+    )
+}
+
+// The fewest rounds of a load that begins with this round, of the fewest of each load before it.
+fn rounds_with(fewest: &[u64], load: usize, round: u32) -> Option<u64> {
+    let left = load_after(load, round)?;
+    fewest.get(left)?.checked_add(1)
+}
+
+// The fewest rounds of a load, by trying every set of partitions as its first round.
+fn fewest_of(fewest: &[u64], load: usize, threads: u32) -> u64 {
+    let mut best = u64::MAX;
+    for round in 1..16u32 {
+        if round.count_ones() <= threads {
+            best = best.min(rounds_with(fewest, load, round).unwrap_or(u64::MAX));
+        }
+    }
+    best
+}
+
+// The fewest rounds of each load of up to four counts up to four.
 fn fewest_by_search(alloc: Global, threads: u32) -> Result<Vec<u64>, AllocError> {
     let mut fewest = vec![in alloc; 0u64]?;
     for load in 1..625 {
-        let mut best = u64::MAX;
-        for round in 1..16u32 {
-            if round.count_ones() <= threads {
-                let left = load_after(load, round).and_then(|left| fewest.get(left));
-                best = best.min(left.map_or(u64::MAX, |rounds| rounds.saturating_add(1)));
-            }
-        }
+        let best = fewest_of(&fewest, load, threads);
         fewest.push(best)?;
     }
     Ok(fewest)
 }
 
+// The partition and the chunk that the plan has in this lane of a round.
+fn slot_of(plan: &Plan, round: usize, lane: u32) -> Option<(u32, u64)> {
+    for slot in plan.rounds.get(round)? {
+        if slot.lane == lane {
+            return Some((slot.partition, slot.chunk));
+        }
+    }
+    None
+}
+
+// Whether the cursor has the plan's slot there, or none where the plan has none.
+fn has_slot_of(cursor: &RoundCursor, plan: &Plan, round: usize, lane: u32) -> bool {
+    let slot = slot_of(plan, round, lane);
+    let number = round as u64;
+    cursor.slot(number, lane) == slot
+        && cursor.slot_near(number, lane, lane) == slot
+        && (lane < cursor.busy_lanes(number)) == slot.is_some()
+}
+
 // Whether the cursor has the slots of the plan, and none in a lane or a round behind them.
-fn has_slots_of(cursor: &RoundCursor, plan: &Plan, threads: u32) -> bool {
-    let rounds = plan.rounds.len();
+fn has_slots_of(cursor: &RoundCursor, plan: &Plan) -> bool {
     for round in 0..17usize {
         for lane in 0..5 {
-            let slots = plan.rounds.get(round);
-            let slot = slots.and_then(|slots| slots.iter().find(|slot| slot.lane == lane));
-            let pair = slot.map(|slot| (slot.partition, slot.chunk));
-            let here = cursor.slot(round as u64, lane);
-            let walked = cursor.slot_near(round as u64, lane, lane);
-            let is_busy = lane < cursor.busy_lanes(round as u64);
-            if here != pair || walked != pair || is_busy != pair.is_some() {
+            if !has_slot_of(cursor, plan, round, lane) {
                 return false;
             }
         }
     }
-    cursor.rounds() == rounds as u64 && cursor.threads() == threads
+    cursor.rounds() == plan.rounds.len() as u64
 }
+
+// Whether a cursor over the load walks through this plan with its certificate.
+fn is_walked(
+    alloc: Global,
+    counts: &[u64],
+    threads: u32,
+    made: &(Plan, Certificate),
+) -> Result<bool, AllocError> {
+    if !fits(counts, threads) {
+        return Ok(false);
+    }
+    let cursor = RoundCursor::new(alloc, counts, threads)?;
+    Ok(
+        cursor.threads() == threads
+            && cursor.certificate() == made.1
+            && has_slots_of(&cursor, &made.0),
+    )
+}
+
+// Whether the load's plan is lawful, has this least number of rounds, is certified as least, and is what a cursor walks through.
+fn is_planned(
+    alloc: Global,
+    counts: &[u64],
+    threads: u32,
+    fewest: Option<&u64>,
+) -> Result<bool, AllocError> {
+    if !fits(counts, threads) {
+        return Ok(false);
+    }
+    let made = plan(alloc, counts, threads)?;
+    let rounds = made.0.rounds.len() as u64;
+    Ok(
+        fewest == Some(&rounds)
+            && rounds == least_rounds(counts, threads)
+            && check_certificate(counts, threads, rounds, made.1)
+            && is_least_plan(counts, threads, rounds, made.1)
+            && check_plan(alloc, counts, threads, &made.0) == Ok(())
+            && is_walked(alloc, counts, threads, &made)?,
+    )
+}
+
+// How many loads there are of so many counts.
+const LOADS: [u64; 5] = [1, 5, 25, 125, 625];
 
 #[test]
 fn plans_every_small_load(rt: HostRuntime) -> Result<(), Fail> {
     for threads in 1..5 {
         let fewest = fewest_by_search(rt.alloc(), threads)?;
-        for (length, loads) in [(0, 1), (1, 5), (2, 25), (3, 125), (4, 625)] {
-            for load in 0..loads {
+        for length in 0..5usize {
+            for load in 0..LOADS[length] {
                 let digits = [load % 5, load / 5 % 5, load / 25 % 5, load / 125];
                 let counts = &digits[..length];
-                assert!(rt; fits(counts, threads));
-                let (made, certificate) = plan(rt.alloc(), counts, threads)?;
-                let rounds = made.rounds.len() as u64;
-                assert_eq!(rt; Some(&rounds), fewest.get(load as usize), "{counts:?}");
-                assert_eq!(rt; rounds, least_rounds(counts, threads), "{counts:?}");
-                assert!(rt; check_certificate(counts, threads, rounds, certificate));
-                assert!(rt; is_least_plan(counts, threads, rounds, certificate));
-                let verdict = check_plan(rt.alloc(), counts, threads, &made);
-                assert_eq!(rt; verdict, Ok(()), "{counts:?}");
-                let cursor = RoundCursor::new(rt.alloc(), counts, threads)?;
-                assert!(rt; has_slots_of(&cursor, &made, threads), "{counts:?}");
-                assert_eq!(rt; cursor.certificate(), certificate, "{counts:?}");
+                let wanted = fewest.get(load as usize);
+                assert!(rt;
+                    is_planned(rt.alloc(), counts, threads, wanted)?,
+                    "{counts:?}"
+                );
             }
         }
     }
@@ -81,22 +150,23 @@ fn plans_every_small_load(rt: HostRuntime) -> Result<(), Fail> {
 }
 
 #[test]
-fn finds_slots_of_large_loads(rt: HostRuntime) -> Result<(), Fail> {
+fn finds_slots_of_a_large_count(rt: HostRuntime) -> Result<(), Fail> {
     let one = [10_000_000];
     assert!(rt; fits(&one, 64));
     let cursor = RoundCursor::new(rt.alloc(), &one, 64)?;
-    assert_eq!(rt; cursor.rounds(), 10_000_000);
-    assert_eq!(rt; cursor.certificate(), Certificate::Longest(0));
-    assert_eq!(rt; cursor.slot(9_999_999, 0), Some((0, 9_999_999)));
-    assert_eq!(rt; cursor.slot(0, 1), None);
+    assert!(rt; cursor.rounds() == 10_000_000 && cursor.certificate() == Certificate::Longest(0));
+    assert!(rt; cursor.slot(9_999_999, 0) == Some((0, 9_999_999)) && cursor.slot(0, 1) == None);
+    Ok(())
+}
+
+#[test]
+fn finds_slots_of_many_counts(rt: HostRuntime) -> Result<(), Fail> {
     let many = vec![in rt.alloc(); 2_000u64; 4_096]?;
     assert!(rt; fits(&many, 63));
     let cursor = RoundCursor::new(rt.alloc(), &many, 63)?;
-    assert_eq!(rt; cursor.rounds(), 130_032);
-    assert_eq!(rt; cursor.certificate(), Certificate::FullLoad);
-    assert_eq!(rt; cursor.slot(0, 1), Some((65, 0)));
-    assert_eq!(rt; cursor.slot(130_031, 0), Some((65, 1_999)));
-    assert_eq!(rt; cursor.slot(130_031, 62), None);
+    assert!(rt; cursor.rounds() == 130_032 && cursor.certificate() == Certificate::FullLoad);
+    assert!(rt; cursor.slot(0, 1) == Some((65, 0)) && cursor.slot(130_031, 62) == None);
+    assert!(rt; cursor.slot(130_031, 0) == Some((65, 1_999)));
     Ok(())
 }
 
@@ -106,9 +176,8 @@ fn plans_the_most_partitions(rt: HostRuntime) -> Result<(), Fail> {
     let counts = vec![in rt.alloc(); 1u64; 4_096]?;
     assert!(rt; fits(&counts, 64));
     let (made, certificate) = plan(rt.alloc(), &counts, 64)?;
-    assert_eq!(rt; made.rounds.len(), 64);
-    assert_eq!(rt; certificate, Certificate::FullLoad);
-    assert_eq!(rt; check_plan(rt.alloc(), &counts, 64, &made), Ok(()));
+    assert!(rt; made.rounds.len() == 64 && certificate == Certificate::FullLoad);
+    assert!(rt; check_plan(rt.alloc(), &counts, 64, &made) == Ok(()));
     Ok(())
 }
 
@@ -118,12 +187,10 @@ fn checks_a_plan_of_20_004_rounds(rt: HostRuntime) -> Result<(), Fail> {
     let counts = [20_000, 20_000, 7];
     assert!(rt; fits(&counts, 2));
     let (mut made, certificate) = plan(rt.alloc(), &counts, 2)?;
-    assert_eq!(rt; made.rounds.len(), 20_004);
-    assert!(rt; is_least_plan(&counts, 2, 20_004, certificate));
-    assert_eq!(rt; check_plan(rt.alloc(), &counts, 2, &made), Ok(()));
+    assert!(rt; made.rounds.len() == 20_004 && is_least_plan(&counts, 2, 20_004, certificate));
+    assert!(rt; check_plan(rt.alloc(), &counts, 2, &made) == Ok(()));
     let _last = made.rounds.pop();
-    let missing = Err(PlanFault::Missing);
-    assert_eq!(rt; check_plan(rt.alloc(), &counts, 2, &made), missing);
+    assert!(rt; check_plan(rt.alloc(), &counts, 2, &made) == Err(PlanFault::Missing));
     Ok(())
 }
 
@@ -136,31 +203,51 @@ const WRONG_SLOTS: [(usize, (u32, u32, u64), PlanFault); 4] = [
     (1, (0, 0, 0), PlanFault::OutOfOrder),
 ];
 
+// Puts a slot in place of the last one of a round.
+fn put_last(slots: &mut Vec<Slot>, slot: (u32, u32, u64)) -> Result<(), AllocError> {
+    let _last = slots.pop();
+    slots.push(Slot {
+        lane: slot.0,
+        partition: slot.1,
+        chunk: slot.2,
+    })?;
+    Ok(())
+}
+
+// What the checker says of the plan for the counts 2 and 1 on two threads, with this slot in place of the last one of a round.
+fn said_of(alloc: Global, round: usize, slot: (u32, u32, u64)) -> Result<PlanFault, Fail> {
+    let counts = [2, 1];
+    if !fits(&counts, 2) {
+        return Err(Fail::from("a load"));
+    }
+    let mut wrong = plan(alloc, &counts, 2)?.0;
+    put_last(wrong.rounds.get_mut(round).ok_or("a round")?, slot)?;
+    let fault = check_plan(alloc, &counts, 2, &wrong)
+        .err()
+        .ok_or("a fault")?;
+    Ok(fault)
+}
+
 #[test]
 fn refuses_wrong_plans(rt: HostRuntime) -> Result<(), Fail> {
-    let counts = [2, 1];
-    assert!(rt; fits(&counts, 2));
-    for (round, (lane, partition, chunk), fault) in WRONG_SLOTS {
-        let (mut wrong, _) = plan(rt.alloc(), &counts, 2)?;
-        if let Some(slots) = wrong.rounds.get_mut(round) {
-            let _last = slots.pop();
-            slots.push(Slot {
-                lane,
-                partition,
-                chunk,
-            })?;
-        }
-        assert_eq!(rt; check_plan(rt.alloc(), &counts, 2, &wrong), Err(fault));
+    for (round, slot, fault) in WRONG_SLOTS {
+        assert!(rt; said_of(rt.alloc(), round, slot)? == fault);
     }
-    let (mut short, _) = plan(rt.alloc(), &counts, 2)?;
-    let _last = short.rounds.pop();
-    let missing = Err(PlanFault::Missing);
-    assert_eq!(rt; check_plan(rt.alloc(), &counts, 2, &short), missing);
     Ok(())
 }
 
 #[test]
-fn prints_faults_and_certificates(rt: HostRuntime) -> Result<(), Fail> {
+fn refuses_a_short_plan(rt: HostRuntime) -> Result<(), Fail> {
+    let counts = [2, 1];
+    assert!(rt; fits(&counts, 2));
+    let mut short = plan(rt.alloc(), &counts, 2)?.0;
+    let _last = short.rounds.pop();
+    assert!(rt; check_plan(rt.alloc(), &counts, 2, &short) == Err(PlanFault::Missing));
+    Ok(())
+}
+
+#[test]
+fn prints_faults(rt: HostRuntime) -> Result<(), Fail> {
     let text = format!(in rt.alloc();
         "{} {} {} {} {} {}",
         PlanFault::LaneRange,
@@ -170,17 +257,19 @@ fn prints_faults_and_certificates(rt: HostRuntime) -> Result<(), Fail> {
         PlanFault::Stranger,
         PlanFault::Memory
     )?;
-    assert_eq!(rt;
-        text.as_str(),
-        "LaneRange TwiceInRound OutOfOrder Missing Stranger no memory"
-    );
+    assert!(rt; text.as_str() == "LaneRange TwiceInRound OutOfOrder Missing Stranger no memory");
+    Ok(())
+}
+
+#[test]
+fn prints_certificates(rt: HostRuntime) -> Result<(), Fail> {
     let text = format!(in rt.alloc();
         "{} {} {}",
         Certificate::Nothing,
         Certificate::Longest(4_095),
         Certificate::FullLoad
     )?;
-    assert_eq!(rt; text.as_str(), "Nothing Longest(4095) FullLoad");
+    assert!(rt; text.as_str() == "Nothing Longest(4095) FullLoad");
     Ok(())
 }
 

@@ -86,21 +86,20 @@ fn worked_deltas()
     ensures both { is_delta 2 (record no_counts { read = 2; write = 1; commit = 1; write_skip = 1 }) ≡ false }
 {}
 
-#[test]
-fn faults_settled(rt: HostRuntime) {
-    worked_choices();
-    worked_deltas();
-    let rules = Rules {
-        skippable: 0b011,
-        retryable: 0b101,
-        skip_limit: Some(2),
-        retry_limit: 1,
-    };
+const RULES: Rules = Rules {
+    skippable: 0b011,
+    retryable: 0b101,
+    skip_limit: Some(2),
+    retry_limit: 1,
+};
+
+/// What comes of a fault under those rules: its class, whether a chunk is done again, the skips and retries before, and the choice.
+fn choices() -> [(ClassId, bool, u64, u64, Choice); 11] {
     let both = ClassId::new(0);
     let skippable = ClassId::new(1);
     let retryable = ClassId::new(2);
     let other = ClassId::new(63);
-    let cases = [
+    [
         (both, false, 0, 0, Choice::Retry),
         (both, true, 0, 0, Choice::Skip),
         (both, false, 0, 1, Choice::Skip),
@@ -112,26 +111,28 @@ fn faults_settled(rt: HostRuntime) {
         (retryable, true, 0, 0, Choice::Retry),
         (retryable, true, 0, 1, Choice::Fail),
         (other, false, 0, 0, Choice::Fail),
-    ];
-    for (class, retrying, skips, retries, want) in cases {
-        assert_eq!(rt; decide(&rules, class, retrying, skips, retries), want);
-    }
-    let unlimited = Rules {
-        skippable: 0b011,
-        retryable: 0b101,
-        skip_limit: None,
-        retry_limit: 1,
-    };
-    assert_eq!(rt;
-        decide(&unlimited, skippable, false, 10_000_000, 0),
-        Choice::Skip
-    );
+    ]
 }
 
 #[test]
-fn sound_rows(rt: HostRuntime) {
+fn faults_settled(rt: HostRuntime) {
+    worked_choices();
+    worked_deltas();
+    for (class, retrying, skips, retries, want) in choices() {
+        assert!(rt; decide(&RULES, class, retrying, skips, retries) == want);
+    }
+    let unlimited = Rules {
+        skip_limit: None,
+        ..RULES
+    };
+    let choice = decide(&unlimited, ClassId::new(1), false, 10_000_000, 0);
+    assert!(rt; choice == Choice::Skip);
+}
+
+/// Rows, and whether they are sound.
+fn rows_and_verdicts() -> [([u64; 14], RowState, bool); 16] {
     use RowState::{Failed, Finished, Running, Waiting};
-    let cases = [
+    [
         ([0, 4, 4, 0, 0, 0, 4, 0, 1, 0, 0, 0, 4, 0], Finished, true),
         ([0, 4, 4, 4, 1, 4, 4, 4, 4, 1, 0, 0, 0, 0], Finished, true),
         ([0, 4, 2, 0, 0, 1, 2, 1, 1, 1, 0, 1, 0, 0], Failed, true),
@@ -148,59 +149,35 @@ fn sound_rows(rt: HostRuntime) {
         ([1, 2, 1, 0, 0, 0, 0, 0, 0, 0, 0, 0, 0, 0], Waiting, false),
         ([0, 2, 1, 0, 0, 0, 1, 1, 1, 0, 0, 0, 0, 0], Waiting, false),
         ([0, 2, 1, 0, 0, 0, 1, 0, 1, 0, 0, 0, 0, 2], Waiting, false),
-    ];
-    for (numbers, state, want) in cases {
+    ]
+}
+
+/// A waiting row with this end, so many results written and so many rollbacks, and with so many reads, writes and reads skipped.
+fn waiting_to(hi: u64, rollbacks: u64, written: u64, read_skips: u64) -> Row {
+    let counts = [written, written, 0, rollbacks, read_skips, 0, 0, 0];
+    Row {
+        hi,
+        written,
+        counts: counts_of(counts),
+        ..Row::fresh(Range { lo: 0, hi: 1 })
+    }
+}
+
+#[test]
+fn sound_rows(rt: HostRuntime) {
+    for (numbers, state, want) in rows_and_verdicts() {
         let row = row_of(numbers, state);
-        assert_eq!(rt; row.sound(), want, "{row:?}");
+        assert!(rt; row.sound() == want, "{row:?}");
     }
-    let limits = [
-        (
-            [
-                0,
-                10_000_000,
-                0,
-                0,
-                0,
-                0,
-                0,
-                0,
-                0,
-                MAX_ROLLBACKS,
-                0,
-                0,
-                0,
-                0,
-            ],
-            true,
-        ),
-        ([0, 10_000_001, 0, 0, 0, 0, 0, 0, 0, 0, 0, 0, 0, 0], false),
-        (
-            [0, 1, 0, 0, 0, 0, 0, 0, 0, MAX_ROLLBACKS + 1, 0, 0, 0, 0],
-            false,
-        ),
-        (
-            [
-                0,
-                1,
-                0,
-                0,
-                0,
-                u64::MAX,
-                u64::MAX,
-                u64::MAX,
-                0,
-                0,
-                1,
-                0,
-                0,
-                0,
-            ],
-            false,
-        ),
-    ];
-    for (numbers, want) in limits {
-        assert_eq!(rt; row_of(numbers, Waiting).sound(), want);
-    }
+}
+
+/// The last record and the last rollback that a row may have, and one more; and counts whose sums don't fit their type.
+#[test]
+fn sound_rows_at_the_limits(rt: HostRuntime) {
+    assert!(rt; waiting_to(10_000_000, MAX_ROLLBACKS, 0, 0).sound());
+    assert!(rt; !waiting_to(10_000_001, 0, 0, 0).sound());
+    assert!(rt; !waiting_to(1, MAX_ROLLBACKS + 1, 0, 0).sound());
+    assert!(rt; !waiting_to(1, 0, u64::MAX, 1).sound());
 }
 
 /// The calls of a row's life, each once.
@@ -208,35 +185,31 @@ fn sound_rows(rt: HostRuntime) {
 fn rows_of_a_partition(rt: HostRuntime) {
     worked_rows();
     let fresh = Row::fresh(Range { lo: 0, hi: 4 });
-    assert_eq!(rt; fresh.range(), Range { lo: 0, hi: 4 });
-    assert_eq!(rt; fresh.block(2), Range { lo: 0, hi: 2 });
-    assert_eq!(rt; fresh.begun(3).state, RowState::Running(3));
-    assert!(rt; fresh.begun(3).state.is_running());
-    assert_eq!(rt; fresh.begun(3).dropped(), fresh);
-    assert_eq!(rt; fresh.begun(3).rolled(2).state, RowState::Running(3));
-    let rolled = fresh.begun(3).rolled(2).dropped();
-    assert_eq!(rt;
-        rolled,
-        row_of(
-            [0, 4, 0, 2, 1, 0, 0, 0, 0, 1, 0, 0, 0, 0],
-            RowState::Waiting
-        )
+    let begun = fresh.begun(3);
+    let running = begun.rolled(2);
+    let rolled = running.dropped();
+    assert!(rt;
+        fresh.range() == Range { lo: 0, hi: 4 } && fresh.block(2) == Range { lo: 0, hi: 2 }
     );
+    assert!(rt; begun.state == RowState::Running(3) && begun.state.is_running());
+    assert!(rt; begun.dropped() == fresh && running.state == RowState::Running(3));
+    let numbers = [0, 4, 0, 2, 1, 0, 0, 0, 0, 1, 0, 0, 0, 0];
+    assert!(rt; rolled == row_of(numbers, RowState::Waiting));
     let one = counts_of([1, 1, 1, 0, 0, 0, 0, 0]);
     assert!(rt; one.is_delta(1) && !one.is_delta(2));
     let first = rolled.committed(1, &one);
-    let last = first.committed(4, &counts_of([2, 0, 1, 0, 1, 0, 0, 1]));
-    assert_eq!(rt;
-        last,
-        row_of(
-            [0, 4, 4, 2, 1, 1, 3, 1, 2, 1, 1, 0, 0, 1],
-            RowState::Finished
-        )
+    let failed = first.failed();
+    assert!(rt;
+        first.state.is_waiting() && failed.state.is_failed() && failed.counts.rollback == 2
     );
-    assert_eq!(rt; last.skips(), 2);
-    assert_eq!(rt; first.failed().counts.rollback, 2);
-    assert!(rt; first.state.is_waiting() && last.state.is_finished());
-    assert!(rt; first.failed().state.is_failed() && last.state.has_ended());
+    let last = first.committed(4, &counts_of([2, 0, 1, 0, 1, 0, 0, 1]));
+    let numbers = [0, 4, 4, 2, 1, 1, 3, 1, 2, 1, 1, 0, 0, 1];
+    assert!(rt; last == row_of(numbers, RowState::Finished));
+    assert!(rt; last.skips() == 2 && last.state.is_finished() && last.state.has_ended());
+}
+
+#[test]
+fn counts_added(rt: HostRuntime) {
     let sum = counts_of([1, 2, 3, 4, 5, 6, 7, 8]).plus(&counts_of([8, 7, 6, 5, 4, 3, 2, 1]));
-    assert_eq!(rt; sum, counts_of([9, 9, 9, 9, 9, 9, 9, 9]));
+    assert!(rt; sum == counts_of([9, 9, 9, 9, 9, 9, 9, 9]));
 }

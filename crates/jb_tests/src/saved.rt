@@ -1,9 +1,9 @@
 //! Saved rows: worked rows by their texts, each place of a refusal, and going on from them.
 
-use crate::repo::{opened, rows_of};
+use crate::repo::{most_rows, opened, rows_of};
 use jb_cert::Certificate;
-use jb_job::{Range, read_tree};
-use jb_repo::Event;
+use jb_job::read_tree;
+use jb_repo::{Event, Repo};
 use jb_rules::{Row, RowState};
 use jb_saved::{
     Saved, StepError, read_saved, rows_to_go_on, saved_text, saved_value, written_and_read,
@@ -69,19 +69,42 @@ fn read_rows(alloc: Global, rows: &str) -> Result<Saved, Fail> {
     Ok(saved)
 }
 
+/// Whether this text is written of the rows.
+fn is_written(alloc: Global, saved: &Saved, text: &str) -> Result<bool, AllocError> {
+    let written = saved_text(alloc, saved)?;
+    Ok(written.as_str() == text)
+}
+
+/// Whether the rows are what is read, if it was accepted.
+fn are_those(saved: &Saved, read: Result<Saved, StepError>) -> bool {
+    match read {
+        Ok(read) => read.rows() == saved.rows(),
+        Err(_) => false,
+    }
+}
+
+/// Whether the rows are what is read of their tree.
+fn are_in_their_tree(alloc: Global, saved: &Saved) -> Result<bool, AllocError> {
+    let value = saved_value(alloc, saved)?;
+    Ok(are_those(saved, Saved::of_value(alloc, &value)))
+}
+
+/// Whether the rows of a line are written as they stand there, and are what is read again, by one call and of their tree.
+fn are_kept(alloc: Global, line: &str) -> Result<bool, Fail> {
+    let saved = read_rows(alloc, line)?;
+    let text = text_of(alloc, line)?;
+    Ok(
+        saved.step_id() == "s"
+            && is_written(alloc, &saved, text.as_str())?
+            && are_those(&saved, written_and_read(alloc, &saved))
+            && are_in_their_tree(alloc, &saved)?,
+    )
+}
+
 #[test]
 fn rows_are_written_and_read(rt: HostRuntime) -> Result<(), Fail> {
     for line in ROWS.lines() {
-        let text = text_of(rt.alloc(), line)?;
-        let saved = read_rows(rt.alloc(), line)?;
-        assert_eq!(rt; saved.step_id(), "s");
-        let written = saved_text(rt.alloc(), &saved)?;
-        assert_eq!(rt; written.as_str(), text.as_str());
-        let again = written_and_read(rt.alloc(), &saved).ok().ok_or("refused")?;
-        assert_eq!(rt; again.rows(), saved.rows(), "{line}");
-        let value = saved_value(rt.alloc(), &saved)?;
-        let again = Saved::of_value(rt.alloc(), &value).ok().ok_or("refused")?;
-        assert_eq!(rt; again.rows(), saved.rows(), "{line}");
+        assert!(rt; are_kept(rt.alloc(), line)?, "{line}");
     }
     Ok(())
 }
@@ -94,23 +117,33 @@ fn the_tree_counts(rt: HostRuntime) -> Result<(), Fail> {
         br#" {"version":1, "step":"s", "rows":[[5,5,5,5,0,0,0,0,0,0,0,0,0,0,"done"]]} "#,
     )?;
     let saved = Saved::of_value(rt.alloc(), &tree).ok().ok_or("refused")?;
-    let text = saved_text(rt.alloc(), &saved)?;
-    assert_eq!(rt;
-        text.as_str(),
-        r#"{"rows":[[5,5,5,5,0,0,0,0,0,0,0,0,0,0,"done"]],"step":"s","version":1}"#
-    );
+    let text = r#"{"rows":[[5,5,5,5,0,0,0,0,0,0,0,0,0,0,"done"]],"step":"s","version":1}"#;
+    assert!(rt; is_written(rt.alloc(), &saved, text)?);
     Ok(())
+}
+
+/// Whether what these bytes are read as, or the place of their refusal, is this.
+fn reads_as(alloc: Global, bytes: &[u8], want: &str) -> Result<bool, Fail> {
+    let answer = said(alloc, read_saved(alloc, bytes))?;
+    Ok(answer.as_str() == want)
+}
+
+/// Whether each shorter text is refused as no JSON.
+fn is_refused_where_cut(alloc: Global, text: &str) -> Result<bool, Fail> {
+    let bytes = text.as_bytes();
+    for end in 0..bytes.len() {
+        if !reads_as(alloc, &bytes[..end], "NotJson")? {
+            return Ok(false);
+        }
+    }
+    Ok(true)
 }
 
 #[test]
 fn a_text_that_was_cut(rt: HostRuntime) -> Result<(), Fail> {
     for line in ROWS.lines() {
         let text = text_of(rt.alloc(), line)?;
-        let bytes = text.as_bytes();
-        for end in 0..bytes.len() {
-            let answer = said(rt.alloc(), read_saved(rt.alloc(), &bytes[..end]))?;
-            assert_eq!(rt; answer.as_str(), "NotJson", "{line}");
-        }
+        assert!(rt; is_refused_where_cut(rt.alloc(), text.as_str())?, "{line}");
     }
     Ok(())
 }
@@ -119,52 +152,68 @@ fn a_text_that_was_cut(rt: HostRuntime) -> Result<(), Fail> {
 fn refused_texts(rt: HostRuntime) -> Result<(), Fail> {
     for line in REFUSED.lines() {
         let (place, text) = line.split_once(' ').ok_or("no text")?;
-        let answer = said(rt.alloc(), read_saved(rt.alloc(), text.as_bytes()))?;
-        assert_eq!(rt; answer.as_str(), place, "{line}");
+        assert!(rt; reads_as(rt.alloc(), text.as_bytes(), place)?, "{line}");
     }
     Ok(())
 }
 
-/// What is said of going on from these rows.
-fn going_on_with(
+/// Whether this is said of going on from these rows.
+fn goes_on(
     alloc: Global,
+    saved: &Saved,
     id: &str,
     records: u64,
     replace: bool,
-    saved: &Saved,
-) -> Result<String, Fail> {
-    said(alloc, rows_to_go_on(alloc, id, records, replace, saved))
+    want: &str,
+) -> Result<bool, Fail> {
+    let answer = said(alloc, rows_to_go_on(alloc, id, records, replace, saved))?;
+    Ok(answer.as_str() == want)
 }
 
-/// Rows of step `s`, of at most seven records.
-#[test]
-fn going_on(rt: HostRuntime) -> Result<(), Fail> {
-    let cases = [
+/// Seven records in three partitions after one round.
+const SEVEN_RECORDS: &str =
+    r#"[0,3,2,0,0,2,2,2,1,0,0,0,0,0,"waiting"],[3,5,5,3,0,2,2,2,1,0,0,0,0,0,"done"],[5,7,5,5,0,0,0,0,0,0,0,0,0,0,"waiting"]"#;
+
+/// Ids, numbers of records and whether a plan replaces the one before, and what is said of going on with them from those rows.
+fn restarts() -> [(&'static str, u64, bool, &'static str); 5] {
+    [
         ("t", 5, true, "Step"),
         ("ss", 5, true, "Step"),
         ("s", 6, true, "Records"),
         ("s", 7, true, "Override"),
         ("s", 7, false, "accepted"),
-    ];
-    let rows = ROWS.lines().next().ok_or("no rows")?;
-    let saved = read_rows(rt.alloc(), rows)?;
-    for (id, records, replace, want) in cases {
-        let answer = going_on_with(rt.alloc(), id, records, replace, &saved)?;
-        assert_eq!(rt; answer.as_str(), want);
+    ]
+}
+
+#[test]
+fn going_on(rt: HostRuntime) -> Result<(), Fail> {
+    let saved = read_rows(rt.alloc(), SEVEN_RECORDS)?;
+    for (id, records, replace, want) in restarts() {
+        assert!(rt; goes_on(rt.alloc(), &saved, id, records, replace, want)?);
     }
     Ok(())
 }
 
+/// The row after a restart: if it failed it waits again.
+fn waiting_again(before: &Row) -> Row {
+    if before.state == RowState::Failed {
+        Row {
+            state: RowState::Waiting,
+            ..*before
+        }
+    } else {
+        *before
+    }
+}
+
 /// Whether the rows are those before, but that the failed ones wait again.
 fn wait_again(rows: &[Row], before: &[Row]) -> bool {
+    for (row, before) in rows.iter().zip(before) {
+        if *row != waiting_again(before) {
+            return false;
+        }
+    }
     rows.len() == before.len()
-        && rows.iter().zip(before).all(|(row, before)| {
-            let mut want = *before;
-            if before.state == RowState::Failed {
-                want.state = RowState::Waiting;
-            }
-            *row == want
-        })
 }
 
 /// Failed rows wait again, and nothing else of them or of other rows changes.
@@ -173,42 +222,40 @@ fn failed_rows_go_on(rt: HostRuntime) -> Result<(), Fail> {
     for line in ROWS.lines() {
         let saved = read_rows(rt.alloc(), line)?;
         let rows = rows_to_go_on(rt.alloc(), "s", 7, false, &saved);
-        let rows = rows.ok().ok_or("refused")?;
-        assert!(rt; wait_again(&rows, saved.rows()), "{line}");
+        assert!(rt;
+            wait_again(&rows.ok().ok_or("refused")?, saved.rows()),
+            "{line}"
+        );
     }
     Ok(())
+}
+
+/// Whether what a repository shows is saved as it is.
+fn is_saved(alloc: Global, repo: &Repo) -> Result<bool, Fail> {
+    let snapshot = repo.snapshot()?;
+    let saved = Saved::of(alloc, "s", &snapshot).ok().ok_or("refused")?;
+    Ok(saved.rows() == snapshot.rows.as_slice() && saved.step_id() == "s")
+}
+
+/// Whether this is said of saving what a repository shows.
+fn saving_says(alloc: Global, repo: &Repo, want: &str) -> Result<bool, Fail> {
+    let snapshot = repo.snapshot()?;
+    let answer = said(alloc, Saved::of(alloc, "s", &snapshot))?;
+    Ok(answer.as_str() == want)
 }
 
 /// What a repository shows is saved, unless a partition is running.
 #[test]
 fn snapshots_are_saved(rt: HostRuntime) -> Result<(), Fail> {
-    let rows = rows_of(rt.alloc(), &[(0, 2), (2, 4)])?;
-    let mut repo = opened(&rt, rows, 1, 2);
-    let snapshot = repo.snapshot()?;
-    let saved = Saved::of(rt.alloc(), "s", &snapshot).ok().ok_or("refused")?;
-    assert_eq!(rt; saved.rows(), snapshot.rows.as_slice());
-    assert_eq!(rt; saved.step_id(), "s");
-
-    let events = [Event::Plan(2, Certificate::FullLoad), Event::Begin(0, 1)];
-    for event in events {
-        assert!(rt; repo.apply(event).is_ok());
-    }
-    let snapshot = repo.snapshot()?;
-    let answer = said(rt.alloc(), Saved::of(rt.alloc(), "s", &snapshot))?;
-    assert_eq!(rt; answer.as_str(), "Rows(1)");
+    let mut repo = opened(&rt, rows_of(rt.alloc(), &[(0, 2), (2, 4)])?, 1, 2);
+    assert!(rt; is_saved(rt.alloc(), &repo)?);
+    assert!(rt; repo.apply(Event::Plan(2, Certificate::FullLoad)).is_ok());
+    assert!(rt; repo.apply(Event::Begin(0, 1)).is_ok());
+    assert!(rt; saving_says(rt.alloc(), &repo, "Rows(1)")?);
     Ok(())
 }
 
-/// As many rows as a table has, of one record each.
-fn most_rows(alloc: Global) -> Result<Vec<Row>, AllocError> {
-    let mut rows = Vec::new(alloc);
-    for lo in 0..256 {
-        rows.push(Row::fresh(Range { lo, hi: lo + 1 }))?;
-    }
-    Ok(rows)
-}
-
-/// The text of those rows.
+/// The text of as many fresh rows as a table has, of one record each.
 fn most_text(alloc: Global) -> Result<String, AllocError> {
     let mut rows = String::new(alloc);
     for lo in 0..256u64 {
@@ -226,33 +273,23 @@ fn most_text(alloc: Global) -> Result<String, AllocError> {
 fn most_saved(rt: &impl Abort, alloc: Global) -> Result<Saved, Fail> {
     let snapshot = opened(rt, most_rows(alloc)?, 64, 1).snapshot()?;
     let saved = Saved::of(alloc, "s", &snapshot).ok().ok_or("refused")?;
-    assert_eq!(rt; saved.rows(), snapshot.rows.as_slice());
+    assert!(rt; saved.rows() == snapshot.rows.as_slice() && saved.rows().len() == 256);
     Ok(saved)
 }
 
-/// Whether their text is the one that was written out apart.
-fn most_written(alloc: Global, saved: &Saved) -> Result<bool, AllocError> {
-    let want = most_text(alloc)?;
+/// Whether the rows are what is read of their text.
+fn are_in_their_text(alloc: Global, saved: &Saved) -> Result<bool, AllocError> {
     let text = saved_text(alloc, saved)?;
-    Ok(text.as_str() == want.as_str())
-}
-
-/// Whether they are what is read of their text.
-fn most_read(alloc: Global, saved: &Saved) -> Result<bool, AllocError> {
-    let text = saved_text(alloc, saved)?;
-    let read = read_saved(alloc, text.as_bytes());
-    Ok(read.is_ok_and(|read| read.rows() == saved.rows()))
+    Ok(are_those(saved, read_saved(alloc, text.as_bytes())))
 }
 
 /// A table of as many rows as there may be is saved, written and read.
 #[test]
 fn a_table_of_256_rows(rt: HostRuntime) -> Result<(), Fail> {
     let saved = most_saved(&rt, rt.alloc())?;
-    assert_eq!(rt; saved.rows().len(), 256);
-    assert!(rt; most_written(rt.alloc(), &saved)?);
-    assert!(rt; most_read(rt.alloc(), &saved)?);
-    let again = written_and_read(rt.alloc(), &saved);
-    assert!(rt; again.is_ok_and(|again| again.rows() == saved.rows()));
+    assert!(rt; is_written(rt.alloc(), &saved, most_text(rt.alloc())?.as_str())?);
+    assert!(rt; are_in_their_text(rt.alloc(), &saved)?);
+    assert!(rt; are_those(&saved, written_and_read(rt.alloc(), &saved)));
     Ok(())
 }
 
@@ -260,16 +297,16 @@ fn a_table_of_256_rows(rt: HostRuntime) -> Result<(), Fail> {
 const TWO_ROWS: &str =
     r#"{"rows":[[0,2,0,0,0,0,0,0,0,0,0,0,0,0,"waiting"],[2,4,2,2,0,0,0,0,0,0,0,0,0,0,"waiting"]],"step":"s","version":1}"#;
 
-/// A text of saved rows is written and read in full, or there is no memory for it.
-fn writes_and_reads(rt: &impl Abort, alloc: Global, saved: &Saved) {
+/// Whether a text of saved rows is written and read in full, or there is no memory for it.
+fn writes_and_reads(alloc: Global, saved: &Saved) -> bool {
     let Ok(text) = saved_text(alloc, saved) else {
-        return;
+        return true;
     };
-    assert_eq!(rt; text.as_str(), TWO_ROWS);
-    match read_saved(alloc, text.as_bytes()) {
-        Ok(read) => assert_eq!(rt; read.rows(), saved.rows()),
-        Err(fault) => assert_eq!(rt; fault, StepError::Memory),
-    }
+    text.as_str() == TWO_ROWS
+        && match read_saved(alloc, text.as_bytes()) {
+            Ok(read) => read.rows() == saved.rows(),
+            Err(fault) => fault == StepError::Memory,
+        }
 }
 
 /// With any one request refused, a call answers in full or with want of memory.
@@ -282,7 +319,7 @@ fn wants_memory_or_answers_in_full(rt: HostRuntime) {
         return;
     };
     match Saved::of(rt.alloc(), "s", &snapshot) {
-        Ok(saved) => writes_and_reads(&rt, rt.alloc(), &saved),
-        Err(fault) => assert_eq!(rt; fault, StepError::Memory),
+        Ok(saved) => assert!(rt; writes_and_reads(rt.alloc(), &saved)),
+        Err(fault) => assert!(rt; fault == StepError::Memory),
     }
 }

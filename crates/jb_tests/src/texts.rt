@@ -70,6 +70,6 @@ fn wants_memory_or_answers_in_full(rt: HostRuntime) {
     };
     let mut text = Vec::new(rt.alloc());
     if report.write_to(&mut text).is_ok() {
-        assert_eq!(rt; text.strip_suffix(b"\n"), Some(NO_RECORD.as_bytes()));
+        assert!(rt; text.strip_suffix(b"\n") == Some(NO_RECORD.as_bytes()));
     }
 }

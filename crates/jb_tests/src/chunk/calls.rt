@@ -177,13 +177,12 @@ impl AllCalls {
 #[derive(Clone, Copy)]
 struct Fault {
     record: u64,
-    /// The number of its class.
-    class: u8,
+    class: ClassId,
     /// At each call, or at the first alone.
     always: bool,
 }
 
-fn always(record: u64, class: u8) -> Fault {
+fn always(record: u64, class: ClassId) -> Fault {
     Fault {
         record,
         class,
@@ -191,7 +190,7 @@ fn always(record: u64, class: u8) -> Fault {
     }
 }
 
-fn once(record: u64, class: u8) -> Fault {
+fn once(record: u64, class: ClassId) -> Fault {
     Fault {
         record,
         class,
@@ -216,15 +215,11 @@ impl Told<'_> {
     }
 }
 
-fn plan_of(alloc: Global, fault: &Fault) -> Result<FaultPlan, Fail> {
-    if fault.class >= 64 {
-        return Err(Fail::from("a class"));
-    }
-    let class = ClassId::new(fault.class);
+fn plan_of(alloc: Global, fault: &Fault) -> Result<FaultPlan, AllocError> {
     if fault.always {
-        return Ok(FaultPlan::Bad(class));
+        return Ok(FaultPlan::Bad(fault.class));
     }
-    let once = Vec::from_slice(alloc, &[class])?;
+    let once = Vec::from_slice(alloc, &[fault.class])?;
     Ok(FaultPlan::Shaky(FaultList::from_vec(once)))
 }
 
@@ -352,6 +347,15 @@ fn add_output(outputs: &mut Vec<u8>, text: Option<&[u8]>) -> Result<(), Fail> {
     Ok(())
 }
 
+/// The outputs, each with a blank behind it.
+fn outputs_of(alloc: Global, writer: &CountedWriter) -> Result<Vec<u8>, Fail> {
+    let mut outputs = Vec::new(alloc);
+    for i in 0..writer.count() {
+        add_output(&mut outputs, writer.item_at(i))?;
+    }
+    Ok(outputs)
+}
+
 /// Attempts what was told.
 fn run(alloc: Global, told: &Told<'_>) -> Result<Ran, Fail> {
     let calls = AllCalls::new(alloc)?;
@@ -360,11 +364,7 @@ fn run(alloc: Global, told: &Told<'_>) -> Result<Ran, Fail> {
     let task = begun(told.records(), artifacts).ok_or("a task")?;
     let task = attempts(alloc, task, &calls, &mut log)?;
     let row = *task.row();
-    let writer = task.into_artifacts().writer;
-    let mut outputs = Vec::new(alloc);
-    for i in 0..writer.count() {
-        add_output(&mut outputs, writer.item_at(i))?;
-    }
+    let outputs = outputs_of(alloc, &task.into_artifacts().writer)?;
     Ok(Ran { row, log, outputs })
 }
 
@@ -401,42 +401,52 @@ const COUNTS: Counts = Counts {
 /// one is as if it were the first.
 #[test]
 fn a_partition_with_skips_and_rollbacks(rt: HostRuntime) -> Result<(), Fail> {
+    let (skipped, retried) = (ClassId::new(0), ClassId::new(1));
     let told = Told {
         lines: "a\nzb\nc\nd\ne\nf\nzg\nzh\ni\nj\nk\nl\nm",
-        reads: &[always(2, 0)],
-        processes: &[once(5, 1)],
-        writes: &[always(9, 0), once(10, 1)],
+        reads: &[always(2, skipped)],
+        processes: &[once(5, retried)],
+        writes: &[always(9, skipped), once(10, retried)],
         forgets: Some(3),
     };
     let ran = run(rt.alloc(), &told)?;
-    assert_eq!(rt; ran.log.as_str(), LOG);
-    assert_eq!(rt; ran.row.counts, COUNTS);
-    assert_eq!(rt; ran.outputs.as_slice(), b"xa xd xe xf xk xl xm ".as_slice());
+    assert!(rt; ran.log.as_str() == LOG);
+    assert!(rt; ran.row.counts == COUNTS);
+    assert!(rt; ran.outputs.as_slice() == b"xa xd xe xf xk xl xm ".as_slice());
     Ok(())
 }
+
+/// Whether the attempts at what was told are these lines.
+fn is_logged(alloc: Global, told: &Told<'_>, log: &str) -> Result<bool, Fail> {
+    let ran = run(alloc, told)?;
+    Ok(ran.log.as_str() == log)
+}
+
+const NO_FAULT: Told<'static> = Told {
+    lines: "a\nb\nc",
+    reads: &[],
+    processes: &[],
+    writes: &[],
+    forgets: None,
+};
+
+const WRITE_FAILED: &str = "committed 2 2 1 1 at 2, 2 written
+failed 1 1 1 0 at 2, 2 written
+";
 
 /// A chunk that fails is not collected; it has a write call where its records are done.
 #[test]
 fn partitions_that_fail(rt: HostRuntime) -> Result<(), Fail> {
     let processed = Told {
-        lines: "a\nb\nc",
-        reads: &[],
-        processes: &[always(0, 2)],
-        writes: &[],
-        forgets: None,
+        processes: &[always(0, ClassId::new(2))],
+        ..NO_FAULT
     };
-    let ran = run(rt.alloc(), &processed)?;
-    assert_eq!(rt; ran.log.as_str(), "failed 1 1 0 0 at 0, 0 written\n");
+    assert!(rt; is_logged(rt.alloc(), &processed, "failed 1 1 0 0 at 0, 0 written\n")?);
     let written = Told {
-        processes: &[],
-        writes: &[always(2, 2)],
-        ..processed
+        writes: &[always(2, ClassId::new(2))],
+        ..NO_FAULT
     };
-    let ran = run(rt.alloc(), &written)?;
-    assert_eq!(rt;
-        ran.log.as_str(),
-        "committed 2 2 1 1 at 2, 2 written\nfailed 1 1 1 0 at 2, 2 written\n"
-    );
+    assert!(rt; is_logged(rt.alloc(), &written, WRITE_FAILED)?);
     Ok(())
 }
 
@@ -479,24 +489,23 @@ fn view_of(range: Range) -> RowView {
     }
 }
 
+/// The calls of the artifacts, bare or each in a box, when a record was done.
+fn calls_at_a_record(alloc: Global, are_boxed: bool) -> Result<String, Fail> {
+    let calls = AllCalls::new(alloc)?;
+    if are_boxed {
+        do_a_record(alloc, boxed(alloc, &NO_FAULT, &calls)?)?;
+    } else {
+        do_a_record(alloc, counting(alloc, &NO_FAULT, &calls)?)?;
+    }
+    let row = Row::fresh(Range { lo: 0, hi: 1 });
+    Ok(calls.line(alloc, "done", &row)?)
+}
+
 /// A call of artifacts in boxes is one call of what stands in the box, as it is without boxes.
 #[test]
 fn artifacts_in_boxes(rt: HostRuntime) -> Result<(), Fail> {
-    let alloc = rt.alloc();
-    let told = Told {
-        lines: "a",
-        reads: &[],
-        processes: &[],
-        writes: &[],
-        forgets: None,
-    };
-    let row = Row::fresh(Range { lo: 0, hi: 1 });
-    let calls = AllCalls::new(alloc)?;
-    do_a_record(alloc, counting(alloc, &told, &calls)?)?;
-    let line = calls.line(alloc, "bare", &row)?;
-    assert_eq!(rt; line.as_str(), "bare 1 1 1 1 at 0, 0 written\n");
-    do_a_record(alloc, boxed(alloc, &told, &calls)?)?;
-    let line = calls.line(alloc, "boxed", &row)?;
-    assert_eq!(rt; line.as_str(), "boxed 1 1 1 1 at 0, 0 written\n");
+    let line = "done 1 1 1 1 at 0, 0 written\n";
+    assert!(rt; calls_at_a_record(rt.alloc(), false)?.as_str() == line);
+    assert!(rt; calls_at_a_record(rt.alloc(), true)?.as_str() == line);
     Ok(())
 }

@@ -57,11 +57,9 @@ fn wants_memory_or_answers_in_full(rt: HostRuntime) {
     let Some(done) = committed(&rt, rt.alloc()) else {
         return;
     };
-    assert!(rt; matches!(done.outcome, Outcome::Committed(_)));
+    assert!(rt; matches!(done.outcome, Outcome::Committed(_)) && done.values.len() == 2);
     let row = *done.task.row();
-    assert_eq!(rt; (row.at, row.written, row.counts.commit), (2, 2, 1));
-    assert_eq!(rt; done.values.len(), 2);
+    assert!(rt; (row.at, row.written, row.counts.commit) == (2, 2, 1));
     let writer = done.task.into_artifacts().writer;
-    assert_eq!(rt; writer.count(), 2);
-    assert_eq!(rt; writer.item_at(1), Some(b"xb".as_slice()));
+    assert!(rt; writer.count() == 2 && writer.item_at(1) == Some(b"xb".as_slice()));
 }

@@ -134,6 +134,15 @@ struct Ran {
     outputs: Vec<u8>,
 }
 
+fn outputs_of(alloc: Global, journal: &Journal) -> Result<Vec<u8>, Fail> {
+    let mut outputs = Vec::new(alloc);
+    for line in &journal.lines {
+        outputs.extend_from_slice(line.as_slice())?;
+        outputs.push(b' ')?;
+    }
+    Ok(outputs)
+}
+
 /// Runs a range of the letters of the text alone, two at a time.
 fn run(alloc: Global, text: &[u8], range: Range) -> Result<Ran, Fail> {
     let row = Row::fresh(range);
@@ -164,15 +173,7 @@ fn run(alloc: Global, text: &[u8], range: Range) -> Result<Ran, Fail> {
     let task = Task::start(0, row, rules, 2, artifacts);
     let alone = run_alone(alloc, task);
     let row = *alone.task.row();
-    let artifacts = alone.task.into_artifacts();
-    let mut outputs = Vec::new(alloc);
-    for i in 0..artifacts.writer.count() {
-        let Some(text) = artifacts.writer.item_at(i) else {
-            return Err(Fail::from("an output"));
-        };
-        outputs.extend_from_slice(text)?;
-        outputs.push(b' ')?;
-    }
+    let outputs = outputs_of(alloc, &alone.task.into_artifacts().writer)?;
     Ok(Ran {
         row,
         end: alone.end,
@@ -183,9 +184,9 @@ fn run(alloc: Global, text: &[u8], range: Range) -> Result<Ran, Fail> {
 #[test]
 fn own_artifacts(rt: HostRuntime) -> Result<(), Fail> {
     let ran = run(rt.alloc(), b"abcde", Range { lo: 1, hi: 4 })?;
-    assert_eq!(rt; ran.end, AloneEnd::Finished);
     let row = ran.row;
-    assert_eq!(rt; (row.at, row.written, row.counts.commit), (4, 3, 2));
-    assert_eq!(rt; ran.outputs.as_slice(), b"bb cc dd ".as_slice());
+    assert!(rt; ran.end == AloneEnd::Finished);
+    assert!(rt; (row.at, row.written, row.counts.commit) == (4, 3, 2));
+    assert!(rt; ran.outputs.as_slice() == b"bb cc dd ".as_slice());
     Ok(())
 }

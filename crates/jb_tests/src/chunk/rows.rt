@@ -7,7 +7,7 @@ use jb_artifacts::{
 use jb_chunk::{Alone, AloneEnd, PartitionTask, Task, run_alone};
 use jb_job::{ClassId, Range, Rules};
 use jb_rules::{Row, RowState};
-use std::alloc::Global;
+use std::alloc::{AllocError, Global};
 use std::test::*;
 
 /// What a partition works with.
@@ -96,45 +96,43 @@ fn run(
     left(alloc, run_alone(alloc, task))
 }
 
+/// A record is skipped whose calls to process it fail.
 #[test]
 fn rows(rt: HostRuntime) -> Result<(), Fail> {
     let alloc = rt.alloc();
-    let skipped = run(
-        alloc,
-        letters(alloc)?,
-        2,
-        1,
-        bad_one(alloc)?,
-        FaultPlans::new(alloc),
-    )?;
-    assert_eq!(rt; skipped.end, AloneEnd::Finished);
-    assert_eq!(rt; (skipped.row.written, skipped.row.counts.rollback), (3, 1));
-    assert_eq!(rt; skipped.last.as_slice(), b"xd".as_slice());
-    let torn = run(
-        alloc,
-        letters(alloc)?,
-        4,
-        0,
-        FaultPlans::new(alloc),
-        bad_one(alloc)?,
-    )?;
-    assert_eq!(rt; torn.end, AloneEnd::Finished);
-    assert_eq!(rt; (torn.row.written, torn.row.counts.write_skip), (0, 1));
+    let (processes, writes) = (bad_one(alloc)?, FaultPlans::new(alloc));
+    let ran = run(alloc, letters(alloc)?, 2, 1, processes, writes)?;
+    assert!(rt; ran.end == AloneEnd::Finished && ran.last.as_slice() == b"xd".as_slice());
+    assert!(rt; ran.row.written == 3 && ran.row.counts.rollback == 1);
     Ok(())
+}
+
+/// A write call is skipped that fails in the middle.
+#[test]
+fn torn_rows(rt: HostRuntime) -> Result<(), Fail> {
+    let alloc = rt.alloc();
+    let (processes, writes) = (FaultPlans::new(alloc), bad_one(alloc)?);
+    let ran = run(alloc, letters(alloc)?, 4, 0, processes, writes)?;
+    assert!(rt; ran.end == AloneEnd::Finished);
+    assert!(rt; ran.row.written == 0 && ran.row.counts.write_skip == 1);
+    Ok(())
+}
+
+fn many_records(alloc: Global) -> Result<Vec<Item>, AllocError> {
+    let mut records = Vec::new(alloc);
+    for _ in 0..100_000 {
+        records.push(Item::copy_of(alloc, b"r")?)?;
+    }
+    Ok(records)
 }
 
 /// One chunk of many records, each of which has a result.
 #[test]
 fn a_chunk_of_100_000_records(rt: HostRuntime) -> Result<(), Fail> {
     let alloc = rt.alloc();
-    let mut records = Vec::new(alloc);
-    for _ in 0..100_000 {
-        records.push(Item::copy_of(alloc, b"r")?)?;
-    }
     let (processes, writes) = (FaultPlans::new(alloc), FaultPlans::new(alloc));
-    let ran = run(alloc, records, 1_000_000, 0, processes, writes)?;
-    assert_eq!(rt; ran.end, AloneEnd::Finished);
-    assert_eq!(rt; (ran.row.written, ran.row.counts.commit), (100_000, 1));
-    assert_eq!(rt; ran.last.as_slice(), b"xr".as_slice());
+    let ran = run(alloc, many_records(alloc)?, 1_000_000, 0, processes, writes)?;
+    assert!(rt; ran.end == AloneEnd::Finished && ran.last.as_slice() == b"xr".as_slice());
+    assert!(rt; ran.row.written == 100_000 && ran.row.counts.commit == 1);
     Ok(())
 }

@@ -57,7 +57,7 @@ fn answers(alloc: Global, line: &'static str) -> Result<(String, &'static str), 
 fn limits(rt: HostRuntime) -> Result<(), Fail> {
     for line in RECORDS.lines() {
         let (answer, want) = answers(rt.alloc(), line)?;
-        assert_eq!(rt; answer.as_str(), want, "{line}");
+        assert!(rt; answer.as_str() == want, "{line}");
     }
     Ok(())
 }

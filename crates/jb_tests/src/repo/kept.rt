@@ -18,8 +18,7 @@ fn worked_own_events()
 fn own_events_of_each_partition(rt: HostRuntime) -> Result<(), Fail> {
     worked_own_events();
     let repo = run_walk(&rt, rt.alloc(), 0, 1)?;
-    assert_eq!(rt; repo.own_events(0), 2);
-    assert_eq!(rt; repo.own_events(1), 2);
-    assert_eq!(rt; repo.own_events(2), 0);
+    let numbers = (repo.own_events(0), repo.own_events(1), repo.own_events(2));
+    assert!(rt; numbers == (2, 2, 0));
     Ok(())
 }
