@@ -15,7 +15,6 @@ use jb_artifacts::{
 use jb_job::{ArtifactError, ClassId};
 use jb_rules::Counts;
 use std::alloc::{AllocError, Global};
-use std::test::Fail;
 
 /// Worked values, computed from the definitions alone.
 fn worked_values(class: ClassId, later: ClassId, view: RowView)
@@ -50,7 +49,7 @@ fn worked_values(class: ClassId, later: ClassId, view: RowView)
 {}
 
 /// The plans by which record 1 fails once.
-fn failing_once(alloc: Global, class: ClassId) -> Result<FaultPlans, Fail> {
+fn failing_once(alloc: Global, class: ClassId) -> Result<FaultPlans, AllocError> {
     let classes = Vec::from_slice(alloc, &[class])?;
     let mut plans = FaultPlans::new(alloc);
     plans.insert(1, FaultPlan::Shaky(FaultList::from_vec(classes)))?;
@@ -89,7 +88,7 @@ fn holds(answer: &Result<Option<Item>, ArtifactError>, bytes: &[u8]) -> bool {
 
 /// Record 0 is read, and record 1 after a fault.
 #[test]
-fn a_record_read_after_a_fault(rt: HostRuntime) -> Result<(), Fail> {
+fn a_record_read_after_a_fault(rt: HostRuntime) -> Result<(), AllocError> {
     let alloc = rt.alloc();
     let plans = failing_once(alloc, ClassId::new(3))?;
     let mut reader = TableReader::new(alloc, 0, items(alloc, &["a", "b"])?, plans);
@@ -100,7 +99,7 @@ fn a_record_read_after_a_fault(rt: HostRuntime) -> Result<(), Fail> {
 
 /// Record 1 is processed after a fault.
 #[test]
-fn a_record_processed_after_a_fault(rt: HostRuntime) -> Result<(), Fail> {
+fn a_record_processed_after_a_fault(rt: HostRuntime) -> Result<(), AllocError> {
     let alloc = rt.alloc();
     let plans = failing_once(alloc, ClassId::new(3))?;
     let prefix = Item::copy_of(alloc, b"x")?;
@@ -112,7 +111,7 @@ fn a_record_processed_after_a_fault(rt: HostRuntime) -> Result<(), Fail> {
 
 /// The result of record 1 is written after a fault.
 #[test]
-fn a_result_written_after_a_fault(rt: HostRuntime) -> Result<(), Fail> {
+fn a_result_written_after_a_fault(rt: HostRuntime) -> Result<(), AllocError> {
     let alloc = rt.alloc();
     let plans = failing_once(alloc, ClassId::new(3))?;
     let mut writer = ListWriter::new(alloc, Vec::new(alloc), plans);
@@ -125,7 +124,7 @@ fn a_result_written_after_a_fault(rt: HostRuntime) -> Result<(), Fail> {
 
 /// The end of a partition of two records is told of.
 #[test]
-fn an_end_collected(rt: HostRuntime) -> Result<(), Fail> {
+fn an_end_collected(rt: HostRuntime) -> Result<(), AllocError> {
     let view = RowView {
         partition: 0,
         lo: 0,

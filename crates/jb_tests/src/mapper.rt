@@ -65,7 +65,7 @@ fn two_ranges(alloc: Global) -> Result<FixedMapper, AllocError> {
 }
 
 #[test]
-fn fixed_plans(rt: HostRuntime) -> Result<(), Fail> {
+fn fixed_plans(rt: HostRuntime) -> Result<(), AllocError> {
     let mut mapper = two_ranges(rt.alloc())?;
     assert!(rt; gives(&mut mapper, 7, &[(4, 6), (0, 3)], 5, true));
     assert!(rt; gives(&mut mapper, 0, &[(4, 6), (0, 3)], 5, true));

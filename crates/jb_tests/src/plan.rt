@@ -5,8 +5,7 @@ ghost use Rattle.jb_plan.specs.Plans.{threads_of};
 
 use jb_job::{MAX_RECORDS, Range, Ranges};
 use jb_plan::*;
-use std::alloc::Global;
-use std::test::Fail;
+use std::alloc::{AllocError, Global};
 
 /// The definition of the blocks, computed: a range of which three records are to be done again, one that is cut into
 /// full chunks, and one of which nothing is left.
@@ -42,7 +41,11 @@ fn blocks_of_a_range(rt: HostRuntime) {
 }
 
 /// A plan of these ranges.
-fn given_plan(alloc: Global, ends: &[(u64, u64)], threads: u32) -> Result<PartitionPlan, Fail> {
+fn given_plan(
+    alloc: Global,
+    ends: &[(u64, u64)],
+    threads: u32,
+) -> Result<PartitionPlan, AllocError> {
     let mut ranges = Vec::new(alloc);
     for (lo, hi) in ends {
         ranges.push(Range { lo: *lo, hi: *hi })?;
@@ -55,7 +58,7 @@ fn given_plan(alloc: Global, ends: &[(u64, u64)], threads: u32) -> Result<Partit
 }
 
 /// The refusal of a plan on seven records, or an empty text.
-fn refusal_of(alloc: Global, ends: &[(u64, u64)], threads: u32) -> Result<String, Fail> {
+fn refusal_of(alloc: Global, ends: &[(u64, u64)], threads: u32) -> Result<String, AllocError> {
     match checked(given_plan(alloc, ends, threads)?, 7) {
         Ok(_) => Ok(String::new(alloc)),
         Err(fault) => Ok(format!(in alloc; "{fault}")?),
@@ -80,7 +83,7 @@ fn refusals() -> [(&'static [(u64, u64)], u32, &'static str); 11] {
 }
 
 #[test]
-fn refusals_in_order(rt: HostRuntime) -> Result<(), Fail> {
+fn refusals_in_order(rt: HostRuntime) -> Result<(), AllocError> {
     worked_faults();
     for (ends, threads, want) in refusals() {
         let text = refusal_of(rt.alloc(), ends, threads)?;
@@ -96,7 +99,7 @@ fn ranges_that_overlap(rt: HostRuntime) {
 }
 
 /// So many empty ranges.
-fn empty_ranges(alloc: Global, count: usize, threads: u32) -> Result<PartitionPlan, Fail> {
+fn empty_ranges(alloc: Global, count: usize, threads: u32) -> Result<PartitionPlan, AllocError> {
     let ranges = vec![in alloc; Range { lo: 0, hi: 0 }; count]?;
     Ok(PartitionPlan {
         ranges: Ranges::new(ranges),
@@ -105,19 +108,16 @@ fn empty_ranges(alloc: Global, count: usize, threads: u32) -> Result<PartitionPl
     })
 }
 
-/// The threads of a plan of so many ranges for no record, if it is accepted. It replaces nothing.
-fn threads_of(alloc: Global, count: usize, asked: u32) -> Result<u32, Fail> {
-    let plan = checked(empty_ranges(alloc, count, asked)?, 0)
-        .ok()
-        .ok_or("a plan")?;
-    if plan.ranges().len() != count || plan.replace() {
-        return Err(Fail::from("another plan"));
+/// The threads of a plan of so many ranges for no record, if it is accepted as one that replaces nothing.
+fn threads_of(alloc: Global, count: usize, asked: u32) -> Result<Option<u32>, AllocError> {
+    match checked(empty_ranges(alloc, count, asked)?, 0) {
+        Ok(plan) if plan.ranges().len() == count && !plan.replace() => Ok(Some(plan.threads())),
+        _ => Ok(None),
     }
-    Ok(plan.threads())
 }
 
 #[test]
-fn numbers_of_ranges_and_threads(rt: HostRuntime) -> Result<(), Fail> {
+fn numbers_of_ranges_and_threads(rt: HostRuntime) -> Result<(), AllocError> {
     let many = checked(empty_ranges(rt.alloc(), 257, 0)?, 0);
     assert!(rt; matches!(many, Err(PlanError::TooMany)));
     for (count, asked, want) in [
@@ -127,16 +127,14 @@ fn numbers_of_ranges_and_threads(rt: HostRuntime) -> Result<(), Fail> {
         (1, 4_096, 64),
         (3, 2, 2),
     ] {
-        assert!(rt; threads_of(rt.alloc(), count, asked)? == want);
+        assert!(rt; threads_of(rt.alloc(), count, asked)? == Some(want));
     }
     Ok(())
 }
 
 #[test]
-fn a_plan_that_replaces(rt: HostRuntime) -> Result<(), Fail> {
-    let plan = checked(given_plan(rt.alloc(), &[(0, 7)], 1)?, 7)
-        .ok()
-        .ok_or("a plan")?;
-    assert!(rt; plan.replace());
+fn a_plan_that_replaces(rt: HostRuntime) -> Result<(), AllocError> {
+    let plan = checked(given_plan(rt.alloc(), &[(0, 7)], 1)?, 7);
+    assert!(rt; matches!(&plan, Ok(plan) if plan.replace()));
     Ok(())
 }

@@ -16,7 +16,6 @@ use jb_repo::*;
 use jb_rules::{Counts, Row, RowState};
 use std::alloc::{AllocError, Global};
 use std::process::Abort;
-use std::test::Fail;
 
 mod kept;
 
@@ -152,7 +151,7 @@ fn has_rows(repo: &Repo, rows: &[Row]) -> Result<bool, AllocError> {
 }
 
 #[test]
-fn both_orders(rt: HostRuntime) -> Result<(), Fail> {
+fn both_orders(rt: HostRuntime) -> Result<(), AllocError> {
     worked_lists();
     let one = run_walk(&rt, rt.alloc(), 0, 1)?;
     let other = run_walk(&rt, rt.alloc(), 1, 0)?;
@@ -211,7 +210,7 @@ fn refusals() -> [(Event, Option<Refused>); 33] {
 }
 
 #[test]
-fn refusals_of_each_event(rt: HostRuntime) -> Result<(), Fail> {
+fn refusals_of_each_event(rt: HostRuntime) -> Result<(), AllocError> {
     let mut repo = two_partitions(&rt, rt.alloc())?;
     apply_all(&rt, &mut repo, &refusals());
     Ok(())
@@ -246,7 +245,7 @@ fn rollback_answers() -> [Option<Refused>; 7] {
 }
 
 #[test]
-fn a_rollback_ends_the_plan(rt: HostRuntime) -> Result<(), Fail> {
+fn a_rollback_ends_the_plan(rt: HostRuntime) -> Result<(), AllocError> {
     let mut repo = opened(&rt, rows_of(rt.alloc(), &[(0, 4)])?, 1, 4);
     let answers = run_events(&mut repo, &rollback())?;
     assert!(rt; answers.as_slice() == rollback_answers().as_slice());
@@ -307,7 +306,7 @@ fn end_first_round(
 }
 
 #[test]
-fn plans_ended_in_the_first_of_two_rounds(rt: HostRuntime) -> Result<(), Fail> {
+fn plans_ended_in_the_first_of_two_rounds(rt: HostRuntime) -> Result<(), AllocError> {
     let class = ClassId::new(0);
     let commit = Event::Commit(0, TWO_RECORDS, 2);
     end_first_round(&rt, rt.alloc(), &[Event::Roll(0, class)], NO_FURTHER)?;
@@ -347,7 +346,7 @@ fn end_second_round(
 }
 
 #[test]
-fn plans_ended_in_the_second_of_three_rounds(rt: HostRuntime) -> Result<(), Fail> {
+fn plans_ended_in_the_second_of_three_rounds(rt: HostRuntime) -> Result<(), AllocError> {
     let class = ClassId::new(0);
     let commit = Event::Commit(1, ONE_RECORD, 2);
     end_second_round(&rt, rt.alloc(), &[Event::Roll(1, class)], NO_FURTHER)?;
@@ -390,7 +389,7 @@ fn skipped_writes() -> [(Event, Option<Refused>); 6] {
 }
 
 #[test]
-fn skipped_write_calls(rt: HostRuntime) -> Result<(), Fail> {
+fn skipped_write_calls(rt: HostRuntime) -> Result<(), AllocError> {
     let mut repo = two_partitions(&rt, rt.alloc())?;
     apply_all(&rt, &mut repo, &skipped_writes());
     Ok(())
@@ -411,7 +410,7 @@ fn run_round(rt: &impl Abort, repo: &mut Repo, first: u32) {
 }
 
 #[test]
-fn many_partitions_and_threads(rt: HostRuntime) -> Result<(), Fail> {
+fn many_partitions_and_threads(rt: HostRuntime) -> Result<(), AllocError> {
     let mut repo = opened(&rt, most_rows(rt.alloc())?, 64, 1);
     assert!(rt; repo.apply(Event::Plan(3, Certificate::FullLoad)) == Err(Refused::BadPlan));
     assert!(rt; repo.apply(Event::Plan(4, Certificate::FullLoad)).is_ok());
@@ -475,7 +474,7 @@ fn is_after_the_first_round(shown: &Snapshot) -> bool {
 
 /// The first round of as many partitions as a repository has, as one list of events.
 #[test]
-fn a_list_of_events_on_256_rows(rt: HostRuntime) -> Result<(), Fail> {
+fn a_list_of_events_on_256_rows(rt: HostRuntime) -> Result<(), AllocError> {
     let mut repo = opened(&rt, most_rows(rt.alloc())?, 64, 1);
     let events = first_round(rt.alloc())?;
     assert!(rt; accepts(&mut repo, &events, 130)?);
@@ -497,7 +496,7 @@ fn ten_thousand_chunks(alloc: Global) -> Result<Vec<Event>, AllocError> {
 
 /// A partition of 10,000 chunks, from its Plan to its end, as one list of events.
 #[test]
-fn a_list_of_30_001_events(rt: HostRuntime) -> Result<(), Fail> {
+fn a_list_of_30_001_events(rt: HostRuntime) -> Result<(), AllocError> {
     let mut repo = opened(&rt, rows_of(rt.alloc(), &[(0, 10_000)])?, 1, 1);
     let events = ten_thousand_chunks(rt.alloc())?;
     assert!(rt; accepts(&mut repo, &events, 30_001)?);
@@ -513,7 +512,7 @@ fn rolled_back(rt: &impl Abort, alloc: Global, before: u64) -> Result<Repo, Allo
 }
 
 #[test]
-fn a_partition_at_its_limit_of_rollbacks(rt: HostRuntime) -> Result<(), Fail> {
+fn a_partition_at_its_limit_of_rollbacks(rt: HostRuntime) -> Result<(), AllocError> {
     for (before, begin, roll) in [
         (
             MAX_ROLLBACKS,
@@ -535,7 +534,7 @@ fn a_partition_at_its_limit_of_rollbacks(rt: HostRuntime) -> Result<(), Fail> {
 }
 
 #[test]
-fn what_a_repository_is_opened_with(rt: HostRuntime) -> Result<(), Fail> {
+fn what_a_repository_is_opened_with(rt: HostRuntime) -> Result<(), AllocError> {
     let cases: [(&[(u64, u64)], u32, u64, bool); 10] = [
         (&[(0, 2), (2, 4)], 2, 2, true),
         (&[(2, 4), (0, 2), (3, 3)], 64, 1_000_000, true),
@@ -559,7 +558,7 @@ fn what_a_repository_is_opened_with(rt: HostRuntime) -> Result<(), Fail> {
 }
 
 #[test]
-fn how_many_rows_a_repository_is_opened_with(rt: HostRuntime) -> Result<(), Fail> {
+fn how_many_rows_a_repository_is_opened_with(rt: HostRuntime) -> Result<(), AllocError> {
     let many = vec![in rt.alloc(); Row::fresh(Range { lo: 0, hi: 0 }); 257]?;
     assert!(rt; !can_open(many.as_slice(), 1, 1) && can_open(&many.as_slice()[1..], 1, 1));
     Ok(())
@@ -664,7 +663,7 @@ fn memory_refused(rt: HostRuntime) {
 }
 
 #[test]
-fn names_of_refusals(rt: HostRuntime) -> Result<(), Fail> {
+fn names_of_refusals(rt: HostRuntime) -> Result<(), AllocError> {
     let names = [
         (Refused::Stopping, "Stopping"),
         (Refused::NoPartition, "NoPartition"),

@@ -5,7 +5,6 @@ use jb_cert::{
 };
 use jb_rounds::{RoundCursor, plan};
 use std::alloc::{AllocError, Global};
-use std::test::Fail;
 
 // What is left of one count of a load when a round has run a chunk of its partition or not, if it can. A load of up to four counts
 // up to four is a number in base five, the first count its lowest digit; `place` is what a one is worth in the count's digit.
@@ -131,7 +130,7 @@ fn is_planned(
 const LOADS: [u64; 5] = [1, 5, 25, 125, 625];
 
 #[test]
-fn plans_every_small_load(rt: HostRuntime) -> Result<(), Fail> {
+fn plans_every_small_load(rt: HostRuntime) -> Result<(), AllocError> {
     for threads in 1..5 {
         let fewest = fewest_by_search(rt.alloc(), threads)?;
         for length in 0..5usize {
@@ -150,7 +149,7 @@ fn plans_every_small_load(rt: HostRuntime) -> Result<(), Fail> {
 }
 
 #[test]
-fn finds_slots_of_a_large_count(rt: HostRuntime) -> Result<(), Fail> {
+fn finds_slots_of_a_large_count(rt: HostRuntime) -> Result<(), AllocError> {
     let one = [10_000_000];
     assert!(rt; fits(&one, 64));
     let cursor = RoundCursor::new(rt.alloc(), &one, 64)?;
@@ -160,7 +159,7 @@ fn finds_slots_of_a_large_count(rt: HostRuntime) -> Result<(), Fail> {
 }
 
 #[test]
-fn finds_slots_of_many_counts(rt: HostRuntime) -> Result<(), Fail> {
+fn finds_slots_of_many_counts(rt: HostRuntime) -> Result<(), AllocError> {
     let many = vec![in rt.alloc(); 2_000u64; 4_096]?;
     assert!(rt; fits(&many, 63));
     let cursor = RoundCursor::new(rt.alloc(), &many, 63)?;
@@ -172,7 +171,7 @@ fn finds_slots_of_many_counts(rt: HostRuntime) -> Result<(), Fail> {
 
 // As many partitions and threads as a load may have.
 #[test]
-fn plans_the_most_partitions(rt: HostRuntime) -> Result<(), Fail> {
+fn plans_the_most_partitions(rt: HostRuntime) -> Result<(), AllocError> {
     let counts = vec![in rt.alloc(); 1u64; 4_096]?;
     assert!(rt; fits(&counts, 64));
     let (made, certificate) = plan(rt.alloc(), &counts, 64)?;
@@ -183,7 +182,7 @@ fn plans_the_most_partitions(rt: HostRuntime) -> Result<(), Fail> {
 
 // A long plan: as it was made, and without its last chunk.
 #[test]
-fn checks_a_plan_of_20_004_rounds(rt: HostRuntime) -> Result<(), Fail> {
+fn checks_a_plan_of_20_004_rounds(rt: HostRuntime) -> Result<(), AllocError> {
     let counts = [20_000, 20_000, 7];
     assert!(rt; fits(&counts, 2));
     let (mut made, certificate) = plan(rt.alloc(), &counts, 2)?;
@@ -215,29 +214,32 @@ fn put_last(slots: &mut Vec<Slot>, slot: (u32, u32, u64)) -> Result<(), AllocErr
 }
 
 // What the checker says of the plan for the counts 2 and 1 on two threads, with this slot in place of the last one of a round.
-fn said_of(alloc: Global, round: usize, slot: (u32, u32, u64)) -> Result<PlanFault, Fail> {
+fn said_of(
+    alloc: Global,
+    round: usize,
+    slot: (u32, u32, u64),
+) -> Result<Option<PlanFault>, AllocError> {
     let counts = [2, 1];
     if !fits(&counts, 2) {
-        return Err(Fail::from("a load"));
+        return Ok(None);
     }
     let mut wrong = plan(alloc, &counts, 2)?.0;
-    put_last(wrong.rounds.get_mut(round).ok_or("a round")?, slot)?;
-    let fault = check_plan(alloc, &counts, 2, &wrong)
-        .err()
-        .ok_or("a fault")?;
-    Ok(fault)
+    if let Some(slots) = wrong.rounds.get_mut(round) {
+        put_last(slots, slot)?;
+    }
+    Ok(check_plan(alloc, &counts, 2, &wrong).err())
 }
 
 #[test]
-fn refuses_wrong_plans(rt: HostRuntime) -> Result<(), Fail> {
+fn refuses_wrong_plans(rt: HostRuntime) -> Result<(), AllocError> {
     for (round, slot, fault) in WRONG_SLOTS {
-        assert!(rt; said_of(rt.alloc(), round, slot)? == fault);
+        assert!(rt; said_of(rt.alloc(), round, slot)? == Some(fault));
     }
     Ok(())
 }
 
 #[test]
-fn refuses_a_short_plan(rt: HostRuntime) -> Result<(), Fail> {
+fn refuses_a_short_plan(rt: HostRuntime) -> Result<(), AllocError> {
     let counts = [2, 1];
     assert!(rt; fits(&counts, 2));
     let mut short = plan(rt.alloc(), &counts, 2)?.0;
@@ -247,7 +249,7 @@ fn refuses_a_short_plan(rt: HostRuntime) -> Result<(), Fail> {
 }
 
 #[test]
-fn prints_faults(rt: HostRuntime) -> Result<(), Fail> {
+fn prints_faults(rt: HostRuntime) -> Result<(), AllocError> {
     let text = format!(in rt.alloc();
         "{} {} {} {} {} {}",
         PlanFault::LaneRange,
@@ -262,7 +264,7 @@ fn prints_faults(rt: HostRuntime) -> Result<(), Fail> {
 }
 
 #[test]
-fn prints_certificates(rt: HostRuntime) -> Result<(), Fail> {
+fn prints_certificates(rt: HostRuntime) -> Result<(), AllocError> {
     let text = format!(in rt.alloc();
         "{} {} {}",
         Certificate::Nothing,

@@ -422,13 +422,16 @@ fn is_logged(alloc: Global, told: &Told<'_>, log: &str) -> Result<bool, Fail> {
     Ok(ran.log.as_str() == log)
 }
 
-const NO_FAULT: Told<'static> = Told {
-    lines: "a\nb\nc",
-    reads: &[],
-    processes: &[],
-    writes: &[],
-    forgets: None,
-};
+/// Three records without a fault.
+fn no_fault() -> Told<'static> {
+    Told {
+        lines: "a\nb\nc",
+        reads: &[],
+        processes: &[],
+        writes: &[],
+        forgets: None,
+    }
+}
 
 const WRITE_FAILED: &str = "committed 2 2 1 1 at 2, 2 written
 failed 1 1 1 0 at 2, 2 written
@@ -439,12 +442,12 @@ failed 1 1 1 0 at 2, 2 written
 fn partitions_that_fail(rt: HostRuntime) -> Result<(), Fail> {
     let processed = Told {
         processes: &[always(0, ClassId::new(2))],
-        ..NO_FAULT
+        ..no_fault()
     };
     assert!(rt; is_logged(rt.alloc(), &processed, "failed 1 1 0 0 at 0, 0 written\n")?);
     let written = Told {
         writes: &[always(2, ClassId::new(2))],
-        ..NO_FAULT
+        ..no_fault()
     };
     assert!(rt; is_logged(rt.alloc(), &written, WRITE_FAILED)?);
     Ok(())
@@ -493,9 +496,9 @@ fn view_of(range: Range) -> RowView {
 fn calls_at_a_record(alloc: Global, are_boxed: bool) -> Result<String, Fail> {
     let calls = AllCalls::new(alloc)?;
     if are_boxed {
-        do_a_record(alloc, boxed(alloc, &NO_FAULT, &calls)?)?;
+        do_a_record(alloc, boxed(alloc, &no_fault(), &calls)?)?;
     } else {
-        do_a_record(alloc, counting(alloc, &NO_FAULT, &calls)?)?;
+        do_a_record(alloc, counting(alloc, &no_fault(), &calls)?)?;
     }
     let row = Row::fresh(Range { lo: 0, hi: 1 });
     Ok(calls.line(alloc, "done", &row)?)

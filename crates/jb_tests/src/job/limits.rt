@@ -18,20 +18,23 @@ const RECORDS: &str = r#"0|NotJson|{"id":|x||
 32|accepted|{"id":"|é||","step":[{"chunk":{},"id":"s"}]}
 32|OutOfRange(id)|{"id":"a|é||","step":[{"chunk":{},"id":"s"}]}"#;
 
+/// A member with its number.
+fn numbered(alloc: Global, member: &str, number: u64) -> Result<String, AllocError> {
+    match member.split_once('#') {
+        None => String::from_str(alloc, member),
+        Some((left, right)) => format!(in alloc; "{left}{number}{right}"),
+    }
+}
+
 /// So many members, each with its number.
-fn members(alloc: Global, member: &str, between: &str, count: u64) -> Result<String, Fail> {
+fn members(alloc: Global, member: &str, between: &str, count: u64) -> Result<String, AllocError> {
     let mut text = String::new(alloc);
-    for i in 0..count {
-        if i > 0 {
+    for number in 0..count {
+        if number > 0 {
             text.push_str(between)?;
         }
-        match member.split_once('#') {
-            None => text.push_str(member)?,
-            Some((left, right)) => {
-                let numbered = format!(in alloc; "{left}{i}{right}")?;
-                text.push_str(numbered.as_str())?;
-            }
-        }
+        let next = numbered(alloc, member, number)?;
+        text.push_str(next.as_str())?;
     }
     Ok(text)
 }

@@ -5,7 +5,7 @@ ghost use Rattle.jb_repo.specs.Table.{own_events};
 ghost use Rattle.jb_repo.specs.Worked.{two_partitions, walk, journal_after};
 
 use crate::repo::run_walk;
-use std::test::Fail;
+use std::alloc::AllocError;
 
 /// The numbers of own events, computed on a worked list of events.
 fn worked_own_events()
@@ -15,7 +15,7 @@ fn worked_own_events()
 {}
 
 #[test]
-fn own_events_of_each_partition(rt: HostRuntime) -> Result<(), Fail> {
+fn own_events_of_each_partition(rt: HostRuntime) -> Result<(), AllocError> {
     worked_own_events();
     let repo = run_walk(&rt, rt.alloc(), 0, 1)?;
     let numbers = (repo.own_events(0), repo.own_events(1), repo.own_events(2));
