@@ -5,7 +5,7 @@ ghost use Rattle.jb_mapper.specs.EvenCover.{even_ranges};
 
 use jb_job::{ArtifactError, Range, Ranges};
 use jb_mapper::{EvenMapper, FixedMapper, PartitionMapper};
-use jb_plan::{PartitionPlan, PlanError, checked};
+use jb_plan::{Checked, PartitionPlan, PlanError, checked};
 use std::alloc::{AllocError, Global};
 use std::test::Fail;
 
@@ -92,9 +92,9 @@ fn plans_of_4_096_partitions(rt: HostRuntime) -> Result<(), Fail> {
     Ok(())
 }
 
-/// What the check of a plan says: its threads, or the refusal.
-fn threads_of(plan: PartitionPlan, records: u64) -> Result<u32, PlanError> {
-    match checked(plan, records) {
+/// What the check of a plan said: its threads, or the refusal.
+fn threads_of(said: Result<Checked, PlanError>) -> Result<u32, PlanError> {
+    match said {
         Ok(plan) => Ok(plan.threads()),
         Err(fault) => Err(fault),
     }
@@ -103,16 +103,19 @@ fn threads_of(plan: PartitionPlan, records: u64) -> Result<u32, PlanError> {
 #[test]
 fn an_even_plan_is_checked(rt: HostRuntime) -> Result<(), Fail> {
     let most = EvenMapper::new(rt.alloc(), 256, 0, false).map(1_000);
-    assert!(rt; threads_of(most.ok().ok_or("a plan")?, 1_000) == Ok(64));
+    let said = checked(most.ok().ok_or("a plan")?, 1_000);
+    assert!(rt; threads_of(said) == Ok(64));
     let more = EvenMapper::new(rt.alloc(), 257, 0, false).map(1_000);
-    assert!(rt; threads_of(more.ok().ok_or("a plan")?, 1_000) == Err(PlanError::TooMany));
+    let said = checked(more.ok().ok_or("a plan")?, 1_000);
+    assert!(rt; threads_of(said) == Err(PlanError::TooMany));
     Ok(())
 }
 
 #[test]
 fn a_plan_of_5_000_threads_is_refused(rt: HostRuntime) -> Result<(), Fail> {
     let plan = EvenMapper::new(rt.alloc(), 3, 5_000, false).map(7);
-    assert!(rt; threads_of(plan.ok().ok_or("a plan")?, 7) == Err(PlanError::Threads));
+    let said = checked(plan.ok().ok_or("a plan")?, 7);
+    assert!(rt; threads_of(said) == Err(PlanError::Threads));
     Ok(())
 }
 
