@@ -2,17 +2,14 @@
 
 ghost use Rattle.jb_collect.specs.Worked.{FirstRun, OneFailed, StoppedAfterARound, NoRecord, RolledBack, CallsTaken, ListedCalls, ReducerCalls, ReducerFaults};
 
-use jb_artifacts::{
-    ArtifactsOf, CountCollector, FaultPlans, Item, ListWriter, PrefixProcessor, TableReader,
-};
-use jb_chunk::{Done, PartitionTask, Task};
+use crate::workers::most::{OneRecordTask, own_task};
+use jb_chunk::{Done, PartitionTask};
 use jb_collect::{
     Analyzer, AnalyzerCall, ListAnalyzer, ListReducer, PartitionStatus, Reducer, ReducerCall,
     deliver,
 };
-use jb_job::{ArtifactError, ClassId, Range, Rules};
-use jb_rules::{Row, RowState};
-use std::alloc::Global;
+use jb_job::{ArtifactError, ClassId, MAX_ROLLBACKS};
+use std::alloc::{AllocError, Global};
 use std::test::*;
 
 /// What is heard, which calls are taken, and the reducer's calls, computed from the definitions alone.
@@ -28,105 +25,99 @@ fn worked_rows()
     ensures reducer_faults { ReducerFaults }
 {}
 
-type Tried = Done<Task<ArtifactsOf<TableReader, PrefixProcessor, ListWriter, CountCollector>>>;
-
 /// The attempt of a partition of one record, which has the partition's number.
-fn attempt(alloc: Global, partition: u32) -> Result<Tried, Fail> {
-    let lo = u64::from(partition);
-    let mut records = Vec::new(alloc);
-    records.push(Item::copy_of(alloc, b"a")?)?;
-    let prefix = Item::copy_of(alloc, b"x")?;
-    let artifacts = ArtifactsOf {
-        reader: TableReader::new(alloc, lo, records, FaultPlans::new(alloc)),
-        processor: PrefixProcessor::new(alloc, prefix, None, FaultPlans::new(alloc)),
-        writer: ListWriter::new(alloc, Vec::new(alloc), FaultPlans::new(alloc)),
-        collector: CountCollector::new(alloc),
-    };
-    let row = Row::fresh(Range { lo, hi: lo + 1 });
-    if !row.sound() || row.state != RowState::Waiting || !Task::fits(&artifacts, &row) {
-        return Err(Fail::from("a task"));
+fn attempt(alloc: Global, partition: u32) -> Option<Done<OneRecordTask>> {
+    let task = own_task(alloc, partition)?;
+    let row = *task.row();
+    if row.state.is_waiting() && row.counts.rollback < MAX_ROLLBACKS {
+        Some(task.attempt(alloc))
+    } else {
+        None
     }
-    let rules = Rules {
-        skippable: 0,
-        retryable: 0,
-        skip_limit: None,
-        retry_limit: 0,
-    };
-    Ok(Task::start(partition, row, rules, 1, artifacts).attempt(alloc))
 }
 
 /// The attempts of a round of so many partitions.
-fn round(alloc: Global, partitions: u32) -> Result<Vec<Tried>, Fail> {
+fn round(alloc: Global, partitions: u32) -> Option<Vec<Done<OneRecordTask>>> {
     let mut dones = Vec::new(alloc);
     for partition in 0..partitions {
-        dones.push(attempt(alloc, partition)?)?;
+        dones.push(attempt(alloc, partition)?).ok()?;
     }
-    Ok(dones)
+    Some(dones)
 }
 
 /// The calls, each with a blank behind it.
-pub(crate) fn line_of(alloc: Global, calls: &[AnalyzerCall]) -> Result<Vec<u8>, Fail> {
+pub(crate) fn line_of(alloc: Global, calls: &[AnalyzerCall]) -> Result<Vec<u8>, AllocError> {
     let mut line = Vec::new(alloc);
     for call in calls {
-        match call {
-            AnalyzerCall::Collected(_, text) => line.extend_from_slice(text.as_slice())?,
-            AnalyzerCall::Status(partition, status) => {
-                let text = format!(in alloc; "{partition} {status:?}")?;
-                line.extend_from_slice(text.as_bytes())?;
-            }
-        }
+        add_call(&mut line, alloc, call)?;
         line.push(b' ')?;
     }
     Ok(line)
+}
+
+fn add_call(line: &mut Vec<u8>, alloc: Global, call: &AnalyzerCall) -> Result<(), AllocError> {
+    match call {
+        AnalyzerCall::Collected(_, text) => line.extend_from_slice(text.as_slice()),
+        AnalyzerCall::Status(partition, status) => {
+            let text = format!(in alloc; "{partition} {status:?}")?;
+            line.extend_from_slice(text.as_bytes())
+        }
+    }
+}
+
+/// Whether an analyzer whose call of this number fails hears the round up to it, and its fault is answered.
+fn is_told_up_to(alloc: Global, dones: &[Done<OneRecordTask>], number: u64) -> bool {
+    let class = ClassId::new(5);
+    let mut analyzer = ListAnalyzer::new(alloc, Some((number, class)));
+    deliver(dones, &mut analyzer) == Err(ArtifactError::Fault(class))
+        && analyzer.calls().len() as u64 == number + 1
 }
 
 /// A round of two partitions, told to analyzers that fail at each of its calls, and at none.
 #[test]
 fn a_round_is_delivered(rt: HostRuntime) -> Result<(), Fail> {
     worked_rows();
-    let dones = round(rt.alloc(), 2)?;
-    let class = ClassId::new(5);
+    let dones = round(rt.alloc(), 2).ok_or("a round")?;
     for number in 0..6 {
-        let mut analyzer = ListAnalyzer::new(rt.alloc(), Some((number, class)));
-        let answer = deliver(&dones, &mut analyzer);
-        assert_eq!(rt; answer, Err(ArtifactError::Fault(class)));
-        assert_eq!(rt; analyzer.calls().len() as u64, number + 1);
+        assert!(rt; is_told_up_to(rt.alloc(), &dones, number));
     }
-    let mut analyzer = ListAnalyzer::new(rt.alloc(), Some((6, class)));
-    assert_eq!(rt; deliver(&dones, &mut analyzer), Ok(()));
+    let mut analyzer = ListAnalyzer::new(rt.alloc(), Some((6, ClassId::new(5))));
+    assert!(rt; deliver(&dones, &mut analyzer).is_ok());
     let line = line_of(rt.alloc(), analyzer.calls())?;
-    assert_eq!(rt;
-        line.as_slice(),
-        b"0:1:1 0:1:1:end 0 Completed 1:2:1 1:2:1:end 1 Completed ".as_slice()
-    );
+    let wanted = b"0:1:1 0:1:1:end 0 Completed 1:2:1 1:2:1:end 1 Completed ".as_slice();
+    assert!(rt; line.as_slice() == wanted);
     Ok(())
 }
 
 /// A round of as many partitions as a step has.
 #[test]
 fn a_round_of_256_partitions_is_delivered(rt: HostRuntime) -> Result<(), Fail> {
-    let dones = round(rt.alloc(), 256)?;
+    let dones = round(rt.alloc(), 256).ok_or("a round")?;
     let mut analyzer = ListAnalyzer::new(rt.alloc(), None);
-    assert_eq!(rt; deliver(&dones, &mut analyzer), Ok(()));
+    let is_told = deliver(&dones, &mut analyzer).is_ok();
     let calls = analyzer.calls();
-    assert_eq!(rt; calls.len(), 768);
-    assert!(rt; matches!(calls.last(), Some(AnalyzerCall::Status(255, _))));
+    let is_last = matches!(calls.last(), Some(AnalyzerCall::Status(255, _)));
+    assert!(rt; is_told && calls.len() == 768 && is_last);
     Ok(())
 }
 
+/// The third of a reducer's calls fails; it hears all four.
 #[test]
 fn a_reducer_takes_its_calls(rt: HostRuntime) {
     let class = ClassId::new(5);
     let mut reducer = ListReducer::new(rt.alloc(), Some((2, class)));
-    assert_eq!(rt; reducer.begin(), Ok(()));
-    assert_eq!(rt; reducer.before_completion(), Ok(()));
-    assert_eq!(rt; reducer.rollback(), Err(ArtifactError::Fault(class)));
-    assert_eq!(rt; reducer.after(PartitionStatus::Rollback), Ok(()));
+    let answers = [
+        reducer.begin(),
+        reducer.before_completion(),
+        reducer.rollback(),
+        reducer.after(PartitionStatus::Rollback),
+    ];
+    let wanted = [Ok(()), Ok(()), Err(ArtifactError::Fault(class)), Ok(())];
     let calls = [
         ReducerCall::Begin,
         ReducerCall::Before,
         ReducerCall::Rollback,
         ReducerCall::After(PartitionStatus::Rollback),
     ];
-    assert!(rt; reducer.calls() == calls.as_slice());
+    assert!(rt; answers == wanted && reducer.calls() == calls.as_slice());
 }

@@ -7,12 +7,10 @@ ghost use Rattle.jb_job.specs.Limits.{max_rollbacks};
 ghost use Rattle.jb_chunk.specs.Attempt.{IsAttempt, ending_of};
 ghost use Rattle.jb_chunk.specs.Standing.{IsReady};
 
-use jb_artifacts::{
-    Artifacts, CountCollector, FaultPlans, Item, ListWriter, PrefixProcessor, TableReader,
-};
+use crate::workers::tasks::{RULES, boxes, fresh_rows, task_of};
+use jb_artifacts::{Artifacts, FaultPlans};
 use jb_chunk::{Done, Outcome, PartitionTask, Task};
-use jb_job::{Range, Rules};
-use jb_rules::{Row, RowState};
+use jb_job::MAX_ROLLBACKS;
 use std::alloc::Global;
 use std::snapshot::Snapshot;
 use std::test::*;
@@ -53,47 +51,45 @@ fn attempt_in_thread<T: PartitionTask + Send + 'static>(
     }
 }
 
+/// The attempt of partition 7, of the letters a and b, in a thread.
+fn attempted<T: PartitionTask + Send + 'static>(
+    rt: &impl Threads,
+    alloc: Global,
+    artifacts: T::Artifacts,
+) -> Option<Done<T>> {
+    let [row, _] = fresh_rows();
+    let task = task_of::<T>(7, row, RULES, 2, artifacts)?;
+    let row = *task.row();
+    if row.state.is_waiting() && row.counts.rollback < MAX_ROLLBACKS {
+        attempt_in_thread(rt, alloc, task)
+    } else {
+        None
+    }
+}
+
+/// Whether it was committed, and its collector's texts.
+fn is_whole<T: PartitionTask>(done: &Done<T>) -> bool {
+    matches!(done.outcome, Outcome::Committed(_))
+        && done.task.partition() == 7
+        && done.values.len() == 2
+        && done.values[0].as_slice() == b"7:2:2".as_slice()
+        && done.values[1].as_slice() == b"7:2:2:end".as_slice()
+}
+
 #[test]
 fn task_in_a_thread(rt: HostRuntime) -> Result<(), Fail> {
     let alloc = rt.alloc();
-    let mut records = Vec::new(alloc);
-    records.push(Item::copy_of(alloc, b"a")?)?;
-    records.push(Item::copy_of(alloc, b"b")?)?;
-    let row = Row::fresh(Range { lo: 0, hi: 2 });
-    let rules = Rules {
-        skippable: 0,
-        retryable: 0,
-        skip_limit: None,
-        retry_limit: 0,
-    };
-    let prefix = Item::copy_of(alloc, b"x")?;
+    let boxes = boxes(alloc, FaultPlans::new(alloc), true)?;
     let artifacts = Artifacts {
-        reader: Box::new(
-            alloc,
-            TableReader::new(alloc, 0, records, FaultPlans::new(alloc)),
-        )?,
-        processor: Box::new(
-            alloc,
-            PrefixProcessor::new(alloc, prefix, None, FaultPlans::new(alloc)),
-        )?,
-        writer: Box::new(
-            alloc,
-            ListWriter::new(alloc, Vec::new(alloc), FaultPlans::new(alloc)),
-        )?,
-        collector: Box::new(alloc, CountCollector::new(alloc))?,
+        reader: boxes.reader,
+        processor: boxes.processor,
+        writer: boxes.writer,
+        collector: boxes.collector,
     };
-    assert!(rt; row.sound() && row.state == RowState::Waiting && Task::fits(&artifacts, &row));
-    let task = Task::start(7, row, rules, 2, artifacts);
-    let Some(done) = attempt_in_thread(&rt, alloc, task) else {
-        return Err(Fail::from("a thread"));
-    };
-    assert!(rt; matches!(done.outcome, Outcome::Committed(_)));
-    assert_eq!(rt; done.task.partition(), 7);
-    assert_eq!(rt; done.values.len(), 2);
-    assert!(rt; done.values[0].as_slice() == b"7:2:2".as_slice());
-    assert!(rt; done.values[1].as_slice() == b"7:2:2:end".as_slice());
-    let artifacts = done.task.into_artifacts();
-    assert_eq!(rt; artifacts.writer.item_at(0), Some(b"xa".as_slice()));
-    assert_eq!(rt; artifacts.writer.item_at(1), Some(b"xb".as_slice()));
+    let done = attempted::<Task>(&rt, alloc, artifacts).ok_or("an attempt")?;
+    assert!(rt; is_whole(&done));
+    let writer = done.task.into_artifacts().writer;
+    assert!(rt; writer.item_at(0) == Some(b"xa".as_slice()));
+    assert!(rt; writer.item_at(1) == Some(b"xb".as_slice()));
     Ok(())
 }

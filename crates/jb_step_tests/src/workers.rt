@@ -3,5 +3,5 @@
 mod answers;
 pub(crate) mod meeting;
 mod memory;
-mod most;
+pub(crate) mod most;
 pub(crate) mod tasks;

@@ -68,7 +68,7 @@ pub(crate) struct Given {
 }
 
 impl Given {
-    pub(crate) fn read(alloc: Global, text: &str) -> Result<Given, Fail> {
+    pub(crate) fn read(alloc: Global, text: &str) -> Result<Given, AllocError> {
         let mut given = Given {
             records: Vec::new(alloc),
             ranges: Vec::new(alloc),
@@ -135,6 +135,17 @@ impl Given {
         }
     }
 
+    /// The results of the row's records before its place, but for those that fail each time.
+    fn written(&self, alloc: Global, row: &Row) -> Result<Vec<Item>, AllocError> {
+        let mut written = Vec::new(alloc);
+        for (number, record) in (0..MAX_RECORDS).zip(self.records.iter()) {
+            if row.lo <= number && number < row.at && !self.bad.contains(&number) {
+                written.push(result_of(alloc, record)?)?;
+            }
+        }
+        Ok(written)
+    }
+
     /// The artifacts of one partition, whose writer has these results.
     fn works(self, alloc: Global, written: Vec<Item>) -> Result<Works, AllocError> {
         let prefix = Item::copy_of(alloc, b"x")?;
@@ -159,21 +170,16 @@ fn once(alloc: Global) -> Result<FaultPlan, AllocError> {
 }
 
 /// The artifacts of one partition of the records.
-pub(crate) fn works(alloc: Global, text: &str) -> Result<Works, Fail> {
-    Ok(Given::read(alloc, text)?.works(alloc, Vec::new(alloc))?)
+pub(crate) fn works(alloc: Global, text: &str) -> Result<Works, AllocError> {
+    Given::read(alloc, text)?.works(alloc, Vec::new(alloc))
 }
 
 /// The artifacts of one partition of records of which none was left out but those that fail each time that they are processed,
 /// whose writer has what was written up to the row's place.
-pub(crate) fn works_from(alloc: Global, text: &str, row: &Row) -> Result<Works, Fail> {
+pub(crate) fn works_from(alloc: Global, text: &str, row: &Row) -> Result<Works, AllocError> {
     let given = Given::read(alloc, text)?;
-    let mut written = Vec::new(alloc);
-    for (number, record) in (0..MAX_RECORDS).zip(given.records.iter()) {
-        if row.lo <= number && number < row.at && !given.bad.contains(&number) {
-            written.push(result_of(alloc, record)?)?;
-        }
-    }
-    Ok(given.works(alloc, written)?)
+    let written = given.written(alloc, row)?;
+    given.works(alloc, written)
 }
 
 /// What the processor makes of the record.
@@ -184,7 +190,11 @@ fn result_of(alloc: Global, record: &Item) -> Result<Item, AllocError> {
 }
 
 /// The artifacts of so many partitions of the records.
-pub(crate) fn all_works(alloc: Global, text: &str, partitions: usize) -> Result<Vec<Works>, Fail> {
+pub(crate) fn all_works(
+    alloc: Global,
+    text: &str,
+    partitions: usize,
+) -> Result<Vec<Works>, AllocError> {
     let mut all = Vec::new(alloc);
     for _ in 0..partitions {
         all.push(works(alloc, text)?)?;

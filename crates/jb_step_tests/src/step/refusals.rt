@@ -1,16 +1,14 @@
 //! Why a step has no answer.
 
-ghost use Rattle.std.specs.Prelude.{◌≡◌, Err, IfOk};
-ghost use Rattle.jb_chunk.specs.Standing.{IsReady};
+ghost use Rattle.std.specs.Prelude.{◌≡◌, Err};
 ghost use Rattle.jb_mapper.specs.Mapping.{Mapping};
 
 use crate::step::given::{Given, Letters, begun, works};
 use crate::step::runs::ended_with;
-use crate::workers::tasks::with_work;
+use crate::workers::tasks::{RULES, task_of, with_work};
 use jb_cert::Certificate;
-use jb_chunk::PartitionTask;
 use jb_collect::{ListAnalyzer, ListReducer, Reducer};
-use jb_job::{ArtifactError, ClassId, Range, Rules};
+use jb_job::{ArtifactError, ClassId, Range};
 use jb_mapper::{FixedMapper, PartitionMapper};
 use jb_plan::{PartitionPlan, PlanError};
 use jb_repo::Event;
@@ -41,13 +39,6 @@ enum Wrong {
 
 const RECORDS: &str = "ab/c/";
 
-const RULES: Rules = Rules {
-    skippable: 0,
-    retryable: 0,
-    skip_limit: None,
-    retry_limit: 0,
-};
-
 /// A mapper that answers a fault of this class.
 #[derive(Drop)]
 struct Failing {
@@ -62,30 +53,18 @@ impl PartitionMapper for Failing {
     }
 }
 
-/// The task of partition 0.
-fn own_task(alloc: Global) -> Result<Letters, Fail>
-    ensures { IfOk result (λ task. IsReady (⟦<Letters as PartitionTask>⟧.standing task)) }
-{
-    let row = Row::fresh(Range { lo: 0, hi: 2 });
-    let artifacts = works(alloc, RECORDS)?;
-    if !row.sound() || !row.state.is_waiting() || !Letters::fits(&artifacts, &row) {
-        return Err(Fail::from("a task"));
-    }
-    Ok(Letters::start(0, row, RULES, 2, artifacts))
-}
-
-/// Commits partition 0 on the desk.
+/// Commits partition 0 on the desk, by a round of the caller's own.
 fn run_own<L: Ledger + Send + Sync + 'static, R: Threads + Wait + Sync>(
     rt: &R,
     alloc: Global,
     desk: &Desk<L>,
-) -> Result<(), Fail> {
-    let round = with_work(Vec::new(alloc), 0, own_task(alloc)?).ok_or("a work")?;
-    let planned = desk.apply(rt, Event::Plan(1, Certificate::FullLoad));
-    planned.ok().ok_or("a plan")?;
-    let dones = desk.run_round(rt, alloc, &NoGate, round);
-    dones.ok().ok_or("a round")?;
-    Ok(())
+) -> Option<()> {
+    let row = Row::fresh(Range { lo: 0, hi: 2 });
+    let task = task_of::<Letters>(0, row, RULES, 2, works(alloc, RECORDS).ok()?)?;
+    let round = with_work(Vec::new(alloc), 0, task)?;
+    desk.apply(rt, Event::Plan(1, Certificate::FullLoad)).ok()?;
+    desk.run_round(rt, alloc, &NoGate, round).ok()?;
+    Some(())
 }
 
 /// What the step begins with, unless its plan is refused.
@@ -120,7 +99,7 @@ fn refusal_of<L: Ledger + Send + Sync + 'static, R: Threads + Wait + Sync>(
 {
     let desk = prepared.desk::<L>(alloc, blank)?;
     if wrong == Wrong::OwnRound {
-        run_own(rt, alloc, &desk)?;
+        run_own(rt, alloc, &desk).ok_or("a round")?;
     }
     let mut analyzer = ListAnalyzer::new(alloc, None);
     let partitions = if wrong == Wrong::OneShort { 1 } else { 2 };

@@ -7,7 +7,7 @@ use crate::step::given::{
     Given, Letters, Works, all_works, saved_again, stopped_after, works, works_from,
 };
 use crate::step::rows::{
-    Asked, Case, ONE_SKIP, PLAIN, SEVEN, add_course, add_partition, add_reduced, case_at,
+    Asked, Case, ONE_SKIP, PLAIN, SEVEN, add_course, add_partition, add_reduced, case_at, left_of,
 };
 use crate::step::runs::started_or_not;
 use jb_artifacts::ArtifactsOf;
@@ -16,7 +16,7 @@ use jb_repo::Snapshot;
 use jb_rules::Row;
 use jb_step::{Prepared, Saved, StepEnd, StepError};
 use jb_workers::Desk;
-use std::alloc::Global;
+use std::alloc::{AllocError, Global};
 use std::marker::Brand;
 use std::mem;
 use std::sync::Wait;
@@ -200,7 +200,7 @@ impl Between {
     }
 
     /// Before the first run.
-    pub(crate) fn first(alloc: Global, records: &str) -> Result<Between, Fail> {
+    pub(crate) fn first(alloc: Global, records: &str) -> Result<Between, AllocError> {
         let given = Given::read(alloc, records)?;
         let some = given.ranges().iter().filter(|range| range.lo < range.hi);
         let mut between = Between::nothing(alloc);
@@ -240,13 +240,20 @@ impl Between {
     pub(crate) fn keep(&mut self, alloc: Global, end: StepEnd<Works>) -> Result<(), Fail> {
         self.hold(alloc, &end.snapshot)?;
         for (partition, own) in end.artifacts {
-            let row = self.rows.get(partition as usize).ok_or("a row")?;
-            if row.state.is_finished() {
-                self.finished.push((partition, own))?;
-            } else {
-                self.unfinished.push((partition, own))?;
-            }
+            self.put(partition, own)?;
         }
+        Ok(())
+    }
+
+    /// Puts the artifacts of a partition to those of the finished or of the unfinished ones.
+    fn put(&mut self, partition: u32, own: Works) -> Result<(), Fail> {
+        let row = self.rows.get(partition as usize).ok_or("a row")?;
+        let left = if row.state.is_finished() {
+            &mut self.finished
+        } else {
+            &mut self.unfinished
+        };
+        left.push((partition, own))?;
         Ok(())
     }
 
@@ -261,36 +268,26 @@ impl Between {
     fn renew(&mut self, alloc: Global, records: &str, snapshot: &Snapshot) -> Result<(), Fail> {
         self.hold(alloc, snapshot)?;
         self.finished = Vec::new(alloc);
-        for (partition, row) in (0..256).zip(self.rows.iter()) {
-            let own = works_from(alloc, records, row)?;
-            if row.state.is_finished() {
-                self.finished.push((partition, own))?;
-            } else {
-                self.unfinished.push((partition, own))?;
-            }
+        for (partition, row) in (0..256).zip(snapshot.rows.iter()) {
+            self.put(partition, works_from(alloc, records, row)?)?;
         }
         Ok(())
     }
 
     /// How each partition stands; one that had nothing to do has no artifacts.
-    pub(crate) fn partitions(&self, alloc: Global) -> Result<String, Fail> {
+    pub(crate) fn partitions(&self, alloc: Global) -> Result<String, AllocError> {
         let none = works(alloc, "")?;
         let mut text = String::new(alloc);
         for (partition, row) in self.rows.iter().enumerate() {
-            let ended = self
-                .finished
-                .iter()
-                .find(|left| left.0 as usize == partition);
-            let failed = self
-                .unfinished
-                .iter()
-                .find(|left| left.0 as usize == partition);
-            match ended.or(failed) {
-                Some(left) => add_partition(&mut text, alloc, row, &left.1)?,
-                None => add_partition(&mut text, alloc, row, &none)?,
-            }
+            let own = self.of(partition).unwrap_or(&none);
+            add_partition(&mut text, alloc, row, own)?;
         }
         Ok(text)
+    }
+
+    /// The artifacts of this partition.
+    fn of(&self, partition: usize) -> Option<&Works> {
+        left_of(&self.finished, partition).or(left_of(&self.unfinished, partition))
     }
 }
 
@@ -299,7 +296,7 @@ pub(crate) fn works_again(
     alloc: Global,
     unfinished: Vec<(u32, Works)>,
     records: Option<&str>,
-) -> Result<Vec<Works>, Fail> {
+) -> Result<Vec<Works>, AllocError> {
     let mut again = Vec::new(alloc);
     for (_, own) in unfinished {
         match records {
@@ -424,7 +421,7 @@ pub(crate) fn add_answer(
     end: &Result<StepEnd<Works>, StepError>,
     analyzer: &dyn Analyzer,
     reducer: &dyn Reducer,
-) -> Result<(), Fail> {
+) -> Result<(), AllocError> {
     match end {
         Ok(end) => add_course(course, alloc, end, analyzer, reducer),
         Err(error) => {
@@ -445,30 +442,41 @@ fn travelled<R: Threads + Wait + Sync>(
     let mut between = Between::first(alloc, journey.records)?;
     let mut courses = String::new(alloc);
     for run in 0..4 {
-        if let Some((threads, rounds)) = leg_at(number, run) {
-            let records = if run == 0 {
-                journey.records
-            } else {
-                journey.again
-            };
-            let asked = Asked {
-                threads,
-                ..journey.asked
-            };
-            let others = records != journey.records;
-            let (_, course) = gone_on(rt, alloc, asked, records, others, rounds, &mut between)?;
+        if let Some(leg) = leg_at(number, run) {
+            let course = course_of_leg(rt, alloc, journey, run, leg, &mut between)?;
             courses.push_str(course.as_str())?;
         }
     }
     Ok((courses, between.partitions(alloc)?))
 }
 
+/// The course of a journey's run on so many threads, of so many rounds at most.
+fn course_of_leg<R: Threads + Wait + Sync>(
+    rt: &R,
+    alloc: Global,
+    journey: &Journey,
+    run: u64,
+    (threads, rounds): (u32, Option<u64>),
+    between: &mut Between,
+) -> Result<String, Fail> {
+    let records = if run == 0 {
+        journey.records
+    } else {
+        journey.again
+    };
+    let asked = Asked {
+        threads,
+        ..journey.asked
+    };
+    let others = records != journey.records;
+    let (_, course) = gone_on(rt, alloc, asked, records, others, rounds, between)?;
+    Ok(course)
+}
+
 #[test]
 fn restarts(rt: HostRuntime) -> Result<(), Fail> {
     for number in 0..6 {
-        let Some(journey) = journey_at(number) else {
-            return Err(Fail::from("a journey"));
-        };
+        let journey = journey_at(number).ok_or("a journey")?;
         let (courses, partitions) = travelled(&rt, rt.alloc(), number, &journey)?;
         assert_eq!(rt; courses.as_str(), journey.courses);
         assert_eq!(rt; partitions.as_str(), journey.partitions);
@@ -490,11 +498,7 @@ fn stopped_at<R: Threads + Wait + Sync>(
     let mut status = Some(Status::Stopped);
     for run in 0..20 {
         if status == Some(Status::Stopped) {
-            let (threads, rounds) = match (run, stop) {
-                (0, _) => (case.asked.threads, Some(stop)),
-                (_, 0) if threads > 1 => (threads, Some(1)),
-                _ => (threads, None),
-            };
+            let (threads, rounds) = leg_of(case, run, stop, threads);
             let asked = Asked {
                 threads,
                 ..case.asked
@@ -506,19 +510,38 @@ fn stopped_at<R: Threads + Wait + Sync>(
     Ok((status, between.partitions(alloc)?))
 }
 
+/// The threads and the greatest number of rounds of such a step's run.
+fn leg_of(case: &Case, run: u64, stop: u64, threads: u32) -> (u32, Option<u64>) {
+    match (run, stop) {
+        (0, _) => (case.asked.threads, Some(stop)),
+        (_, 0) if threads > 1 => (threads, Some(1)),
+        _ => (threads, None),
+    }
+}
+
+/// Whether the case's step comes to the same wherever it is stopped, on each number of threads.
+fn is_unchanged<R: Threads + Wait + Sync>(
+    rt: &R,
+    alloc: Global,
+    case: &Case,
+) -> Result<bool, Fail> {
+    for stop in 0..6 {
+        for threads in 1..5 {
+            let (status, partitions) = stopped_at(rt, alloc, case, stop, threads)?;
+            let is_over = matches!(status, Some(Status::Completed | Status::Failed));
+            if !is_over || partitions.as_str() != case.partitions {
+                return Ok(false);
+            }
+        }
+    }
+    Ok(true)
+}
+
 #[test]
 fn stops_change_nothing(rt: HostRuntime) -> Result<(), Fail> {
     for number in 0..14 {
-        let Some(case) = case_at(number) else {
-            return Err(Fail::from("a case"));
-        };
-        for stop in 0..6 {
-            for threads in 1..5 {
-                let (status, partitions) = stopped_at(&rt, rt.alloc(), &case, stop, threads)?;
-                assert!(rt; matches!(status, Some(Status::Completed | Status::Failed)));
-                assert_eq!(rt; partitions.as_str(), case.partitions);
-            }
-        }
+        let case = case_at(number).ok_or("a case")?;
+        assert!(rt; is_unchanged(&rt, rt.alloc(), &case)?, "case {number}");
     }
     Ok(())
 }

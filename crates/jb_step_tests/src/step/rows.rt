@@ -5,14 +5,15 @@ ghost use Rattle.std.specs.Prelude.{◌≡◌};
 use crate::collect::line_of;
 use crate::step::given::{Given, Letters, Works, works};
 use crate::step::runs::{ended_with, started};
-use jb_artifacts::ItemWriter;
+use crate::workers::tasks::task_of;
+use jb_artifacts::{ItemWriter, ListWriter};
 use jb_chunk::{PartitionTask, run_alone};
 use jb_collect::{Analyzer, ListAnalyzer, ListReducer, Reducer};
 use jb_job::{ClassId, Range, Rules};
-use jb_rules::Row;
+use jb_rules::{Counts, Row, RowState};
 use jb_step::{PlanNote, StepEnd};
 use jb_workers::NoGate;
-use std::alloc::Global;
+use std::alloc::{AllocError, Global};
 use std::marker::Brand;
 use std::process::Abort;
 use std::sync::Wait;
@@ -301,13 +302,21 @@ pub(crate) fn add_partition(
     alloc: Global,
     row: &Row,
     works: &Works,
-) -> Result<(), Fail> {
+) -> Result<(), AllocError> {
+    add_place(text, alloc, row)?;
+    add_counts(text, alloc, &row.counts)?;
+    add_outputs(text, alloc, row.state, &works.writer)
+}
+
+fn add_place(text: &mut String, alloc: Global, row: &Row) -> Result<(), AllocError> {
     let place = format!(in alloc;
         "{} {} {} {} | ",
         row.at, row.redo, row.retries, row.written
     )?;
-    text.push_str(place.as_str())?;
-    let counts = row.counts;
+    text.push_str(place.as_str())
+}
+
+fn add_counts(text: &mut String, alloc: Global, counts: &Counts) -> Result<(), AllocError> {
     let done = format!(in alloc;
         "{} {} {} {} ",
         counts.read, counts.write, counts.commit, counts.rollback
@@ -317,17 +326,29 @@ pub(crate) fn add_partition(
         "{} {} {} {} | ",
         counts.read_skip, counts.process_skip, counts.filter, counts.write_skip
     )?;
-    text.push_str(skips.as_str())?;
-    let state = format!(in alloc; "{:?}", row.state)?;
-    text.push_str(state.as_str())?;
-    for number in 0..works.writer.count() {
-        let output = works.writer.item_at(number).ok_or("an output")?;
-        let output = String::from_utf8_lossy(alloc, output)?;
-        text.push_str(" ")?;
-        text.push_str(output.as_str())?;
+    text.push_str(skips.as_str())
+}
+
+fn add_outputs(
+    text: &mut String,
+    alloc: Global,
+    state: RowState,
+    writer: &ListWriter,
+) -> Result<(), AllocError> {
+    text.push_str(format!(in alloc; "{state:?}")?.as_str())?;
+    for number in 0..writer.count() {
+        if let Some(output) = writer.item_at(number) {
+            text.push_str(" ")?;
+            text.push_str(String::from_utf8_lossy(alloc, output)?.as_str())?;
+        }
     }
-    text.push_str("\n")?;
-    Ok(())
+    text.push_str("\n")
+}
+
+/// The works of this partition among those that are left.
+pub(crate) fn left_of(left: &[(u32, Works)], partition: usize) -> Option<&Works> {
+    let own = left.iter().find(|one| one.0 as usize == partition)?;
+    Some(&own.1)
 }
 
 /// What each partition of the case comes to alone.
@@ -341,21 +362,21 @@ fn alone(alloc: Global, case: &Case) -> Result<String, Fail> {
 }
 
 fn add_alone(text: &mut String, alloc: Global, case: &Case, range: Range) -> Result<(), Fail> {
+    let (row, works) = end_alone(alloc, case, range)?;
+    add_partition(text, alloc, &row, &works)?;
+    Ok(())
+}
+
+/// The row and the artifacts of a partition that was run alone; one with nothing to do is left as it is.
+fn end_alone(alloc: Global, case: &Case, range: Range) -> Result<(Row, Works), Fail> {
     let works = works(alloc, case.records)?;
-    if range.lo >= range.hi {
-        return add_partition(text, alloc, &Row::fresh(range), &works);
-    }
     let row = Row::fresh(range);
-    if !row.sound() || !row.state.is_waiting() || !Letters::fits(&works, &row) {
-        return Err(Fail::from("a task"));
+    if range.lo >= range.hi {
+        return Ok((row, works));
     }
-    if case.asked.item_count < 1 || case.asked.item_count > 1_000_000 {
-        return Err(Fail::from("an item count"));
-    }
-    let task = Letters::start(0, row, case.asked.rules, case.asked.item_count, works);
-    let task = run_alone(alloc, task).task;
-    let row = *task.row();
-    add_partition(text, alloc, &row, &task.into_artifacts())
+    let task = task_of::<Letters>(0, row, case.asked.rules, case.asked.item_count, works);
+    let task = run_alone(alloc, task.ok_or("a task")?).task;
+    Ok((*task.row(), task.into_artifacts()))
 }
 
 /// What the case's step comes to.
@@ -411,7 +432,7 @@ pub(crate) fn course_of(
     end: &StepEnd<Works>,
     analyzer: &dyn Analyzer,
     reducer: &dyn Reducer,
-) -> Result<String, Fail> {
+) -> Result<String, AllocError> {
     let mut text = String::new(alloc);
     add_course(&mut text, alloc, end, analyzer, reducer)?;
     Ok(text)
@@ -423,17 +444,16 @@ pub(crate) fn add_course(
     end: &StepEnd<Works>,
     analyzer: &dyn Analyzer,
     reducer: &dyn Reducer,
-) -> Result<(), Fail> {
+) -> Result<(), AllocError> {
     add_plans(text, alloc, &end.plans)?;
     add_heard(text, alloc, analyzer)?;
     add_reduced(text, alloc, reducer)?;
     let line = format!(in alloc; "{:?} {}\n", end.status, end.snapshot.events)?;
-    text.push_str(line.as_str())?;
-    Ok(())
+    text.push_str(line.as_str())
 }
 
 /// Adds a line for each plan.
-fn add_plans(text: &mut String, alloc: Global, plans: &[PlanNote]) -> Result<(), Fail> {
+fn add_plans(text: &mut String, alloc: Global, plans: &[PlanNote]) -> Result<(), AllocError> {
     for plan in plans {
         let line = format!(in alloc; "{} {} of {}\n", plan.certificate, plan.ran, plan.planned)?;
         text.push_str(line.as_str())?;
@@ -442,12 +462,11 @@ fn add_plans(text: &mut String, alloc: Global, plans: &[PlanNote]) -> Result<(),
 }
 
 /// Adds a line of what the analyzer heard.
-fn add_heard(text: &mut String, alloc: Global, analyzer: &dyn Analyzer) -> Result<(), Fail> {
+fn add_heard(text: &mut String, alloc: Global, analyzer: &dyn Analyzer) -> Result<(), AllocError> {
     let heard = line_of(alloc, analyzer.calls())?;
     let heard = String::from_utf8_lossy(alloc, heard.as_slice())?;
     text.push_str(heard.as_str())?;
-    text.push_str(".\n")?;
-    Ok(())
+    text.push_str(".\n")
 }
 
 /// Adds a line of the reducer's calls.
@@ -455,28 +474,21 @@ pub(crate) fn add_reduced(
     text: &mut String,
     alloc: Global,
     reducer: &dyn Reducer,
-) -> Result<(), Fail> {
+) -> Result<(), AllocError> {
     for call in reducer.calls() {
         let word = format!(in alloc; "{call:?} ")?;
         text.push_str(word.as_str())?;
     }
-    text.push_str(".\n")?;
-    Ok(())
+    text.push_str(".\n")
 }
 
 /// How each partition stands; one that had nothing to do has no artifacts.
-fn partitions_of(alloc: Global, case: &Case, end: &StepEnd<Works>) -> Result<String, Fail> {
+fn partitions_of(alloc: Global, case: &Case, end: &StepEnd<Works>) -> Result<String, AllocError> {
     let none = works(alloc, case.records)?;
     let mut text = String::new(alloc);
     for (partition, row) in end.snapshot.rows.iter().enumerate() {
-        let own = end
-            .artifacts
-            .iter()
-            .find(|left| left.0 as usize == partition);
-        match own {
-            Some(left) => add_partition(&mut text, alloc, row, &left.1)?,
-            None => add_partition(&mut text, alloc, row, &none)?,
-        }
+        let own = left_of(&end.artifacts, partition).unwrap_or(&none);
+        add_partition(&mut text, alloc, row, own)?;
     }
     Ok(text)
 }

@@ -1,20 +1,18 @@
 //! What a round answers, and what is left of it in the table.
 
 ghost use Rattle.std.specs.Prelude.{◌≡◌, IfSome};
-ghost use Rattle.jb_chunk.specs.Standing.{IsReady};
 ghost use Rattle.jb_workers.specs.Works.{AllCanBegin};
 
-use crate::workers::tasks::{fresh_rows, letters, prefixing, repository, with_work, writer};
-use jb_artifacts::{Artifacts, CountCollector, FaultPlan, FaultPlans};
+use crate::workers::tasks::{RULES, boxes, fresh_rows, repository, task_of, with_work};
+use jb_artifacts::{Artifacts, FaultPlan, FaultPlans};
 use jb_cert::Certificate;
-use jb_chunk::{Outcome, PartitionTask, Task};
+use jb_chunk::{Done, Outcome, PartitionTask, Task};
 use jb_job::{ClassId, MAX_ROLLBACKS, Rules};
-use jb_repo::{Event, Refused};
-use jb_rules::{Counts, Row, RowState};
+use jb_repo::{Event, Refused, Snapshot};
+use jb_rules::{Counts, Row};
 use jb_workers::{Desk, NoGate, RoundError, Work};
-use std::alloc::Global;
+use std::alloc::{AllocError, Global};
 use std::marker::Brand;
-use std::process::Abort;
 use std::sync::Wait;
 use std::sync::ledger::{Blank, Ledger};
 use std::test::*;
@@ -153,66 +151,96 @@ fn cases() -> [Case; 10] {
     ]
 }
 
-/// The works of the case's round.
-fn works_of<T: PartitionTask>(alloc: Global, case: &Case, task: T, other: T) -> Option<Vec<Work<T>>>
-    requires ready { IsReady (T.standing task) }
-    requires other_ready { IsReady (T.standing other) }
+/// The works of the case's round, where each task is ready.
+fn works_of<T: PartitionTask>(
+    alloc: Global,
+    case: &Case,
+    first: T::Artifacts,
+    other: T::Artifacts,
+) -> Option<Vec<Work<T>>>
     ensures { IfSome result (λ works. AllCanBegin T.standing works.items) }
 {
-    let works = with_work(Vec::new(alloc), case.lane, task)?;
+    let rules = Rules {
+        retryable: case.first.retryable,
+        retry_limit: 1,
+        ..RULES
+    };
+    let [_, row] = fresh_rows();
+    let first = task_of::<T>(
+        0,
+        first_row(&case.first),
+        rules,
+        case.first.item_count,
+        first,
+    )?;
+    let other = task_of::<T>(1, row, rules, 2, other)?;
+    let works = with_work(Vec::new(alloc), case.lane, first)?;
     match case.other {
         Some(lane) => with_work(works, lane, other),
         None => Some(works),
     }
 }
 
-/// Runs the case's round, and compares its answer and the table after it.
-fn judge<
-    L: Ledger + Send + Sync + 'static,
-    T: PartitionTask + Send + 'static,
-    R: Threads + Wait + Abort + Sync,
->(rt: &R, alloc: Global, blank: Blank, case: &Case, task: T, other: T) -> Result<(), Fail>
+/// The desk of the case's round, on which its Plan stands.
+fn desk_of<L: Ledger>(alloc: Global, rt: &impl Wait, blank: Blank, case: &Case) -> Option<Desk<L>>
     requires name { blank.name ≡ L.name }
     requires parts { blank.parts ≡ L.parts }
     requires all { blank.parts ≡ 1000000000000 }
-    requires ready { IsReady (T.standing task) }
-    requires other_ready { IsReady (T.standing other) }
 {
-    let desk = Desk::<L>::new(
-        repository(alloc, &fresh_rows()).ok_or("a repository")?,
-        blank,
-    );
-    let works = works_of(alloc, case, task, other).ok_or("works")?;
+    let desk = Desk::<L>::new(repository(alloc, &fresh_rows())?, blank);
     if case.planned {
-        assert_eq!(rt;
-            desk.apply(rt, Event::Plan(1, Certificate::FullLoad)),
-            Ok(())
-        );
+        desk.apply(rt, Event::Plan(1, Certificate::FullLoad)).ok()?;
     }
+    Some(desk)
+}
+
+/// Runs the case's round, and compares its answer and the table after it; `None` for want of what it is run on.
+fn judge<
+    L: Ledger + Send + Sync + 'static,
+    T: PartitionTask + Send + 'static,
+    R: Threads + Wait + Sync,
+>(
+    rt: &R,
+    alloc: Global,
+    blank: Blank,
+    case: &Case,
+    first: T::Artifacts,
+    other: T::Artifacts,
+) -> Option<bool>
+    requires name { blank.name ≡ L.name }
+    requires parts { blank.parts ≡ L.parts }
+    requires all { blank.parts ≡ 1000000000000 }
+{
+    let works = works_of::<T>(alloc, case, first, other)?;
+    let desk = desk_of::<L>(alloc, rt, blank, case)?;
     let round = desk.run_round(rt, alloc, &NoGate, works);
-    let after = desk.status(rt)?;
-    assert_eq!(rt;
-        (after.events, after.totals.commit),
-        (case.events, case.commits)
-    );
-    assert!(rt; after.rows.iter().all(|row| !row.state.is_running()));
-    let Some(row) = after.rows.first() else {
-        return Err(Fail::from("a row"));
-    };
+    let after = desk.status(rt).ok()?;
+    Some(is_answered(case, &round, &after) && is_left(case, &after))
+}
+
+/// Whether the round's answer is the case's. The table has the row of the first Done, or, where nothing was committed, the row of
+/// before.
+fn is_answered<T: PartitionTask>(
+    case: &Case,
+    round: &Result<Vec<Done<T>>, RoundError>,
+    after: &Snapshot,
+) -> bool {
+    let row = after.rows.first();
     match round {
-        Ok(dones) => {
-            let Some(done) = dones.first() else {
-                return Err(Fail::from("a done"));
-            };
-            assert_eq!(rt; Ok(done.outcome), case.answer);
-            assert!(rt; *row == *done.task.row());
-        }
+        Ok(dones) => dones.first().is_some_and(|done| {
+            case.answer == Ok(done.outcome) && row == Some(done.task.row())
+        }),
         Err(error) => {
-            assert_eq!(rt; Err(error), case.answer);
-            assert!(rt; case.commits > 0 || *row == fresh_rows()[0]);
+            case.answer == Err(*error) && (case.commits > 0 || row == Some(&fresh_rows()[0]))
         }
     }
-    Ok(())
+}
+
+/// Whether the table has the case's events and Commits, and no row runs.
+fn is_left(case: &Case, after: &Snapshot) -> bool {
+    after.events == case.events
+        && after.totals.commit == case.commits
+        && after.rows.iter().all(|row| !row.state.is_running())
 }
 
 /// The row that the task of partition 0 has: the desk's, but for its rollbacks.
@@ -225,7 +253,7 @@ fn first_row(first: &First) -> Row {
     Row { counts, ..row }
 }
 
-fn faults(alloc: Global, first: &First) -> Result<FaultPlans, Fail> {
+fn faults(alloc: Global, first: &First) -> Result<FaultPlans, AllocError> {
     let mut plans = FaultPlans::new(alloc);
     if first.bad {
         plans.insert(1, FaultPlan::Bad(ClassId::new(0)))?;
@@ -237,43 +265,23 @@ fn faults(alloc: Global, first: &First) -> Result<FaultPlans, Fail> {
 fn rounds(rt: HostRuntime) -> Result<(), Fail> {
     let alloc = rt.alloc();
     for case in cases() {
-        let first = case.first;
-        let row = first_row(&first);
-        let artifacts = Artifacts {
-            reader: Box::new(alloc, letters(alloc)?)?,
-            processor: Box::new(
-                alloc,
-                prefixing(alloc, faults(alloc, &first)?, first.memory)?,
-            )?,
-            writer: Box::new(alloc, writer(alloc))?,
-            collector: Box::new(alloc, CountCollector::new(alloc))?,
+        let boxed = boxes(alloc, faults(alloc, &case.first)?, case.first.memory)?;
+        let first = Artifacts {
+            reader: boxed.reader,
+            processor: boxed.processor,
+            writer: boxed.writer,
+            collector: boxed.collector,
         };
-        assert!(rt; row.sound() && row.state == RowState::Waiting && Task::fits(&artifacts, &row));
-        assert!(rt; first.item_count == 1 || first.item_count == 2);
-        let rules = Rules {
-            skippable: 0,
-            retryable: first.retryable,
-            skip_limit: None,
-            retry_limit: 1,
+        let boxed = boxes(alloc, FaultPlans::new(alloc), true)?;
+        let other = Artifacts {
+            reader: boxed.reader,
+            processor: boxed.processor,
+            writer: boxed.writer,
+            collector: boxed.collector,
         };
-        let task = Task::start(0, row, rules, first.item_count, artifacts);
-        let [_, row] = fresh_rows();
-        let artifacts = Artifacts {
-            reader: Box::new(alloc, letters(alloc)?)?,
-            processor: Box::new(alloc, prefixing(alloc, FaultPlans::new(alloc), true)?)?,
-            writer: Box::new(alloc, writer(alloc))?,
-            collector: Box::new(alloc, CountCollector::new(alloc))?,
-        };
-        assert!(rt; row.sound() && row.state == RowState::Waiting && Task::fits(&artifacts, &row));
-        let other = Task::start(1, row, rules, 2, artifacts);
-        judge::<Brand, _, _>(
-            &rt,
-            alloc,
-            Blank::new(1_000_000_000_000),
-            &case,
-            task,
-            other,
-        )?;
+        let blank = Blank::new(1_000_000_000_000);
+        let judged = judge::<Brand, Task, _>(&rt, alloc, blank, &case, first, other);
+        assert_eq!(rt; judged, Some(true), "{:?}", case.answer);
     }
     Ok(())
 }

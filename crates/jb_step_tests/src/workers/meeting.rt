@@ -1,19 +1,16 @@
 //! Two lanes that wait for each other: they run at once, and each commit stands in the table before the round is over.
 
-ghost use Rattle.std.specs.Prelude.{◌≡◌, ◌<◌};
-ghost use Rattle.jb_chunk.specs.Standing.{IsReady};
+ghost use Rattle.std.specs.Prelude.{◌≡◌, ◌<◌, IfSome};
+ghost use Rattle.jb_workers.specs.Works.{AllCanBegin};
 
-use crate::workers::tasks::{fresh_rows, letters, prefixing, repository, with_work, writer};
-use jb_artifacts::{Artifacts, CountCollector, FaultPlans};
+use crate::workers::tasks::{RULES, boxes, fresh_rows, repository, task_of, with_work};
+use jb_artifacts::{Artifacts, FaultPlans};
 use jb_cert::Certificate;
-use jb_chunk::{PartitionTask, Task};
-use jb_job::Rules;
-use jb_repo::Event;
-use jb_rules::RowState;
-use jb_workers::{Desk, Gate};
+use jb_chunk::{Done, PartitionTask, Task};
+use jb_repo::{Event, Snapshot};
+use jb_workers::{Desk, Gate, Work};
 use std::alloc::Global;
 use std::marker::Brand;
-use std::process::Abort;
 use std::sync::atomic::{AtomicBool, AtomicU64, Ordering};
 use std::sync::ledger::{Blank, Ledger};
 use std::sync::{Arc, Wait};
@@ -21,13 +18,6 @@ use std::test::*;
 use std::thread;
 use std::thread::Threads;
 use std::time::{Clock, Duration};
-
-const RULES: Rules = Rules {
-    skippable: 0,
-    retryable: 0,
-    skip_limit: None,
-    retry_limit: 0,
-};
 
 /// Each lane waits for the other in `arrive`. Then lane 0 waits for lane 1's end and asks for the status.
 #[derive(Drop)]
@@ -109,72 +99,109 @@ impl<L: Ledger + Send + Sync, R: Wait + Clock + Send + Sync> Gate for Meeting<L,
     }
 }
 
-/// The tasks of partitions 1 and 0, handed over in this order, meet in one round.
+/// The works of partitions 1 and 0, handed over in this order.
+fn two_works<T: PartitionTask>(
+    alloc: Global,
+    later: T::Artifacts,
+    earlier: T::Artifacts,
+) -> Option<Vec<Work<T>>>
+    ensures { IfSome result (λ works. AllCanBegin T.standing works.items) }
+{
+    let [row, later_row] = fresh_rows();
+    let later = task_of::<T>(1, later_row, RULES, 2, later)?;
+    let earlier = task_of::<T>(0, row, RULES, 2, earlier)?;
+    let works = with_work(Vec::new(alloc), 1, later)?;
+    with_work(works, 0, earlier)
+}
+
+/// Whether these are the Dones of partitions 0 and 1, in this order, and the table has their rows.
+fn are_in<T: PartitionTask>(dones: &[Done<T>], after: &Snapshot) -> bool {
+    dones.len() == 2
+        && after.rows.len() == 2
+        && dones[0].task.partition() == 0
+        && dones[1].task.partition() == 1
+        && after.rows[0] == *dones[0].task.row()
+        && after.rows[1] == *dones[1].task.row()
+}
+
+/// Whether a desk of which no stop was asked takes a request for one, and then a Stop.
+fn takes_a_stop<L: Ledger>(rt: &impl Wait, desk: &Desk<L>) -> bool {
+    let before = desk.is_stopping();
+    desk.request_stop();
+    let asked = desk.is_stopping();
+    let stopped = desk.apply(rt, Event::Stop).is_ok();
+    !before && asked && stopped && desk.status(rt).is_ok_and(|after| after.stopping)
+}
+
+/// Runs the works in one round, in which the lanes meet. Its Dones are in the table.
+fn runs<
+    L: Ledger + Send + Sync + 'static,
+    T: PartitionTask + Send + 'static,
+    R: Threads + Wait + Clock + Send + Sync,
+>(rt: &R, alloc: Global, gate: &Meeting<L, R>, works: Vec<Work<T>>) -> Option<Snapshot>
+    requires ready { AllCanBegin T.standing works.items }
+{
+    let desk = &*gate.desk;
+    desk.apply(rt, Event::Plan(1, Certificate::FullLoad)).ok()?;
+    let dones = desk.run_round(rt, alloc, gate, works).ok()?;
+    let after = desk.status(rt).ok()?;
+    if are_in(&dones, &after) {
+        Some(after)
+    } else {
+        None
+    }
+}
+
+/// How often a lane waited in vain, and the Commits that lane 0 saw; and of the table after the round the events, the plans, the
+/// Commits, and whether a stop was asked for.
+type Met = ([u64; 3], (u64, u64, u64, bool));
+
+/// The tasks of partitions 1 and 0, handed over in this order, meet in one round. After it the desk takes a stop.
 fn meet<
     L: Ledger + Send + Sync + 'static,
     T: PartitionTask + Send + 'static,
-    R: Threads + Wait + Clock + Abort + Copy + Send + Sync,
->(rt: &R, alloc: Global, blank: Blank, later: T, earlier: T) -> Result<(), Fail>
+    R: Threads + Wait + Clock + Copy + Send + Sync,
+>(rt: &R, alloc: Global, blank: Blank, later: T::Artifacts, earlier: T::Artifacts) -> Option<Met>
     requires name { blank.name ≡ L.name }
     requires parts { blank.parts ≡ L.parts }
     requires all { blank.parts ≡ 1000000000000 }
-    requires later { IsReady (T.standing later) }
-    requires earlier { IsReady (T.standing earlier) }
 {
-    let desk = Arc::new(
-        alloc,
-        Desk::<L>::new(
-            repository(alloc, &fresh_rows()).ok_or("a repository")?,
-            blank,
-        ),
-    )?;
-    let gate = Meeting::new(*rt, Arc::try_clone(&desk)?);
-    let works = with_work(Vec::new(alloc), 1, later).ok_or("a work")?;
-    let works = with_work(works, 0, earlier).ok_or("two works")?;
-    assert_eq!(rt;
-        desk.apply(rt, Event::Plan(1, Certificate::FullLoad)),
-        Ok(())
+    let works = two_works::<T>(alloc, later, earlier)?;
+    let desk = Desk::<L>::new(repository(alloc, &fresh_rows())?, blank);
+    let gate = Meeting::new(*rt, Arc::new(alloc, desk).ok()?);
+    let after = runs(rt, alloc, &gate, works)?;
+    let table = (
+        after.events,
+        after.plans,
+        after.totals.commit,
+        after.stopping,
     );
-    let round = desk.run_round(rt, alloc, &gate, works);
-    let dones = round.ok().ok_or("a round")?;
-    assert_eq!(rt; gate.seen(), [0, 0, 1]);
-    assert_eq!(rt; dones.len(), 2);
-    let partitions = [dones[0].task.partition(), dones[1].task.partition()];
-    assert_eq!(rt; partitions, [0, 1]);
-    let after = desk.status(rt)?;
-    assert_eq!(rt; (after.events, after.plans, after.totals.commit), (6, 1, 2));
-    assert_eq!(rt; after.rows.len(), 2);
-    assert!(rt; after.rows[0] == *dones[0].task.row());
-    assert!(rt; after.rows[1] == *dones[1].task.row());
-    assert!(rt; !desk.is_stopping());
-    desk.request_stop();
-    assert!(rt; desk.is_stopping() && !after.stopping);
-    assert_eq!(rt; desk.apply(rt, Event::Stop), Ok(()));
-    assert!(rt; desk.status(rt)?.stopping);
-    Ok(())
+    if takes_a_stop(rt, &gate.desk) {
+        Some((gate.seen(), table))
+    } else {
+        None
+    }
 }
 
 #[test]
 fn two_lanes_meet(rt: HostRuntime) -> Result<(), Fail> {
     let alloc = rt.alloc();
-    let [row, later] = fresh_rows();
-    let artifacts = Artifacts {
-        reader: Box::new(alloc, letters(alloc)?)?,
-        processor: Box::new(alloc, prefixing(alloc, FaultPlans::new(alloc), true)?)?,
-        writer: Box::new(alloc, writer(alloc))?,
-        collector: Box::new(alloc, CountCollector::new(alloc))?,
+    let boxed = boxes(alloc, FaultPlans::new(alloc), true)?;
+    let later = Artifacts {
+        reader: boxed.reader,
+        processor: boxed.processor,
+        writer: boxed.writer,
+        collector: boxed.collector,
     };
-    assert!(rt;
-        later.sound() && later.state == RowState::Waiting && Task::fits(&artifacts, &later)
-    );
-    let later = Task::start(1, later, RULES, 2, artifacts);
-    let artifacts = Artifacts {
-        reader: Box::new(alloc, letters(alloc)?)?,
-        processor: Box::new(alloc, prefixing(alloc, FaultPlans::new(alloc), true)?)?,
-        writer: Box::new(alloc, writer(alloc))?,
-        collector: Box::new(alloc, CountCollector::new(alloc))?,
+    let boxed = boxes(alloc, FaultPlans::new(alloc), true)?;
+    let earlier = Artifacts {
+        reader: boxed.reader,
+        processor: boxed.processor,
+        writer: boxed.writer,
+        collector: boxed.collector,
     };
-    assert!(rt; row.sound() && row.state == RowState::Waiting && Task::fits(&artifacts, &row));
-    let earlier = Task::start(0, row, RULES, 2, artifacts);
-    meet::<Brand, _, _>(&rt, alloc, Blank::new(1_000_000_000_000), later, earlier)
+    let blank = Blank::new(1_000_000_000_000);
+    let met = meet::<Brand, Task, _>(&rt, alloc, blank, later, earlier);
+    assert_eq!(rt; met, Some(([0, 0, 1], (6, 1, 2, false))));
+    Ok(())
 }

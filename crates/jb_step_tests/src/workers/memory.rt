@@ -2,49 +2,46 @@
 
 ghost use Rattle.std.specs.Prelude.{◌≡◌, IfSome};
 ghost use Rattle.jb_chunk.specs.Standing.{IsReady};
+ghost use Rattle.jb_workers.specs.Works.{AllCanBegin};
 
+use crate::workers::most::commits;
 use crate::workers::tasks::{
-    Processor, fresh_rows, letters, prefixing, repository, with_work, writer,
+    Processor, RULES, fresh_rows, letters, prefixing, repository, task_of, with_work, writer,
 };
 use jb_artifacts::{ArtifactsOf, CountCollector, FaultPlans, ListWriter, TableReader};
 use jb_cert::Certificate;
-use jb_chunk::{Done, Outcome, PartitionTask, Task};
-use jb_job::Rules;
+use jb_chunk::{Done, PartitionTask, Task};
 use jb_repo::{Event, Refused, Snapshot};
-use jb_rules::RowState;
-use jb_workers::{Desk, NoGate, RoundError};
-use std::alloc::Global;
+use jb_workers::{Desk, NoGate, RoundError, Work};
+use std::alloc::{AllocError, Global};
 use std::marker::Brand;
-use std::process::Abort;
 use std::sync::Wait;
 use std::sync::ledger::{Blank, Ledger};
 use std::test::*;
 use std::thread::Threads;
 
-type LettersTask = Task<ArtifactsOf<TableReader, Processor, ListWriter, CountCollector>>;
+type LettersArtifacts = ArtifactsOf<TableReader, Processor, ListWriter, CountCollector>;
+
+type LettersTask = Task<LettersArtifacts>;
+
+fn artifacts(alloc: Global) -> Result<LettersArtifacts, AllocError> {
+    let reader = letters(alloc)?;
+    let processor = prefixing(alloc, FaultPlans::new(alloc), true)?;
+    Ok(ArtifactsOf {
+        reader,
+        processor,
+        writer: writer(alloc),
+        collector: CountCollector::new(alloc),
+    })
+}
 
 /// The task of partition 0 or 1.
-fn task_of(alloc: Global, partition: u32) -> Option<LettersTask>
+fn own_task(alloc: Global, partition: u32) -> Option<LettersTask>
     ensures { IfSome result (λ task. IsReady (⟦<LettersTask as PartitionTask>⟧.standing task)) }
 {
     let [first, second] = fresh_rows();
     let row = if partition == 0 { first } else { second };
-    let artifacts = ArtifactsOf {
-        reader: letters(alloc).ok()?,
-        processor: prefixing(alloc, FaultPlans::new(alloc), true).ok()?,
-        writer: writer(alloc),
-        collector: CountCollector::new(alloc),
-    };
-    if !row.sound() || row.state != RowState::Waiting || !Task::fits(&artifacts, &row) {
-        return None;
-    }
-    let rules = Rules {
-        skippable: 0,
-        retryable: 0,
-        skip_limit: None,
-        retry_limit: 0,
-    };
-    Some(Task::start(partition, row, rules, 2, artifacts))
+    task_of::<LettersTask>(partition, row, RULES, 2, artifacts(alloc).ok()?)
 }
 
 /// Whether a round can end so for want of memory.
@@ -56,26 +53,36 @@ fn is_want(error: RoundError) -> bool {
 }
 
 /// Whether a round that ended so, with this table after it, lost nothing.
-fn is_whole<T: PartitionTask>(round: Result<Vec<Done<T>>, RoundError>, after: &Snapshot) -> bool {
+fn is_whole<T>(round: &Result<Vec<Done<T>>, RoundError>, after: &Snapshot) -> bool {
     match round {
-        Ok(dones) => {
-            let committed = dones
-                .iter()
-                .filter(|done| matches!(done.outcome, Outcome::Committed(_)))
-                .count();
-            after.events == 6 && after.totals.commit == committed as u64
-        }
-        Err(error) => is_want(error) && after.events < 6,
+        Ok(dones) => after.events == 6 && after.totals.commit == commits(dones).1 as u64,
+        Err(error) => is_want(*error) && after.events < 6,
     }
 }
 
-/// A round of both tasks, of which each request for memory may be refused. After it no lane runs, and each commit of the
-/// table is a whole chunk.
+/// Whether no lane runs, and each commit of the table is a whole chunk.
+fn is_sound(after: &Snapshot) -> bool {
+    after.rows.iter().all(|row| !row.state.is_running())
+        && after.totals.write / 2 == after.totals.commit
+}
+
+/// The works of both tasks.
+fn both<T: PartitionTask>(alloc: Global, task: T, other: T) -> Option<Vec<Work<T>>>
+    requires ready { IsReady (T.standing task) }
+    requires other_ready { IsReady (T.standing other) }
+    ensures { IfSome result (λ works. AllCanBegin T.standing works.items) }
+{
+    let works = with_work(Vec::new(alloc), 0, task)?;
+    with_work(works, 1, other)
+}
+
+/// A round of both tasks, of which each request for memory may be refused: whether after it no lane runs, and each commit of the
+/// table is a whole chunk. `None` where a request of the test's own was refused.
 fn run_short<
     L: Ledger + Send + Sync + 'static,
     T: PartitionTask + Send + 'static,
-    R: Threads + Wait + Abort + Sync,
->(rt: &R, alloc: Global, blank: Blank, task: T, other: T) -> Option<()>
+    R: Threads + Wait + Sync,
+>(rt: &R, alloc: Global, blank: Blank, task: T, other: T) -> Option<bool>
     requires name { blank.name ≡ L.name }
     requires parts { blank.parts ≡ L.parts }
     requires all { blank.parts ≡ 1000000000000 }
@@ -83,28 +90,25 @@ fn run_short<
     requires other_ready { IsReady (T.standing other) }
 {
     let desk = Desk::<L>::new(repository(alloc, &fresh_rows())?, blank);
-    let works = with_work(Vec::new(alloc), 0, task)?;
-    let works = with_work(works, 1, other)?;
+    let works = both(alloc, task, other)?;
     if let Err(refused) = desk.apply(rt, Event::Plan(1, Certificate::FullLoad)) {
-        assert_eq!(rt; refused, Refused::Memory);
-        return None;
+        return Some(refused == Refused::Memory);
     }
     let round = desk.run_round(rt, alloc, &NoGate, works);
     let after = match desk.status(rt) {
         Ok(after) => after,
         Err(_) => desk.status(rt).ok()?,
     };
-    assert!(rt; after.rows.iter().all(|row| !row.state.is_running()));
-    assert_eq!(rt; after.totals.write / 2, after.totals.commit);
-    assert!(rt; is_whole(round, &after));
-    Some(())
+    Some(is_sound(&after) && is_whole(&round, &after))
 }
 
 /// `tests/refused-memory` runs it also with each request for memory refused in turn.
 #[test]
 fn memory_refused(rt: HostRuntime) {
     let alloc = rt.alloc();
-    if let (Some(task), Some(other)) = (task_of(alloc, 0), task_of(alloc, 1)) {
-        let _ = run_short::<Brand, _, _>(&rt, alloc, Blank::new(1_000_000_000_000), task, other);
+    if let (Some(task), Some(other)) = (own_task(alloc, 0), own_task(alloc, 1)) {
+        let blank = Blank::new(1_000_000_000_000);
+        let is_well = run_short::<Brand, _, _>(&rt, alloc, blank, task, other);
+        assert!(rt; is_well != Some(false));
     }
 }

@@ -4,23 +4,24 @@ ghost use Rattle.std.specs.Prelude.{◌≡◌, [], IfSome, Option};
 ghost use Rattle.jb_chunk.specs.Standing.{IsReady};
 ghost use Rattle.jb_workers.specs.Works.{AllCanBegin};
 
-use crate::workers::tasks::{Processor, prefixing, with_work, writer};
+use crate::workers::tasks::{Processor, RULES, prefixing, task_of, with_work, writer};
 use jb_artifacts::{ArtifactsOf, CountCollector, FaultPlans, Item, ListWriter, TableReader};
 use jb_cert::Certificate;
-use jb_chunk::{Outcome, PartitionTask, Task};
-use jb_job::{Range, Rules};
+use jb_chunk::{Done, Outcome, PartitionTask, Task};
+use jb_job::Range;
 use jb_repo::{Event, Repo, can_open};
-use jb_rules::{Row, RowState};
+use jb_rules::Row;
 use jb_workers::{Desk, NoGate, Work};
 use std::alloc::{AllocError, Global};
 use std::marker::Brand;
-use std::process::Abort;
 use std::sync::Wait;
 use std::sync::ledger::{Blank, Ledger};
 use std::test::*;
 use std::thread::Threads;
 
-type OneRecordTask = Task<ArtifactsOf<TableReader, Processor, ListWriter, CountCollector>>;
+type OneRecord = ArtifactsOf<TableReader, Processor, ListWriter, CountCollector>;
+
+pub(crate) type OneRecordTask = Task<OneRecord>;
 
 /// Each partition has the record of its number.
 fn own_row(partition: u32) -> Row {
@@ -34,26 +35,22 @@ fn own_reader(alloc: Global, partition: u32) -> Result<TableReader, AllocError> 
     Ok(TableReader::new(alloc, u64::from(partition), records, FaultPlans::new(alloc)))
 }
 
-fn task_of(alloc: Global, partition: u32) -> Option<OneRecordTask>
-    ensures { IfSome result (λ task. IsReady (⟦<OneRecordTask as PartitionTask>⟧.standing task)) }
-{
-    let row = own_row(partition);
-    let artifacts = ArtifactsOf {
-        reader: own_reader(alloc, partition).ok()?,
-        processor: prefixing(alloc, FaultPlans::new(alloc), true).ok()?,
+fn own_artifacts(alloc: Global, partition: u32) -> Result<OneRecord, AllocError> {
+    let reader = own_reader(alloc, partition)?;
+    let processor = prefixing(alloc, FaultPlans::new(alloc), true)?;
+    Ok(ArtifactsOf {
+        reader,
+        processor,
         writer: writer(alloc),
         collector: CountCollector::new(alloc),
-    };
-    if !row.sound() || row.state != RowState::Waiting || !Task::fits(&artifacts, &row) {
-        return None;
-    }
-    let rules = Rules {
-        skippable: 0,
-        retryable: 0,
-        skip_limit: None,
-        retry_limit: 0,
-    };
-    Some(Task::start(partition, row, rules, 1, artifacts))
+    })
+}
+
+pub(crate) fn own_task(alloc: Global, partition: u32) -> Option<OneRecordTask>
+    ensures { IfSome result (λ task. IsReady (⟦<OneRecordTask as PartitionTask>⟧.standing task)) }
+{
+    let artifacts = own_artifacts(alloc, partition).ok()?;
+    task_of::<OneRecordTask>(partition, own_row(partition), RULES, 1, artifacts)
 }
 
 /// A work for each lane: the task that is made for its number.
@@ -88,36 +85,43 @@ fn repository(alloc: Global, partitions: u32) -> Option<Repo>
     }
 }
 
+/// The Dones of the round and those that are Committed; and of the table after it the events, the rows and the Commits.
+type Came = ((usize, usize), u64, usize, u64);
+
+/// What comes of a round of these works.
 fn run<
     L: Ledger + Send + Sync + 'static,
     T: PartitionTask + Send + 'static,
-    R: Threads + Wait + Abort + Sync,
->(rt: &R, alloc: Global, blank: Blank, works: Vec<Work<T>>) -> Result<(), Fail>
+    R: Threads + Wait + Sync,
+>(rt: &R, alloc: Global, blank: Blank, works: Vec<Work<T>>) -> Option<Came>
     requires name { blank.name ≡ L.name }
     requires parts { blank.parts ≡ L.parts }
     requires all { blank.parts ≡ 1000000000000 }
     requires ready { AllCanBegin T.standing works.items }
 {
-    let desk = Desk::<L>::new(repository(alloc, 256).ok_or("a repository")?, blank);
-    let plan = desk.apply(rt, Event::Plan(4, Certificate::FullLoad));
-    assert_eq!(rt; plan, Ok(()));
-    let round = desk.run_round(rt, alloc, &NoGate, works);
-    let dones = round.ok().ok_or("a round")?;
-    assert_eq!(rt; dones.len(), 64);
-    for done in &dones {
-        assert!(rt; matches!(done.outcome, Outcome::Committed(_)));
+    let desk = Desk::<L>::new(repository(alloc, 256)?, blank);
+    desk.apply(rt, Event::Plan(4, Certificate::FullLoad)).ok()?;
+    let commits = commits(desk.run_round(rt, alloc, &NoGate, works).ok()?.as_slice());
+    let after = desk.status(rt).ok()?;
+    Some((commits, after.events, after.rows.len(), after.totals.commit))
+}
+
+/// How many Dones there are, and how many of them are Committed.
+pub(crate) fn commits<T>(dones: &[Done<T>]) -> (usize, usize) {
+    let mut committed: usize = 0;
+    for done in dones {
+        if matches!(done.outcome, Outcome::Committed(_)) {
+            committed = committed.saturating_add(1);
+        }
     }
-    let after = desk.status(rt)?;
-    assert_eq!(rt;
-        (after.events, after.rows.len(), after.totals.commit),
-        (130, 256, 64)
-    );
-    Ok(())
+    (dones.len(), committed)
 }
 
 #[test]
 fn a_round_on_64_lanes(rt: HostRuntime) -> Result<(), Fail> {
     let alloc = rt.alloc();
-    let works = works(alloc, 64, |lane| task_of(alloc, lane)).ok_or("works")?;
-    run::<Brand, _, _>(&rt, alloc, Blank::new(1_000_000_000_000), works)
+    let works = works(alloc, 64, |lane| own_task(alloc, lane)).ok_or("works")?;
+    let came = run::<Brand, _, _>(&rt, alloc, Blank::new(1_000_000_000_000), works);
+    assert!(rt; came == Some(((64, 64), 130, 256, 64)));
+    Ok(())
 }

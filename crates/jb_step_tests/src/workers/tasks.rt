@@ -1,16 +1,27 @@
 //! What the rounds of the tests are made of.
 
 ghost use Rattle.std.specs.Prelude.{◌≡◌, [], IfSome};
+ghost use Rattle.jb_rules.specs.declared.row.RowState.TheVariants.{Waiting};
 ghost use Rattle.jb_chunk.specs.Standing.{IsReady};
 ghost use Rattle.jb_workers.specs.Works.{AllCanBegin};
 
-use jb_artifacts::{FaultPlans, Item, ItemProcessor, ListWriter, PrefixProcessor, TableReader};
+use jb_artifacts::{
+    CountCollector, FaultPlans, Item, ItemProcessor, ListWriter, PrefixProcessor, TableReader,
+};
 use jb_chunk::PartitionTask;
-use jb_job::{ArtifactError, Range};
+use jb_job::{ArtifactError, MAX_ITEM_COUNT, Range, Rules};
 use jb_repo::{Repo, can_open};
 use jb_rules::{Row, RowState};
 use jb_workers::Work;
 use std::alloc::{AllocError, Global};
+
+/// No record is skipped, and no chunk is retried.
+pub(crate) const RULES: Rules = Rules {
+    skippable: 0,
+    retryable: 0,
+    skip_limit: None,
+    retry_limit: 0,
+};
 
 /// Two partitions of two letters each, of which none is read.
 pub(crate) fn fresh_rows() -> [Row; 2] {
@@ -74,6 +85,53 @@ pub(crate) fn prefixing(
 /// A writer with no result yet.
 pub(crate) fn writer(alloc: Global) -> ListWriter {
     ListWriter::new(alloc, Vec::new(alloc), FaultPlans::new(alloc))
+}
+
+/// The artifacts of a partition, each in a box of its own. A test hands them on as objects.
+#[derive(Drop)]
+pub(crate) struct Boxes {
+    pub(crate) reader: Box<TableReader>,
+    pub(crate) processor: Box<Processor>,
+    pub(crate) writer: Box<ListWriter>,
+    pub(crate) collector: Box<CountCollector>,
+}
+
+/// The boxes of the letters, of a processor with these faults, of a writer with no result yet, and of a collector.
+pub(crate) fn boxes(alloc: Global, faults: FaultPlans, memory: bool) -> Result<Boxes, AllocError> {
+    let reader = Box::new(alloc, letters(alloc)?)?;
+    let processor = Box::new(alloc, prefixing(alloc, faults, memory)?)?;
+    let writer = Box::new(alloc, writer(alloc))?;
+    let collector = Box::new(alloc, CountCollector::new(alloc))?;
+    Ok(Boxes {
+        reader,
+        processor,
+        writer,
+        collector,
+    })
+}
+
+/// The task of this row, where the row is sound and waits, and the artifacts serve it.
+pub(crate) fn task_of<T: PartitionTask>(
+    partition: u32,
+    row: Row,
+    rules: Rules,
+    item_count: u64,
+    artifacts: T::Artifacts,
+) -> Option<T>
+    ensures ready { IfSome result (λ task. IsReady (T.standing task)) }
+    ensures row { IfSome result (λ task. (T.standing task).row ≡ row) }
+    ensures waiting { IfSome result (λ task. row.state ≡ Waiting) }
+{
+    if row.sound()
+        && row.state.is_waiting()
+        && T::fits(&artifacts, &row)
+        && 1 <= item_count
+        && item_count <= MAX_ITEM_COUNT
+    {
+        Some(T::start(partition, row, rules, item_count, artifacts))
+    } else {
+        None
+    }
 }
 
 /// The works with one more, where its row waits and there is memory.

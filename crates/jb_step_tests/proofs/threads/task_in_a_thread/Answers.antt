@@ -7,12 +7,12 @@ use Rattle.jb_step_tests.specs.contracts.jb_artifacts++artifacts++Artifacts+Dest
 use Rattle.jb_step_tests.specs.contracts.jb_artifacts++artifacts++Artifacts+Destruct.drop.dyn-4 as collector
 use Rattle.jb_step_tests.proofs.threads.task_in_a_thread.OwnLists as own
 
-pub attempt_in_thread-requires-send-T : goal.attempt_in_thread-requires-send-T
-attempt_in_thread-requires-send-T g c κs =
+pub attempted-requires-send-T : goal.attempted-requires-send-T
+attempted-requires-send-T g c κs =
     task_crosses reader.slots processor.slots writer.slots collector.slots own.own-1 own.own-2 own.own-3 own.own-4
     own.lawful-own-1 own.lawful-own-2 own.lawful-own-3 own.lawful-own-4 hidden.sends-own-1 hidden.sends-own-2 hidden.sends-own-3 hidden.sends-own-4 _ _
 
-pub attempt_in_thread-requires-send-T-Artifacts : goal.attempt_in_thread-requires-send-T-Artifacts
-attempt_in_thread-requires-send-T-Artifacts g c κs =
+pub attempted-requires-send-T-Artifacts : goal.attempted-requires-send-T-Artifacts
+attempted-requires-send-T-Artifacts g c κs =
     artifacts_cross reader.slots processor.slots writer.slots collector.slots own.own-1 own.own-2 own.own-3 own.own-4
     own.lawful-own-1 own.lawful-own-2 own.lawful-own-3 own.lawful-own-4 hidden.sends-own-1 hidden.sends-own-2 hidden.sends-own-3 hidden.sends-own-4 _ _
