@@ -89,7 +89,7 @@ pub(crate) fn writer(alloc: Global) -> ListWriter {
 
 /// The artifacts of a partition, each in a box of its own. A test hands them on as objects.
 #[derive(Drop)]
-pub(crate) struct Boxes {
+pub(crate) struct Boxed {
     pub(crate) reader: Box<TableReader>,
     pub(crate) processor: Box<Processor>,
     pub(crate) writer: Box<ListWriter>,
@@ -97,12 +97,12 @@ pub(crate) struct Boxes {
 }
 
 /// The boxes of the letters, of a processor with these faults, of a writer with no result yet, and of a collector.
-pub(crate) fn boxes(alloc: Global, faults: FaultPlans, memory: bool) -> Result<Boxes, AllocError> {
+pub(crate) fn boxes(alloc: Global, faults: FaultPlans, memory: bool) -> Result<Boxed, AllocError> {
     let reader = Box::new(alloc, letters(alloc)?)?;
     let processor = Box::new(alloc, prefixing(alloc, faults, memory)?)?;
     let writer = Box::new(alloc, writer(alloc))?;
     let collector = Box::new(alloc, CountCollector::new(alloc))?;
-    Ok(Boxes {
+    Ok(Boxed {
         reader,
         processor,
         writer,
