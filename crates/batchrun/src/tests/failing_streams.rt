@@ -16,6 +16,9 @@
 
 use super::streams::{FailingReader, FailingWriter, Interrupted, arguments};
 use jb_program::perform;
+use std::alloc::{AllocError, Global};
+use std::sync::Wait;
+use std::thread::Threads;
 
 /// A word, its document, what it prints and its status.
 type Row = (&'static str, &'static str, &'static str, u8);
@@ -48,7 +51,7 @@ const ROWS: [Row; 4] = [
 ];
 
 /// A word, its document, the read that fails (0: none), the number of reads, what stands on standard error, and the status.
-type Fault = (&'static str, &'static str, u64, u64, &'static str, u8);
+type Fault = (&'static str, &'static str, usize, usize, &'static str, u8);
 
 const FAULTS: [Fault; 6] = [
     ("run", "[]", 0, 3, "refused: WrongShape(unknown)\n", 3),
@@ -87,29 +90,66 @@ const FAULTS: [Fault; 6] = [
     ),
 ];
 
+/// The read, the write on standard output and the write on standard error that fail (0: none).
+#[derive(Clone, Copy)]
+struct Fails {
+    read: usize,
+    write: usize,
+    fault: usize,
+}
+
+const NOTHING: Fails = Fails {
+    read: 0,
+    write: 0,
+    fault: 0,
+};
+
+/// The front of a text that is written where a write of this number fails (0: none), and how many writes there are.
+fn front(text: &str, fails_at: usize) -> (&[u8], usize) {
+    let bytes = text.as_bytes();
+    if fails_at == 0 || fails_at > bytes.len() {
+        (bytes, bytes.len())
+    } else {
+        (&bytes[..fails_at - 1], fails_at)
+    }
+}
+
+/// Whether a run of the word on the document, with such failing calls, reads so often, and comes to this status and to the fronts of
+/// these texts, with no write after one that fails.
+fn comes_to<R: Threads + Wait + Sync>(
+    rt: &R,
+    alloc: Global,
+    (word, document): (&str, &str),
+    fails: Fails,
+    reads: usize,
+    (output, line, status): (&str, &str, u8),
+) -> bool {
+    let mut reader = FailingReader::new(document.as_bytes(), fails.read);
+    let mut writer = FailingWriter::new(alloc, fails.write);
+    let mut faults = FailingWriter::new(alloc, fails.fault);
+    let args = arguments(alloc, word);
+    let code = perform(rt, alloc, args, &mut reader, &mut writer, &mut faults);
+    code == status
+        && reader.calls() == reads
+        && (writer.bytes(), writer.calls()) == front(output, fails.write)
+        && (faults.bytes(), faults.calls()) == front(line, fails.fault)
+}
+
 // Each read fails in turn: nothing more is read, and nothing is written but that a stream failed.
 #[test]
 fn failing_reads(rt: HostRuntime) {
-    let alloc = rt.alloc();
     for (word, document, output, status) in ROWS {
-        let length = document.len() as u64;
-        for fails_at in 1..length + 3 {
-            let mut reader = FailingReader::new(document.as_bytes(), fails_at);
-            let mut written = Vec::new(alloc);
-            let mut faults = Vec::new(alloc);
-            let args = arguments(alloc, word);
-            let code = perform(&rt, alloc, args, &mut reader, &mut written, &mut faults);
-            let fails = fails_at < length + 2;
-            assert_eq!(rt; code, if fails { 4 } else { status }, "{word} {fails_at}");
-            let wanted = if fails { "" } else { output };
-            assert_eq!(rt; written.as_slice(), wanted.as_bytes(), "{word} {fails_at}");
-            assert_eq!(rt;
-                reader.calls(),
-                fails_at.min(length + 1),
-                "{word} {fails_at}"
-            );
-            let line = if fails { "stream failed\n" } else { "" };
-            assert_eq!(rt; faults.as_slice(), line.as_bytes(), "{word} {fails_at}");
+        let reads = document.len() + 1;
+        for read in 1..reads + 2 {
+            let fails = Fails { read, ..NOTHING };
+            let wanted = if read <= reads {
+                ("", "stream failed\n", 4)
+            } else {
+                (output, "", status)
+            };
+            let asked = (word, document);
+            let is_so = comes_to(&rt, rt.alloc(), asked, fails, read.min(reads), wanted);
+            assert!(rt; is_so, "{word} {read}");
         }
     }
 }
@@ -117,107 +157,108 @@ fn failing_reads(rt: HostRuntime) {
 // Each write on standard output fails in turn: nothing more is read, and nothing more is written but that a stream failed.
 #[test]
 fn failing_writes(rt: HostRuntime) {
-    let alloc = rt.alloc();
     for (word, document, output, status) in ROWS {
-        let length = output.len() as u64;
-        for fails_at in 1..length + 2 {
-            let mut writer = FailingWriter::new(alloc, fails_at);
-            let mut faults = Vec::new(alloc);
-            let mut reader = FailingReader::new(document.as_bytes(), 0);
-            let args = arguments(alloc, word);
-            let code = perform(&rt, alloc, args, &mut reader, &mut writer, &mut faults);
-            let fails = fails_at < length + 1;
-            assert_eq!(rt; code, if fails { 4 } else { status }, "{word} {fails_at}");
-            assert!(rt;
-                output.as_bytes().starts_with(writer.bytes()),
-                "{word} {fails_at}"
-            );
-            let reads = document.len() as u64 + 1;
-            assert_eq!(rt; reader.calls(), reads, "{word} {fails_at}");
-            assert_eq!(rt; writer.calls(), fails_at.min(length), "{word} {fails_at}");
-            let line = if fails { "stream failed\n" } else { "" };
-            assert_eq!(rt; faults.as_slice(), line.as_bytes(), "{word} {fails_at}");
+        let reads = document.len() + 1;
+        let length = output.len();
+        for write in 1..length + 2 {
+            let fails = Fails { write, ..NOTHING };
+            let wanted = if write <= length {
+                (output, "stream failed\n", 4)
+            } else {
+                (output, "", status)
+            };
+            let is_so = comes_to(&rt, rt.alloc(), (word, document), fails, reads, wanted);
+            assert!(rt; is_so, "{word} {write}");
         }
-    }
-}
-
-// Every other read and write is interrupted: each is made again, and nothing is lost or told twice.
-#[test]
-fn interrupted_calls(rt: HostRuntime) {
-    let alloc = rt.alloc();
-    for (word, document, output, status) in ROWS {
-        let mut reader = Interrupted::new(FailingReader::new(document.as_bytes(), 0));
-        let mut written = Interrupted::new(FailingWriter::new(alloc, 0));
-        let mut faults = Interrupted::new(FailingWriter::new(alloc, 0));
-        let args = arguments(alloc, word);
-        let code = perform(&rt, alloc, args, &mut reader, &mut written, &mut faults);
-        assert_eq!(rt; code, status, "{word}");
-        assert_eq!(rt; written.stream().bytes(), output.as_bytes(), "{word}");
-        assert!(rt; faults.stream().bytes().is_empty(), "{word}");
     }
 }
 
 // Each write of the version fails in turn, and nothing is read.
 #[test]
 fn failing_writes_of_the_version(rt: HostRuntime) {
-    let alloc = rt.alloc();
     let output = "batchrun 0.1.0\n";
-    let length = output.len() as u64;
-    for fails_at in 1..length + 2 {
-        let mut reader = FailingReader::new("".as_bytes(), 1);
-        let mut writer = FailingWriter::new(alloc, fails_at);
-        let mut faults = Vec::new(alloc);
-        let args = arguments(alloc, "--version");
-        let code = perform(&rt, alloc, args, &mut reader, &mut writer, &mut faults);
-        let fails = fails_at < length + 1;
-        assert_eq!(rt; code, if fails { 4 } else { 0 }, "{fails_at}");
-        assert!(rt; output.as_bytes().starts_with(writer.bytes()), "{fails_at}");
-        assert_eq!(rt; writer.calls(), fails_at.min(length), "{fails_at}");
-        assert_eq!(rt; reader.calls(), 0, "{fails_at}");
-        let line = if fails { "stream failed\n" } else { "" };
-        assert_eq!(rt; faults.as_slice(), line.as_bytes(), "{fails_at}");
+    let length = output.len();
+    for write in 1..length + 2 {
+        let fails = Fails {
+            read: 1,
+            write,
+            fault: 0,
+        };
+        let wanted = if write <= length {
+            (output, "stream failed\n", 4)
+        } else {
+            (output, "", 0)
+        };
+        let is_so = comes_to(&rt, rt.alloc(), ("--version", ""), fails, 0, wanted);
+        assert!(rt; is_so, "{write}");
     }
 }
 
 // Each write on standard error fails in turn: nothing more is read, and nothing more is written on either stream.
 #[test]
 fn failing_fault_writes(rt: HostRuntime) {
-    let alloc = rt.alloc();
-    for (word, document, read_that_fails, reads, line, status) in FAULTS {
-        let length = line.len() as u64;
-        for fails_at in 1..length + 2 {
-            let mut reader = FailingReader::new(document.as_bytes(), read_that_fails);
-            let mut writer = FailingWriter::new(alloc, 1);
-            let mut faults = FailingWriter::new(alloc, fails_at);
-            let args = arguments(alloc, word);
-            let code = perform(&rt, alloc, args, &mut reader, &mut writer, &mut faults);
-            let fails = fails_at < length + 1;
-            assert_eq!(rt; code, if fails { 4 } else { status }, "{word} {fails_at}");
-            assert_eq!(rt; reader.calls(), reads, "{word} {fails_at}");
-            assert_eq!(rt; writer.calls(), 0, "{word} {fails_at}");
-            assert!(rt;
-                line.as_bytes().starts_with(faults.bytes()),
-                "{word} {fails_at}"
-            );
-            assert_eq!(rt; faults.calls(), fails_at.min(length), "{word} {fails_at}");
+    for (word, document, read, reads, line, status) in FAULTS {
+        let length = line.len();
+        for fault in 1..length + 2 {
+            let fails = Fails {
+                read,
+                write: 1,
+                fault,
+            };
+            let status = if fault <= length { 4 } else { status };
+            let wanted = ("", line, status);
+            let is_so = comes_to(&rt, rt.alloc(), (word, document), fails, reads, wanted);
+            assert!(rt; is_so, "{word} {fault}");
         }
     }
+}
+
+/// Whether the run's streams, of which every other call is interrupted, come to the row's status and texts.
+fn is_whole<R: Threads + Wait + Sync>(rt: &R, alloc: Global, row: &Row) -> bool {
+    let (word, document, output, status) = *row;
+    let mut reader = Interrupted::new(FailingReader::new(document.as_bytes(), 0));
+    let mut written = Interrupted::new(FailingWriter::new(alloc, 0));
+    let mut faults = Interrupted::new(FailingWriter::new(alloc, 0));
+    let args = arguments(alloc, word);
+    let code = perform(rt, alloc, args, &mut reader, &mut written, &mut faults);
+    code == status
+        && written.stream().bytes() == output.as_bytes()
+        && faults.stream().bytes().is_empty()
+}
+
+// Every other read and write is interrupted: each is made again, and nothing is lost or told twice.
+#[test]
+fn interrupted_calls(rt: HostRuntime) {
+    for row in &ROWS {
+        assert!(rt; is_whole(&rt, rt.alloc(), row), "{}", row.0);
+    }
+}
+
+/// Whether the fault is told on a stream of which every other call is interrupted, with its status.
+fn is_told<R: Threads + Wait + Sync>(rt: &R, alloc: Global, fault: &Fault) -> bool {
+    let (word, document, read_that_fails, _, line, status) = *fault;
+    let mut reader = FailingReader::new(document.as_bytes(), read_that_fails);
+    let mut written = Vec::new(alloc);
+    let mut faults = Interrupted::new(FailingWriter::new(alloc, 0));
+    let args = arguments(alloc, word);
+    let code = perform(rt, alloc, args, &mut reader, &mut written, &mut faults);
+    code == status && written.is_empty() && faults.stream().bytes() == line.as_bytes()
 }
 
 // Every other write on standard error is interrupted, and the others take one byte: the line is whole and stands there once.
 #[test]
 fn interrupted_faults(rt: HostRuntime) {
-    let alloc = rt.alloc();
-    for (word, document, read_that_fails, _, line, status) in FAULTS {
-        let mut reader = FailingReader::new(document.as_bytes(), read_that_fails);
-        let mut written = Vec::new(alloc);
-        let mut faults = Interrupted::new(FailingWriter::new(alloc, 0));
-        let args = arguments(alloc, word);
-        let code = perform(&rt, alloc, args, &mut reader, &mut written, &mut faults);
-        assert_eq!(rt; code, status, "{word}");
-        assert!(rt; written.is_empty(), "{word}");
-        assert_eq!(rt; faults.stream().bytes(), line.as_bytes(), "{word}");
+    for fault in &FAULTS {
+        assert!(rt; is_told(&rt, rt.alloc(), fault), "{}", fault.0);
     }
+}
+
+/// The document behind so many blanks.
+fn behind_blanks(alloc: Global, document: &str, blanks: usize) -> Result<Vec<u8>, AllocError> {
+    let mut bytes = Vec::new(alloc);
+    bytes.resize(blanks, b' ')?;
+    bytes.extend_from_slice(document.as_bytes())?;
+    Ok(bytes)
 }
 
 // A document of more than 2,000,000 bytes, one at each read: none is lost, and no number of reads is too many.
@@ -225,16 +266,11 @@ fn interrupted_faults(rt: HostRuntime) {
 fn long_document_in_small_reads(rt: HostRuntime) {
     let alloc = rt.alloc();
     let (word, document, output, _) = ROWS[2];
-    let mut bytes = Vec::new(alloc);
-    bytes.resize(2_000_000, b' ').expect(&rt, "memory");
-    bytes
-        .extend_from_slice(document.as_bytes())
-        .expect(&rt, "memory");
+    let bytes = behind_blanks(alloc, document, 2_000_000).expect(&rt, "memory");
     let mut reader = FailingReader::new(&bytes, 0);
     let mut written = Vec::new(alloc);
     let mut faults = Vec::new(alloc);
     let args = arguments(alloc, word);
     let status = perform(&rt, alloc, args, &mut reader, &mut written, &mut faults);
-    assert_eq!(rt; status, 0);
-    assert_eq!(rt; written.as_slice(), output.as_bytes());
+    assert!(rt; status == 0 && written.as_slice() == output.as_bytes());
 }

@@ -17,12 +17,12 @@ pub fn arguments(alloc: Global, word: &str) -> io::Result<Args> {
 #[derive(Drop)]
 pub struct FailingReader<'a> {
     bytes: &'a [u8],
-    calls: u64,
-    fails_at: u64,
+    calls: usize,
+    fails_at: usize,
 }
 
 impl<'a> FailingReader<'a> {
-    pub fn new(bytes: &'a [u8], fails_at: u64) -> FailingReader<'a> {
+    pub fn new(bytes: &'a [u8], fails_at: usize) -> FailingReader<'a> {
         FailingReader {
             bytes,
             calls: 0,
@@ -31,7 +31,7 @@ impl<'a> FailingReader<'a> {
     }
 
     /// How often it was called.
-    pub fn calls(&self) -> u64 {
+    pub fn calls(&self) -> usize {
         self.calls
     }
 }
@@ -51,12 +51,12 @@ impl Read for FailingReader<'_> {
 #[derive(Drop)]
 pub struct FailingWriter {
     bytes: Vec<u8>,
-    calls: u64,
-    fails_at: u64,
+    calls: usize,
+    fails_at: usize,
 }
 
 impl FailingWriter {
-    pub fn new(alloc: Global, fails_at: u64) -> FailingWriter {
+    pub fn new(alloc: Global, fails_at: usize) -> FailingWriter {
         FailingWriter {
             bytes: Vec::new(alloc),
             calls: 0,
@@ -69,7 +69,7 @@ impl FailingWriter {
     }
 
     /// How often it was called.
-    pub fn calls(&self) -> u64 {
+    pub fn calls(&self) -> usize {
         self.calls
     }
 }

@@ -3,7 +3,8 @@
 use crate::step::restarts::{Between, gone_on};
 use crate::step::rows::{Asked, Case, SEVEN, case_at};
 use jb_collect::Status;
-use std::alloc::Global;
+use std::alloc::{AllocError, Global};
+use std::process::Abort;
 use std::sync::Wait;
 use std::test::*;
 use std::thread::Threads;
@@ -57,37 +58,68 @@ fn first_run<R: Threads + Wait + Sync>(
     gone_on(rt, alloc, case.asked, case.records, false, None, between)
 }
 
+/// After a whole first run: its course, and what its partitions come to.
+fn assert_whole(
+    rt: &impl Abort,
+    alloc: Global,
+    case: &Case,
+    course: &str,
+    between: &Between,
+) -> Result<(), AllocError> {
+    assert!(rt; course.ends_with(case.course));
+    between.assert_partitions(rt, alloc, case.partitions)
+}
+
+/// After a first run that says what it lacked: the restart, on one thread and without faults, is completed.
+fn assert_restarted<R: Threads + Wait + Abort + Sync>(
+    rt: &R,
+    alloc: Global,
+    case: &Case,
+    unmet: &Unmet,
+    course: &str,
+    between: &mut Between,
+) -> Result<(), Fail> {
+    assert!(rt; course.contains("Memory") || course.contains("Workers"));
+    let asked = Asked {
+        threads: 1,
+        ..case.asked
+    };
+    let (status, _) = gone_on(rt, alloc, asked, unmet.records, true, None, between)?;
+    assert!(rt; status == Some(Status::Completed));
+    let partitions = between.partitions(alloc)?;
+    let partitions = partitions.as_str();
+    assert!(rt; unmet.partitions.contains(&partitions) || partitions == case.partitions);
+    Ok(())
+}
+
+/// A first run of the case's step, which may lack something, and then what belongs to it.
+fn tried<R: Threads + Wait + Abort + Sync>(
+    rt: &R,
+    alloc: Global,
+    unmet: &Unmet,
+) -> Result<(), Fail> {
+    let Some(case) = case_at(unmet.number) else {
+        return Err(Fail::from("a case"));
+    };
+    let mut between = Between::first(alloc, case.records)?;
+    let (status, course) = first_run(rt, alloc, &case, &mut between)?;
+    let course = course.as_str();
+    if status.is_some() {
+        assert_whole(rt, alloc, &case, course, &between)?;
+        Ok(())
+    } else {
+        assert_restarted(rt, alloc, &case, unmet, course, &mut between)
+    }
+}
+
 /// `tests/refused-memory` runs it also with each request for memory refused in turn, and where no thread can be made: the step has
 /// its whole answer, or says what it lacked, and then a restart on one thread, which needs no worker, and without faults is
 /// completed. Where the step found no memory for its desk, it has its whole answer when it is run anew. Where a request of the
 /// test's own is refused, the test ends with that error.
 #[test]
 fn memory_refused(rt: HostRuntime) -> Result<(), Fail> {
-    let alloc = rt.alloc();
     for unmet in &CASES {
-        let Some(case) = case_at(unmet.number) else {
-            return Err(Fail::from("a case"));
-        };
-        let mut between = Between::first(alloc, case.records)?;
-        let (status, course) = first_run(&rt, alloc, &case, &mut between)?;
-        if status.is_some() {
-            assert!(rt; course.as_str().ends_with(case.course));
-            let partitions = between.partitions(alloc)?;
-            assert_eq!(rt; partitions.as_str(), case.partitions);
-        } else {
-            let course = course.as_str();
-            assert!(rt; course.contains("Memory") || course.contains("Workers"));
-            let asked = Asked {
-                threads: 1,
-                ..case.asked
-            };
-            let records = unmet.records;
-            let (status, _) = gone_on(&rt, alloc, asked, records, true, None, &mut between)?;
-            let partitions = between.partitions(alloc)?;
-            let partitions = partitions.as_str();
-            assert!(rt; status == Some(Status::Completed));
-            assert!(rt; unmet.partitions.contains(&partitions) || partitions == case.partitions);
-        }
+        tried(&rt, rt.alloc(), unmet)?;
     }
     Ok(())
 }

@@ -4,7 +4,7 @@ ghost use Rattle.std.specs.Prelude.{◌≡◌};
 
 use crate::step::given::Works;
 use crate::step::restarts::{Between, add_answer, gone_on};
-use crate::step::rows::{Asked, PLAIN};
+use crate::step::rows::{Asked, PLAIN, assert_text};
 use crate::step::runs::{ended_with, started};
 use jb_cert::Certificate;
 use jb_collect::{ListAnalyzer, ListReducer, Reducer, Status};
@@ -138,25 +138,34 @@ fn wrong_desk<L: Ledger, R: Wait>(
 {
     let desk = desk_of::<L>(alloc, blank, rows)?;
     if wrong == Wrong::Planned {
-        let planned = desk.apply(rt, Event::Plan(1, Certificate::FullLoad));
-        planned.ok().ok_or("a plan")?;
+        desk.apply(rt, Event::Plan(1, Certificate::FullLoad))?;
     }
     Ok(desk)
 }
 
-fn answer_of<L: Ledger, R: Wait>(
+/// Why the step has no answer on such a desk.
+fn error_on<L: Ledger + Send + Sync + 'static, R: Threads + Wait + Sync>(
     rt: &R,
+    alloc: Global,
     desk: &Desk<L>,
-    reducer: &ListReducer,
-    error: StepError,
-) -> Result<Answer, Fail> {
-    let after = desk.status(rt)?;
-    Ok((
-        error,
-        reducer.calls().len(),
-        after.events,
-        after.totals.commit,
-    ))
+    prepared: Prepared,
+    records: &str,
+    reducer: &mut ListReducer,
+) -> Result<StepError, Fail> {
+    let mut analyzer = ListAnalyzer::new(alloc, None);
+    let partitions = prepared.needs().len();
+    let end = ended_with::<L, NoGate, R>(
+        rt,
+        alloc,
+        desk,
+        prepared,
+        records,
+        partitions,
+        &mut analyzer,
+        reducer,
+        &NoGate,
+    )?;
+    Ok(end.err().ok_or("no answer")?)
 }
 
 fn refusal<L: Ledger + Send + Sync + 'static, R: Threads + Wait + Sync>(
@@ -171,25 +180,12 @@ fn refusal<L: Ledger + Send + Sync + 'static, R: Threads + Wait + Sync>(
 {
     let rows = rows_of(wrong);
     let mut reducer = ListReducer::new(alloc, None);
-    let mut analyzer = ListAnalyzer::new(alloc, None);
     let prepared = start(alloc, rows.own, 2, rows.saved, &mut reducer)?;
     let desk = wrong_desk::<L, R>(rt, alloc, blank, &rows, wrong)?;
-    let partitions = prepared.needs().len();
-    let end = ended_with::<L, NoGate, R>(
-        rt,
-        alloc,
-        &desk,
-        prepared,
-        rows.own,
-        partitions,
-        &mut analyzer,
-        &mut reducer,
-        &NoGate,
-    )?;
-    match end {
-        Ok(_) => Err(Fail::from("no answer")),
-        Err(error) => answer_of(rt, &desk, &reducer, error),
-    }
+    let error = error_on(rt, alloc, &desk, prepared, rows.own, &mut reducer)?;
+    let after = desk.status(rt)?;
+    let calls = reducer.calls().len();
+    Ok((error, calls, after.events, after.totals.commit))
 }
 
 /// The first row that differs is named, else the number of rows; the reducer heard `begin`, `rollback` and `after`. Of a round that
@@ -281,13 +277,11 @@ fn a_refused_round_is_gone_on_from(rt: HostRuntime) -> Result<(), Fail> {
     let mut between = Between::nothing(alloc);
     let blank = Blank::new(1_000_000_000_000);
     let refused = refused_round::<Brand, _>(&rt, alloc, blank, &mut between)?;
-    assert_eq!(rt; refused.as_str(), REFUSED);
-    let partitions = between.partitions(alloc)?;
-    assert_eq!(rt; partitions.as_str(), LEFT);
+    assert_text(&rt, refused.as_str(), REFUSED);
+    between.assert_partitions(&rt, alloc, LEFT)?;
     let (status, course) = gone_on(&rt, alloc, PLAIN, SIX, false, None, &mut between)?;
     assert!(rt; status == Some(Status::Completed));
-    assert_eq!(rt; course.as_str(), RESTARTED);
-    let partitions = between.partitions(alloc)?;
-    assert_eq!(rt; partitions.as_str(), WHOLE);
+    assert_text(&rt, course.as_str(), RESTARTED);
+    between.assert_partitions(&rt, alloc, WHOLE)?;
     Ok(())
 }

@@ -7,7 +7,8 @@ use crate::step::given::{
     Given, Letters, Works, all_works, saved_again, stopped_after, works, works_from,
 };
 use crate::step::rows::{
-    Asked, Case, ONE_SKIP, PLAIN, SEVEN, add_course, add_partition, add_reduced, case_at, left_of,
+    Asked, Case, ONE_SKIP, PLAIN, SEVEN, add_course, add_partition, add_reduced, assert_text,
+    case_at, left_of,
 };
 use crate::step::runs::started_or_not;
 use jb_artifacts::ArtifactsOf;
@@ -19,6 +20,7 @@ use jb_workers::Desk;
 use std::alloc::{AllocError, Global};
 use std::marker::Brand;
 use std::mem;
+use std::process::Abort;
 use std::sync::Wait;
 use std::sync::ledger::{Blank, Ledger};
 use std::test::*;
@@ -285,6 +287,17 @@ impl Between {
         Ok(text)
     }
 
+    /// Asserts that the partitions stand so.
+    pub(crate) fn assert_partitions(
+        &self,
+        rt: &impl Abort,
+        alloc: Global,
+        wanted: &str,
+    ) -> Result<(), AllocError> {
+        assert_text(rt, self.partitions(alloc)?.as_str(), wanted);
+        Ok(())
+    }
+
     /// The artifacts of this partition.
     fn of(&self, partition: usize) -> Option<&Works> {
         left_of(&self.finished, partition).or(left_of(&self.unfinished, partition))
@@ -476,10 +489,12 @@ fn course_of_leg<R: Threads + Wait + Sync>(
 #[test]
 fn restarts(rt: HostRuntime) -> Result<(), Fail> {
     for number in 0..6 {
-        let journey = journey_at(number).ok_or("a journey")?;
+        let Some(journey) = journey_at(number) else {
+            return Err(Fail::from("a journey"));
+        };
         let (courses, partitions) = travelled(&rt, rt.alloc(), number, &journey)?;
-        assert_eq!(rt; courses.as_str(), journey.courses);
-        assert_eq!(rt; partitions.as_str(), journey.partitions);
+        assert_text(&rt, courses.as_str(), journey.courses);
+        assert_text(&rt, partitions.as_str(), journey.partitions);
     }
     Ok(())
 }
@@ -540,7 +555,9 @@ fn is_unchanged<R: Threads + Wait + Sync>(
 #[test]
 fn stops_change_nothing(rt: HostRuntime) -> Result<(), Fail> {
     for number in 0..14 {
-        let case = case_at(number).ok_or("a case")?;
+        let Some(case) = case_at(number) else {
+            return Err(Fail::from("a case"));
+        };
         assert!(rt; is_unchanged(&rt, rt.alloc(), &case)?, "case {number}");
     }
     Ok(())

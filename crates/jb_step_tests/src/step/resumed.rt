@@ -4,7 +4,7 @@ ghost use Rattle.std.specs.Prelude.{◌≡◌};
 
 use crate::step::given::{Given, begun_from};
 use crate::step::restarts::{Between, gone_on};
-use crate::step::rows::{PLAIN, SEVEN, STRICT, course_of};
+use crate::step::rows::{PLAIN, SEVEN, STRICT, assert_text, course_of};
 use crate::step::runs::{ended_with, started};
 use jb_collect::{ListAnalyzer, ListReducer, Reducer, Status};
 use jb_mapper::FixedMapper;
@@ -13,6 +13,7 @@ use jb_step::{Prepared, SavedPlace, StepError, read_saved};
 use jb_workers::{Desk, Gate};
 use std::alloc::Global;
 use std::marker::Brand;
+use std::process::Abort;
 use std::sync::ledger::{Blank, Ledger};
 use std::sync::{Arc, Wait};
 use std::test::*;
@@ -48,34 +49,34 @@ Begin Before After(Commit) .
 Completed 11
 ";
 
+/// What the step begins with, where a plan of these records takes the place of the saved rows.
+fn begun_anew(
+    alloc: Global,
+    text: &str,
+    records: &str,
+    threads: u32,
+    reducer: &mut ListReducer,
+) -> Result<Result<Prepared, StepError>, Fail> {
+    let saved = read_saved(alloc, text.as_bytes())?;
+    let given = Given::read(alloc, records)?;
+    let count = given.count();
+    let mut plan = given.plan(threads);
+    plan.replace = true;
+    let mut mapper = FixedMapper::new(plan);
+    begun_from(alloc, 2, STRICT, count, &mut mapper, reducer, Some(saved))
+}
+
 /// Why the step has no answer, and how many calls its reducer took.
 fn refusal(
     alloc: Global,
     text: &str,
     records: &str,
     threads: u32,
-    replace: bool,
 ) -> Result<(StepError, usize), Fail> {
-    let saved = read_saved(alloc, text.as_bytes()).ok().ok_or("saved rows")?;
-    let given = Given::read(alloc, records)?;
-    let count = given.count();
-    let mut plan = given.plan(threads);
-    plan.replace = replace;
-    let mut mapper = FixedMapper::new(plan);
     let mut reducer = ListReducer::new(alloc, None);
-    let answer = begun_from(
-        alloc,
-        2,
-        STRICT,
-        count,
-        &mut mapper,
-        &mut reducer,
-        Some(saved),
-    )?;
-    match answer {
-        Ok(_) => Err(Fail::from("no answer")),
-        Err(error) => Ok((error, reducer.calls().len())),
-    }
+    let answer = begun_anew(alloc, text, records, threads, &mut reducer)?;
+    let error = answer.err().ok_or("no answer")?;
+    Ok((error, reducer.calls().len()))
 }
 
 #[test]
@@ -87,7 +88,7 @@ fn saved_rows_are_refused(rt: HostRuntime) -> Result<(), Fail> {
         (SAVED, "ab/c/", 2, StepError::Saved(SavedPlace::Override)),
     ];
     for (text, records, threads, error) in cases {
-        let answer = refusal(rt.alloc(), text, records, threads, true)?;
+        let answer = refusal(rt.alloc(), text, records, threads)?;
         assert_eq!(rt; answer, (error, 3));
     }
     Ok(())
@@ -186,26 +187,36 @@ fn stop<L: Ledger + Send + Sync + 'static, R: Threads + Wait + Sync>(
     )
 }
 
+/// Stops the step at this place, and asserts its course.
+fn stops<R: Threads + Wait + Abort + Sync>(
+    rt: &R,
+    alloc: Global,
+    place: Place,
+    between: &mut Between,
+    wanted: &str,
+) -> Result<(), Fail> {
+    let blank = Blank::new(1_000_000_000_000);
+    let course = stop::<Brand, R>(rt, alloc, blank, place, between)?;
+    assert_text(rt, course.as_str(), wanted);
+    Ok(())
+}
+
 /// A stop that lane 1 asks for as it begins in the first round: what the round committed stands, and the restart ends as the step
 /// that nothing stops.
 #[test]
 fn a_stop_in_a_round(rt: HostRuntime) -> Result<(), Fail> {
     let alloc = rt.alloc();
     let mut between = Between::nothing(alloc);
-    let blank = Blank::new(1_000_000_000_000);
     let place = Place {
         lane: 1,
         round: 0,
         leaving: false,
     };
-    let course = stop::<Brand, _>(&rt, alloc, blank, place, &mut between)?;
-    assert_eq!(rt; course.as_str(), COURSE);
-    let partitions = between.partitions(alloc)?;
-    assert_eq!(rt; partitions.as_str(), STOPPED);
+    stops(&rt, alloc, place, &mut between, COURSE)?;
+    between.assert_partitions(&rt, alloc, STOPPED)?;
     let (status, _) = gone_on(&rt, alloc, PLAIN, RECORDS, false, None, &mut between)?;
     assert!(rt; status == Some(Status::Completed));
-    let partitions = between.partitions(alloc)?;
-    assert_eq!(rt; partitions.as_str(), SEVEN);
+    between.assert_partitions(&rt, alloc, SEVEN)?;
     Ok(())
 }
 
@@ -216,16 +227,13 @@ fn a_stop_in_the_last_round(rt: HostRuntime) -> Result<(), Fail> {
     let alloc = rt.alloc();
     for (lane, leaving) in [(1, false), (0, true)] {
         let mut between = Between::nothing(alloc);
-        let blank = Blank::new(1_000_000_000_000);
         let place = Place {
             lane,
             round: 1,
             leaving,
         };
-        let course = stop::<Brand, _>(&rt, alloc, blank, place, &mut between)?;
-        assert_eq!(rt; course.as_str(), WHOLE);
-        let partitions = between.partitions(alloc)?;
-        assert_eq!(rt; partitions.as_str(), SEVEN);
+        stops(&rt, alloc, place, &mut between, WHOLE)?;
+        between.assert_partitions(&rt, alloc, SEVEN)?;
     }
     Ok(())
 }

@@ -493,24 +493,32 @@ fn partitions_of(alloc: Global, case: &Case, end: &StepEnd<Works>) -> Result<Str
     Ok(text)
 }
 
-/// Runs a case on 1 to 4 threads.
+/// Asserts that a text is the wanted one.
+pub(crate) fn assert_text(rt: &impl Abort, text: &str, wanted: &str) {
+    assert_eq!(rt; text, wanted);
+}
+
+/// Runs the case on 1 to 4 threads.
+fn runs<R: Threads + Wait + Abort + Sync>(rt: &R, alloc: Global, case: &Case) -> Result<(), Fail> {
+    for threads in 1..5 {
+        let blank = Blank::new(1_000_000_000_000);
+        let ran = run::<Brand, R>(rt, alloc, blank, case, threads)?;
+        assert_text(rt, ran.partitions.as_str(), case.partitions);
+        if threads == case.asked.threads {
+            assert_text(rt, ran.course.as_str(), case.course);
+        }
+    }
+    Ok(())
+}
+
 #[test]
 fn steps(rt: HostRuntime) -> Result<(), Fail> {
-    let alloc = rt.alloc();
     for number in 0..14 {
         let Some(case) = case_at(number) else {
             return Err(Fail::from("a case"));
         };
-        let alone = alone(alloc, &case)?;
-        assert_eq!(rt; alone.as_str(), case.partitions);
-        for threads in 1..5 {
-            let blank = Blank::new(1_000_000_000_000);
-            let ran = run::<Brand, _>(&rt, alloc, blank, &case, threads)?;
-            assert_eq!(rt; ran.partitions.as_str(), case.partitions);
-            if threads == case.asked.threads {
-                assert_eq!(rt; ran.course.as_str(), case.course);
-            }
-        }
+        assert_text(&rt, alone(rt.alloc(), &case)?.as_str(), case.partitions);
+        runs(&rt, rt.alloc(), &case)?;
     }
     Ok(())
 }

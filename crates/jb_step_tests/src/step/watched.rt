@@ -4,7 +4,7 @@ ghost use Rattle.std.specs.Prelude.{◌≡◌};
 
 use crate::step::given::{Letters, Works, ended};
 use crate::step::restarts::{Between, works_again};
-use crate::step::rows::{Asked, PLAIN, SEVEN};
+use crate::step::rows::{Asked, PLAIN, SEVEN, assert_text};
 use crate::step::runs::started;
 use jb_collect::{ListAnalyzer, ListReducer, Status};
 use jb_repo::Snapshot;
@@ -207,9 +207,8 @@ fn a_table_is_watched(rt: HostRuntime) -> Result<(), Fail> {
         let mut asked = PLAIN;
         asked.threads = threads;
         let (is_well, stops, partitions) = watched(&rt, rt.alloc(), asked, commits)?;
-        assert!(rt; is_well);
-        assert!(rt; commits > 0 || stops > 0);
-        assert_eq!(rt; partitions.as_str(), SEVEN);
+        assert!(rt; is_well && (commits > 0 || stops > 0));
+        assert_text(&rt, partitions.as_str(), SEVEN);
     }
     Ok(())
 }
