@@ -1,11 +1,20 @@
-use Rattle.std.proofs.Common.{◌≡◌, ◌∙◌, ap, length, rules}
+use Rattle.std.proofs.Common.{◌≡◌, ◌∙◌, Option, Some, None, List, IfSome, ap, length, rules}
 use borrow.Pointer.Hide.{carried_sameᵐ}
 use Rattle.jb_mapper.specs.Mapping.{Mapping}
+use Rattle.jb_job.specs.declared.job.Range.{Range}
+use Rattle.jb_rules.specs.declared.row.Row.{Row}
+use Rattle.jb_saved.specs.GoingOn.{rows_again}
+use Rattle.jb_saved.specs.SavedRows.{SavedRows}
 use Rattle.jb_step.specs.Setup.{opening_rows}
 use Rattle.payroll.specs.Works.{payroll_rules}
 use Rattle.payroll.proofs.Evenly.{ranges-in-order}
 use Rattle.payroll.proofs.step.prepared_for.Goals as goal
 use Rattle.payroll.proofs.step.prepared_for.OwnLists as own
+
+-- a step that goes on has the rows that were saved
+again : (ranges : List Range) (saved : Option SavedRows) (rows : List Row) → rows ≡ opening_rows ranges saved → IfSome saved (λ held. rows ≡ rows_again held)
+again ranges None rows is = tt
+again ranges (Some held) rows is = is
 
 pub returns-clause-payroll : goal.returns-clause-payroll
 returns-clause-payroll c =
@@ -22,3 +31,6 @@ returns-clause-new c none =
       order = ranges-in-order _ _ c.args.threads its.plan even its.mapping;
       rows = its.rows ∙ ap (opening_rows its.plan.ranges) none;
     }
+
+pub returns-clause-resumed : goal.returns-clause-resumed
+returns-clause-resumed c = again _ c.args.saved _ c.in_ok-prepared.ensures.prepared.rows
