@@ -2,3 +2,4 @@ pub mod Classes
 pub mod Counts
 pub mod Resumed
 pub mod Trees
+pub mod Restarted

@@ -5,7 +5,7 @@ ghost use Rattle.serde_json.specs.Find.{get};
 ghost use Rattle.serde_json.specs.View.{view};
 ghost use Rattle.jb_job.specs.Names.{name_of};
 ghost use Rattle.jb_job.specs.declared.field.Field.TheVariants as field;
-ghost use Rattle.jb_documents.specs.RestartDocument.{GivesRestart, IsRestart, IsRefusedRestart, restart_at};
+ghost use Rattle.jb_documents.specs.RestartDocument.{GivesRestart, IsRestart, IsRefusedRestart, parts_at, restart_at};
 
 use super::fault::RestartFault;
 use super::resume::Resume;
@@ -34,6 +34,22 @@ fn take_parts(tree: Value) -> (Option<Value>, Option<Value>)
     (data, resume)
 }
 
+/// The document of a job, its data and what the run before left, where these are there.
+#[tactic(auto, unfolding(crate::specs::RestartDocument::parts_at))]
+fn of_parts(
+    alloc: Global,
+    job: Job,
+    given: Option<Value>,
+    left: Option<Value>,
+) -> Result<RestartDocument, RestartFault>
+    ensures { GivesRestart result (parts_at job (option_map view given) (option_map view left)) }
+{
+    let steps = document_data(alloc, &job, given)?;
+    let left = left.ok_or(JobError::WrongShape(Field::Resume))?;
+    let resume = resume(alloc, job.steps.as_slice(), left)?;
+    Ok(RestartDocument { job, steps, resume })
+}
+
 /// The document that the tree stands for, or its first fault.
 #[tactic(auto, unfolding(crate::specs::RestartDocument::restart_at, jb_job::specs::Reading::required))]
 fn document_of(alloc: Global, tree: Value) -> Result<RestartDocument, RestartFault>
@@ -43,10 +59,7 @@ fn document_of(alloc: Global, tree: Value) -> Result<RestartDocument, RestartFau
     let document = take_object(Field::Unknown, &table, tree)?;
     let job = document_job(alloc, &document)?;
     let (data, left) = take_parts(document);
-    let steps = document_data(alloc, &job, data)?;
-    let left = left.ok_or(JobError::WrongShape(Field::Resume))?;
-    let resume = resume(alloc, job.steps.as_slice(), left)?;
-    Ok(RestartDocument { job, steps, resume })
+    of_parts(alloc, job, data, left)
 }
 
 /// The document that the bytes stand for, or their first fault: `NotJson` where they are no JSON text. The bytes are let
