@@ -5,7 +5,3 @@ use Rattle.jb_documents.proofs.restart.resume_fields.held.Goals as goal
 pub returns-then-as_slice-rows : goal.returns-then-as_slice-rows
 unfolding held_at
 returns-then-as_slice-rows c = search rules
-
-pub returns-then-hold : goal.returns-then-hold
-unfolding held_at
-returns-then-hold c = search rules
