@@ -71,6 +71,39 @@ fn finish_notes(plan: &Option<Open>, notes: &mut Vec<PlanNote>) -> Result<(), Ru
     }
 }
 
+// Asks for a stop where the tasks haven't ended, and notes the plan that is still open.
+fn end_rounds<
+    L: Ledger + Send + Sync + 'static,
+    G: Gate + Sync,
+    R: Threads + Wait + Sync,
+>(
+    lanes: &Lanes<L, G, R>,
+    stopped: bool,
+    rows: u32,
+    plan: &Option<Open>,
+    notes: &mut Vec<PlanNote>,
+) -> Result<(), RunError>
+    ensures { OnOk result (IsFinished plan.now notes.old.items notes.new.items) }
+{
+    if stopped {
+        lanes.stop(rows)?;
+    }
+    finish_notes(plan, notes)
+}
+
+// One round more, and so many attempts.
+fn counted(ran: u64, tried: u64, attempts: u64, rows: u32) -> Result<(u64, u64), RunError>
+    ensures { IfOk result (λ sums. (sums.0 ≡ ran + 1) × (sums.1 ≡ tried + attempts)) }
+{
+    let Some(more) = ran.checked_add(1) else {
+        return Err(RunError::Repository(rows));
+    };
+    let Some(all) = tried.checked_add(attempts) else {
+        return Err(RunError::Repository(rows));
+    };
+    Ok((more, all))
+}
+
 /// Runs the tasks in rounds, each of a least plan for what is left, until all have ended, or a stop, or the limit.
 pub(crate) fn run_rounds<
     T: PartitionTask + Send + 'static,
@@ -100,10 +133,7 @@ pub(crate) fn run_rounds<
     for _ in lanes.rt.forever() {
         let stopped = !all_ended(held.as_slice());
         if !stopped || lanes.is_stopping() || at_limit(round_limit, ran) {
-            if stopped {
-                lanes.stop(rows)?;
-            }
-            finish_notes(&plan, &mut notes)?;
+            end_rounds(lanes, stopped, rows, &plan, &mut notes)?;
             return Ok(Ran {
                 held,
                 notes,
@@ -116,17 +146,12 @@ pub(crate) fn run_rounds<
         let next = next_plan(lanes, alloc, prepared, held.as_slice(), plan)?;
         let slots = slots_of(alloc, &next.cursor, next.ran)?;
         let turn = one_round(lanes, alloc, held, rows, slots.as_slice(), fault, analyzer)?;
-        let Some(more) = ran.checked_add(1) else {
-            return Err(RunError::Repository(rows));
-        };
-        let Some(attempts) = tried.checked_add(turn.attempts) else {
-            return Err(RunError::Repository(rows));
-        };
+        let sums = counted(ran, tried, turn.attempts, rows)?;
         plan = closed(next, turn.breaks, &mut notes)?;
         held = turn.held;
         fault = turn.fault;
-        ran = more;
-        tried = attempts;
+        ran = sums.0;
+        tried = sums.1;
     }
     unreachable!()
 }

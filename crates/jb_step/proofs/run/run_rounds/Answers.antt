@@ -26,10 +26,10 @@ loop-preserved g c =
     let after : List TaskState = map g.T.PartitionTask.standing c.in_ok-turn.turn.held.items in
     let next : IsNextPlan c.args.prepared.now table c.loop.plan c.in_ok-next.next = rw (← c.as_slice-in-loop.ensures.value) c.in_ok-next.ensures in
     let sets : set ≡ set_of_round c.in_ok-next.next.cursor c.in_ok-next.next.ran = ap (map slot_pair) (c.as_slice-in-loop-2.ensures.value ∙ c.in_ok-slots.ensures) in
-    let more_is : c.in-Some-checked_add.more ≡ c.loop.ran + 1 = search rules in
-    let added : c.in-Some-checked_add-2.attempts ≡ c.loop.tried + c.in_ok-turn.turn.attempts = search rules in
-    let tried_is : c.in-Some-checked_add-2.attempts ≡ c.loop.tried + length (attempts_in set table) = added ∙ ap (λ n. c.loop.tried + n) c.in_ok-turn.ensures.attempts in (
-      turns c.laws_below.ensures c.args.prepared.now start _ (moment _ c.loop.fault) (moment _ c.in_ok-turn.turn.fault) table after (c.loop.ran, c.loop.tried) c.loop.notes.items c.closed.new.notes.items c.loop.plan c.in_ok-plan.plan c.in_ok-next.next set c.in_ok-turn.turn.breaks (c.in-Some-checked_add.more, c.in-Some-checked_add-2.attempts)
+    let more_is : c.in_ok-sums.sums.0 ≡ c.loop.ran + 1 = c.in_ok-sums.ensures.0 in
+    let added : c.in_ok-sums.sums.1 ≡ c.loop.tried + c.in_ok-turn.turn.attempts = c.in_ok-sums.ensures.1 in
+    let tried_is : c.in_ok-sums.sums.1 ≡ c.loop.tried + length (attempts_in set table) = added ∙ ap (λ n. c.loop.tried + n) c.in_ok-turn.ensures.attempts in (
+      turns c.laws_below.ensures c.args.prepared.now start _ (moment _ c.loop.fault) (moment _ c.in_ok-turn.turn.fault) table after (c.loop.ran, c.loop.tried) c.loop.notes.items c.closed.new.notes.items c.loop.plan c.in_ok-plan.plan c.in_ok-next.next set c.in_ok-turn.turn.breaks (c.in_ok-sums.sums.0, c.in_ok-sums.sums.1)
           c.loop.invariant.0 next sets c.in_ok-turn.ensures.table c.in_ok-turn.ensures.ready c.in_ok-turn.ensures.breaks c.in_ok-turn.ensures.told (λ i. (more_is i, tried_is i)) c.in_ok-plan.ensures,
       rw more_is (c.at_limit.ensures c.if-at_limit.false),
       grew-more _ _ _ c.loop.invariant.2 c.in_ok-turn.ensures.grew,
@@ -65,8 +65,8 @@ pub returns-then-not-stopped-clause-rounds : goal.returns-then-not-stopped-claus
 returns-then-not-stopped-clause-rounds g c =
     let table : List TaskState = map g.T.PartitionTask.standing c.loop.held.items in
     let ended : c.all_ended-stopped.result ≡ have_ended table = rw c.as_slice.ensures.value at c.all_ended-stopped.ensures in
-    let noted : IsFinished c.loop.plan c.loop.notes.items c.finish_notes.new.notes.items = search rules in
-    ends c.laws_below.ensures c.args.prepared.now (map g.T.PartitionTask.standing c.args.tasks.items) _ (moment _ c.loop.fault) table (c.loop.ran, c.loop.tried) c.loop.notes.items c.finish_notes.new.notes.items c.loop.plan c.args.round_limit (not c.all_ended-stopped.result)
+    let noted : IsFinished c.loop.plan c.loop.notes.items c.end_rounds.new.notes.items = search rules in
+    ends c.laws_below.ensures c.args.prepared.now (map g.T.PartitionTask.standing c.args.tasks.items) _ (moment _ c.loop.fault) table (c.loop.ran, c.loop.tried) c.loop.notes.items c.end_rounds.new.notes.items c.loop.plan c.args.round_limit (not c.all_ended-stopped.result)
     c.loop.invariant.0 noted c.loop.invariant.1 (λ u. sym ended ∙ not-stopped c.all_ended-stopped.result u)
 
 pub next_plan-requires-clause-table : goal.next_plan-requires-clause-table
