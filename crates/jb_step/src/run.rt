@@ -72,11 +72,7 @@ fn finish_notes(plan: &Option<Open>, notes: &mut Vec<PlanNote>) -> Result<(), Ru
 }
 
 // Asks for a stop where the tasks haven't ended, and notes the plan that is still open.
-fn end_rounds<
-    L: Ledger + Send + Sync + 'static,
-    G: Gate + Sync,
-    R: Threads + Wait + Sync,
->(
+fn end_rounds<L: Ledger + Send + Sync + 'static, G: Gate + Sync, R: Threads + Wait + Sync>(
     lanes: &Lanes<L, G, R>,
     stopped: bool,
     rows: u32,
