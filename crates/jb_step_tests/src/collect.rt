@@ -70,7 +70,7 @@ fn is_told_up_to(alloc: Global, dones: &[Done<OneRecordTask>], number: u64) -> b
     let class = ClassId::new(5);
     let mut analyzer = ListAnalyzer::new(alloc, Some((number, class)));
     deliver(dones, &mut analyzer) == Err(ArtifactError::Fault(class))
-        && analyzer.calls().len() as u64 == number + 1
+        && analyzer.calls().len() as u64 == number.saturating_add(1)
 }
 
 /// A round of two partitions, told to analyzers that fail at each of its calls, and at none.

@@ -527,10 +527,12 @@ fn stopped_at<R: Threads + Wait + Sync>(
 
 /// The threads and the greatest number of rounds of such a step's run.
 fn leg_of(case: &Case, run: u64, stop: u64, threads: u32) -> (u32, Option<u64>) {
-    match (run, stop) {
-        (0, _) => (case.asked.threads, Some(stop)),
-        (_, 0) if threads > 1 => (threads, Some(1)),
-        _ => (threads, None),
+    if run == 0 {
+        (case.asked.threads, Some(stop))
+    } else if stop == 0 && threads > 1 {
+        (threads, Some(1))
+    } else {
+        (threads, None)
     }
 }
 
