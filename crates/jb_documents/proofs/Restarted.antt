@@ -7,7 +7,8 @@ use Rattle.jb_job.specs.declared.job.Job.{Job}
 use Rattle.jb_job.specs.JobRecord.{job_at}
 use Rattle.jb_job.specs.Names.{name_of}
 use Rattle.jb_job.specs.Reading.{object_at, required}
-use Rattle.jb_documents.specs.RestartDocument.{parts_at, restart_at}
+use Rattle.jb_documents.specs.RestartDocument.{restart_at}
+use Rattle.jb_documents.specs.inside.Parts.{parts_at}
 
 pub restart-parts : (d document : Data) (job : Job) (given left : Option Data)
     → object_at field.Unknown (field.Job ∷ field.Data ∷ field.Resume ∷ []) d ≡ Ok document → required (λ f. job_at) field.Job document ≡ Ok job

@@ -7,5 +7,4 @@ pub mod RestartDocument
 pub mod ResumeFields
 pub mod RunDocument
 pub mod StepFields
-pub mod Taken
 pub mod Worked

@@ -7,7 +7,6 @@ use Rattle.jb_job.specs.declared.error.JobError.{JobError}
 use Rattle.jb_job.specs.declared.error.JobError.TheVariants as job_error
 use Rattle.jb_job.specs.declared.field.Field.{Field}
 use Rattle.jb_job.specs.declared.field.Field.TheVariants as field
-use Rattle.jb_job.specs.declared.job.Job.{Job}
 use Rattle.jb_job.specs.JobRecord.{job_at}
 use Rattle.jb_job.specs.Names.{fault_text}
 use Rattle.jb_job.specs.Reading.{Fault, wrong_shape, out_of_range, too_many, unknown_class, Read, object_at, required, tree_of}
@@ -23,7 +22,6 @@ use Rattle.jb_documents.specs.declared.restart.fault.RestartFault.TheVariants.{D
 use Rattle.jb_documents.specs.declared.restart.resume.Resume.{Resume}
 use Rattle.jb_documents.specs.ResumeFields.{outputs_at, held_at}
 use Rattle.jb_documents.specs.RunDocument.{data_list_at}
-use Rattle.jb_documents.specs.Taken.{taken}
 
 -- what is refused: a field of the document, or the saved rows
 pub data Refusal : Type 0 where
@@ -67,14 +65,6 @@ restart_at d = do
   job ← fields (required (λ f. job_at) field.Job document)
   steps ← fields (required (data_list_at job) field.Data document)
   tree ← fields (required (λ f d. Ok d) field.Resume document)
-  resume ← resume_at job.steps field.Resume tree
-  Ok (record { job = job; steps = steps; resume = resume })
-
--- what follows the job: the data, and then what the run before left, both taken out of the document
-unfoldable pub parts_at : Job → (given left : Option Data) → Result RestartDocument Refusal
-parts_at job given left = do
-  steps ← fields (taken (data_list_at job) field.Data given)
-  tree ← fields (taken (λ f d. Ok d) field.Resume left)
   resume ← resume_at job.steps field.Resume tree
   Ok (record { job = job; steps = steps; resume = resume })
 

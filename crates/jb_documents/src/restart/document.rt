@@ -5,7 +5,8 @@ ghost use Rattle.serde_json.specs.Find.{get};
 ghost use Rattle.serde_json.specs.View.{view};
 ghost use Rattle.jb_job.specs.Names.{name_of};
 ghost use Rattle.jb_job.specs.declared.field.Field.TheVariants as field;
-ghost use Rattle.jb_documents.specs.RestartDocument.{GivesRestart, IsRestart, IsRefusedRestart, parts_at, restart_at};
+ghost use Rattle.jb_documents.specs.RestartDocument.{GivesRestart, IsRestart, IsRefusedRestart, restart_at};
+ghost use Rattle.jb_documents.specs.inside.Parts.{parts_at};
 
 use super::fault::RestartFault;
 use super::resume::Resume;
@@ -35,7 +36,7 @@ fn take_parts(tree: Value) -> (Option<Value>, Option<Value>)
 }
 
 /// The document of a job, its data and what the run before left, where these are there.
-#[tactic(auto, unfolding(crate::specs::RestartDocument::parts_at))]
+#[tactic(auto, unfolding(crate::specs::inside::Parts::parts_at))]
 fn of_parts(
     alloc: Global,
     job: Job,

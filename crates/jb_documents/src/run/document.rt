@@ -7,7 +7,7 @@ ghost use Rattle.jb_job.specs.declared.field.Field.TheVariants as field;
 ghost use Rattle.jb_job.specs.JobRecord.{job_at};
 ghost use Rattle.jb_job.specs.Reading.{Gives, required};
 ghost use Rattle.jb_documents.specs.RunDocument.{IsDocument, IsRefusedDocument, data_list_at, document_at};
-ghost use Rattle.jb_documents.specs.Taken.{taken};
+ghost use Rattle.jb_documents.specs.inside.Taken.{taken};
 
 use super::step_data::StepData;
 use super::step_fields::step_data;

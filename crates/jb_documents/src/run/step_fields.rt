@@ -9,7 +9,7 @@ ghost use Rattle.jb_job.specs.Names.{name_of};
 ghost use Rattle.jb_job.specs.Reading.{Gives, optional, text_at};
 ghost use Rattle.jb_documents.specs.FaultLists.{no_faults, step_faults_at};
 ghost use Rattle.jb_documents.specs.StepFields.{data_at, drop_at, records_at};
-ghost use Rattle.jb_documents.specs.Taken.{taken};
+ghost use Rattle.jb_documents.specs.inside.Taken.{taken};
 
 use super::fault_lists::step_faults;
 use super::faults::StepFaults;

@@ -1,5 +1,5 @@
 use Rattle.std.proofs.Common.{rules}
-use Rattle.jb_documents.specs.RestartDocument.{parts_at}
+use Rattle.jb_documents.specs.inside.Parts.{parts_at}
 use Rattle.jb_documents.proofs.restart.document.of_parts.Goals as goal
 
 pub returns-in_err-left : goal.returns-in_err-left
