@@ -8,7 +8,7 @@ ghost use Rattle.jb_chunk.specs.Attempt.{IsAttempt, ending_of};
 ghost use Rattle.jb_chunk.specs.Standing.{IsReady};
 
 use crate::workers::tasks::{RULES, boxes, fresh_rows, task_of};
-use jb_artifacts::{Artifacts, FaultPlans};
+use jb_artifacts::{Artifacts, FaultPlans, Item};
 use jb_chunk::{Done, Outcome, PartitionTask, Task};
 use jb_job::MAX_ROLLBACKS;
 use std::alloc::Global;
@@ -67,13 +67,12 @@ fn attempted<T: PartitionTask + Send + 'static>(
     }
 }
 
-/// Whether it was committed, and its collector's texts.
-fn is_whole<T: PartitionTask>(done: &Done<T>) -> bool {
-    matches!(done.outcome, Outcome::Committed(_))
-        && done.task.partition() == 7
-        && done.values.len() == 2
-        && done.values[0].as_slice() == b"7:2:2".as_slice()
-        && done.values[1].as_slice() == b"7:2:2:end".as_slice()
+/// Whether the attempt was committed, and its collector's texts are those of partition 7.
+fn is_whole(outcome: Outcome, values: &[Item]) -> bool {
+    matches!(outcome, Outcome::Committed(_))
+        && values.len() == 2
+        && values[0].as_slice() == b"7:2:2".as_slice()
+        && values[1].as_slice() == b"7:2:2:end".as_slice()
 }
 
 #[test]
@@ -87,7 +86,7 @@ fn task_in_a_thread(rt: HostRuntime) -> Result<(), Fail> {
         collector: boxes.collector,
     };
     let done = attempted::<Task>(&rt, alloc, artifacts).ok_or("an attempt")?;
-    assert!(rt; is_whole(&done));
+    assert!(rt; done.task.partition() == 7 && is_whole(done.outcome, done.values.as_slice()));
     let writer = done.task.into_artifacts().writer;
     assert!(rt; writer.item_at(0) == Some(b"xa".as_slice()));
     assert!(rt; writer.item_at(1) == Some(b"xb".as_slice()));

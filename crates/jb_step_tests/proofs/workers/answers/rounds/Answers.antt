@@ -7,12 +7,12 @@ use Rattle.jb_step_tests.specs.contracts.jb_artifacts++artifacts++Artifacts+Dest
 use Rattle.jb_step_tests.specs.contracts.jb_artifacts++artifacts++Artifacts+Destruct.drop.dyn-4 as collector
 use Rattle.jb_step_tests.proofs.workers.answers.rounds.OwnLists as own
 
-pub judge-requires-send-T : goal.judge-requires-send-T
-judge-requires-send-T g c κs =
+pub judge-judged-requires-send-T : goal.judge-judged-requires-send-T
+judge-judged-requires-send-T g c κs =
     task_crosses reader.slots processor.slots writer.slots collector.slots own.own-1 own.own-2 own.own-3 own.own-4
     own.lawful-own-1 own.lawful-own-2 own.lawful-own-3 own.lawful-own-4 hidden.sends-own-1 hidden.sends-own-2 hidden.sends-own-3 hidden.sends-own-4 _ _
 
-pub judge-requires-send-T-Artifacts : goal.judge-requires-send-T-Artifacts
-judge-requires-send-T-Artifacts g c κs =
+pub judge-judged-requires-send-T-Artifacts : goal.judge-judged-requires-send-T-Artifacts
+judge-judged-requires-send-T-Artifacts g c κs =
     artifacts_cross reader.slots processor.slots writer.slots collector.slots own.own-1 own.own-2 own.own-3 own.own-4
     own.lawful-own-1 own.lawful-own-2 own.lawful-own-3 own.lawful-own-4 hidden.sends-own-1 hidden.sends-own-2 hidden.sends-own-3 hidden.sends-own-4 _ _
