@@ -7,15 +7,13 @@ use Rattle.csv.specs.Reading.{Reached, default_config, strip_bom}
 use Rattle.csv.specs.declared.parser.State.TheVariants as st
 use Rattle.csv.specs.declared.parser.State.{State}
 use Rattle.csv.specs.declared.parser.Config.{Config}
-use Rattle.jb_job.specs.Reading.{tree_of}
 use Rattle.jb_rules.specs.declared.row.Row.{Row}
 use Rattle.jb_rules.specs.Rows.{dropped_row}
 use Rattle.jb_rules.specs.States.{is_failed}
 use Rattle.jb_saved.specs.GoingOn.{again, rows_again}
-use Rattle.jb_saved.specs.Reading.{answer_of}
 use Rattle.jb_saved.specs.SavedRows.{SavedRows}
 use Rattle.jb_saved.specs.declared.place.SavedPlace.{SavedPlace}
-use Rattle.payroll.specs.Earlier.{AreHeldBy, AreOfStoppedRun, IsStoppedRun}
+use Rattle.payroll.specs.Earlier.{AreHeldBy, AreOfStoppedPayroll, AreOfStoppedRun, IsStoppedRun}
 use Rattle.payroll.specs.Shares.{AreInOrder, AreNumbered, AreShares, IsShare, IsSoFar, joined}
 use Rattle.payroll.specs.Sheets.{AreLinesOf, line_of}
 
@@ -131,3 +129,22 @@ pub behind-files : {F P : Type 0} (rows slips : F → List ℕ) (o : Option F) (
 behind-files rows slips None lines saved earlier given same held goes = tt
 behind-files rows slips (Some files) lines saved earlier given same held goes =
     λ stopped. goes (subst (IsStoppedRun lines saved) (sym same) (stopped-run lines (rows files) (slips files) saved earlier stopped held))
+
+no-text : (bytes : List ℕ) → None ≡ Some bytes → ⊥
+no-text bytes e = cc
+
+same-text : (a b : List ℕ) → Some a ≡ Some b → a ≡ b
+same-text a b e = cc
+
+lines-again : (text : Option (List ℕ)) (rows slips : List ℕ) (lines : List (List ℕ)) → IfSome text (λ bytes. AreLinesOf bytes lines) → AreOfStoppedPayroll text rows slips → AreOfStoppedRun lines rows slips
+lines-again None rows slips lines read stopped = absurd (no-text _ stopped.known)
+lines-again (Some bytes) rows slips lines read stopped =
+    let same = same-lines bytes stopped.lines lines (subst (λ b. AreLinesOf b stopped.lines) (sym (same-text _ _ stopped.known)) stopped.sheets) read in
+    subst (λ ls. AreOfStoppedRun ls rows slips) same stopped.stopped
+
+-- what holds where the time sheets' lines are those of a stopped run holds of the bytes that the lines were read from
+pub behind-sheets : {F P Q : Type 0} (rows slips : F → List ℕ) (o : Option F) (text : Option (List ℕ)) (lines : List (List ℕ))
+    → IfSome text (λ bytes. AreLinesOf bytes lines) → IfSome o (λ files. AreOfStoppedRun lines (rows files) (slips files) → P) → (P → Q)
+    → IfSome o (λ files. AreOfStoppedPayroll text (rows files) (slips files) → Q)
+behind-sheets rows slips None text lines read goes so = tt
+behind-sheets rows slips (Some files) text lines read goes so = λ stopped. so (goes (lines-again text (rows files) (slips files) lines read stopped))

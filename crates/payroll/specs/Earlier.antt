@@ -28,3 +28,11 @@ pub record AreOfStoppedRun (lines : List (List ℕ)) (rows slips : List ℕ) : T
   pub shares : List (List (List ℕ))
   pub so_far : IsSoFar lines held.rows shares
   pub written : AreLinesOf slips (joined shares)
+
+-- the same where these are the bytes of the time sheets; nothing is of a stopped run where those aren't known
+pub record AreOfStoppedPayroll (text : Option (List ℕ)) (rows slips : List ℕ) : Type 0 where
+  pub bytes : List ℕ
+  pub known : text ≡ Some bytes
+  pub lines : List (List ℕ)
+  pub sheets : AreLinesOf bytes lines
+  pub stopped : AreOfStoppedRun lines rows slips

@@ -14,7 +14,7 @@ ghost use Rattle.std.specs.Io.KnownBytes.{Appends};
 ghost use Rattle.std.specs.List.{concat};
 ghost use Rattle.jb_job.specs.Limits.{max_parts, max_threads};
 ghost use Rattle.jb_collect.specs.declared.calls.Status.TheVariants.{Completed};
-ghost use Rattle.payroll.specs.Earlier.{AreHeldBy, AreOfStoppedRun, IsStoppedRun};
+ghost use Rattle.payroll.specs.Earlier.{AreHeldBy, AreOfStoppedPayroll, AreOfStoppedRun, IsStoppedRun};
 ghost use Rattle.payroll.specs.Shares.{IsPaid, IsPaidSoFar, IsSoFar, all_slips, exit_status, joined};
 
 mod artifacts;
@@ -218,6 +218,8 @@ fn answer<T: Threads + Wait + Clock + Eprint + Copy + Send + Sync + 'static, R: 
 ) -> Result<u8, Failure>
     ensures so_far { asked.now.earlier ≡ None → OnOk result (IsPaidSoFar (R.remaining reader.old) (W.contents writer.old) (W.contents writer.new)) }
     ensures all { asked.now.earlier ≡ None → IfOk result (λ status. status ≡ 0 → IsPaid (R.remaining reader.old) (W.contents writer.old) (W.contents writer.new)) }
+    ensures goes_on { IfSome asked.now.earlier (λ files. AreOfStoppedPayroll (R.remaining reader.old) files.0.items files.1.items → OnOk result (IsPaidSoFar (R.remaining reader.old) (W.contents writer.old) (W.contents writer.new))) }
+    ensures goes_on_whole { IfSome asked.now.earlier (λ files. AreOfStoppedPayroll (R.remaining reader.old) files.0.items files.1.items → IfOk result (λ status. status ≡ 0 → IsPaid (R.remaining reader.old) (W.contents writer.old) (W.contents writer.new))) }
 {
     let mut text = Vec::new(alloc);
     reader.read_to_end(&mut text)?;
