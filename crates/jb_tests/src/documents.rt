@@ -6,8 +6,8 @@ ghost use Rattle.jb_documents.specs.Worked.{three_equal, three_equal_document, t
 
 use jb_cert::Certificate;
 use jb_documents::{
-    Document, FaultKind, RestartDocument, StepData, read_claim, read_document, read_load,
-    read_restart,
+    ChunkLoad, Document, FaultKind, PlanClaim, RestartDocument, RestartFault, StepData, read_claim,
+    read_document, read_load, read_restart,
 };
 use jb_job::JobError;
 use std::alloc::{AllocError, Global};
@@ -52,21 +52,31 @@ fn has_one_step(document: &Document) -> bool {
     document.steps.as_slice().len() == 1
 }
 
+const LOAD: &str = r#"{"counts":[3,3,3],"threads":2}"#;
+
+fn is_that_load(load: &ChunkLoad) -> bool {
+    load.counts() == [3u64, 3, 3].as_slice() && load.threads() == 2
+}
+
 #[test]
 fn a_load_is_read(rt: HostRuntime) -> Result<(), Fail> {
     worked_documents();
-    let bytes = bytes_of(rt.alloc(), r#"{"counts":[3,3,3],"threads":2}"#)?;
-    let load = read_load(rt.alloc(), bytes)?;
-    assert!(rt; load.counts() == [3u64, 3, 3].as_slice() && load.threads() == 2);
+    let load = read_load(rt.alloc(), bytes_of(rt.alloc(), LOAD)?)?;
+    assert!(rt; is_that_load(&load));
     Ok(())
+}
+
+const CLAIM: &str =
+    r#"{"counts":[2,1],"threads":2,"rounds":[[[0,0,0],[1,1,0]],[[0,0,1]]],"certificate":1}"#;
+
+fn is_that_claim(claim: &PlanClaim) -> bool {
+    claim.plan.rounds.len() == 2 && claim.certificate == Certificate::Longest(1)
 }
 
 #[test]
 fn a_claim_is_read(rt: HostRuntime) -> Result<(), Fail> {
-    let text =
-        r#"{"counts":[2,1],"threads":2,"rounds":[[[0,0,0],[1,1,0]],[[0,0,1]]],"certificate":1}"#;
-    let claim = read_claim(rt.alloc(), bytes_of(rt.alloc(), text)?)?;
-    assert!(rt; claim.plan.rounds.len() == 2 && claim.certificate == Certificate::Longest(1));
+    let claim = read_claim(rt.alloc(), bytes_of(rt.alloc(), CLAIM)?)?;
+    assert!(rt; is_that_claim(&claim));
     Ok(())
 }
 
@@ -77,16 +87,23 @@ fn a_document_is_read(rt: HostRuntime) -> Result<(), Fail> {
     Ok(())
 }
 
-/// With any one request refused, the document is read in full or there is no memory for it.
+/// With any one request refused, each document is read in full or there is no memory for it.
 #[test]
-fn wants_memory_or_answers_in_full(rt: HostRuntime) {
-    let Ok(bytes) = bytes_of(rt.alloc(), ONE_STEP) else {
-        return;
-    };
-    match read_document(rt.alloc(), bytes) {
+fn wants_memory_or_answers_in_full(rt: HostRuntime) -> Result<(), Fail> {
+    let alloc = rt.alloc();
+    match read_document(alloc, bytes_of(alloc, ONE_STEP)?) {
         Ok(document) => assert!(rt; has_one_step(&document)),
         Err(fault) => assert!(rt; fault == JobError::Memory),
     }
+    match read_load(alloc, bytes_of(alloc, LOAD)?) {
+        Ok(load) => assert!(rt; is_that_load(&load)),
+        Err(fault) => assert!(rt; fault == JobError::Memory),
+    }
+    match read_claim(alloc, bytes_of(alloc, CLAIM)?) {
+        Ok(claim) => assert!(rt; is_that_claim(&claim)),
+        Err(fault) => assert!(rt; fault == JobError::Memory),
+    }
+    Ok(())
 }
 
 /// The document of a restart of seven records in three partitions, with what stands under `resume`.
@@ -150,6 +167,18 @@ fn restart_answer(alloc: Global, resume: &str) -> Result<String, Fail> {
         Ok(document) => said_of(&document),
     };
     Ok(String::from_str(alloc, read)?)
+}
+
+/// With any one request refused, the document of the first line is accepted or there is no memory for it.
+#[test]
+fn restarts_want_memory_or_are_read(rt: HostRuntime) -> Result<(), Fail> {
+    let line = RESTARTS.lines().next().ok_or("no line")?;
+    let (_, resume) = line.split_once(' ').ok_or("no text")?;
+    match read_restart(rt.alloc(), restart_bytes(rt.alloc(), resume)?) {
+        Ok(document) => assert!(rt; said_of(&document) == "accepted"),
+        Err(fault) => assert!(rt; fault == RestartFault::Document(JobError::Memory)),
+    }
+    Ok(())
 }
 
 #[test]

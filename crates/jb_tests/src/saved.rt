@@ -299,6 +299,14 @@ fn a_table_of_256_rows(rt: HostRuntime) -> Result<(), Fail> {
 const TWO_ROWS: &str =
     r#"{"rows":[[0,2,0,0,0,0,0,0,0,0,0,0,0,0,"waiting"],[2,4,2,2,0,0,0,0,0,0,0,0,0,0,"waiting"]],"step":"s","version":1}"#;
 
+/// Whether the fresh rows are those to go on from, or there is no memory for them.
+fn gives_rows(alloc: Global, saved: &Saved) -> bool {
+    match rows_to_go_on(alloc, "s", 4, false, saved) {
+        Ok(rows) => rows.as_slice() == saved.rows(),
+        Err(fault) => fault == StepError::Memory,
+    }
+}
+
 /// Whether a text of saved rows is written and read in full, or there is no memory for it.
 fn writes_and_reads(alloc: Global, saved: &Saved) -> bool {
     let Ok(text) = saved_text(alloc, saved) else {
@@ -321,7 +329,9 @@ fn wants_memory_or_answers_in_full(rt: HostRuntime) {
         return;
     };
     match Saved::of(rt.alloc(), "s", &snapshot) {
-        Ok(saved) => assert!(rt; writes_and_reads(rt.alloc(), &saved)),
+        Ok(saved) => {
+            assert!(rt; writes_and_reads(rt.alloc(), &saved) && gives_rows(rt.alloc(), &saved))
+        }
         Err(fault) => assert!(rt; fault == StepError::Memory),
     }
 }

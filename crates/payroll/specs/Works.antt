@@ -2,6 +2,7 @@
 use Rattle.std.proofs.Common.{lit<}
 use Rattle.std.specs.Prelude.{ℕ, ◌≡◌, ◌+◌, ◌-◌, ◌&&◌, nat_le, nat_lt, Bool, if◌then◌else◌, List, [], ◌∷◌, length, Option, Some, None, slice_index_or, ⊤, take, drop}
 use Rattle.std.specs.List.{filter_map, range_with_len}
+use Rattle.jb_job.specs.Limits.{default_retry_limit}
 use Rattle.jb_job.specs.Records.{RulesRecord}
 use Rattle.jb_job.specs.declared.class.ClassId.{ClassId}
 use Rattle.jb_artifacts.specs.declared.faults.FaultPlan.{FaultPlan}
@@ -21,7 +22,7 @@ abbrev pub unsteady_class : ClassId
 unsteady_class = record { number = 1; below = lit< tt }
 
 abbrev pub payroll_rules : RulesRecord
-payroll_rules = record { skippable = 1; retryable = 2; skip_limit = None; retry_limit = 1000 }
+payroll_rules = record { skippable = 1; retryable = 2; skip_limit = None; retry_limit = default_retry_limit }
 
 abbrev pub plan_by : (slip : Option (List ℕ)) → FaultPlan
 plan_by None = Bad broken_class

@@ -15,7 +15,7 @@ use crate::works::all_works;
 use jb_artifacts::{Item, Meaning};
 use jb_chunk::Task;
 use jb_collect::{ListAnalyzer, ListReducer};
-use jb_job::{MAX_RECORDS, Name, Rules, Spec, Step};
+use jb_job::{DEFAULT_RETRY_LIMIT, MAX_RECORDS, Name, Rules, Spec, Step};
 use jb_mapper::EvenMapper;
 use jb_step::{Prepared, Saved, StepEnd, prepare, run_step};
 use jb_workers::{Desk, NoGate};
@@ -37,7 +37,7 @@ const RULES: Rules = Rules {
     skippable: 1,
     retryable: 2,
     skip_limit: None,
-    retry_limit: 1_000,
+    retry_limit: DEFAULT_RETRY_LIMIT,
 };
 
 /// What the step begins with.

@@ -1,18 +1,19 @@
 //! Reads and writes of `perform` that fail, each in turn, that are short, or that are interrupted.
 //!
-//! The streams give and take one byte at each call. In the last turn of each loop no call fails, so that such short reads and
-//! writes are shown to change nothing.
+//! The streams give and take one byte at each call, and where calls are interrupted two and seven as well. In the last turn of each
+//! loop no call fails, so that such short reads and writes are shown to change nothing. A flush is a call, too: each text that is
+//! written has one behind it.
 //!
 //! - Reads: `run`, `restart`, `plan` and `check`, on a document that is answered. Status 4, no further read, nothing on standard
 //!   output, and `stream failed` on standard error.
-//! - Writes on standard output: the same words and documents, and `--version`. Status 4, no further write there, the front of
-//!   the answer, `stream failed`, and as many reads as in a run where no call fails.
-//! - Writes on standard error: a document that each of the four words refuses, a read that failed, and a wrong word. Status 4, no
-//!   further write there, the front of the line, nothing on standard output, and as many reads as where no write fails.
+//! - Writes and the flush on standard output: the same words and documents, and `--version`. Status 4, no further call there, the
+//!   front of the answer, `stream failed`, and as many reads as in a run where no call fails.
+//! - Writes and the flush on standard error: a document that each of the four words refuses, a read that failed, and a wrong word.
+//!   Status 4, no further call there, the front of the line, nothing on standard output, and as many reads as where no call fails.
 //! - Interrupted calls: every other call of all three streams where there is an answer, and every other write on standard error
 //!   where there is none. Status and texts are those of a run where none is interrupted.
 //!
-//! A flush never fails here, and the help isn't among the answers.
+//! The help isn't among the answers.
 
 use super::streams::{FailingReader, FailingWriter, Interrupted, arguments};
 use jb_program::perform;
@@ -90,7 +91,7 @@ const FAULTS: [Fault; 6] = [
     ),
 ];
 
-/// The read, the write on standard output and the write on standard error that fail (0: none).
+/// The read, the call on standard output and the call on standard error that fail (0: none).
 #[derive(Clone, Copy)]
 struct Fails {
     read: usize,
@@ -104,18 +105,22 @@ const NOTHING: Fails = Fails {
     fault: 0,
 };
 
-/// The front of a text that is written where a write of this number fails (0: none), and how many writes there are.
+/// The front of a text that stands there where a call of this number fails (0: none), of those that write it byte by byte and then flush
+/// the stream; and how many calls are made. An empty text takes none.
 fn front(text: &str, fails_at: usize) -> (&[u8], usize) {
     let bytes = text.as_bytes();
-    if fails_at == 0 || fails_at > bytes.len() {
-        (bytes, bytes.len())
+    if bytes.is_empty() {
+        return (bytes, 0);
+    }
+    if fails_at == 0 || fails_at > bytes.len() + 1 {
+        (bytes, bytes.len() + 1)
     } else {
         (&bytes[..fails_at - 1], fails_at)
     }
 }
 
 /// Whether a run of the word on the document, with such failing calls, reads so often, and comes to this status and to the fronts of
-/// these texts, with no write after one that fails.
+/// these texts, with no call after one that fails.
 fn comes_to<R: Threads + Wait + Sync>(
     rt: &R,
     alloc: Global,
@@ -124,9 +129,9 @@ fn comes_to<R: Threads + Wait + Sync>(
     reads: usize,
     (output, line, status): (&str, &str, u8),
 ) -> bool {
-    let mut reader = FailingReader::new(document.as_bytes(), fails.read);
-    let mut writer = FailingWriter::new(alloc, fails.write);
-    let mut faults = FailingWriter::new(alloc, fails.fault);
+    let mut reader = FailingReader::new(document.as_bytes(), 1, fails.read);
+    let mut writer = FailingWriter::new(alloc, 1, fails.write);
+    let mut faults = FailingWriter::new(alloc, 1, fails.fault);
     let args = arguments(alloc, word);
     let code = perform(rt, alloc, args, &mut reader, &mut writer, &mut faults);
     code == status
@@ -154,15 +159,16 @@ fn failing_reads(rt: HostRuntime) {
     }
 }
 
-// Each write on standard output fails in turn: nothing more is read, and nothing more is written but that a stream failed.
+// Each write on standard output fails in turn, and the flush: nothing more is read, and nothing more is written but that a stream
+// failed.
 #[test]
 fn failing_writes(rt: HostRuntime) {
     for (word, document, output, status) in ROWS {
         let reads = document.len() + 1;
-        let length = output.len();
-        for write in 1..length + 2 {
+        let calls = output.len() + 1;
+        for write in 1..calls + 2 {
             let fails = Fails { write, ..NOTHING };
-            let wanted = if write <= length {
+            let wanted = if write <= calls {
                 (output, "stream failed\n", 4)
             } else {
                 (output, "", status)
@@ -173,18 +179,18 @@ fn failing_writes(rt: HostRuntime) {
     }
 }
 
-// Each write of the version fails in turn, and nothing is read.
+// Each write of the version fails in turn, and the flush, and nothing is read.
 #[test]
 fn failing_writes_of_the_version(rt: HostRuntime) {
     let output = "batchrun 0.1.0\n";
-    let length = output.len();
-    for write in 1..length + 2 {
+    let calls = output.len() + 1;
+    for write in 1..calls + 2 {
         let fails = Fails {
             read: 1,
             write,
             fault: 0,
         };
-        let wanted = if write <= length {
+        let wanted = if write <= calls {
             (output, "stream failed\n", 4)
         } else {
             (output, "", 0)
@@ -194,18 +200,18 @@ fn failing_writes_of_the_version(rt: HostRuntime) {
     }
 }
 
-// Each write on standard error fails in turn: nothing more is read, and nothing more is written on either stream.
+// Each write on standard error fails in turn, and the flush: nothing more is read, and nothing more is written on either stream.
 #[test]
 fn failing_fault_writes(rt: HostRuntime) {
     for (word, document, read, reads, line, status) in FAULTS {
-        let length = line.len();
-        for fault in 1..length + 2 {
+        let calls = line.len() + 1;
+        for fault in 1..calls + 2 {
             let fails = Fails {
                 read,
                 write: 1,
                 fault,
             };
-            let status = if fault <= length { 4 } else { status };
+            let status = if fault <= calls { 4 } else { status };
             let wanted = ("", line, status);
             let is_so = comes_to(&rt, rt.alloc(), (word, document), fails, reads, wanted);
             assert!(rt; is_so, "{word} {fault}");
@@ -213,12 +219,16 @@ fn failing_fault_writes(rt: HostRuntime) {
     }
 }
 
-/// Whether the run's streams, of which every other call is interrupted, come to the row's status and texts.
-fn is_whole<R: Threads + Wait + Sync>(rt: &R, alloc: Global, row: &Row) -> bool {
+/// The bytes that a call gives or takes at most, where calls are interrupted.
+const SIZES: [usize; 3] = [1, 2, 7];
+
+/// Whether the run's streams, of which every other call is interrupted and the others give and take so many bytes at most, come to
+/// the row's status and texts.
+fn is_whole<R: Threads + Wait + Sync>(rt: &R, alloc: Global, row: &Row, most: usize) -> bool {
     let (word, document, output, status) = *row;
-    let mut reader = Interrupted::new(FailingReader::new(document.as_bytes(), 0));
-    let mut written = Interrupted::new(FailingWriter::new(alloc, 0));
-    let mut faults = Interrupted::new(FailingWriter::new(alloc, 0));
+    let mut reader = Interrupted::new(FailingReader::new(document.as_bytes(), most, 0));
+    let mut written = Interrupted::new(FailingWriter::new(alloc, most, 0));
+    let mut faults = Interrupted::new(FailingWriter::new(alloc, most, 0));
     let args = arguments(alloc, word);
     let code = perform(rt, alloc, args, &mut reader, &mut written, &mut faults);
     code == status
@@ -230,26 +240,31 @@ fn is_whole<R: Threads + Wait + Sync>(rt: &R, alloc: Global, row: &Row) -> bool 
 #[test]
 fn interrupted_calls(rt: HostRuntime) {
     for row in &ROWS {
-        assert!(rt; is_whole(&rt, rt.alloc(), row), "{}", row.0);
+        for most in SIZES {
+            assert!(rt; is_whole(&rt, rt.alloc(), row, most), "{} {most}", row.0);
+        }
     }
 }
 
-/// Whether the fault is told on a stream of which every other call is interrupted, with its status.
-fn is_told<R: Threads + Wait + Sync>(rt: &R, alloc: Global, fault: &Fault) -> bool {
+/// Whether the fault is told on a stream of which every other call is interrupted and the others take so many bytes at most, with its
+/// status.
+fn is_told<R: Threads + Wait + Sync>(rt: &R, alloc: Global, fault: &Fault, most: usize) -> bool {
     let (word, document, read_that_fails, _, line, status) = *fault;
-    let mut reader = FailingReader::new(document.as_bytes(), read_that_fails);
+    let mut reader = FailingReader::new(document.as_bytes(), 1, read_that_fails);
     let mut written = Vec::new(alloc);
-    let mut faults = Interrupted::new(FailingWriter::new(alloc, 0));
+    let mut faults = Interrupted::new(FailingWriter::new(alloc, most, 0));
     let args = arguments(alloc, word);
     let code = perform(rt, alloc, args, &mut reader, &mut written, &mut faults);
     code == status && written.is_empty() && faults.stream().bytes() == line.as_bytes()
 }
 
-// Every other write on standard error is interrupted, and the others take one byte: the line is whole and stands there once.
+// Every other write on standard error is interrupted, and the others are short: the line is whole and stands there once.
 #[test]
 fn interrupted_faults(rt: HostRuntime) {
     for fault in &FAULTS {
-        assert!(rt; is_told(&rt, rt.alloc(), fault), "{}", fault.0);
+        for most in SIZES {
+            assert!(rt; is_told(&rt, rt.alloc(), fault, most), "{} {most}", fault.0);
+        }
     }
 }
 
@@ -267,7 +282,7 @@ fn long_document_in_small_reads(rt: HostRuntime) {
     let alloc = rt.alloc();
     let (word, document, output, _) = ROWS[2];
     let bytes = behind_blanks(alloc, document, 2_000_000).expect(&rt, "memory");
-    let mut reader = FailingReader::new(&bytes, 0);
+    let mut reader = FailingReader::new(&bytes, 1, 0);
     let mut written = Vec::new(alloc);
     let mut faults = Vec::new(alloc);
     let args = arguments(alloc, word);

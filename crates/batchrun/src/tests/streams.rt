@@ -13,18 +13,20 @@ pub fn arguments(alloc: Global, word: &str) -> io::Result<Args> {
     Ok(args.into_iter())
 }
 
-/// Gives one byte at each call, and fails at one of them, counted from 1.
+/// Gives so many bytes at most at each call, and fails at one of them, counted from 1.
 #[derive(Drop)]
 pub struct FailingReader<'a> {
     bytes: &'a [u8],
+    most: usize,
     calls: usize,
     fails_at: usize,
 }
 
 impl<'a> FailingReader<'a> {
-    pub fn new(bytes: &'a [u8], fails_at: usize) -> FailingReader<'a> {
+    pub fn new(bytes: &'a [u8], most: usize, fails_at: usize) -> FailingReader<'a> {
         FailingReader {
             bytes,
+            most,
             calls: 0,
             fails_at,
         }
@@ -42,23 +44,25 @@ impl Read for FailingReader<'_> {
         if self.calls == self.fails_at {
             return Err(io::Error::from(io::ErrorKind::Other));
         }
-        let len = buf.len().min(1);
+        let len = buf.len().min(self.most);
         self.bytes.read(&mut buf[..len])
     }
 }
 
-/// Takes one byte at each call, and fails at one of them.
+/// Takes so many bytes at most at each call, and fails at one of them; a flush is a call, too.
 #[derive(Drop)]
 pub struct FailingWriter {
     bytes: Vec<u8>,
+    most: usize,
     calls: usize,
     fails_at: usize,
 }
 
 impl FailingWriter {
-    pub fn new(alloc: Global, fails_at: usize) -> FailingWriter {
+    pub fn new(alloc: Global, most: usize, fails_at: usize) -> FailingWriter {
         FailingWriter {
             bytes: Vec::new(alloc),
+            most,
             calls: 0,
             fails_at,
         }
@@ -72,21 +76,26 @@ impl FailingWriter {
     pub fn calls(&self) -> usize {
         self.calls
     }
-}
 
-impl Write for FailingWriter {
-    fn write(&mut self, buf: &[u8]) -> io::Result<usize> {
+    fn called(&mut self) -> io::Result<()> {
         self.calls = self.calls.saturating_add(1);
         if self.calls == self.fails_at {
             return Err(io::Error::from(io::ErrorKind::Other));
         }
-        let len = buf.len().min(1);
+        Ok(())
+    }
+}
+
+impl Write for FailingWriter {
+    fn write(&mut self, buf: &[u8]) -> io::Result<usize> {
+        self.called()?;
+        let len = buf.len().min(self.most);
         self.bytes.extend_from_slice(&buf[..len])?;
         Ok(len)
     }
 
     fn flush(&mut self) -> io::Result<()> {
-        Ok(())
+        self.called()
     }
 }
 

@@ -1,6 +1,7 @@
 //! Four lanes that wait for each other in both rounds of a step, and their processors at each partition's first record.
 
 ghost use Rattle.std.specs.Prelude.{◌≡◌};
+ghost use Rattle.jb_job.specs.Limits.{max_parts};
 
 use crate::step::given::{Given, Processor, ended, works};
 use crate::step::rows::{Asked, PLAIN};
@@ -9,7 +10,7 @@ use crate::workers::meeting::wait_for;
 use jb_artifacts::{ArtifactsOf, CountCollector, Item, ItemProcessor, ListWriter, TableReader};
 use jb_chunk::Task;
 use jb_collect::{ListAnalyzer, ListReducer, Status};
-use jb_job::ArtifactError;
+use jb_job::{ArtifactError, MAX_PARTS};
 use jb_step::Prepared;
 use jb_workers::{Desk, Gate};
 use std::alloc::Global;
@@ -195,7 +196,7 @@ fn met_on<
 ) -> Result<(Status, u64), Fail>
     requires name { blank.name ≡ L.name }
     requires parts { blank.parts ≡ L.parts }
-    requires all { blank.parts ≡ 1000000000000 }
+    requires all { blank.parts ≡ max_parts }
 {
     let asked = Asked {
         threads: 4,
@@ -215,7 +216,7 @@ fn meet<L: Ledger + Send + Sync + 'static, R: Threads + Wait + Clock + Abort + C
 ) -> Result<(), Fail>
     requires name { blank.name ≡ L.name }
     requires parts { blank.parts ≡ L.parts }
-    requires all { blank.parts ≡ 1000000000000 }
+    requires all { blank.parts ≡ max_parts }
 {
     let gate = Lanes {
         rt: *rt,
@@ -232,5 +233,5 @@ fn meet<L: Ledger + Send + Sync + 'static, R: Threads + Wait + Clock + Abort + C
 
 #[test]
 fn four_lanes_meet_in_both_rounds(rt: HostRuntime) -> Result<(), Fail> {
-    meet::<Brand, _>(&rt, rt.alloc(), Blank::new(1_000_000_000_000))
+    meet::<Brand, _>(&rt, rt.alloc(), Blank::new(MAX_PARTS))
 }

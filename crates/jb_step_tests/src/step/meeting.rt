@@ -1,11 +1,13 @@
 //! Two lanes that wait for each other in a step: they run at once, and each commit stands in the table before the round is over.
 
 ghost use Rattle.std.specs.Prelude.{◌≡◌};
+ghost use Rattle.jb_job.specs.Limits.{max_parts};
 
 use crate::step::rows::PLAIN;
 use crate::step::runs::{ended_with, started};
 use crate::workers::meeting::Meeting;
 use jb_collect::{ListAnalyzer, ListReducer, Status};
+use jb_job::MAX_PARTS;
 use jb_step::Prepared;
 use jb_workers::Desk;
 use std::alloc::Global;
@@ -52,7 +54,7 @@ fn meet<L: Ledger + Send + Sync + 'static, R: Threads + Wait + Clock + Abort + C
 ) -> Result<(), Fail>
     requires name { blank.name ≡ L.name }
     requires parts { blank.parts ≡ L.parts }
-    requires all { blank.parts ≡ 1000000000000 }
+    requires all { blank.parts ≡ max_parts }
 {
     let mut reducer = ListReducer::new(alloc, None);
     let prepared = started(alloc, PLAIN, RECORDS, &mut reducer, None)?;
@@ -66,5 +68,5 @@ fn meet<L: Ledger + Send + Sync + 'static, R: Threads + Wait + Clock + Abort + C
 
 #[test]
 fn two_lanes_meet_in_a_step(rt: HostRuntime) -> Result<(), Fail> {
-    meet::<Brand, _>(&rt, rt.alloc(), Blank::new(1_000_000_000_000))
+    meet::<Brand, _>(&rt, rt.alloc(), Blank::new(MAX_PARTS))
 }

@@ -112,9 +112,9 @@ fn tried<R: Threads + Wait + Abort + Sync>(
     }
 }
 
-/// `tests/refused-memory` runs it also with each request for memory refused in turn, and where no thread can be made: the step has
-/// its whole answer, or says what it lacked, and then a restart on one thread, which needs no worker, and without faults is
-/// completed. Where the step found no memory for its desk, it has its whole answer when it is run anew. Where a request of the
+/// `tests/refused-memory` runs it also with each request for memory refused in turn, and `tests/no-worker` where no thread can be made:
+/// the step has its whole answer, or says what it lacked, and then a restart on one thread, which needs no worker, and without faults
+/// is completed. Where the step found no memory for its desk, it has its whole answer when it is run anew. Where a request of the
 /// test's own is refused, the test ends with that error.
 #[test]
 fn memory_refused(rt: HostRuntime) -> Result<(), Fail> {

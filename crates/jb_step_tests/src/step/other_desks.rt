@@ -1,6 +1,7 @@
 //! A step whose desk isn't its own, was used before, or refuses what the step does.
 
 ghost use Rattle.std.specs.Prelude.{◌≡◌};
+ghost use Rattle.jb_job.specs.Limits.{max_parts};
 
 use crate::step::given::Works;
 use crate::step::restarts::{Between, add_answer, gone_on};
@@ -8,6 +9,7 @@ use crate::step::rows::{Asked, PLAIN, assert_text};
 use crate::step::runs::{ended_with, started};
 use jb_cert::Certificate;
 use jb_collect::{ListAnalyzer, ListReducer, Reducer, Status};
+use jb_job::MAX_PARTS;
 use jb_repo::Event;
 use jb_step::{Prepared, StepEnd, StepError, read_saved};
 use jb_workers::{Desk, NoGate};
@@ -114,7 +116,7 @@ fn start(
 fn desk_of<L: Ledger>(alloc: Global, blank: Blank, rows: &Rows) -> Result<Desk<L>, Fail>
     requires name { blank.name ≡ L.name }
     requires parts { blank.parts ≡ L.parts }
-    requires all { blank.parts ≡ 1000000000000 }
+    requires all { blank.parts ≡ max_parts }
 {
     let mut other = ListReducer::new(alloc, None);
     let prepared = start(alloc, rows.desk, rows.threads, rows.saved, &mut other)?;
@@ -134,7 +136,7 @@ fn wrong_desk<L: Ledger, R: Wait>(
 ) -> Result<Desk<L>, Fail>
     requires name { blank.name ≡ L.name }
     requires parts { blank.parts ≡ L.parts }
-    requires all { blank.parts ≡ 1000000000000 }
+    requires all { blank.parts ≡ max_parts }
 {
     let desk = desk_of::<L>(alloc, blank, rows)?;
     if wrong == Wrong::Planned {
@@ -176,7 +178,7 @@ fn refusal<L: Ledger + Send + Sync + 'static, R: Threads + Wait + Sync>(
 ) -> Result<Answer, Fail>
     requires name { blank.name ≡ L.name }
     requires parts { blank.parts ≡ L.parts }
-    requires all { blank.parts ≡ 1000000000000 }
+    requires all { blank.parts ≡ max_parts }
 {
     let rows = rows_of(wrong);
     let mut reducer = ListReducer::new(alloc, None);
@@ -200,7 +202,7 @@ fn desks_are_refused(rt: HostRuntime) -> Result<(), Fail> {
         (Wrong::SecondAtLimit, 2, 3, 1),
     ];
     for (wrong, partition, events, commits) in cases {
-        let blank = Blank::new(1_000_000_000_000);
+        let blank = Blank::new(MAX_PARTS);
         let answer = refusal::<Brand, _>(&rt, rt.alloc(), blank, wrong)?;
         let error = StepError::Repository(partition);
         assert!(rt; answer == (error, 3, events, commits));
@@ -212,7 +214,7 @@ fn desks_are_refused(rt: HostRuntime) -> Result<(), Fail> {
 fn desk_of_threes<L: Ledger>(alloc: Global, blank: Blank) -> Result<Desk<L>, Fail>
     requires name { blank.name ≡ L.name }
     requires parts { blank.parts ≡ L.parts }
-    requires all { blank.parts ≡ 1000000000000 }
+    requires all { blank.parts ≡ max_parts }
 {
     let asked = Asked {
         item_count: 3,
@@ -249,7 +251,7 @@ fn refused_round<L: Ledger + Send + Sync + 'static, R: Threads + Wait + Sync>(
 ) -> Result<String, Fail>
     requires name { blank.name ≡ L.name }
     requires parts { blank.parts ≡ L.parts }
-    requires all { blank.parts ≡ 1000000000000 }
+    requires all { blank.parts ≡ max_parts }
 {
     let desk = desk_of_threes::<L>(alloc, blank)?;
     let mut analyzer = ListAnalyzer::new(alloc, None);
@@ -275,7 +277,7 @@ fn refused_round<L: Ledger + Send + Sync + 'static, R: Threads + Wait + Sync>(
 fn a_refused_round_is_gone_on_from(rt: HostRuntime) -> Result<(), Fail> {
     let alloc = rt.alloc();
     let mut between = Between::nothing(alloc);
-    let blank = Blank::new(1_000_000_000_000);
+    let blank = Blank::new(MAX_PARTS);
     let refused = refused_round::<Brand, _>(&rt, alloc, blank, &mut between)?;
     assert_text(&rt, refused.as_str(), REFUSED);
     between.assert_partitions(&rt, alloc, LEFT)?;

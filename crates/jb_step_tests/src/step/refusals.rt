@@ -2,13 +2,14 @@
 
 ghost use Rattle.std.specs.Prelude.{◌≡◌, Err};
 ghost use Rattle.jb_mapper.specs.Mapping.{Mapping};
+ghost use Rattle.jb_job.specs.Limits.{max_parts};
 
 use crate::step::given::{Given, Letters, begun, works};
 use crate::step::runs::ended_with;
 use crate::workers::tasks::{RULES, task_of, with_work};
 use jb_cert::Certificate;
 use jb_collect::{ListAnalyzer, ListReducer, Reducer};
-use jb_job::{ArtifactError, ClassId, Range};
+use jb_job::{ArtifactError, ClassId, MAX_PARTS, Range};
 use jb_mapper::{FixedMapper, PartitionMapper};
 use jb_plan::{PartitionPlan, PlanError};
 use jb_repo::Event;
@@ -95,7 +96,7 @@ fn refusal_of<L: Ledger + Send + Sync + 'static, R: Threads + Wait + Sync>(
 ) -> Result<StepError, Fail>
     requires name { blank.name ≡ L.name }
     requires parts { blank.parts ≡ L.parts }
-    requires all { blank.parts ≡ 1000000000000 }
+    requires all { blank.parts ≡ max_parts }
 {
     let desk = prepared.desk::<L>(alloc, blank)?;
     if wrong == Wrong::OwnRound {
@@ -126,7 +127,7 @@ fn refusal<L: Ledger + Send + Sync + 'static, R: Threads + Wait + Sync>(
 ) -> Result<(StepError, usize), Fail>
     requires name { blank.name ≡ L.name }
     requires parts { blank.parts ≡ L.parts }
-    requires all { blank.parts ≡ 1000000000000 }
+    requires all { blank.parts ≡ max_parts }
 {
     let fault = if wrong == Wrong::Reducer {
         Some((0, ClassId::new(3)))
@@ -152,7 +153,7 @@ fn refusals(rt: HostRuntime) -> Result<(), Fail> {
         (Wrong::OwnRound, StepError::Repository(0), 3),
     ];
     for (wrong, error, calls) in cases {
-        let blank = Blank::new(1_000_000_000_000);
+        let blank = Blank::new(MAX_PARTS);
         let answer = refusal::<Brand, _>(&rt, rt.alloc(), blank, wrong)?;
         assert_eq!(rt; answer, (error, calls));
     }

@@ -2,6 +2,7 @@
 //! nothing stops.
 
 ghost use Rattle.std.specs.Prelude.{◌≡◌};
+ghost use Rattle.jb_job.specs.Limits.{max_parts};
 
 use crate::step::given::{
     Given, Letters, Works, all_works, saved_again, stopped_after, works, works_from,
@@ -13,6 +14,7 @@ use crate::step::rows::{
 use crate::step::runs::started_or_not;
 use jb_artifacts::ArtifactsOf;
 use jb_collect::{Analyzer, ListAnalyzer, ListReducer, Reducer, Status};
+use jb_job::MAX_PARTS;
 use jb_repo::Snapshot;
 use jb_rules::Row;
 use jb_step::{Prepared, Saved, StepEnd, StepError};
@@ -345,7 +347,7 @@ pub(crate) fn gone_on<R: Threads + Wait + Sync>(
     let artifacts = works_again(alloc, left, if others { Some(records) } else { None })?;
     match started_or_not(alloc, asked, records, &mut reducer, saved)? {
         Ok(prepared) => {
-            let blank = Blank::new(1_000_000_000_000);
+            let blank = Blank::new(MAX_PARTS);
             let records = String::from_str(alloc, records)?;
             run_on::<Brand, R>(
                 rt, alloc, blank, prepared, artifacts, &records, rounds, reducer, between,
@@ -374,7 +376,7 @@ fn run_on<L: Ledger + Send + Sync + 'static, R: Threads + Wait + Sync>(
 ) -> Result<(Option<Status>, String), Fail>
     requires name { blank.name ≡ L.name }
     requires parts { blank.parts ≡ L.parts }
-    requires all { blank.parts ≡ 1000000000000 }
+    requires all { blank.parts ≡ max_parts }
 {
     match prepared.desk::<L>(alloc, blank) {
         Ok(desk) => run_at::<L, R>(

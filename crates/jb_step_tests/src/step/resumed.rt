@@ -1,12 +1,14 @@
 //! Saved rows that are refused, in the order of their faults, and a stop that is asked for in the middle of a round.
 
 ghost use Rattle.std.specs.Prelude.{◌≡◌};
+ghost use Rattle.jb_job.specs.Limits.{max_parts};
 
 use crate::step::given::{Given, begun_from};
 use crate::step::restarts::{Between, gone_on};
 use crate::step::rows::{PLAIN, SEVEN, STRICT, assert_text, course_of};
 use crate::step::runs::{ended_with, started};
 use jb_collect::{ListAnalyzer, ListReducer, Reducer, Status};
+use jb_job::MAX_PARTS;
 use jb_mapper::FixedMapper;
 use jb_plan::PlanError;
 use jb_step::{Prepared, SavedPlace, StepError, read_saved};
@@ -172,7 +174,7 @@ fn stop<L: Ledger + Send + Sync + 'static, R: Threads + Wait + Sync>(
 ) -> Result<String, Fail>
     requires name { blank.name ≡ L.name }
     requires parts { blank.parts ≡ L.parts }
-    requires all { blank.parts ≡ 1000000000000 }
+    requires all { blank.parts ≡ max_parts }
 {
     let mut reducer = ListReducer::new(alloc, None);
     let prepared = started(alloc, PLAIN, RECORDS, &mut reducer, None)?;
@@ -195,7 +197,7 @@ fn stops<R: Threads + Wait + Abort + Sync>(
     between: &mut Between,
     wanted: &str,
 ) -> Result<(), Fail> {
-    let blank = Blank::new(1_000_000_000_000);
+    let blank = Blank::new(MAX_PARTS);
     let course = stop::<Brand, R>(rt, alloc, blank, place, between)?;
     assert_text(rt, course.as_str(), wanted);
     Ok(())

@@ -1,6 +1,7 @@
 //! What comes of whole steps, each beside its partitions run alone.
 
 ghost use Rattle.std.specs.Prelude.{◌≡◌};
+ghost use Rattle.jb_job.specs.Limits.{max_parts};
 
 use crate::collect::line_of;
 use crate::step::given::{Given, Letters, Works, works};
@@ -9,7 +10,7 @@ use crate::workers::tasks::task_of;
 use jb_artifacts::{ItemWriter, ListWriter};
 use jb_chunk::{PartitionTask, run_alone};
 use jb_collect::{Analyzer, ListAnalyzer, ListReducer, Reducer};
-use jb_job::{ClassId, Range, Rules};
+use jb_job::{ClassId, MAX_PARTS, Range, Rules};
 use jb_rules::{Counts, Row, RowState};
 use jb_step::{PlanNote, StepEnd};
 use jb_workers::NoGate;
@@ -396,7 +397,7 @@ fn run<L: Ledger + Send + Sync + 'static, R: Threads + Wait + Sync>(
 ) -> Result<Ran, Fail>
     requires name { blank.name ≡ L.name }
     requires parts { blank.parts ≡ L.parts }
-    requires all { blank.parts ≡ 1000000000000 }
+    requires all { blank.parts ≡ max_parts }
 {
     let fault = case.asked.analyzer.map(|number| (number, ClassId::new(5)));
     let mut analyzer = ListAnalyzer::new(alloc, fault);
@@ -501,7 +502,7 @@ pub(crate) fn assert_text(rt: &impl Abort, text: &str, wanted: &str) {
 /// Runs the case on 1 to 4 threads.
 fn runs<R: Threads + Wait + Abort + Sync>(rt: &R, alloc: Global, case: &Case) -> Result<(), Fail> {
     for threads in 1..5 {
-        let blank = Blank::new(1_000_000_000_000);
+        let blank = Blank::new(MAX_PARTS);
         let ran = run::<Brand, R>(rt, alloc, blank, case, threads)?;
         assert_text(rt, ran.partitions.as_str(), case.partitions);
         if threads == case.asked.threads {

@@ -1,24 +1,27 @@
 //! Steps at whose table one thread looks while another asks for a stop.
 
 ghost use Rattle.std.specs.Prelude.{◌≡◌};
+ghost use Rattle.jb_job.specs.Limits.{max_parts};
 
 use crate::step::given::{Letters, Works, ended};
 use crate::step::restarts::{Between, works_again};
 use crate::step::rows::{Asked, PLAIN, SEVEN, assert_text};
 use crate::step::runs::started;
 use jb_collect::{ListAnalyzer, ListReducer, Status};
+use jb_job::MAX_PARTS;
 use jb_repo::Snapshot;
 use jb_rules::Counts;
 use jb_step::{Prepared, StepEnd, StepError};
-use jb_workers::{Desk, NoGate};
+use jb_workers::{Desk, Gate};
 use std::alloc::Global;
 use std::marker::Brand;
 use std::sync::Wait;
-use std::sync::atomic::{AtomicBool, Ordering};
+use std::sync::atomic::{AtomicBool, AtomicU64, Ordering};
 use std::sync::ledger::{Blank, Ledger};
 use std::test::*;
 use std::thread;
 use std::thread::{Scope, Threads};
+use std::time::{Clock, Duration};
 
 /// Seven records, as those of `SEVEN`.
 const RECORDS: &str = "abc/de/fg/";
@@ -45,22 +48,81 @@ fn adds_up(snapshot: &Snapshot) -> bool {
     sum == snapshot.totals && snapshot.rows.iter().all(|row| row.sound())
 }
 
-/// Looks at the table until it was read after the step was over: whether it always added up, with no fewer commits than before.
-fn watch<L: Ledger, R: Wait>(rt: &R, desk: &Desk<L>, over: &AtomicBool) -> bool {
-    let mut commits = 0;
+/// Where both lookers say that a look is over.
+#[derive(Drop)]
+struct Looks {
+    watcher: AtomicU64,
+    asker: AtomicU64,
+    is_over: AtomicBool,
+}
+
+impl Looks {
+    fn new() -> Looks {
+        Looks {
+            watcher: AtomicU64::new(0),
+            asker: AtomicU64::new(0),
+            is_over: AtomicBool::new(false),
+        }
+    }
+}
+
+/// Holds each lane before and after its attempt until both lookers have taken a whole look at the table.
+#[derive(Drop)]
+struct Held<'a, R> {
+    rt: R,
+    looks: &'a Looks,
+}
+
+impl<R: Clock> Held<'_, R> {
+    /// Waits until two more looks are over, of which the second began after this call; 10,000 turns of a millisecond at most.
+    fn wait_for(&self, looks: &AtomicU64) {
+        let enough = looks.load(Ordering::SeqCst).saturating_add(2);
+        for _ in 0..10_000 {
+            if enough <= looks.load(Ordering::SeqCst) {
+                return;
+            }
+            thread::sleep(&self.rt, Duration::from_millis(1));
+        }
+    }
+
+    fn wait_for_both(&self) {
+        self.wait_for(&self.looks.watcher);
+        self.wait_for(&self.looks.asker);
+    }
+}
+
+impl<R: Clock + Sync> Gate for Held<'_, R> {
+    fn arrive(&self, _lane: u32, _round: u64) {
+        self.wait_for_both();
+    }
+
+    fn leave(&self, _lane: u32, _round: u64) {
+        self.wait_for_both();
+    }
+}
+
+/// Looks at the table until it was read after the step was over, and answers how often it saw more commits than before. `None` if the
+/// table didn't add up once, or had fewer commits than before.
+fn watch<L: Ledger, R: Wait>(rt: &R, desk: &Desk<L>, looks: &Looks) -> Option<u64> {
+    let mut commits = desk.status(rt).ok()?.totals.commit;
+    let mut rises = 0u64;
     for _ in 0..10_000_000 {
-        let is_last = over.load(Ordering::SeqCst);
+        let is_last = looks.is_over.load(Ordering::SeqCst);
         if let Ok(snapshot) = desk.status(rt) {
             if snapshot.totals.commit < commits || !adds_up(&snapshot) {
-                return false;
+                return None;
+            }
+            if commits < snapshot.totals.commit {
+                rises = rises.saturating_add(1);
             }
             commits = snapshot.totals.commit;
             if is_last {
-                return true;
+                return Some(rises);
             }
         }
+        looks.watcher.fetch_add(1, Ordering::SeqCst);
     }
-    false
+    None
 }
 
 /// Asks for a stop, if there are so many commits.
@@ -73,33 +135,40 @@ fn ask_once<L: Ledger, R: Wait>(rt: &R, desk: &Desk<L>, commits: u64) {
 }
 
 /// From this number of commits on asks for a stop, until the step is over.
-fn ask<L: Ledger, R: Wait>(rt: &R, desk: &Desk<L>, over: &AtomicBool, commits: u64) {
+fn ask<L: Ledger, R: Wait>(rt: &R, desk: &Desk<L>, looks: &Looks, commits: u64) {
     for _ in 0..10_000_000 {
-        if over.load(Ordering::SeqCst) {
+        if looks.is_over.load(Ordering::SeqCst) {
             return;
         }
         ask_once(rt, desk, commits);
+        looks.asker.fetch_add(1, Ordering::SeqCst);
     }
 }
 
-/// Runs the step while one thread looks at its table and another asks for a stop: its end, and whether all was well with the
-/// table. The stop is asked for a first time before the step runs, so that a step with so many commits is stopped.
-fn run_between<'s, E, L: Ledger + Send + Sync + 'static, R: Threads + Wait + Sync + 's>(
+/// Runs the step while one thread looks at its table and another asks for a stop: its end, and how often more commits were seen, if
+/// all was well with the table. The stop is asked for a first time before the step runs, so that a step with so many commits is
+/// stopped.
+fn run_between<
+    's,
+    E,
+    L: Ledger + Send + Sync + 'static,
+    R: Threads + Wait + Clock + Copy + Sync + 's,
+>(
     scope: &Scope<'s, E>,
     rt: &'s R,
     alloc: Global,
     desk: &'s Desk<L>,
-    over: &'s AtomicBool,
+    looks: &'s Looks,
     prepared: Prepared,
     mut reducer: ListReducer,
     artifacts: Vec<Works>,
     commits: u64,
-) -> (Result<StepEnd<Works>, StepError>, bool) {
+) -> (Result<StepEnd<Works>, StepError>, Option<u64>) {
     let mut analyzer = ListAnalyzer::new(alloc, None);
     ask_once(rt, desk, commits);
-    let watcher = scope.spawn(move || watch(&*rt, &*desk, &*over));
-    let asker = scope.spawn(move || ask(&*rt, &*desk, &*over, commits));
-    let end = ended::<Letters, L, NoGate, R>(
+    let watcher = scope.spawn(move || watch(&*rt, &*desk, &*looks));
+    let asker = scope.spawn(move || ask(&*rt, &*desk, &*looks, commits));
+    let end = ended::<Letters, L, Held<'_, R>, R>(
         rt,
         alloc,
         desk,
@@ -107,82 +176,89 @@ fn run_between<'s, E, L: Ledger + Send + Sync + 'static, R: Threads + Wait + Syn
         artifacts,
         &mut analyzer,
         &mut reducer,
-        &NoGate,
+        &Held { rt: *rt, looks },
     );
-    over.store(true, Ordering::SeqCst);
+    looks.is_over.store(true, Ordering::SeqCst);
     if let Ok(asker) = asker {
         asker.join(rt);
     }
-    let is_well = match watcher {
+    let rises = match watcher {
         Ok(watcher) => watcher.join(rt),
-        Err(_) => false,
+        Err(_) => None,
     };
-    (end, is_well)
+    (end, rises)
 }
 
 /// The same in a scope of its own, so that neither thread is left running.
-fn in_scope<L: Ledger + Send + Sync + 'static, R: Threads + Wait + Sync>(
+fn in_scope<L: Ledger + Send + Sync + 'static, R: Threads + Wait + Clock + Copy + Sync>(
     rt: &R,
     alloc: Global,
     desk: &Desk<L>,
-    over: &AtomicBool,
     prepared: Prepared,
     reducer: ListReducer,
     artifacts: Vec<Works>,
     commits: u64,
-) -> (Result<StepEnd<Works>, StepError>, bool) {
+) -> (Result<StepEnd<Works>, StepError>, Option<u64>) {
+    let looks = Looks::new();
     thread::scope(thread::scope_env(), rt, |scope| {
         run_between(
-            scope, rt, alloc, desk, over, prepared, reducer, artifacts, commits,
+            scope, rt, alloc, desk, &looks, prepared, reducer, artifacts, commits,
         )
     })
 }
 
-/// Runs the step so, from what the run before left: its status, and whether all was well with its table.
-fn run_watched<L: Ledger + Send + Sync + 'static, R: Threads + Wait + Sync>(
+/// Runs the step so, from what the run before left: its status, and how often more commits were seen, if all was well with its table.
+fn run_watched<L: Ledger + Send + Sync + 'static, R: Threads + Wait + Clock + Copy + Sync>(
     rt: &R,
     alloc: Global,
     blank: Blank,
     asked: Asked,
     commits: u64,
     between: &mut Between,
-) -> Result<(Status, bool), Fail>
+) -> Result<(Status, Option<u64>), Fail>
     requires name { blank.name ≡ L.name }
     requires parts { blank.parts ≡ L.parts }
-    requires all { blank.parts ≡ 1000000000000 }
+    requires all { blank.parts ≡ max_parts }
 {
     let mut reducer = ListReducer::new(alloc, None);
     let (saved, left) = between.give_up(alloc);
     let artifacts = works_again(alloc, left, None)?;
     let prepared = started(alloc, asked, RECORDS, &mut reducer, saved)?;
     let desk = prepared.desk::<L>(alloc, blank)?;
-    let over = AtomicBool::new(false);
-    let (end, is_well) = in_scope(
-        rt, alloc, &desk, &over, prepared, reducer, artifacts, commits,
-    );
+    let (end, rises) = in_scope(rt, alloc, &desk, prepared, reducer, artifacts, commits);
     let end = end.ok().ok_or("an end")?;
     let status = end.status;
     between.keep(alloc, end)?;
-    Ok((status, is_well))
+    Ok((status, rises))
 }
 
-/// Runs the step so, and goes on until it isn't stopped, each time with a stop from one commit more on: whether all was always well
-/// with its table and it is completed, how often it was stopped, and its partitions.
-fn watched<R: Threads + Wait + Sync>(
+/// What a step that was watched came to, in all its runs.
+#[derive(Drop)]
+struct WatchedEnd {
+    status: Status,
+    /// How often it was stopped before its last run.
+    stops: u64,
+    /// How often more commits were seen than before.
+    rises: u64,
+    partitions: String,
+}
+
+/// Runs the step so, and goes on until it isn't stopped, each time with a stop from one commit more on.
+fn watched<R: Threads + Wait + Clock + Copy + Sync>(
     rt: &R,
     alloc: Global,
     asked: Asked,
     commits: u64,
-) -> Result<(bool, u64, String), Fail> {
+) -> Result<WatchedEnd, Fail> {
     let mut between = Between::first(alloc, RECORDS)?;
     let mut stops = 0;
+    let mut rises = 0u64;
     let mut status = Status::Stopped;
-    let mut is_well = true;
     for run in 0..8 {
-        if status == Status::Stopped && is_well {
-            let blank = Blank::new(1_000_000_000_000);
+        if status == Status::Stopped {
+            let blank = Blank::new(MAX_PARTS);
             let from = commits.saturating_add(run);
-            (status, is_well) = run_watched::<Brand, R>(
+            let (next, more) = run_watched::<Brand, R>(
                 rt,
                 alloc,
                 blank,
@@ -190,25 +266,31 @@ fn watched<R: Threads + Wait + Sync>(
                 from,
                 &mut between,
             )?;
-            if status == Status::Stopped {
-                stops = run + 1;
-            }
+            status = next;
+            rises = rises.saturating_add(more.ok_or("a table that adds up")?);
+            stops = run;
         }
     }
-    let partitions = between.partitions(alloc)?;
-    Ok((is_well && status == Status::Completed, stops, partitions))
+    Ok(WatchedEnd {
+        status,
+        stops,
+        rises,
+        partitions: between.partitions(alloc)?,
+    })
 }
 
-/// However often it is stopped, the step comes to the same once it isn't; and it is stopped at least once where the stop is asked
-/// for before it runs.
+/// However often it is stopped, the step comes to the same once it isn't. Each row is stopped at least once, before it runs or after a
+/// commit that was seen; in each of its two rounds a commit is seen, and on one thread each of its four.
 #[test]
 fn a_table_is_watched(rt: HostRuntime) -> Result<(), Fail> {
     for (threads, commits) in [(1, 0), (1, 1), (1, 2), (2, 0), (2, 2), (3, 1), (4, 0)] {
         let mut asked = PLAIN;
         asked.threads = threads;
-        let (is_well, stops, partitions) = watched(&rt, rt.alloc(), asked, commits)?;
-        assert!(rt; is_well && (commits > 0 || stops > 0));
-        assert_text(&rt, partitions.as_str(), SEVEN);
+        let watched = watched(&rt, rt.alloc(), asked, commits)?;
+        let seen = if threads == 1 { 4..5 } else { 2..5 };
+        assert!(rt; watched.status == Status::Completed && watched.stops > 0);
+        assert!(rt; seen.contains(&watched.rises));
+        assert_text(&rt, watched.partitions.as_str(), SEVEN);
     }
     Ok(())
 }

@@ -2,12 +2,13 @@
 
 ghost use Rattle.std.specs.Prelude.{◌≡◌, IfSome};
 ghost use Rattle.jb_workers.specs.Works.{AllCanBegin};
+ghost use Rattle.jb_job.specs.Limits.{max_parts};
 
 use crate::workers::tasks::{RULES, boxes, fresh_rows, repository, task_of, with_work};
 use jb_artifacts::{Artifacts, FaultPlan, FaultPlans};
 use jb_cert::Certificate;
 use jb_chunk::{Done, Outcome, PartitionTask, Task};
-use jb_job::{ClassId, MAX_ROLLBACKS, Rules};
+use jb_job::{ClassId, MAX_PARTS, MAX_ROLLBACKS, Rules};
 use jb_repo::{Event, Refused, Snapshot};
 use jb_rules::{Counts, Row};
 use jb_workers::{Desk, NoGate, RoundError, Work};
@@ -185,7 +186,7 @@ fn works_of<T: PartitionTask>(
 fn desk_of<L: Ledger>(alloc: Global, rt: &impl Wait, blank: Blank, case: &Case) -> Option<Desk<L>>
     requires name { blank.name ≡ L.name }
     requires parts { blank.parts ≡ L.parts }
-    requires all { blank.parts ≡ 1000000000000 }
+    requires all { blank.parts ≡ max_parts }
 {
     let desk = Desk::<L>::new(repository(alloc, &fresh_rows())?, blank);
     if case.planned {
@@ -209,7 +210,7 @@ fn judge<
 ) -> Option<bool>
     requires name { blank.name ≡ L.name }
     requires parts { blank.parts ≡ L.parts }
-    requires all { blank.parts ≡ 1000000000000 }
+    requires all { blank.parts ≡ max_parts }
 {
     let works = works_of::<T>(alloc, case, first, other)?;
     let desk = desk_of::<L>(alloc, rt, blank, case)?;
@@ -279,7 +280,7 @@ fn rounds(rt: HostRuntime) -> Result<(), Fail> {
             writer: boxed.writer,
             collector: boxed.collector,
         };
-        let blank = Blank::new(1_000_000_000_000);
+        let blank = Blank::new(MAX_PARTS);
         let judged = judge::<Brand, Task, _>(&rt, alloc, blank, &case, first, other);
         assert_eq!(rt; judged, Some(true), "{:?}", case.answer);
     }

@@ -2,11 +2,13 @@
 
 ghost use Rattle.std.specs.Prelude.{◌≡◌, ◌<◌, IfSome};
 ghost use Rattle.jb_workers.specs.Works.{AllCanBegin};
+ghost use Rattle.jb_job.specs.Limits.{max_parts};
 
 use crate::workers::tasks::{RULES, boxes, fresh_rows, repository, task_of, with_work};
 use jb_artifacts::{Artifacts, FaultPlans};
 use jb_cert::Certificate;
 use jb_chunk::{Done, PartitionTask, Task};
+use jb_job::MAX_PARTS;
 use jb_repo::{Event, Snapshot};
 use jb_workers::{Desk, Gate, Work};
 use std::alloc::Global;
@@ -164,7 +166,7 @@ fn meet<
 >(rt: &R, alloc: Global, blank: Blank, later: T::Artifacts, earlier: T::Artifacts) -> Option<Met>
     requires name { blank.name ≡ L.name }
     requires parts { blank.parts ≡ L.parts }
-    requires all { blank.parts ≡ 1000000000000 }
+    requires all { blank.parts ≡ max_parts }
 {
     let works = two_works::<T>(alloc, later, earlier)?;
     let desk = Desk::<L>::new(repository(alloc, &fresh_rows())?, blank);
@@ -200,7 +202,7 @@ fn two_lanes_meet(rt: HostRuntime) -> Result<(), Fail> {
         writer: boxed.writer,
         collector: boxed.collector,
     };
-    let blank = Blank::new(1_000_000_000_000);
+    let blank = Blank::new(MAX_PARTS);
     let met = meet::<Brand, Task, _>(&rt, alloc, blank, later, earlier);
     assert_eq!(rt; met, Some(([0, 0, 1], (6, 1, 2, false))));
     Ok(())

@@ -3,6 +3,7 @@
 ghost use Rattle.std.specs.Prelude.{◌≡◌, IfSome};
 ghost use Rattle.jb_chunk.specs.Standing.{IsReady};
 ghost use Rattle.jb_workers.specs.Works.{AllCanBegin};
+ghost use Rattle.jb_job.specs.Limits.{max_parts};
 
 use crate::workers::most::commits;
 use crate::workers::tasks::{
@@ -11,6 +12,7 @@ use crate::workers::tasks::{
 use jb_artifacts::{ArtifactsOf, CountCollector, FaultPlans, ListWriter, TableReader};
 use jb_cert::Certificate;
 use jb_chunk::{Done, PartitionTask, Task};
+use jb_job::MAX_PARTS;
 use jb_repo::{Event, Refused, Snapshot};
 use jb_workers::{Desk, NoGate, RoundError, Work};
 use std::alloc::{AllocError, Global};
@@ -52,11 +54,22 @@ fn is_want(error: RoundError) -> bool {
     )
 }
 
-/// Whether a round that ended so, with this table after it, lost nothing.
-fn is_whole<T>(round: &Result<Vec<Done<T>>, RoundError>, after: &Snapshot) -> bool {
+/// Whether the desk's plan of one round is still open: no Round was entered since.
+fn is_open<L: Ledger>(rt: &impl Wait, desk: &Desk<L>) -> bool {
+    let next = desk.apply(rt, Event::Plan(1, Certificate::FullLoad));
+    matches!(next, Err(Refused::StillRunning))
+}
+
+/// Whether a round that ended so on the desk, with this table after it, lost nothing; without an answer it isn't entered.
+fn is_whole<L: Ledger, T>(
+    rt: &impl Wait,
+    desk: &Desk<L>,
+    round: &Result<Vec<Done<T>>, RoundError>,
+    after: &Snapshot,
+) -> bool {
     match round {
         Ok(dones) => after.events == 6 && after.totals.commit == commits(dones).1 as u64,
-        Err(error) => is_want(*error) && after.events < 6,
+        Err(error) => is_want(*error) && after.events < 6 && is_open(rt, desk),
     }
 }
 
@@ -76,8 +89,8 @@ fn both<T: PartitionTask>(alloc: Global, task: T, other: T) -> Option<Vec<Work<T
     with_work(works, 1, other)
 }
 
-/// A round of both tasks, of which each request for memory may be refused: whether after it no lane runs, and each commit of the
-/// table is a whole chunk. `None` where a request of the test's own was refused.
+/// A round of both tasks, of which each request for memory may be refused: whether after it no lane runs, each commit of the table is a
+/// whole chunk, and the round is entered exactly where it has an answer. `None` where a request of the test's own was refused.
 fn run_short<
     L: Ledger + Send + Sync + 'static,
     T: PartitionTask + Send + 'static,
@@ -85,7 +98,7 @@ fn run_short<
 >(rt: &R, alloc: Global, blank: Blank, task: T, other: T) -> Option<bool>
     requires name { blank.name ≡ L.name }
     requires parts { blank.parts ≡ L.parts }
-    requires all { blank.parts ≡ 1000000000000 }
+    requires all { blank.parts ≡ max_parts }
     requires ready { IsReady (T.standing task) }
     requires other_ready { IsReady (T.standing other) }
 {
@@ -99,15 +112,15 @@ fn run_short<
         Ok(after) => after,
         Err(_) => desk.status(rt).ok()?,
     };
-    Some(is_sound(&after) && is_whole(&round, &after))
+    Some(is_sound(&after) && is_whole(rt, &desk, &round, &after))
 }
 
-/// `tests/refused-memory` runs it also with each request for memory refused in turn.
+/// `tests/refused-memory` runs it also with each request for memory refused in turn, and `tests/no-worker` where no thread can be made.
 #[test]
 fn memory_refused(rt: HostRuntime) {
     let alloc = rt.alloc();
     if let (Some(task), Some(other)) = (own_task(alloc, 0), own_task(alloc, 1)) {
-        let blank = Blank::new(1_000_000_000_000);
+        let blank = Blank::new(MAX_PARTS);
         let is_well = run_short::<Brand, _, _>(&rt, alloc, blank, task, other);
         assert!(rt; is_well != Some(false));
     }

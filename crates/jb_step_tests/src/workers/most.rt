@@ -3,12 +3,13 @@
 ghost use Rattle.std.specs.Prelude.{◌≡◌, [], IfSome, Option};
 ghost use Rattle.jb_chunk.specs.Standing.{IsReady};
 ghost use Rattle.jb_workers.specs.Works.{AllCanBegin};
+ghost use Rattle.jb_job.specs.Limits.{max_parts};
 
 use crate::workers::tasks::{Processor, RULES, prefixing, task_of, with_work, writer};
 use jb_artifacts::{ArtifactsOf, CountCollector, FaultPlans, Item, ListWriter, TableReader};
 use jb_cert::Certificate;
 use jb_chunk::{Done, Outcome, PartitionTask, Task};
-use jb_job::Range;
+use jb_job::{MAX_PARTS, Range};
 use jb_repo::{Event, Repo, can_open};
 use jb_rules::Row;
 use jb_workers::{Desk, NoGate, Work};
@@ -96,7 +97,7 @@ fn run<
 >(rt: &R, alloc: Global, blank: Blank, works: Vec<Work<T>>) -> Option<Came>
     requires name { blank.name ≡ L.name }
     requires parts { blank.parts ≡ L.parts }
-    requires all { blank.parts ≡ 1000000000000 }
+    requires all { blank.parts ≡ max_parts }
     requires ready { AllCanBegin T.standing works.items }
 {
     let desk = Desk::<L>::new(repository(alloc, 256)?, blank);
@@ -121,7 +122,7 @@ pub(crate) fn commits<T>(dones: &[Done<T>]) -> (usize, usize) {
 fn a_round_on_64_lanes(rt: HostRuntime) -> Result<(), Fail> {
     let alloc = rt.alloc();
     let works = works(alloc, 64, |lane| own_task(alloc, lane)).ok_or("works")?;
-    let came = run::<Brand, _, _>(&rt, alloc, Blank::new(1_000_000_000_000), works);
+    let came = run::<Brand, _, _>(&rt, alloc, Blank::new(MAX_PARTS), works);
     assert!(rt; came == Some(((64, 64), 130, 256, 64)));
     Ok(())
 }

@@ -433,6 +433,25 @@ fn no_fault() -> Told<'static> {
     }
 }
 
+const USED_UP: &str = "committed 2 2 1 1 at 2, 2 written
+no memory 2 1 0 0 at 2, 2 written
+committed 2 2 1 2 at 4, 4 written
+";
+
+/// A fault that comes once was met in the attempt that found no memory. The next attempt is made on the artifacts as that one left
+/// them: it doesn't meet the fault, and skips no record.
+#[test]
+fn a_fault_that_was_met_is_used_up(rt: HostRuntime) -> Result<(), Fail> {
+    let told = Told {
+        lines: "a\nb\nc\nd",
+        reads: &[once(2, ClassId::new(0))],
+        forgets: Some(3),
+        ..no_fault()
+    };
+    assert!(rt; is_logged(rt.alloc(), &told, USED_UP)?);
+    Ok(())
+}
+
 const WRITE_FAILED: &str = "committed 2 2 1 1 at 2, 2 written
 failed 1 1 1 0 at 2, 2 written
 ";

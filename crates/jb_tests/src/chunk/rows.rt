@@ -5,7 +5,7 @@ use jb_artifacts::{
     PrefixProcessor, TableReader,
 };
 use jb_chunk::{Alone, AloneEnd, PartitionTask, Task, run_alone};
-use jb_job::{ClassId, Range, Rules};
+use jb_job::{ClassId, MAX_ITEM_COUNT, Range, Rules};
 use jb_rules::{Row, RowState};
 use std::alloc::{AllocError, Global};
 use std::test::*;
@@ -83,7 +83,7 @@ fn run(
     if !row.sound() || row.state != RowState::Waiting || !Task::fits(&artifacts, &row) {
         return Err(Fail::from("a task"));
     }
-    if item_count < 1 || item_count > 1_000_000 {
+    if item_count < 1 || item_count > MAX_ITEM_COUNT {
         return Err(Fail::from("an item count"));
     }
     let rules = Rules {
@@ -115,6 +115,23 @@ fn torn_rows(rt: HostRuntime) -> Result<(), Fail> {
     let ran = run(alloc, letters(alloc)?, 4, 0, processes, writes)?;
     assert!(rt; ran.end == AloneEnd::Finished);
     assert!(rt; ran.row.written == 0 && ran.row.counts.write_skip == 1);
+    Ok(())
+}
+
+/// With any one request refused, the partition finishes, or there is no memory for one of its two chunks: then it waits at the checkpoint
+/// before that chunk.
+#[test]
+fn finishes_or_wants_memory(rt: HostRuntime) -> Result<(), Fail> {
+    let alloc = rt.alloc();
+    let (processes, writes) = (FaultPlans::new(alloc), FaultPlans::new(alloc));
+    let ran = run(alloc, letters(alloc)?, 2, 0, processes, writes)?;
+    let stands = (ran.row.at, ran.row.written, ran.row.counts.commit);
+    if ran.end == AloneEnd::Finished {
+        assert!(rt; stands == (4, 4, 2));
+    } else {
+        assert!(rt; ran.end == AloneEnd::NoMemory && ran.row.state.is_waiting());
+        assert!(rt; stands == (0, 0, 0) || stands == (2, 2, 1));
+    }
     Ok(())
 }
 
