@@ -6,7 +6,7 @@ use std::io;
 use std::io::{Read, Write};
 
 /// The arguments of the program with this word.
-pub fn arguments(alloc: Global, word: &str) -> io::Result<Args> {
+pub(crate) fn arguments(alloc: Global, word: &str) -> io::Result<Args> {
     let mut args = Vec::new(alloc);
     args.push("batchrun".to_string(alloc)?)?;
     args.push(word.to_string(alloc)?)?;
@@ -15,7 +15,7 @@ pub fn arguments(alloc: Global, word: &str) -> io::Result<Args> {
 
 /// Gives so many bytes at most at each call, and fails at one of them, counted from 1.
 #[derive(Drop)]
-pub struct FailingReader<'a> {
+pub(crate) struct FailingReader<'a> {
     bytes: &'a [u8],
     most: usize,
     calls: usize,
@@ -23,7 +23,7 @@ pub struct FailingReader<'a> {
 }
 
 impl<'a> FailingReader<'a> {
-    pub fn new(bytes: &'a [u8], most: usize, fails_at: usize) -> FailingReader<'a> {
+    pub(crate) fn new(bytes: &'a [u8], most: usize, fails_at: usize) -> FailingReader<'a> {
         FailingReader {
             bytes,
             most,
@@ -33,7 +33,7 @@ impl<'a> FailingReader<'a> {
     }
 
     /// How often it was called.
-    pub fn calls(&self) -> usize {
+    pub(crate) fn calls(&self) -> usize {
         self.calls
     }
 }
@@ -51,7 +51,7 @@ impl Read for FailingReader<'_> {
 
 /// Takes so many bytes at most at each call, and fails at one of them; a flush is a call, too.
 #[derive(Drop)]
-pub struct FailingWriter {
+pub(crate) struct FailingWriter {
     bytes: Vec<u8>,
     most: usize,
     calls: usize,
@@ -59,7 +59,7 @@ pub struct FailingWriter {
 }
 
 impl FailingWriter {
-    pub fn new(alloc: Global, most: usize, fails_at: usize) -> FailingWriter {
+    pub(crate) fn new(alloc: Global, most: usize, fails_at: usize) -> FailingWriter {
         FailingWriter {
             bytes: Vec::new(alloc),
             most,
@@ -68,12 +68,12 @@ impl FailingWriter {
         }
     }
 
-    pub fn bytes(&self) -> &[u8] {
+    pub(crate) fn bytes(&self) -> &[u8] {
         &self.bytes
     }
 
     /// How often it was called.
-    pub fn calls(&self) -> usize {
+    pub(crate) fn calls(&self) -> usize {
         self.calls
     }
 
@@ -101,20 +101,20 @@ impl Write for FailingWriter {
 
 /// Is interrupted at each call that follows none or one that was not.
 #[derive(Drop)]
-pub struct Interrupted<S> {
+pub(crate) struct Interrupted<S> {
     stream: S,
     is_next: bool,
 }
 
 impl<S> Interrupted<S> {
-    pub fn new(stream: S) -> Interrupted<S> {
+    pub(crate) fn new(stream: S) -> Interrupted<S> {
         Interrupted {
             stream,
             is_next: true,
         }
     }
 
-    pub fn stream(&self) -> &S {
+    pub(crate) fn stream(&self) -> &S {
         &self.stream
     }
 }
