@@ -24,8 +24,8 @@ RUNS = 5
 
 def saved(rows):
     """Partitions of 39,000 records each, stopped at a checkpoint, with some of each kind of count."""
-    row = lambda lo: [lo, lo + 39_000, lo + 12_345, lo + 12_400, 37, 12_100, 12_340, 12_100, 131, 41, 5, 140, 100, 0, "waiting"]
-    return {"rows": [row(39_000 * place) for place in range(rows)], "step": "pay", "version": 1}
+    row = lambda lo: [lo, lo + 39_000, lo + 12_345, lo + 12_400, 37, 12_100, 12_340, 12_100, 131, 41, 5, 140, 100, 0, 12, "waiting"]
+    return {"rows": [row(39_000 * place) for place in range(rows)], "step": "pay", "version": 2}
 
 
 def least(program, path, way, times):

@@ -8,6 +8,10 @@ import json
 
 MOST = 2**64
 MOST_ROLLBACKS = 1_000_000_000_000
+MOST_REPEATS = 1_000_000_000_000
+ROOM_FOR_REPEATS = 100_000  # at most as many as a chunk may have
+VERSION = 2  # of the saved texts that are written
+NUMBERS = {1: 14, 2: 15}  # of a row, by the version of the saved text
 
 
 class Refused(Exception):
@@ -189,18 +193,19 @@ class Chunk:
     retry_limit: int
     skippable: set
     retryable: set
+    no_rollback: set
 
 
 def chunk_of(declared):
     def read(field, tree):
-        keys = ["item-count", "skip-limit", "retry-limit", "skippable-exception-classes", "retryable-exception-classes"]
+        class_keys = [f"{kind}-exception-classes" for kind in ("skippable", "retryable", "no-rollback")]
+        keys = ["item-count", "skip-limit", "retry-limit", *class_keys]
         given = fields(field, keys, tree)
         return Chunk(
             optional(given, keys[0], lambda f, t: number(1, 1_000_000, f, t), 10),
             optional(given, keys[1], lambda f, t: number(0, 10_000_000, f, t)),
             optional(given, keys[2], lambda f, t: number(0, 100_000, f, t), 1_000),
-            optional(given, keys[3], class_set(declared), set()),
-            optional(given, keys[4], class_set(declared), set()),
+            *[optional(given, key, class_set(declared), set()) for key in class_keys],
         )
 
     return read
@@ -298,7 +303,7 @@ def saved_if(is_right, place):
 
 def is_sound(row):
     """The rules that each row keeps."""
-    lo, hi, at, redo, retries, written, read, write, commit, rollback, read_skip, process_skip, filtered, write_skip, state = row
+    lo, hi, at, redo, retries, written, read, write, commit, rollback, read_skip, process_skip, filtered, write_skip, in_place, state = row
     results = write + process_skip + filtered
     return (
         lo <= at <= hi <= 10_000_000
@@ -308,7 +313,9 @@ def is_sound(row):
         and write == written
         and (results == read if write_skip == 0 else results <= read)
         and max(write_skip, int(at > lo)) <= commit <= at - lo
-        and retries <= rollback <= MOST_ROLLBACKS
+        and in_place <= retries <= rollback + in_place
+        and rollback <= MOST_ROLLBACKS
+        and in_place <= MOST_REPEATS
     )
 
 
@@ -316,20 +323,28 @@ def share_a_record(one, other):
     return max(one[0], other[0]) < min(one[1], other[1])
 
 
-def is_row(tree):
-    numbers = isinstance(tree, list) and len(tree) == 15 and all(type(each) is int for each in tree[:14])
-    return numbers and isinstance(tree[14], str) and tree[14] in ("waiting", "done", "failed")
+def is_row(numbers, tree):
+    """Whether it is a list of so many numbers and a state."""
+    has_numbers = isinstance(tree, list) and len(tree) == numbers + 1 and all(type(each) is int for each in tree[:-1])
+    return has_numbers and isinstance(tree[-1], str) and tree[-1] in ("waiting", "done", "failed")
+
+
+def row_of(version, row):
+    """The row as version 2 lists it: in version 1 no call was repeated in place."""
+    return [*row[:-1], 0, row[-1]] if version == 1 else row
 
 
 def saved_of(_, tree):
     """The step's id and the rows of a saved object."""
     saved_if(isinstance(tree, dict), "Shape")
     version = tree.get("version")
-    saved_if(type(version) is not int or version == 1, "Version")
+    saved_if(type(version) is not int or version in NUMBERS, "Version")
     saved_if(type(version) is int and tree.keys() == {"rows", "step", "version"}, "Shape")
     rows, step = tree["rows"], tree["step"]
     saved_if(isinstance(step, str) and 1 <= len(step.encode()) <= 64, "Shape")
-    saved_if(isinstance(rows, list) and 1 <= len(rows) <= 256 and all(map(is_row, rows)), "Shape")
+    saved_if(isinstance(rows, list) and 1 <= len(rows) <= 256, "Shape")
+    saved_if(all(is_row(NUMBERS[version], row) for row in rows), "Shape")
+    rows = [row_of(version, row) for row in rows]
     for place, row in enumerate(rows):
         saved_if(is_sound(row) and not any(share_a_record(row, earlier) for earlier in rows[:place]), f"Rows({place})")
     return step, rows
@@ -404,12 +419,12 @@ class Partition:
         self.faults = [{record: (kind, list(names)) for record, (kind, names) in plan.items()} for plan in data[3]]
         self.lo, self.hi = range_
         self.at = self.redo = self.lo
-        self.retries, self.outputs, self.failed = 0, [], False
+        self.retries, self.in_place, self.outputs, self.failed = 0, 0, [], False
         self.counts = dict.fromkeys(METRICS, 0)
 
     def go_on(self, row, texts):
         """Stands where the saved row says; a failed partition waits again."""
-        _, _, self.at, self.redo, self.retries, written, *counts, _ = row
+        _, _, self.at, self.redo, self.retries, written, *counts, self.in_place, _ = row
         self.counts = dict(zip(METRICS, counts))
         self.outputs = texts[:written]
         return self
@@ -417,12 +432,13 @@ class Partition:
     def row(self):
         state = "failed" if self.failed else "done" if self.at == self.hi else "waiting"
         places = [self.lo, self.hi, self.at, self.redo, self.retries, len(self.outputs)]
-        return [*places, *(self.counts[name] for name in METRICS), state]
+        return [*places, *(self.counts[name] for name in METRICS), self.in_place, state]
 
     def choice(self, class_, skips):
         can_skip = class_ in self.chunk.skippable and (self.chunk.skip_limit is None or skips < self.chunk.skip_limit)
         can_retry = class_ in self.chunk.retryable and self.retries < self.chunk.retry_limit
-        order = [("skip", can_skip), ("retry", can_retry)] if self.at < self.redo else [("retry", can_retry), ("skip", can_skip)]
+        retry = "repeat" if class_ in self.chunk.no_rollback else "retry"
+        order = [("skip", can_skip), (retry, can_retry)] if self.at < self.redo else [(retry, can_retry), ("skip", can_skip)]
         return next((choice for choice, is_open in order if is_open), "fail")
 
     def chunks_left(self):
@@ -449,45 +465,49 @@ class Partition:
             self.counts[name] += delta[name]
         return True
 
-    def skipped(self, fault, delta):
-        """None where the fault is skipped, else what becomes of the chunk."""
+    def called(self, plan, records, delta):
+        """Makes a call on these records, and makes it again where its fault is to be repeated in place. None where it went well in
+        the end, else what becomes of its last fault: 'skip', 'retry' or 'fail'."""
         skips = sum(counts[name] for counts in (self.counts, delta) for name in ("READ_SKIP", "PROCESS_SKIP", "WRITE_SKIP"))
-        choice = self.choice(fault.args[0], skips)
-        return None if choice == "skip" else choice
+        while True:
+            try:
+                for record in records:
+                    strike(plan, record)
+                return None
+            except Fault as fault:
+                choice = self.choice(fault.args[0], skips)
+            if choice != "repeat":
+                return choice
+            self.retries += 1
+            self.in_place += 1
 
     def block(self, end, delta):
+        """None where the chunk is to be committed, else 'retry' or 'fail'."""
         results = []
         for record in range(self.at, end):
-            metric = "READ_SKIP"
-            try:
-                strike(self.faults[0], record)
+            metric, ended = "READ_SKIP", self.called(self.faults[0], [record], delta)
+            if ended is None:
                 delta["READ"] += 1
-                metric = "PROCESS_SKIP"
-                strike(self.faults[1], record)
-            except Fault as fault:
-                ended = self.skipped(fault, delta)
-                if ended is not None:
-                    return ended
+                metric, ended = "PROCESS_SKIP", self.called(self.faults[1], [record], delta)
+            if ended == "skip":
                 delta[metric] += 1
-                continue
-            if self.drop is not None and self.records[record].encode().startswith(self.drop.encode()):
+            elif ended is not None:
+                return ended
+            elif self.drop is not None and self.records[record].encode().startswith(self.drop.encode()):
                 delta["FILTER"] += 1
             else:
                 results.append((record, self.prefix + self.records[record]))
         return self.write(results, delta)
 
     def write(self, results, delta):
-        try:
-            for record, _ in results:
-                strike(self.faults[2], record)
-        except Fault as fault:
-            ended = self.skipped(fault, delta)
-            if ended is None:
-                delta["WRITE_SKIP"] += 1
-            return ended
-        delta["WRITE"] = len(results)
-        self.outputs += [result for _, result in results]
-        return None
+        ended = self.called(self.faults[2], [record for record, _ in results], delta)
+        if ended == "skip":
+            delta["WRITE_SKIP"] += 1
+            return None
+        if ended is None:
+            delta["WRITE"] = len(results)
+            self.outputs += [result for _, result in results]
+        return ended
 
 
 # ---- a step, in rounds
@@ -539,7 +559,7 @@ class Step:
 
     def attempt(self, partition):
         task, heard = self.tasks[partition], self.heard[partition]
-        if task.counts["ROLLBACK"] == MOST_ROLLBACKS:
+        if task.counts["ROLLBACK"] == MOST_ROLLBACKS or task.in_place > MOST_REPEATS - ROOM_FOR_REPEATS:
             raise Broken(f"repository {len(self.tasks)}")
         committed = task.attempt()
         if committed:
@@ -559,7 +579,7 @@ class Step:
             "outputs": [task.outputs for task in self.tasks],
             "plans": self.plans,
             "reducer": ["begin", "before", "after COMMIT"] if completed else ["begin", "rollback", "after ROLLBACK"],
-            "saved": {"rows": [task.row() for task in self.tasks], "step": name, "version": 1},
+            "saved": {"rows": [task.row() for task in self.tasks], "step": name, "version": VERSION},
             "status": self.status(),
             "step": name,
         }

@@ -7,6 +7,10 @@
 //!
 //! A fault that can't be foretold from the artifact's value, as a file's or a database's, has no answer here but `Memory`:
 //! what may fail so is read first, outside the step, and then served (docs/ARTIFACTS.md).
+//!
+//! A call that answered a fault may be made again at once: a read after `open_at` of the same record, a process call with
+//! the same item, a write of the same results after `open_at` of the count before it. Its answer is that of the plan as it
+//! then stands.
 
 ghost use Rattle.std.specs.Prelude.{◌≡◌, ◌≤◌, ◌<◌, ℕ, List, length, Some, None, slice_get, option_copied, IfOk, OnOk};
 ghost use Rattle.jb_artifacts.specs.declared.view.RowView.{RowView};

@@ -3,28 +3,27 @@ use Rattle.std.proofs.Common.{◌≡◌, ℕ, ◌-◌, ◌≤◌, inl, inr, Bool
 use Rattle.std.specs.List.{range_with_len, find}
 use Rattle.jb_job.specs.declared.class.ClassId.{ClassId}
 use Rattle.jb_job.specs.Records.{RulesRecord}
-use Rattle.jb_rules.specs.declared.choice.Choice.{Choice}
-use Rattle.jb_rules.specs.declared.choice.Choice.TheVariants.{Skip, Retry, Fail}
+use Rattle.jb_rules.specs.Decide.{retry_open}
 use Rattle.jb_rules.specs.declared.row.Row.{Row}
 use Rattle.jb_rules.specs.Counts.{IsDelta}
 use Rattle.jb_artifacts.specs.Writer.{Writer, Numbered, write_fault}
 use Rattle.jb_artifacts.specs.Meaning.{Workplace}
-use Rattle.jb_chunk.specs.declared.end.End.TheVariants.{Unwritten}
-use Rattle.jb_chunk.specs.Attempt.{Trial, tally_of, counts_written, counts_unwritten, end_of, end_after, end_at, end_by, settled_at, found_in}
+use Rattle.jb_chunk.specs.declared.end.End.TheVariants.{Unwritten, Rolled, Failed}
+use Rattle.jb_chunk.specs.Attempt.{Trial, tally_of, counts_written, counts_unwritten, end_of, end_after, end_at, settled_at, found_in}
 use Rattle.jb_chunk.specs.Block.{entry, settles, settling, stops, skips_before, choice_at, is_skip}
 use Rattle.jb_chunk.specs.Entries.{fault_in}
 use Rattle.jb_chunk.proofs.Counting.{all-counted}
 
 -- A SKIPPED WRITE CALL HAD RESULTS
 
-choice-stops : (choice : Choice) (class : ClassId) → not (is_skip choice) ≡ true → end_by choice class ≡ Unwritten → ⊥
-choice-stops Skip class h e = absurd cc
-choice-stops Retry class h e = absurd cc
-choice-stops Fail class h e = absurd cc
+end-stops : (skipped opened : Bool) (class : ClassId) → not skipped ≡ true → cond skipped Unwritten (cond opened (Rolled class) (Failed class)) ≡ Unwritten → ⊥
+end-stops true opened class h e = absurd cc
+end-stops false true class h e = absurd cc
+end-stops false false class h e = absurd cc
 
 fault-stops : (rules : RulesRecord) (row : Row) (fault : Option ClassId) (skips : ℕ) → stops rules row fault skips ≡ true → end_at rules row fault skips ≡ Unwritten → ⊥
 fault-stops rules row None skips h e = absurd cc
-fault-stops rules row (Some class) skips h e = choice-stops (choice_at rules row class skips) class h e
+fault-stops rules row (Some class) skips h e = end-stops (is_skip (choice_at rules row class skips)) (retry_open rules class row.retries) class h e
 
 abbrev value_or : ℕ → Option ℕ → ℕ
 value_or n None = n

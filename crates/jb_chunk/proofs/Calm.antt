@@ -61,7 +61,7 @@ sound-settles : (rules : RulesRecord) (row : Row) (w : Workplace) (k : ℕ) → 
 unfolding settles
 sound-settles rules row w k e = ap (λ o. stops rules row o (skips_before row w k)) (ap fault_in e ∙ sound-fault (answer_at w k))
 
-find-idle : (p : ℕ → Bool) (n lo : ℕ) → ((k : ℕ) → lo ≤ k → k < lo + n → p k ≡ false) → find p (range_with_len lo n) ≡ None
+pub find-idle : (p : ℕ → Bool) (n lo : ℕ) → ((k : ℕ) → lo ≤ k → k < lo + n → p k ≡ false) → find p (range_with_len lo n) ≡ None
 find-idle p zero lo idle = refl
 find-idle p (suc n) lo idle =
     ap (λ b. cond b (Some lo) (find p (range_with_len (lo + 1) n))) (idle lo (omega arith) (omega arith))

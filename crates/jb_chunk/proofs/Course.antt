@@ -1,22 +1,30 @@
 -- What an attempt keeps of a task, and how it takes its row further.
-use Rattle.std.proofs.Common.{◌≡◌, ℕ, ◌≤◌, ◌<◌, Bool, true, false, cond, ◌∷◌, length, length-append, refl, ap, sym, subst, arith}
+use Rattle.std.proofs.Common.{◌≡◌, ℕ, ◌+◌, ◌-◌, ◌≤◌, ◌<◌, Bool, true, false, cond, ◌∷◌, length, length-append, refl, ap, sym, ◌∙◌, subst, arith}
 use Rattle.std.specs.Prelude.{◌==◌}
 use Rattle.std.proofs.lemmas.Bool.Decides.{nat_tests}
-use Rattle.jb_plan.specs.Blocks.{ChunksFollow}
+use Rattle.jb_plan.specs.Blocks.{blocks, ChunksFollow}
 use Rattle.jb_rules.specs.declared.counts.Counts.{Counts}
 use Rattle.jb_rules.specs.declared.row.RowState.{RowState}
 use Rattle.jb_rules.specs.declared.row.RowState.TheVariants as state
-use Rattle.jb_job.specs.Limits.{max_rollbacks}
+use Rattle.jb_job.specs.Limits.{max_rollbacks, max_in_place}
+use Rattle.jb_job.specs.declared.job.Range.{Range}
+use Rattle.jb_rules.specs.declared.row.Row.{Row}
+use Rattle.jb_rules.specs.Counts.{IsDelta}
+use Rattle.jb_rules.specs.Rows.{repeated_row, committed_row, rolled_row, failed_row}
 use Rattle.jb_rules.specs.Laws.{RowsStaySound}
+use Rattle.jb_artifacts.specs.Reader.{Reader}
+use Rattle.jb_artifacts.specs.Writer.{Writer}
 use Rattle.jb_chunk.specs.declared.end.End.{End}
 use Rattle.jb_chunk.specs.declared.end.End.TheVariants.{Written, Unwritten, Rolled, Failed}
 use Rattle.jb_chunk.specs.declared.outcome.Outcome.{Outcome}
 use Rattle.jb_chunk.specs.declared.outcome.Outcome.TheVariants as outcome
-use Rattle.jb_chunk.specs.Alone.{attempts_left}
-use Rattle.jb_chunk.specs.Attempt.{Ending, trial_of, block_of, end_of, found_in, attempt_of, ending_by, work_with, IsAttemptBy}
+use Rattle.jb_chunk.specs.Alone.{is_rolled, retries_left, attempts_left}
+use Rattle.jb_chunk.specs.Entries.{one_if}
+use Rattle.jb_chunk.specs.Attempt.{Ending, trial_of, block_of, task_after_repeats, again_of, tally_of, counts_written, counts_unwritten, end_of, found_in, attempt_of, ending_by, work_with, IsAttemptBy}
 use Rattle.jb_chunk.specs.Laws.{blocks_of, IsStepOfLife, RowsLiveOn}
 use Rattle.jb_chunk.specs.Standing.{TaskState, IsReady, HasItemCount}
 use Rattle.jb_chunk.proofs.Adding.{written-delta, unwritten-delta}
+use Rattle.jb_chunk.proofs.Bridging.{after_repeats-row, after_repeats-block, after_repeats-work, after_repeats-left, after_repeats-in_place, after_repeats-ready}
 use Rattle.jb_chunk.proofs.Leaving.{length-texts, ready-by}
 use Rattle.jb_chunk.proofs.Running.{block-in, rolled-below, left-waiting}
 
@@ -56,9 +64,9 @@ HasBlock t = (t.row.at < (block_of t).hi) × ((block_of t).hi ≤ t.row.hi)
 abbrev pub Goes : TaskState → TaskState → Type 0
 Goes t s = IsOnCourse s × (s.row.state ≡ state.Waiting → attempts_left s < attempts_left t)
 
-course-by : (t : TaskState) (e : End) → end_of (trial_of t) ≡ e → IsOnCourse t → HasBlock t → Goes t (ending_by t e).task
+course-by : (t : TaskState) (again : ℕ) (e : End) → end_of (trial_of t) ≡ e → IsOnCourse t → HasBlock t → Goes t (ending_by t again e).task
 unfolding work_with
-course-by t Written is on b =
+course-by t again Written is on b =
     let lt = b.0 in
     let le = b.1 in
     let count = on.count in
@@ -73,7 +81,7 @@ course-by t Written is on b =
       },
       λ w. omega (arith, lt, le),
     )
-course-by t Unwritten is on b =
+course-by t again Unwritten is on b =
     let lt = b.0 in
     let le = b.1 in
     let count = on.count in (
@@ -87,7 +95,7 @@ course-by t Unwritten is on b =
       },
       λ w. omega (arith, lt, le),
     )
-course-by t (Rolled class) is on b =
+course-by t again (Rolled class) is on b =
     let le = b.1 in
     let redo = on.redo_to in
     let left : t.row.at < t.row.hi = let lt = b.0 in omega (arith, lt, le) in
@@ -102,7 +110,7 @@ course-by t (Rolled class) is on b =
       },
       λ w. omega (arith, below),
     )
-course-by t (Failed class) is on b = (
+course-by t again (Failed class) is on b = (
   record {
     at_to = on.at_to;
     redo_to = on.redo_to;
@@ -114,71 +122,149 @@ course-by t (Failed class) is on b = (
   λ w. absurd (never state.Failed refl w),
 )
 
+-- all repeats leave the task on course
+after_repeats-course : (t : TaskState) → IsOnCourse t → IsOnCourse (task_after_repeats t)
+after_repeats-course t on =
+    let row = after_repeats-row t in
+    let work = after_repeats-work t in
+    let P : Row → Type 0 = λ x. (x.at ≤ x.hi) × (x.redo ≤ x.hi) × (x.state ≡ state.Waiting → x.at < x.hi) in
+    let kept = subst P (sym row) (on.at_to, on.redo_to, on.some_left) in
+    record {
+      at_to = kept.0;
+      redo_to = kept.1;
+      item_counted = on.item_counted;
+      some_left = kept.2;
+      place = ap (λ (r : Reader). r.place) work.reader ∙ on.place ∙ sym (ap (λ (x : Row). x.at) row);
+      count = ap (λ (r : Writer). length r.written) work.writer ∙ on.count ∙ sym (ap (λ (x : Row). x.written) row);
+    }
+
+after_repeats-waits : (t : TaskState) → t.row.state ≡ state.Waiting → (task_after_repeats t).row.state ≡ state.Waiting
+after_repeats-waits t waiting = ap (λ (x : Row). x.state) (after_repeats-row t) ∙ waiting
+
+has-block : ChunksFollow → (t : TaskState) → IsOnCourse t → t.row.state ≡ state.Waiting → HasBlock t
+has-block law t on waiting = block-in law t (on.some_left waiting) on.redo_to on.item_counted
+
 pub course-next : ChunksFollow → (t : TaskState) → IsOnCourse t → t.row.state ≡ state.Waiting → Goes t (attempt_of t).task
-course-next law t on waiting = course-by t (end_of (trial_of t)) refl on (block-in law t (on.some_left waiting) on.redo_to on.item_counted)
+course-next law t on waiting =
+    let s = task_after_repeats t in
+    let there = after_repeats-course t on in
+    let goes = course-by s (again_of t) (end_of (trial_of s)) refl there (has-block law s there (after_repeats-waits t waiting)) in
+    let left = after_repeats-left t in
+    let at = ap (λ (x : Row). x.at) (after_repeats-row t) in
+    let hi = ap (λ (x : Row). x.hi) (after_repeats-row t) in
+    (goes.0, λ w. (let fewer = goes.1 w in omega (arith, fewer, left, at, hi)))
+
+-- RETRIES
+
+-- a rollback is a retry, and no other end is
+pub retry-by : (t : TaskState) (again : ℕ) (e : End) → end_of (trial_of t) ≡ e → let x = ending_by t again e in (x.task.row.retries ≡ t.row.retries + one_if (is_rolled x.outcome)) × (one_if (is_rolled x.outcome) + retries_left x.task ≡ retries_left t)
+retry-by t again Written is = (omega arith, omega arith)
+retry-by t again Unwritten is = (omega arith, omega arith)
+retry-by t again (Rolled class) is = let below = rolled-below (trial_of t) class is in (refl, omega (arith, below))
+retry-by t again (Failed class) is = (omega arith, omega arith)
 
 -- READY
 
 -- no attempt takes a rollback back
-rolled-by : (t : TaskState) (e : End) → t.row.counts.rollback ≤ (ending_by t e).task.row.counts.rollback
-rolled-by t Written = omega arith
-rolled-by t Unwritten = omega arith
-rolled-by t (Rolled class) = omega arith
-rolled-by t (Failed class) = omega arith
+rolled-by : (t : TaskState) (again : ℕ) (e : End) → t.row.counts.rollback ≤ (ending_by t again e).task.row.counts.rollback
+rolled-by t again Written = omega arith
+rolled-by t again Unwritten = omega arith
+rolled-by t again (Rolled class) = omega arith
+rolled-by t again (Failed class) = omega arith
 
 pub rollbacks-rise : (t : TaskState) → t.row.counts.rollback ≤ (attempt_of t).task.row.counts.rollback
-rollbacks-rise t = rolled-by t (end_of (trial_of t))
+rollbacks-rise t =
+    let s = task_after_repeats t in
+    let same = ap (λ (x : Row). x.counts.rollback) (after_repeats-row t) in
+    let more = rolled-by s (again_of t) (end_of (trial_of s)) in
+    omega (arith, same, more)
 
-ready-end : RowsStaySound → (t : TaskState) (e : End) → end_of (trial_of t) ≡ e → IsReady t → HasBlock t → (ending_by t e).task.row.counts.rollback ≤ max_rollbacks → IsReady (ending_by t e).task
-ready-end stay t Written is ready b room =
+-- nor a repeat
+repeated-by : (t : TaskState) (again : ℕ) (e : End) → (ending_by t again e).task.row.in_place ≡ t.row.in_place
+repeated-by t again Written = refl
+repeated-by t again Unwritten = refl
+repeated-by t again (Rolled class) = refl
+repeated-by t again (Failed class) = refl
+
+pub repeats-grow : (t : TaskState) → (attempt_of t).task.row.in_place ≡ t.row.in_place + again_of t
+repeats-grow t = repeated-by (task_after_repeats t) (again_of t) (end_of (trial_of (task_after_repeats t))) ∙ after_repeats-in_place t
+
+ready-end : RowsStaySound → (t : TaskState) (again : ℕ) (e : End) → end_of (trial_of t) ≡ e → IsReady t → HasBlock t → (ending_by t again e).task.row.counts.rollback ≤ max_rollbacks → IsReady (ending_by t again e).task
+ready-end stay t again Written is ready b room =
     let lt = b.0 in
     let delta = written-delta (trial_of t) (omega (arith, lt)) in
     ready-by t Written (stay.committed t.row (block_of t).hi _ ready.sound b.0 b.1 delta) ready
-ready-end stay t Unwritten is ready b room =
+ready-end stay t again Unwritten is ready b room =
     let lt = b.0 in
     let delta = unwritten-delta (trial_of t) (omega (arith, lt)) is in
     ready-by t Unwritten (stay.committed t.row (block_of t).hi _ ready.sound b.0 b.1 delta) ready
-ready-end stay t (Rolled class) is ready b room =
+ready-end stay t again (Rolled class) is ready b room =
     let le = b.1 in
     ready-by t (Rolled class) (stay.rolled t.row (block_of t).hi ready.sound le (omega (arith, room))) ready
-ready-end stay t (Failed class) is ready b room =
+ready-end stay t again (Failed class) is ready b room =
     let lt = b.0 in
     let le = b.1 in
     ready-by t (Failed class) (stay.failed t.row ready.sound (omega (arith, lt, le)) (omega (arith, room))) ready
 
-pub ready-next : ChunksFollow → RowsStaySound → (t : TaskState) → IsReady t → t.row.state ≡ state.Waiting → (attempt_of t).task.row.counts.rollback ≤ max_rollbacks → IsReady (attempt_of t).task
-ready-next law stay t ready waiting room =
-    ready-end stay t (end_of (trial_of t)) refl ready (block-in law t (left-waiting t.row ready.sound waiting) ready.sound.placed.redo_to ready.item_counted) room
+pub ready-next : ChunksFollow → RowsStaySound → (t : TaskState) → IsReady t → t.row.state ≡ state.Waiting → (attempt_of t).task.row.counts.rollback ≤ max_rollbacks → (attempt_of t).task.row.in_place ≤ max_in_place → IsReady (attempt_of t).task
+ready-next law stay t ready waiting room repeats =
+    let s = task_after_repeats t in
+    let grown = repeats-grow t in
+    let there = after_repeats-ready stay t ready (omega (arith, repeats, grown)) in
+    ready-end stay s (again_of t) (end_of (trial_of s)) refl there (has-block law s (ready-course s there) (after_repeats-waits t waiting)) room
 
 -- STEPS
 
-taken-by : ChunksFollow → (t : TaskState) (e : End) (delta : Counts) → IsOnCourse t → t.row.at < t.row.hi → (ending_by t e).outcome ≡ outcome.Committed delta → blocks_of t ≡ block_of t ∷ blocks_of (ending_by t e).task
-taken-by law t Written delta on lt o = (law.next t.row.at t.row.redo t.row.hi t.item_count lt on.redo_to on.item_counted.some).others
-taken-by law t Unwritten delta on lt o = (law.next t.row.at t.row.redo t.row.hi t.item_count lt on.redo_to on.item_counted.some).others
-taken-by law t (Rolled class) delta on lt o = absurd cc
-taken-by law t (Failed class) delta on lt o = absurd cc
+taken-by : ChunksFollow → (t : TaskState) (again : ℕ) (e : End) (delta : Counts) → IsOnCourse t → t.row.at < t.row.hi → (ending_by t again e).outcome ≡ outcome.Committed delta → blocks_of t ≡ block_of t ∷ blocks_of (ending_by t again e).task
+taken-by law t again Written delta on lt o = (law.next t.row.at t.row.redo t.row.hi t.item_count lt on.redo_to on.item_counted.some).others
+taken-by law t again Unwritten delta on lt o = (law.next t.row.at t.row.redo t.row.hi t.item_count lt on.redo_to on.item_counted.some).others
+taken-by law t again (Rolled class) delta on lt o = absurd cc
+taken-by law t again (Failed class) delta on lt o = absurd cc
 
 pub one-chunk : ChunksFollow → (t : TaskState) (delta : Counts) → IsOnCourse t → t.row.state ≡ state.Waiting → (attempt_of t).outcome ≡ outcome.Committed delta → blocks_of t ≡ block_of t ∷ blocks_of (attempt_of t).task
-one-chunk law t delta on waiting o = taken-by law t (end_of (trial_of t)) delta on (on.some_left waiting) o
+one-chunk law t delta on waiting o =
+    let s = task_after_repeats t in
+    let there = after_repeats-course t on in
+    let taken = taken-by law s (again_of t) (end_of (trial_of s)) delta there (there.some_left (after_repeats-waits t waiting)) o in
+    ap (λ (x : Row). blocks x.at x.redo x.hi t.item_count) (sym (after_repeats-row t))
+    ∙ taken
+    ∙ ap (λ b. b ∷ blocks_of (attempt_of t).task) (after_repeats-block t)
 
-step-by : (t : TaskState) (e : End) → end_of (trial_of t) ≡ e → t.row.at ≤ (block_of t).hi → IsStepOfLife (ending_by t e).outcome t.row (block_of t).hi (ending_by t e).task.row
-step-by t Written is le = (written-delta (trial_of t) le, refl)
-step-by t Unwritten is le = (unwritten-delta (trial_of t) le is, refl)
-step-by t (Rolled class) is le = refl
-step-by t (Failed class) is le = refl
+-- an ending tells how many calls were repeated
+again-by : (t : TaskState) (again : ℕ) (e : End) → (ending_by t again e).again ≡ again
+again-by t again Written = refl
+again-by t again Unwritten = refl
+again-by t again (Rolled class) = refl
+again-by t again (Failed class) = refl
 
-attempted-step : ChunksFollow → (t : TaskState) (e : Ending) → IsReady t → t.row.state ≡ state.Waiting → e ≡ attempt_of t → IsStepOfLife e.outcome t.row (block_of t).hi e.task.row
+pub again-in : (t : TaskState) (e : End) → (ending_by (task_after_repeats t) (again_of t) e).again ≡ again_of t
+again-in t e = again-by (task_after_repeats t) (again_of t) e
+
+step-by : (t : TaskState) (again : ℕ) (e : End) (row : Row) → end_of (trial_of t) ≡ e → t.row.at ≤ (block_of t).hi → t.row ≡ repeated_row row again → IsStepOfLife (ending_by t again e).outcome again row (block_of t).hi (ending_by t again e).task.row
+step-by t again Written row is le grown = (subst (λ (x : Row). IsDelta ((block_of t).hi - x.at) (counts_written (tally_of (trial_of t)))) grown (written-delta (trial_of t) le), ap (λ x. committed_row x (block_of t).hi (counts_written (tally_of (trial_of t)))) grown)
+step-by t again Unwritten row is le grown = (subst (λ (x : Row). IsDelta ((block_of t).hi - x.at) (counts_unwritten (tally_of (trial_of t)))) grown (unwritten-delta (trial_of t) le is), ap (λ x. committed_row x (block_of t).hi (counts_unwritten (tally_of (trial_of t)))) grown)
+step-by t again (Rolled class) row is le grown = ap (λ x. rolled_row x (block_of t).hi) grown
+step-by t again (Failed class) row is le grown = ap failed_row grown
+
+attempted-step : ChunksFollow → (t : TaskState) (e : Ending) → IsReady t → t.row.state ≡ state.Waiting → e ≡ attempt_of t → IsStepOfLife e.outcome e.again t.row (block_of t).hi e.task.row
 attempted-step law t e ready waiting is =
-    let b = block-in law t (left-waiting t.row ready.sound waiting) ready.sound.placed.redo_to ready.item_counted in
+    let s = task_after_repeats t in
+    let there = after_repeats-course t (ready-course t ready) in
+    let b = has-block law s there (after_repeats-waits t waiting) in
     let lt = b.0 in
-    subst (λ (x : Ending). IsStepOfLife x.outcome t.row (block_of t).hi x.task.row) (sym is) (step-by t (end_of (trial_of t)) refl (omega (arith, lt)))
+    let step = step-by s (again_of t) (end_of (trial_of s)) t.row refl (omega (arith, lt)) (after_repeats-row t) in
+    let hi = ap (λ (x : Range). x.hi) (after_repeats-block t) in
+    let here = subst (λ h. IsStepOfLife (attempt_of t).outcome (again_of t) t.row h (attempt_of t).task.row) hi step in
+    let counted = again-in t (end_of (trial_of s)) in
+    let whole = subst (λ n. IsStepOfLife (attempt_of t).outcome n t.row (block_of t).hi (attempt_of t).task.row) (sym counted) here in
+    subst (λ (x : Ending). IsStepOfLife x.outcome x.again t.row (block_of t).hi x.task.row) (sym is) whole
 
-rows-by : ChunksFollow → (t : TaskState) (e : Ending) (o : Outcome) → o ≡ e.outcome → IsReady t → t.row.state ≡ state.Waiting → IsAttemptBy o t e → IsStepOfLife e.outcome t.row (block_of t).hi e.task.row
+rows-by : ChunksFollow → (t : TaskState) (e : Ending) (o : Outcome) → o ≡ e.outcome → IsReady t → t.row.state ≡ state.Waiting → IsAttemptBy o t e → IsStepOfLife e.outcome e.again t.row (block_of t).hi e.task.row
 rows-by law t e (outcome.Committed d) h ready waiting is = attempted-step law t e ready waiting is
 rows-by law t e (outcome.Rolled class) h ready waiting is = attempted-step law t e ready waiting is
 rows-by law t e (outcome.Failed class) h ready waiting is = attempted-step law t e ready waiting is
 rows-by law t e outcome.NoMemory h ready waiting is =
-    subst (λ (o : Outcome). IsStepOfLife o t.row (block_of t).hi e.task.row) h (ap (λ (s : TaskState). s.row) is.1.task)
+    subst (λ (o : Outcome). IsStepOfLife o e.again t.row (block_of t).hi e.task.row) h (ap (λ (s : TaskState). s.row) is.2.task)
 
 pub rows-live-on : ChunksFollow → RowsLiveOn
 rows-live-on law t e ready waiting is = rows-by law t e e.outcome refl ready waiting is

@@ -26,7 +26,7 @@ state_send = search sendable depth 20
 
 row_send : IsSend (Row.the_field).row
 row_send = struct_send (shape Row.the_type)
-    (search sendable, (search sendable, (search sendable, (search sendable, (search sendable, (search sendable, (counts_send, (state_send, tt))))))))
+    (search sendable, (search sendable, (search sendable, (search sendable, (search sendable, (search sendable, (counts_send, (search sendable, (state_send, tt)))))))))
 
 -- the boxes of a reader, a processor, a writer and a collector, each with what it may hold
 module _ (R P W C : RattleType) (gr : object.Ghosts R.Denot) (gp : object.Ghosts P.Denot) (gw : object.Ghosts W.Denot) (gc : object.Ghosts C.Denot)

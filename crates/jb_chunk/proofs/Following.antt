@@ -15,13 +15,14 @@ use Rattle.jb_artifacts.specs.Faults.{Plans, live}
 use Rattle.jb_artifacts.specs.Writer.{fault_of, used_for}
 use Rattle.jb_artifacts.specs.Meaning.{Workplace}
 use Rattle.jb_chunk.specs.declared.end.End.TheVariants.{Written}
-use Rattle.jb_chunk.specs.Attempt.{Trial, trial_of, block_of, end_of, end_after, end_at, found_in, work_with, Ending, ending_by, attempt_of}
+use Rattle.jb_chunk.specs.Attempt.{Trial, trial_of, block_of, after_repeats, again_of, asks_repeat, fault_at, skips_at, end_of, end_after, end_at, found_in, work_with, Ending, ending_by, attempt_of}
 use Rattle.jb_chunk.specs.inside.Ends.{delta_by}
-use Rattle.jb_chunk.specs.Block.{count_of, skips_before}
+use Rattle.jb_chunk.specs.Block.{count_of, skips_before, repeats}
 use Rattle.jb_chunk.specs.Entries.{is_read_fault, is_filtered}
 use Rattle.jb_chunk.specs.Plain.{plain_answers, plain_delta, plain_row, plain_outputs, IsCalm, IsPlain}
 use Rattle.jb_chunk.specs.Standing.{TaskState, HasItemCount, IsReady}
 use Rattle.jb_rules.specs.declared.row.RowState.{RowState}
+use Rattle.jb_chunk.proofs.Repeating.{after_repeats-last}
 use Rattle.jb_chunk.proofs.Passing.{between-outside}
 use Rattle.jb_chunk.proofs.Settling.{numbers-split}
 use Rattle.jb_chunk.proofs.Leaving.{length-texts}
@@ -107,6 +108,16 @@ end-calm u le calm =
     ap (end_after u) (calm-settling u.rules u.row u.work u.hi le calm)
     ∙ ap (λ r. end_at u.rules u.row (fault_of u.work.writer.faults r) (skips_before u.row u.work u.hi)) (calm-failing u.work u.row.at u.hi le calm)
 
+-- and asks for no repeat
+asks-calm : (u : Trial) → u.row.at ≤ u.hi → IsCalm u.work u.row.at u.hi → asks_repeat u ≡ false
+unfolding asks_repeat
+asks-calm u le calm =
+    ap (λ s. repeats u.rules u.row (fault_at u s) (skips_at u s)) (calm-settling u.rules u.row u.work u.hi le calm)
+    ∙ ap (λ r. repeats u.rules u.row (fault_of u.work.writer.faults r) (skips_before u.row u.work u.hi)) (calm-failing u.work u.row.at u.hi le calm)
+
+after_repeats-calm : (u : Trial) → u.row.at ≤ u.hi → IsCalm u.work u.row.at u.hi → after_repeats u ≡ u
+after_repeats-calm u le calm = after_repeats-last u (asks-calm u le calm)
+
 found-calm : (u : Trial) → u.row.at ≤ u.hi → IsCalm u.work u.row.at u.hi → length (found_in u) ≡ length (plain_answers u.work u.row.at u.hi)
 found-calm u le calm = sym (length-texts (found_in u)) ∙ ap length (calm-texts u.work u.row.at u.hi le calm)
 
@@ -141,10 +152,12 @@ calm_next t =
 attempted-calm : (t : TaskState) → t.row.at ≤ (block_of t).hi → IsCalm t.work t.row.at (block_of t).hi → (attempt_of t).task ≡ calm_next t
 attempted-calm t le calm =
     let u = trial_of t in
+    let unchanged = ap (λ (v : Trial). record t { row = v.row; work = v.work }) (after_repeats-calm u le calm) in
     let delta = delta-calm u le calm in
     let settled = calm-settling t.rules t.row t.work u.hi le calm in
     let texts = calm-texts t.work t.row.at u.hi le calm in
-    ap (λ e. (ending_by t e).task) (end-calm u le calm)
+    ap (λ v. (ending_by v (again_of t) (end_of (trial_of v))).task) unchanged
+    ∙ ap (λ e. (ending_by t (again_of t) e).task) (end-calm u le calm)
     ∙ (λ i. record t {
       row = committed_row t.row u.hi (delta i);
       work = work_with u (settled i) u.hi (t.work.writer.written ++ texts i);

@@ -1,23 +1,21 @@
 -- What an attempt leaves.
-use Rattle.std.proofs.Common.{◌≡◌, ℕ, ◌+◌, ◌≤◌, ◌<◌, ◌++◌, List, [], ◌∷◌, length, length-append, take, refl, ap, sym, ◌∙◌, arith, ◌⊎◌, inl, inr, Option, Some, None, Bool, true, false, cond, eqb}
+use Rattle.std.proofs.Common.{◌≡◌, ℕ, ◌+◌, ◌≤◌, ◌++◌, List, [], ◌∷◌, length, length-append, take, refl, ap, sym, ◌∙◌, arith, Option, Some, None}
 use Rattle.jb_rules.specs.Sound.{IsSoundRow}
-use Rattle.jb_artifacts.specs.declared.faults.FaultPlan.{FaultPlan}
-use Rattle.jb_artifacts.specs.Faults.{Plans, used, used_at}
 use Rattle.jb_artifacts.specs.Reader.{reader_end, opened}
-use Rattle.jb_artifacts.specs.Writer.{Numbered, texts_of, used_for, failing}
+use Rattle.jb_artifacts.specs.Writer.{Numbered, texts_of, failing}
 use Rattle.jb_artifacts.specs.Meaning.{Workplace}
 use Rattle.jb_chunk.specs.declared.end.End.{End}
 use Rattle.jb_chunk.specs.declared.end.End.TheVariants.{Written, Unwritten, Rolled, Failed}
 use Rattle.jb_chunk.specs.declared.tried.Tried.{Tried}
-use Rattle.jb_chunk.specs.Attempt.{Trial, block_of, found_in, work_with, trial_of, settled_at, read_end, write_plans, IsRestored, ending_of, ending_by, attempt_of}
+use Rattle.jb_chunk.specs.Attempt.{Trial, block_of, found_in, work_with, trial_of, settled_at, read_end, write_plans, IsRestored, task_after_repeats, again_of, ending_of, ending_by, attempt_of}
 use Rattle.jb_chunk.specs.inside.Ends.{work_by, row_by, kept_by, after_end, values_by, outcome_by}
 use Rattle.jb_chunk.specs.Block.{passed, MayBeUsed}
 use Rattle.jb_chunk.specs.Standing.{TaskState, IsReady}
 use Rattle.jb_chunk.specs.inside.Tried.{IsTried}
+use Rattle.jb_chunk.proofs.Repeating.{may-same, may-used_for}
 use Rattle.jb_chunk.proofs.Wearing.{worn-passed}
 use Rattle.jb_chunk.proofs.Within.{read-in, failing-in}
 use Rattle.std.proofs.lemmas.Grind.{common_steps}
-use Rattle.std.proofs.lemmas.Bool.Decides.{nat_tests}
 
 pub length-texts : (xs : Numbered) → length (texts_of xs) ≡ length xs
 length-texts [] = refl
@@ -63,37 +61,21 @@ ready-by t (Failed class) sound r = record {
 }
 
 -- an end leaves the parts that the functions give
-pub parts-of : (t : TaskState) (e : End) → ending_by t e ≡ ending_of (after_end t e) (outcome_by (trial_of t) e) (values_by t e)
-parts-of t Written = refl
-parts-of t Unwritten = refl
-parts-of t (Rolled class) = refl
-parts-of t (Failed class) = refl
+pub parts-of : (t : TaskState) (again : ℕ) (e : End) → ending_by t again e ≡ ending_of (after_end t e) (outcome_by (trial_of t) e) (values_by t e) again
+parts-of t again Written = refl
+parts-of t again Unwritten = refl
+parts-of t again (Rolled class) = refl
+parts-of t again (Failed class) = refl
 
--- a block that was tried to its end is an attempt
-pub tried-attempt : (t : TaskState) (tried : Tried) (values : List (List ℕ)) (after : TaskState) → IsTried (trial_of t) tried after.work → after ≡ record t { row = after.row; work = after.work } → after.row ≡ row_by (trial_of t) tried.end → values ≡ values_by t tried.end → ending_of after (outcome_by (trial_of t) tried.end) values ≡ attempt_of t
-tried-attempt t tried values after done same row collected =
-    let left : after ≡ after_end t tried.end = same ∙ (λ i. record t { row = row i; work = done.left i }) in
-    (λ i. ending_of (left i) (outcome_by (trial_of t) tried.end) (collected i)) ∙ sym (parts-of t tried.end) ∙ ap (ending_by t) done.ended
-
-either : (b : Bool) (p : FaultPlan) → (cond b (used p) p ≡ p) ⊎ (cond b (used p) p ≡ used p)
-either true p = inr refl
-either false p = inl refl
-
-apart : (lo hi j k : ℕ) → (lo ≤ k) × (k < hi) → (j < lo) ⊎ (hi ≤ j) → eqb j k ≡ false
-apart lo hi j k within (inl below) = let from = within.0 in grind (arith, nat_tests)
-apart lo hi j k within (inr past) = let to = within.1 in grind (arith, nat_tests)
-
--- a write uses a plan of the block's records alone
-may-used_for : (plans : Plans) (o : Option (ℕ × List ℕ)) (lo hi : ℕ) → ((r : ℕ × List ℕ) → o ≡ Some r → (lo ≤ r.0) × (r.0 < hi)) → MayBeUsed lo hi plans (used_for plans o)
-unfolding used_at
-may-used_for plans None lo hi within = record { each = λ k. inl refl; others = λ k out. refl }
-may-used_for plans (Some r) lo hi within = record {
-  each = λ j. either (eqb j r.0) (plans j);
-  others = λ j out. ap (λ b. cond b (used (plans j)) (plans j)) (apart lo hi j r.0 (within r refl) out);
-}
+-- a task whose block, after all its repeats, was tried to its end was attempted
+pub tried-attempt : (t : TaskState) (tried : Tried) (values : List (List ℕ)) (again : ℕ) (after : TaskState) → let s = task_after_repeats t in IsTried (trial_of s) tried after.work → after ≡ record s { row = after.row; work = after.work } → after.row ≡ row_by (trial_of s) tried.end → values ≡ values_by s tried.end → again ≡ again_of t → ending_of after (outcome_by (trial_of s) tried.end) values again ≡ attempt_of t
+tried-attempt t tried values again after done same row collected is =
+    let s = task_after_repeats t in
+    let left : after ≡ after_end s tried.end = same ∙ (λ i. record s { row = row i; work = done.left i }) in
+    (λ i. ending_of (left i) (outcome_by (trial_of s) tried.end) (collected i) (is i)) ∙ sym (parts-of s (again_of t) tried.end) ∙ ap (ending_by s (again_of t)) done.ended
 
 may-write : (t : Trial) (settled : Option ℕ) → MayBeUsed t.row.at t.hi t.work.writer.faults (write_plans t settled)
-may-write t (Some k) = record { each = λ k. inl refl; others = λ k out. refl }
+may-write t (Some k) = may-same t.row.at t.hi t.work.writer.faults
 may-write t None = may-used_for t.work.writer.faults (failing t.work.writer.faults (found_in t)) t.row.at t.hi (failing-in t)
 
 take-all : (xs : List (List ℕ)) (n : ℕ) → length xs ≡ n → take n xs ≡ xs

@@ -1,6 +1,12 @@
 pub mod Counting
 pub mod Passing
+pub mod Repeating
 pub mod Settling
+pub mod Recalling
+pub mod Calling
+pub mod Recording
+pub mod Rewriting
+pub mod Bridging
 pub mod Wearing
 pub mod Within
 pub mod Ending
@@ -15,3 +21,4 @@ pub mod Calm
 pub mod Following
 pub mod Worked
 pub mod Crossing
+pub mod Unrepeated

@@ -8,7 +8,7 @@ use Rattle.jb_artifacts.specs.Meaning.{Workplace}
 use Rattle.jb_chunk.specs.Block.{used_between, passed, entry, entry_by}
 use Rattle.jb_chunk.specs.inside.Gathering.{processed_at, passed_one}
 
-fun_ext : {A B : Type 0} {f g : A → B} → ((x : A) → f x ≡ g x) → f ≡ g
+pub fun_ext : {A B : Type 0} {f g : A → B} → ((x : A) → f x ≡ g x) → f ≡ g
 fun_ext h = λ i x. h x i
 
 -- a plan that isn't among those used is as it was

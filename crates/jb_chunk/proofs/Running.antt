@@ -3,50 +3,43 @@ use Rattle.std.proofs.Common.{◌≡◌, ℕ, ◌+◌, ◌≤◌, ◌<◌, Bool,
 use Rattle.std.specs.Prelude.{◌&&◌, nat_lt, ◌==◌}
 use Rattle.std.proofs.lemmas.Bool.Decides.{nat_tests}
 use Rattle.jb_job.specs.declared.class.ClassId.{ClassId}
-use Rattle.jb_job.specs.Limits.{max_retry_limit, max_rollbacks}
+use Rattle.jb_job.specs.Limits.{max_retry_limit, max_rollbacks, max_in_place}
 use Rattle.jb_job.specs.Records.{RulesRecord}
 use Rattle.jb_plan.specs.Blocks.{ChunksFollow}
 use Rattle.jb_rules.specs.declared.counts.Counts.{Counts}
 use Rattle.jb_rules.specs.declared.row.Row.{Row}
 use Rattle.jb_rules.specs.declared.row.RowState.{RowState}
 use Rattle.jb_rules.specs.declared.row.RowState.TheVariants as state
-use Rattle.jb_rules.specs.declared.choice.Choice.{Choice}
-use Rattle.jb_rules.specs.declared.choice.Choice.TheVariants.{Skip, Retry, Fail}
-use Rattle.jb_rules.specs.Decide.{choice_by, has_class}
+use Rattle.jb_rules.specs.Decide.{has_class}
 use Rattle.jb_rules.specs.States.{has_ended}
-use Rattle.jb_rules.specs.Rows.{state_at}
+use Rattle.jb_rules.specs.Rows.{row_block, state_at}
 use Rattle.jb_rules.specs.Sound.{IsSoundRow}
 use Rattle.jb_chunk.specs.declared.end.End.{End}
 use Rattle.jb_chunk.specs.declared.end.End.TheVariants.{Written, Unwritten, Rolled, Failed}
 use Rattle.jb_chunk.specs.declared.outcome.Outcome.{Outcome}
 use Rattle.jb_chunk.specs.declared.outcome.Outcome.TheVariants as outcome
 use Rattle.jb_chunk.specs.Alone.{IsRunOf, IsAlone, IsBroken, retries_left, attempts_left}
-use Rattle.jb_chunk.specs.Attempt.{Trial, Ending, trial_of, block_of, end_of, end_after, end_at, end_by, settled_at, attempt_of, ending_of, IsUnfinished}
+use Rattle.jb_chunk.specs.Attempt.{Trial, Ending, trial_of, block_of, task_after_repeats, again_of, end_of, end_after, end_at, settled_at, attempt_of, ending_of, IsUnfinished}
+use Rattle.jb_chunk.specs.Block.{choice_at, is_skip}
 use Rattle.jb_chunk.specs.inside.Ends.{after_end, outcome_by}
-use Rattle.jb_chunk.specs.Block.{choice_at}
+use Rattle.jb_chunk.proofs.Bridging.{after_repeats-row, after_repeats-left, after_repeats-in_place}
 use Rattle.jb_chunk.proofs.Leaving.{parts-of}
-use Rattle.jb_chunk.specs.Standing.{TaskState, IsReady, HasItemCount}
+use Rattle.jb_chunk.specs.Standing.{TaskState, IsReady, HasItemCount, HasRepeats}
 
--- a retry is chosen only where one is left
-choice-retry : (retrying skip retry : Bool) → choice_by retrying skip retry ≡ Retry → retry ≡ true
-choice-retry false skip true e = refl
-choice-retry false true false e = cc
-choice-retry false false false e = cc
-choice-retry true true retry e = cc
-choice-retry true false true e = refl
-choice-retry true false false e = cc
+-- a block is rolled back only where a retry is left
+rolled-open : (skipped opened : Bool) (k class : ClassId) → cond skipped Unwritten (cond opened (Rolled k) (Failed k)) ≡ Rolled class → opened ≡ true
+rolled-open true opened k class e = cc
+rolled-open false true k class e = refl
+rolled-open false false k class e = cc
 
 open-below : (b : Bool) (m n : ℕ) → (b && nat_lt m n) ≡ true → m < n
 open-below b m n e = grind (arith, nat_tests)
 
-end-retry : (choice : Choice) (k class : ClassId) → end_by choice k ≡ Rolled class → choice ≡ Retry
-end-retry Skip k class e = cc
-end-retry Retry k class e = refl
-end-retry Fail k class e = cc
-
 end-below : (rules : RulesRecord) (row : Row) (fault : Option ClassId) (skips : ℕ) (class : ClassId) → end_at rules row fault skips ≡ Rolled class → row.retries < rules.retry_limit
 end-below rules row None skips class e = cc
-end-below rules row (Some k) skips class e = open-below (has_class rules.retryable k) row.retries rules.retry_limit (choice-retry _ _ _ (end-retry (choice_at rules row k skips) k class e))
+end-below rules row (Some k) skips class e =
+    open-below (has_class rules.retryable k) row.retries rules.retry_limit
+    (rolled-open (is_skip (choice_at rules row k skips)) _ k class e)
 
 after-below : (t : Trial) (settled : Option ℕ) (class : ClassId) → end_after t settled ≡ Rolled class → t.row.retries < t.rules.retry_limit
 after-below t None class e = end-below t.rules t.row _ _ class e
@@ -60,22 +53,23 @@ rolled-below t class e = after-below t (settled_at t) class e
 pub block-in : ChunksFollow → (t : TaskState) → t.row.at < t.row.hi → t.row.redo ≤ t.row.hi → HasItemCount t.item_count → (t.row.at < (block_of t).hi) × ((block_of t).hi ≤ t.row.hi)
 block-in law t lt redo c = let next = law.next t.row.at t.row.redo t.row.hi t.item_count lt redo c.some in (next.some, next.within)
 
--- there is a number for each rollback to come
+-- there is a number for each rollback and each repeat to come
 abbrev pub HasRoom : TaskState → Type 0
-HasRoom t = t.row.counts.rollback + retries_left t < max_rollbacks
+HasRoom t = (t.row.counts.rollback + retries_left t < max_rollbacks) × HasRepeats t.rules t.row
 
 -- the task after an attempt from which another may follow
 pub record IsFurther (before after : TaskState) : Type 0 where
   pub fewer : attempts_left after < attempts_left before
   pub room : after.row.counts.rollback + retries_left after ≤ before.row.counts.rollback + retries_left before
+  pub repeats : after.row.in_place + retries_left after ≤ before.row.in_place + retries_left before
 
 pub record IsCommit (before after : TaskState) : Type 0 where
   pub further : IsFurther before after
   pub stands : after.row.state ≡ state_at after.row.at after.row.hi
 
 commit-by : (t : TaskState) (e : End) (d : Counts) → (t.row.at < (block_of t).hi) × ((block_of t).hi ≤ t.row.hi) → outcome.Committed d ≡ outcome_by (trial_of t) e → IsCommit t (after_end t e)
-commit-by t Written d b o = let lt = b.0 in let le = b.1 in record { further = record { fewer = omega (arith, lt, le); room = omega arith }; stands = refl }
-commit-by t Unwritten d b o = let lt = b.0 in let le = b.1 in record { further = record { fewer = omega (arith, lt, le); room = omega arith }; stands = refl }
+commit-by t Written d b o = let lt = b.0 in let le = b.1 in record { further = record { fewer = omega (arith, lt, le); room = omega arith; repeats = omega arith }; stands = refl }
+commit-by t Unwritten d b o = let lt = b.0 in let le = b.1 in record { further = record { fewer = omega (arith, lt, le); room = omega arith; repeats = omega arith }; stands = refl }
 commit-by t (Rolled class) d b o = cc
 commit-by t (Failed class) d b o = cc
 
@@ -84,7 +78,7 @@ roll-by t Written class h w o = cc
 roll-by t Unwritten class h w o = cc
 roll-by t (Rolled k) class h w o =
     let below = rolled-below (trial_of t) k (sym h) in
-    (record { fewer = omega (arith, below); room = omega (arith, below) }, w)
+    (record { fewer = omega (arith, below); room = omega (arith, below); repeats = omega (arith, below) }, w)
 roll-by t (Failed k) class h w o = cc
 
 fail-by : (t : TaskState) (e : End) (class : ClassId) → outcome.Failed class ≡ outcome_by (trial_of t) e → (after_end t e).row.state ≡ state.Failed
@@ -110,32 +104,59 @@ below-by false row e le finished waiting = differ-of row.at row.hi e le
 pub left-waiting : (row : Row) → IsSoundRow row → row.state ≡ state.Waiting → row.at < row.hi
 left-waiting row sound waiting = below-by (row.at == row.hi) row refl sound.placed.at_to (λ e. sound.finished.1 e) waiting
 
--- what an attempt with this outcome leaves
-left-by : (t after : TaskState) (out : Outcome) (values : List (List ℕ)) → ending_of after out values ≡ attempt_of t → after ≡ after_end t (end_of (trial_of t))
-left-by t after out values done = ap (λ (e : Ending). e.task) (done ∙ parts-of t (end_of (trial_of t)))
+-- what an attempt with this outcome leaves of the task after all its repeats
+left-by : (t after : TaskState) (out : Outcome) (values : List (List ℕ)) (again : ℕ) → ending_of after out values again ≡ attempt_of t → after ≡ after_end (task_after_repeats t) (end_of (trial_of (task_after_repeats t)))
+left-by t after out values again done = ap (λ (e : Ending). e.task) (done ∙ parts-of (task_after_repeats t) (again_of t) (end_of (trial_of (task_after_repeats t))))
 
-ended-by : (t after : TaskState) (out : Outcome) (values : List (List ℕ)) → ending_of after out values ≡ attempt_of t → out ≡ outcome_by (trial_of t) (end_of (trial_of t))
-ended-by t after out values done = ap (λ (e : Ending). e.outcome) (done ∙ parts-of t (end_of (trial_of t)))
+ended-by : (t after : TaskState) (out : Outcome) (values : List (List ℕ)) (again : ℕ) → ending_of after out values again ≡ attempt_of t → out ≡ outcome_by (trial_of (task_after_repeats t)) (end_of (trial_of (task_after_repeats t)))
+ended-by t after out values again done = ap (λ (e : Ending). e.outcome) (done ∙ parts-of (task_after_repeats t) (again_of t) (end_of (trial_of (task_after_repeats t))))
 
-commit-left : ChunksFollow → (before after : TaskState) (d : Counts) (values : List (List ℕ)) → IsReady before → before.row.state ≡ state.Waiting → ending_of after (outcome.Committed d) values ≡ attempt_of before → IsCommit before after
-commit-left law before after d values ready waiting done =
-    let P : TaskState → Type 0 = λ u. IsCommit before u in
-    let block = block-in law before (left-waiting before.row ready.sound waiting) ready.sound.placed.redo_to ready.item_counted in
-    subst P (sym (left-by before after _ values done)) (commit-by before (end_of (trial_of before)) d block (ended-by before after _ values done))
+-- the repeats take no attempt away that isn't a retry, and no record
+after_repeats-further : (t after : TaskState) → IsFurther (task_after_repeats t) after → IsFurther t after
+after_repeats-further t after f =
+    let left = after_repeats-left t in
+    let grown = after_repeats-in_place t in
+    let at = ap (λ (x : Row). x.at) (after_repeats-row t) in
+    let hi = ap (λ (x : Row). x.hi) (after_repeats-row t) in
+    let rollback = ap (λ (x : Row). x.counts.rollback) (after_repeats-row t) in
+    let fewer = f.fewer in
+    let room = f.room in
+    let repeats = f.repeats in
+    record {
+      fewer = omega (arith, fewer, left, at, hi);
+      room = omega (arith, room, left, rollback);
+      repeats = omega (arith, repeats, left, grown);
+    }
 
-roll-left : (before after : TaskState) (class : ClassId) (values : List (List ℕ)) → before.row.state ≡ state.Waiting → ending_of after (outcome.Rolled class) values ≡ attempt_of before → IsFurther before after × (after.row.state ≡ state.Waiting)
-roll-left before after class values waiting done =
-    let P : TaskState → Type 0 = λ u. IsFurther before u × (u.row.state ≡ state.Waiting) in
-    subst P (sym (left-by before after _ values done)) (roll-by before (end_of (trial_of before)) class refl waiting (ended-by before after _ values done))
+block-after_repeats : ChunksFollow → (t : TaskState) → IsReady t → t.row.state ≡ state.Waiting → ((task_after_repeats t).row.at < (block_of (task_after_repeats t)).hi) × ((block_of (task_after_repeats t)).hi ≤ (task_after_repeats t).row.hi)
+block-after_repeats law t ready waiting =
+    let P : Row → Type 0 = λ x. (x.at < (row_block t.item_count x).hi) × ((row_block t.item_count x).hi ≤ x.hi) in
+    subst P (sym (after_repeats-row t)) (block-in law t (left-waiting t.row ready.sound waiting) ready.sound.placed.redo_to ready.item_counted)
 
-fail-left : (before after : TaskState) (class : ClassId) (values : List (List ℕ)) → ending_of after (outcome.Failed class) values ≡ attempt_of before → after.row.state ≡ state.Failed
-fail-left before after class values done =
+commit-left : ChunksFollow → (before after : TaskState) (d : Counts) (values : List (List ℕ)) (again : ℕ) → IsReady before → before.row.state ≡ state.Waiting → ending_of after (outcome.Committed d) values again ≡ attempt_of before → IsCommit before after
+commit-left law before after d values again ready waiting done =
+    let s = task_after_repeats before in
+    let P : TaskState → Type 0 = λ u. IsCommit s u in
+    let made = subst P (sym (left-by before after _ values again done)) (commit-by s (end_of (trial_of s)) d (block-after_repeats law before ready waiting) (ended-by before after _ values again done)) in
+    record { further = after_repeats-further before after made.further; stands = made.stands }
+
+roll-left : (before after : TaskState) (class : ClassId) (values : List (List ℕ)) (again : ℕ) → before.row.state ≡ state.Waiting → ending_of after (outcome.Rolled class) values again ≡ attempt_of before → IsFurther before after × (after.row.state ≡ state.Waiting)
+roll-left before after class values again waiting done =
+    let s = task_after_repeats before in
+    let P : TaskState → Type 0 = λ u. IsFurther s u × (u.row.state ≡ state.Waiting) in
+    let waits = ap (λ (x : Row). x.state) (after_repeats-row before) ∙ waiting in
+    let made = subst P (sym (left-by before after _ values again done)) (roll-by s (end_of (trial_of s)) class refl waits (ended-by before after _ values again done)) in
+    (after_repeats-further before after made.0, made.1)
+
+fail-left : (before after : TaskState) (class : ClassId) (values : List (List ℕ)) (again : ℕ) → ending_of after (outcome.Failed class) values again ≡ attempt_of before → after.row.state ≡ state.Failed
+fail-left before after class values again done =
+    let s = task_after_repeats before in
     let P : TaskState → Type 0 = λ u. u.row.state ≡ state.Failed in
-    subst P (sym (left-by before after _ values done)) (fail-by before (end_of (trial_of before)) class (ended-by before after _ values done))
+    subst P (sym (left-by before after _ values again done)) (fail-by s (end_of (trial_of s)) class (ended-by before after _ values again done))
 
 -- no more is retried than the limit of a step's retries
-pub has-room : (t : TaskState) → IsReady t → t.row.counts.rollback + max_retry_limit < max_rollbacks → HasRoom t
-has-room t ready few = let most = ready.retried in omega (arith, few, most)
+pub has-room : (t : TaskState) → IsReady t → t.row.counts.rollback + max_retry_limit < max_rollbacks → t.row.in_place + max_retry_limit ≤ max_in_place → HasRoom t
+has-room t ready few repeats = let most = ready.retried in (omega (arith, few, most), omega (arith, repeats, most))
 
 -- some attempts were made, and there may be as many more as are left now
 pub record IsUnderWay (start now : TaskState) : Type 0 where
@@ -178,11 +199,11 @@ pub waiting-at : (at hi : ℕ) → at < hi → state_at at hi ≡ state.Waiting
 waiting-at at hi lt = let other : (at == hi) ≡ false = grind (arith, nat_tests) in ap (λ b. cond b state.Finished state.Waiting) other
 
 -- a chunk that was committed ends the task where no record is left
-pub commit-ends : ChunksFollow → (start now after : TaskState) (d : Counts) (values : List (List ℕ)) → IsReady now → now.row.state ≡ state.Waiting → IsUnderWay start now → ending_of after (outcome.Committed d) values ≡ attempt_of now → after.row.at ≡ after.row.hi → IsAlone start after × (after.row.state ≡ state.Finished)
-commit-ends law start now after d values ready waiting way done at =
-    let commit = commit-left law now after d values ready waiting done in
+pub commit-ends : ChunksFollow → (start now after : TaskState) (d : Counts) (values : List (List ℕ)) (again : ℕ) → IsReady now → now.row.state ≡ state.Waiting → IsUnderWay start now → ending_of after (outcome.Committed d) values again ≡ attempt_of now → after.row.at ≡ after.row.hi → IsAlone start after × (after.row.state ≡ state.Finished)
+commit-ends law start now after d values again ready waiting way done at =
+    let commit = commit-left law now after d values again ready waiting done in
     let ended = commit.stands ∙ finished-at after.row.at after.row.hi at in
-    (last-alone start now (ending_of after (outcome.Committed d) values) way ready waiting done (ap has_ended ended), ended)
+    (last-alone start now (ending_of after (outcome.Committed d) values again) way ready waiting done (ap has_ended ended), ended)
 
 -- what holds where the task is to be attempted again
 pub record IsNext (start now after : TaskState) : Type 0 where
@@ -194,28 +215,31 @@ pub record IsNext (start now after : TaskState) : Type 0 where
 next-of : (start now : TaskState) (e : Ending) → now.row.state ≡ state.Waiting → HasRoom now → IsUnderWay start now → e ≡ attempt_of now → IsFurther now e.task → e.task.row.state ≡ state.Waiting → IsNext start now e.task
 next-of start now e waiting room way last further again =
     let less = further.room in
+    let fewer = further.repeats in
+    let rolls = room.0 in
+    let repeats = room.1 in
     record {
       waiting = again;
-      room = omega (arith, less, room);
+      room = (omega (arith, less, rolls), omega (arith, fewer, repeats));
       reached = further-way start now e way waiting last further.fewer;
       fewer = further.fewer;
     }
 
-pub commit-next : ChunksFollow → (start now after : TaskState) (d : Counts) (values : List (List ℕ)) → IsReady now → now.row.state ≡ state.Waiting → HasRoom now → IsUnderWay start now → ending_of after (outcome.Committed d) values ≡ attempt_of now → after.row.at < after.row.hi → IsNext start now after
-commit-next law start now after d values ready waiting room way done lt =
-    let commit = commit-left law now after d values ready waiting done in
-    next-of start now (ending_of after (outcome.Committed d) values) waiting room way done commit.further (commit.stands ∙ waiting-at after.row.at after.row.hi lt)
+pub commit-next : ChunksFollow → (start now after : TaskState) (d : Counts) (values : List (List ℕ)) (again : ℕ) → IsReady now → now.row.state ≡ state.Waiting → HasRoom now → IsUnderWay start now → ending_of after (outcome.Committed d) values again ≡ attempt_of now → after.row.at < after.row.hi → IsNext start now after
+commit-next law start now after d values again ready waiting room way done lt =
+    let commit = commit-left law now after d values again ready waiting done in
+    next-of start now (ending_of after (outcome.Committed d) values again) waiting room way done commit.further (commit.stands ∙ waiting-at after.row.at after.row.hi lt)
 
-pub roll-next : (start now after : TaskState) (class : ClassId) (values : List (List ℕ)) → now.row.state ≡ state.Waiting → HasRoom now → IsUnderWay start now → ending_of after (outcome.Rolled class) values ≡ attempt_of now → IsNext start now after
-roll-next start now after class values waiting room way done =
-    let rolled = roll-left now after class values waiting done in
-    next-of start now (ending_of after (outcome.Rolled class) values) waiting room way done rolled.0 rolled.1
+pub roll-next : (start now after : TaskState) (class : ClassId) (values : List (List ℕ)) (again : ℕ) → now.row.state ≡ state.Waiting → HasRoom now → IsUnderWay start now → ending_of after (outcome.Rolled class) values again ≡ attempt_of now → IsNext start now after
+roll-next start now after class values again waiting room way done =
+    let rolled = roll-left now after class values again waiting done in
+    next-of start now (ending_of after (outcome.Rolled class) values again) waiting room way done rolled.0 rolled.1
 
 -- a chunk that failed ends the task
-pub fail-ends : (start now after : TaskState) (class : ClassId) (values : List (List ℕ)) → IsReady now → now.row.state ≡ state.Waiting → IsUnderWay start now → ending_of after (outcome.Failed class) values ≡ attempt_of now → IsAlone start after × (after.row.state ≡ state.Failed)
-fail-ends start now after class values ready waiting way done =
-    let ended = fail-left now after class values done in
-    (last-alone start now (ending_of after (outcome.Failed class) values) way ready waiting done (ap has_ended ended), ended)
+pub fail-ends : (start now after : TaskState) (class : ClassId) (values : List (List ℕ)) (again : ℕ) → IsReady now → now.row.state ≡ state.Waiting → IsUnderWay start now → ending_of after (outcome.Failed class) values again ≡ attempt_of now → IsAlone start after × (after.row.state ≡ state.Failed)
+fail-ends start now after class values again ready waiting way done =
+    let ended = fail-left now after class values again done in
+    (last-alone start now (ending_of after (outcome.Failed class) values again) way ready waiting done (ap has_ended ended), ended)
 
 -- an attempt that found no memory breaks the run off
 pub breaks-off : (start now after : TaskState) → IsReady now → now.row.state ≡ state.Waiting → IsUnderWay start now → IsUnfinished now after → IsBroken start after

@@ -1,25 +1,22 @@
 -- A block that is tried.
-use Rattle.std.proofs.Common.{◌≡◌, ℕ, ◌+◌, ◌-◌, ◌≤◌, ◌++◌, List, length, take, Some, None, false, refl, ap, sym, ◌∙◌, subst, arith}
-use Rattle.std.proofs.lemmas.Grind.{common_steps}
+use Rattle.std.proofs.Common.{◌≡◌, ℕ, ◌+◌, ◌-◌, ◌≤◌, length, Some, None, false, refl, ap, sym, ◌∙◌, arith}
 use Rattle.jb_job.specs.declared.class.ClassId.{ClassId}
-use Rattle.jb_rules.specs.declared.choice.Choice.{Choice}
 use Rattle.jb_rules.specs.Rows.{skips_of}
 use Rattle.jb_rules.specs.Counts.{no_counts}
 use Rattle.jb_artifacts.specs.Reader.{opened}
-use Rattle.jb_artifacts.specs.Writer.{Numbered, texts_of, write_fault, torn_write}
+use Rattle.jb_artifacts.specs.Writer.{Numbered, texts_of, write_fault}
 use Rattle.jb_artifacts.specs.Meaning.{Workplace}
 use Rattle.jb_chunk.specs.declared.tally.Tally.{Tally}
 use Rattle.jb_chunk.specs.declared.tried.Tried.{Tried}
-use Rattle.jb_chunk.specs.Attempt.{Trial, settled_at, found_in, end_at, end_by, work_with}
+use Rattle.jb_chunk.specs.Attempt.{Trial, settled_at, found_in, end_at, work_with}
 use Rattle.jb_chunk.specs.inside.Ends.{delta_by, counts_by, place_by, kept_by, work_by}
 use Rattle.jb_chunk.specs.Block.{entry, choice_at, skips_before, is_skip, passed}
 use Rattle.jb_chunk.specs.Entries.{fault_in}
 use Rattle.jb_chunk.specs.inside.Gathering.{IsTally}
-use Rattle.jb_chunk.specs.inside.Tried.{IsTried, IsFinish, IsTorn, writer_by}
+use Rattle.jb_chunk.specs.inside.Tried.{IsTried, IsFinish, writer_by}
 use Rattle.jb_chunk.proofs.Counting.{all-counted}
 use Rattle.jb_chunk.proofs.Settling.{skips-tally}
-use Rattle.jb_chunk.proofs.Ending.{settled-end, settled-work, settled-delta, write-end}
-use Rattle.jb_chunk.proofs.Wearing.{worn-passed}
+use Rattle.jb_chunk.proofs.Ending.{end_of_record, settled-end, settled-work, settled-delta, write-end}
 
 pub tally-records : (w : Workplace) (lo hi : ℕ) (t : Tally) → lo ≤ hi → IsTally w lo hi t → t.read_skips + t.process_skips + t.filtered + length t.found.items ≡ hi - lo
 tally-records w lo hi t le tally =
@@ -29,11 +26,11 @@ tally-records w lo hi t le tally =
     let filtered = tally.filtered in
     omega (arith, all-counted w lo hi le, found, reads, processes, filtered)
 
-pub settled-tried : (t : Trial) (k : ℕ) (class : ClassId) (choice : Choice) (stopped now : Workplace) (tried : Tried) → settled_at t ≡ Some k → fault_in (entry t.work k) ≡ Some class → choice ≡ choice_at t.rules t.row class (skips_before t.row t.work k) → is_skip choice ≡ false → stopped ≡ passed t.work t.row.at (k + 1) → tried.end ≡ end_by choice class → tried.delta ≡ no_counts → now ≡ record stopped { reader = opened stopped.reader t.row.at } → IsTried t tried now
-settled-tried t k class choice stopped now tried at fault chosen unskipped passes end delta left = record {
-  ended = end ∙ settled-end t k class choice at fault chosen;
-  delta = delta ∙ settled-delta t choice class unskipped ∙ ap (λ e. delta_by t e) (sym end);
-  left = left ∙ settled-work t k class choice stopped at unskipped passes ∙ ap (λ e. work_by t e) (sym end);
+pub settled-tried : (t : Trial) (k : ℕ) (class : ClassId) (stopped now : Workplace) (tried : Tried) → settled_at t ≡ Some k → fault_in (entry t.work k) ≡ Some class → is_skip (choice_at t.rules t.row class (skips_before t.row t.work k)) ≡ false → stopped ≡ passed t.work t.row.at (k + 1) → tried.end ≡ end_of_record t k class → tried.delta ≡ no_counts → now ≡ record stopped { reader = opened stopped.reader t.row.at } → IsTried t tried now
+settled-tried t k class stopped now tried at fault unskipped passes end delta left = record {
+  ended = end ∙ settled-end t k class at fault;
+  delta = delta ∙ settled-delta t k class unskipped ∙ ap (λ e. delta_by t e) (sym end);
+  left = left ∙ settled-work t k class stopped at unskipped passes ∙ ap (λ e. work_by t e) (sym end);
 }
 
 pub whole-tried : (t : Trial) (tally : Tally) (whole now : Workplace) (tried : Tried) → settled_at t ≡ None → IsTally t.work t.row.at t.hi tally → whole ≡ passed t.work t.row.at t.hi → IsFinish t.rules t.row t.hi tally whole tried now → IsTried t tried now
@@ -60,30 +57,3 @@ whole-tried t tally whole now tried at counted passes finish = record {
       ∙ ap (λ (xs : Numbered). record (passed t.work t.row.at t.hi) { reader = opened (passed t.work t.row.at t.hi).reader (place_by tried.end t.row.at t.hi); writer = writer_by tried.end t.work.writer xs }) counted.found
       ∙ ap (λ s. work_with t s (place_by tried.end t.row.at t.hi) (kept_by tried.end t.work.writer.written (texts_of (found_in t)))) (sym at);
 }
-
-front-kept : (xs ys : List (List ℕ)) → take (length xs) (xs ++ ys) ≡ xs
-front-kept xs ys = grind (arith, common_steps)
-
-front-longer : (xs ys : List (List ℕ)) → length xs ≤ length (xs ++ ys)
-front-longer xs ys = grind (arith, common_steps)
-
-take-same : (xs ys : List (List ℕ)) → ys ≡ xs → take (length xs) ys ≡ xs
-take-same xs ys e = rw e (grind (arith, common_steps))
-
--- a block that found no memory in its write
-pub torn-written : (w whole now : Workplace) (lo hi count : ℕ) (found : Numbered) → whole ≡ passed w lo hi → now ≡ record whole { writer = torn_write whole.writer found count } → IsTorn lo hi w now
-torn-written w whole now lo hi count found passes e =
-    let P : Workplace → Type 0 = λ v. IsTorn lo hi w v in
-    let at = e ∙ ap (λ (v : Workplace). record v { writer = torn_write v.writer found count }) passes in
-    let worn = worn-passed w (passed w lo hi) lo hi hi (omega arith) refl in
-    let more = texts_of (take (count - length w.writer.written) found) in
-    subst P (sym at) (record {
-      reader = refl;
-      processor = refl;
-      collector = refl;
-      read_plans = worn.read_plans;
-      process_plans = worn.process_plans;
-      write_plans = refl;
-      written = front-kept w.writer.written more;
-      longer = front-longer w.writer.written more;
-    })

@@ -1,17 +1,19 @@
 -- Runs of attempts, cut and joined.
-use Rattle.std.proofs.Common.{◌≡◌, ◌≤◌, true, false, List, [], ◌∷◌, ◌++◌, length, inl, inr, ap, sym, ◌∙◌, subst, arith}
+use Rattle.std.proofs.Common.{◌≡◌, ◌+◌, ◌≤◌, true, false, List, [], ◌∷◌, ◌++◌, length, inl, inr, refl, ap, sym, ◌∙◌, subst, arith}
 use Rattle.std.proofs.lemmas.List.{take_all}
 use Rattle.jb_plan.specs.Blocks.{ChunksFollow}
+use Rattle.jb_rules.specs.declared.row.Row.{Row}
 use Rattle.jb_rules.specs.declared.row.RowState.{RowState}
 use Rattle.jb_rules.specs.declared.row.RowState.TheVariants as state
-use Rattle.jb_job.specs.Limits.{max_rollbacks}
+use Rattle.jb_job.specs.Limits.{max_rollbacks, max_in_place}
 use Rattle.jb_rules.specs.Laws.{RowsStaySound}
 use Rattle.jb_rules.specs.States.{has_ended}
-use Rattle.jb_chunk.specs.Alone.{IsRunOf, IsOnTheWay, IsAlone, attempts_left}
-use Rattle.jb_chunk.specs.Attempt.{Ending}
-use Rattle.jb_chunk.specs.Laws.{OneEnd, CalmRunsArePlain, RunsAreShort, WaysJoin, WaysEnd, TasksStayReady, TasksStandAtCheckpoints, SamePlace, SameEnd, CommitsTakeOneChunk}
+use Rattle.jb_chunk.specs.Alone.{IsRunOf, IsOnTheWay, IsAlone, retries_of, retries_left, attempts_left}
+use Rattle.jb_chunk.specs.Attempt.{Ending, task_after_repeats, again_of, trial_of, end_of, attempt_of}
+use Rattle.jb_chunk.specs.Laws.{OneEnd, CalmRunsArePlain, RunsAreShort, RetriesAreFew, WaysJoin, WaysEnd, TasksStayReady, TasksStandAtCheckpoints, SamePlace, SameEnd, CommitsTakeOneChunk}
 use Rattle.jb_chunk.specs.Standing.{TaskState, IsReady, taken_up}
-use Rattle.jb_chunk.proofs.Course.{IsOnCourse, Goes, ready-course, course-next, rollbacks-rise, ready-next, one-chunk}
+use Rattle.jb_chunk.proofs.Course.{IsOnCourse, Goes, ready-course, course-next, rollbacks-rise, repeats-grow, ready-next, one-chunk, retry-by, again-in}
+use Rattle.jb_chunk.proofs.Bridging.{after_repeats-row, after_repeats-left}
 use Rattle.jb_chunk.proofs.Following.{plain-run, plain-alone}
 use Rattle.jb_chunk.proofs.Running.{block-in, finished-at}
 
@@ -62,6 +64,36 @@ few-run law t (e ∷ f ∷ es) s on run =
 pub runs-are-short : ChunksFollow → RunsAreShort
 runs-are-short law t s es ready run = few-run law t es s (ready-course t ready) run
 
+-- an attempt's retries
+attempt-retries : (t : TaskState) → ((attempt_of t).task.row.retries ≡ t.row.retries + retries_of (attempt_of t)) × (retries_of (attempt_of t) + retries_left (attempt_of t).task ≡ retries_left t)
+attempt-retries t =
+    let s = task_after_repeats t in
+    let e = end_of (trial_of s) in
+    let own = retry-by s (again_of t) e refl in
+    let counted = own.0 in
+    let left = own.1 in
+    let again = again-in t e in
+    let before = ap (λ (x : Row). x.retries) (after_repeats-row t) in
+    let more = after_repeats-left t in
+    (omega (arith, counted, again, before), omega (arith, left, again, more))
+
+pub retries-are-few : RetriesAreFew
+retries-are-few t s [] run =
+    let same = ap (λ (v : TaskState). v.row.retries) run in
+    record { counted = omega (arith, same); few = omega arith }
+retries-are-few t s (e ∷ es) run =
+    let own = attempt-retries t in
+    let is = run.1 in
+    let row = ap (λ (x : Ending). x.task.row.retries) is in
+    let used = ap (λ (x : Ending). retries_of x) is in
+    let left = ap (λ (x : Ending). retries_left x.task) is in
+    let rest = retries-are-few e.task s es run.2 in
+    let counted = rest.counted in
+    let few = rest.few in
+    let grown = own.0 in
+    let total = own.1 in
+    record { counted = omega (arith, counted, row, grown, used); few = omega (arith, few, left, used, total) }
+
 pub ways-join : WaysJoin
 ways-join t between s first second = record {
   attempts = first.attempts ++ second.attempts;
@@ -96,16 +128,26 @@ rises t (e ∷ es) s run =
     let rest = rises e.task es s run.2 in
     omega (arith, here, next, rest)
 
-ready-run : ChunksFollow → RowsStaySound → (t : TaskState) (es : List Ending) (s : TaskState) → IsReady t → IsRunOf t es s → s.row.counts.rollback ≤ max_rollbacks → IsReady s
-ready-run law stay t [] s ready run room = subst (λ (v : TaskState). IsReady v) (sym run) ready
-ready-run law stay t (e ∷ es) s ready run room =
+repeats-rise : (t : TaskState) (es : List Ending) (s : TaskState) → IsRunOf t es s → t.row.in_place ≤ s.row.in_place
+repeats-rise t [] s run = let same = ap (λ (v : TaskState). v.row.in_place) run in omega (arith, same)
+repeats-rise t (e ∷ es) s run =
+    let here = repeats-grow t in
+    let next = ap (λ (x : Ending). x.task.row.in_place) run.1 in
+    let rest = repeats-rise e.task es s run.2 in
+    omega (arith, here, next, rest)
+
+ready-run : ChunksFollow → RowsStaySound → (t : TaskState) (es : List Ending) (s : TaskState) → IsReady t → IsRunOf t es s → s.row.counts.rollback ≤ max_rollbacks → s.row.in_place ≤ max_in_place → IsReady s
+ready-run law stay t [] s ready run room repeats = subst (λ (v : TaskState). IsReady v) (sym run) ready
+ready-run law stay t (e ∷ es) s ready run room repeats =
     let next = ap (λ (x : Ending). x.task.row.counts.rollback) run.1 in
     let rest = rises e.task es s run.2 in
-    let there = ready-next law stay t ready run.0 (omega (arith, next, rest, room)) in
-    ready-run law stay e.task es s (subst (λ (x : Ending). IsReady x.task) (sym run.1) there) run.2 room
+    let more = ap (λ (x : Ending). x.task.row.in_place) run.1 in
+    let later = repeats-rise e.task es s run.2 in
+    let there = ready-next law stay t ready run.0 (omega (arith, next, rest, room)) (omega (arith, more, later, repeats)) in
+    ready-run law stay e.task es s (subst (λ (x : Ending). IsReady x.task) (sym run.1) there) run.2 room repeats
 
 pub tasks-stay-ready : ChunksFollow → RowsStaySound → TasksStayReady
-tasks-stay-ready law stay t s ready way room = ready-run law stay t way.attempts s ready way.run room
+tasks-stay-ready law stay t s ready way room repeats = ready-run law stay t way.attempts s ready way.run room repeats
 
 -- TAKING UP AGAIN
 

@@ -1,7 +1,7 @@
 -- A block uses the records and the plans that it has.
 use Rattle.std.proofs.Common.{◌≡◌, ℕ, zero, suc, ◌+◌, ◌-◌, ◌≤◌, ◌<◌, Bool, true, false, cond, List, Option, Some, None, refl, ap, ◌∙◌, arith}
 use Rattle.std.specs.List.{range_with_len, find, filter_map, cons_option}
-use Rattle.jb_artifacts.specs.Faults.{is_live}
+use Rattle.jb_artifacts.specs.Faults.{Plans, is_live}
 use Rattle.jb_artifacts.specs.Writer.{Numbered, failing}
 use Rattle.jb_artifacts.specs.Meaning.{Workplace}
 use Rattle.jb_chunk.specs.Attempt.{Trial, found_in, settled_at, read_end}
@@ -23,7 +23,7 @@ found-by : (b : Bool) (lo n k : ℕ) (others : Option ℕ) → cond b (Some lo) 
 found-by true lo n k others e more = of-first lo n k cc
 found-by false lo n k others e more = of-more lo n k (more e)
 
-found-of : (p : ℕ → Bool) (n lo k : ℕ) → find p (range_with_len lo n) ≡ Some k → IsOf lo n k
+pub found-of : (p : ℕ → Bool) (n lo k : ℕ) → find p (range_with_len lo n) ≡ Some k → IsOf lo n k
 found-of p zero lo k e = absurd cc
 found-of p (suc n) lo k e = found-by (p lo) lo n k (find p (range_with_len (lo + 1) n)) e (found-of p n (lo + 1) k)
 
@@ -49,6 +49,15 @@ named-of : (q : ℕ × List ℕ → Bool) (w : Workplace) (n lo : ℕ) (r : ℕ 
 named-of q w zero lo r e = absurd cc
 named-of q w (suc n) lo r e =
     named-next q lo n (text_in (entry w lo)) (filter_map (λ k. numbered k (text_in (entry w k))) (range_with_len (lo + 1) n)) r e (named-of q w n (lo + 1) r)
+
+-- a write of these records' results fails at one of them
+pub failing-of : (plans : Plans) (w : Workplace) (lo hi : ℕ) (r : ℕ × List ℕ) → failing plans (results w lo hi) ≡ Some r → (lo ≤ r.0) × (r.0 < hi)
+unfolding results
+failing-of plans w lo hi r e =
+    let is = named-of (λ x. is_live plans x.0) w (hi - lo) lo r e in
+    let from = is.0 in
+    let to = is.1 in
+    (from, omega (arith, from, to))
 
 -- a write fails at a record of the block
 pub failing-in : (t : Trial) (r : ℕ × List ℕ) → failing t.work.writer.faults (found_in t) ≡ Some r → (t.row.at ≤ r.0) × (r.0 < t.hi)

@@ -1,9 +1,12 @@
 -- Run alone: a partition's attempts, by itself, to its end.
-use Rattle.std.specs.Prelude.{ℕ, ◌≡◌, ◌≤◌, ◌<◌, ◌+◌, ◌-◌, true, List, [], ◌∷◌, length, ⊤}
+use Rattle.std.specs.Prelude.{ℕ, ◌≡◌, ◌≤◌, ◌<◌, ◌+◌, ◌-◌, Bool, true, false, List, [], ◌∷◌, length, ⊤}
 use Rattle.jb_rules.specs.States.{has_ended}
 use Rattle.jb_rules.specs.declared.row.RowState.TheVariants as state
 use Rattle.jb_chunk.specs.declared.alone.AloneEnd.{AloneEnd}
 use Rattle.jb_chunk.specs.declared.alone.AloneEnd.TheVariants.{Finished, Failed, NoMemory}
+use Rattle.jb_chunk.specs.declared.outcome.Outcome.{Outcome}
+use Rattle.jb_chunk.specs.declared.outcome.Outcome.TheVariants as outcome
+use Rattle.jb_chunk.specs.Entries.{one_if}
 use Rattle.jb_chunk.specs.Attempt.{Ending, attempt_of, IsUnfinished}
 use Rattle.jb_chunk.specs.Plain.{IsCalm, IsPlain}
 use Rattle.jb_chunk.specs.Standing.{TaskState}
@@ -22,6 +25,21 @@ pub record IsOnTheWay (t s : TaskState) : Type 0 where
 -- how often a chunk of the task may still be retried
 abbrev pub retries_left : TaskState → ℕ
 retries_left t = t.rules.retry_limit - t.row.retries
+
+abbrev pub is_rolled : Outcome → Bool
+is_rolled (outcome.Committed delta) = false
+is_rolled (outcome.Rolled class) = true
+is_rolled (outcome.Failed class) = false
+is_rolled outcome.NoMemory = false
+
+-- the retries of an attempt: the calls that it repeated in place, and one more where its chunk was rolled back
+abbrev pub retries_of : Ending → ℕ
+retries_of e = e.again + one_if (is_rolled e.outcome)
+
+-- those of some attempts
+abbrev pub retries_in : List Ending → ℕ
+retries_in [] = 0
+retries_in (e ∷ es) = retries_of e + retries_in es
 
 -- each attempt uses up a retry, or a record at least, or is the last
 abbrev pub attempts_left : TaskState → ℕ

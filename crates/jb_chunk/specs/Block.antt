@@ -1,13 +1,14 @@
 -- Faults of a block: one entry for each record, and the first fault that isn't skipped.
-use Rattle.std.specs.Prelude.{ℕ, ◌+◌, ◌-◌, Bool, true, false, not, ◌&&◌, nat_lt, nat_le, if◌then◌else◌, List, Option, Some, None, find, count_by, ◌≡◌, ◌≤◌, ◌<◌, ◌⊎◌}
+use Rattle.std.specs.Prelude.{ℕ, zero, suc, ◌+◌, ◌-◌, Bool, true, false, not, ◌&&◌, nat_lt, nat_le, if◌then◌else◌, List, Option, Some, None, find, count_by, ◌≡◌, ◌≤◌, ◌<◌, ◌⊎◌}
 use Rattle.std.specs.List.{filter_map, range_with_len}
 use Rattle.jb_job.specs.declared.class.ClassId.{ClassId}
 use Rattle.jb_job.specs.Records.{RulesRecord}
 use Rattle.jb_rules.specs.declared.row.Row.{Row}
 use Rattle.jb_rules.specs.declared.choice.Choice.{Choice}
-use Rattle.jb_rules.specs.declared.choice.Choice.TheVariants.{Skip, Retry, Fail}
+use Rattle.jb_rules.specs.declared.choice.Choice.TheVariants.{Skip, Retry, Again, Fail}
 use Rattle.jb_rules.specs.Decide.{choice_of}
 use Rattle.jb_rules.specs.Rows.{skips_of}
+use Rattle.jb_artifacts.specs.declared.faults.FaultPlan.{FaultPlan}
 use Rattle.jb_artifacts.specs.Faults.{Plans, live, used, is_live}
 use Rattle.jb_artifacts.specs.Reader.{record_at}
 use Rattle.jb_artifacts.specs.Writer.{Numbered}
@@ -55,7 +56,19 @@ choice_at rules row class skips = choice_of rules class (nat_lt row.at row.redo)
 abbrev pub is_skip : Choice → Bool
 is_skip Skip = true
 is_skip Retry = false
+is_skip Again = false
 is_skip Fail = false
+
+abbrev pub is_again : Choice → Bool
+is_again Skip = false
+is_again Retry = false
+is_again Again = true
+is_again Fail = false
+
+-- there is a fault, and its call is to be repeated in place
+abbrev pub repeats : RulesRecord → Row → Option ClassId → (skips : ℕ) → Bool
+repeats rules row None skips = false
+repeats rules row (Some class) skips = is_again (choice_at rules row class skips)
 
 -- there is a fault, and it isn't skipped
 abbrev pub stops : RulesRecord → Row → Option ClassId → (skips : ℕ) → Bool
@@ -82,7 +95,12 @@ passed w lo hi = record w {
   processor = record w.processor { faults = used_between (λ k. not (is_live w.reader.faults k)) w.processor.faults lo hi };
 }
 
--- each plan of the records from `lo` to `hi - 1` is as it was, or has used its next fault; the others are as they were
+-- a plan after so many calls
+abbrev pub used_times : ℕ → FaultPlan → FaultPlan
+used_times zero plan = plan
+used_times (suc n) plan = used (used_times n plan)
+
+-- each plan of the records from `lo` to `hi - 1` is as it was after some calls; the others are as they were
 pub record MayBeUsed (lo hi : ℕ) (old new : Plans) : Type 0 where
-  pub each : (k : ℕ) → (new k ≡ old k) ⊎ (new k ≡ used (old k))
+  pub each : (k : ℕ) → (n : ℕ) × (new k ≡ used_times n (old k))
   pub others : (k : ℕ) → (k < lo) ⊎ (hi ≤ k) → new k ≡ old k

@@ -1,18 +1,18 @@
 -- What holds of a task's attempts, wherever they lead.
-use Rattle.std.specs.Prelude.{ℕ, ◌≡◌, ◌≤◌, ◌<◌, ◌-◌, ◌↔◌, ◌⊎◌, true, List, ◌∷◌, length}
+use Rattle.std.specs.Prelude.{ℕ, ◌≡◌, ◌≤◌, ◌<◌, ◌+◌, ◌-◌, ◌↔◌, ◌⊎◌, true, List, ◌∷◌, length}
 use Rattle.jb_job.specs.declared.job.Range.{Range}
 use Rattle.jb_plan.specs.Blocks.{blocks}
 use Rattle.jb_rules.specs.declared.counts.Counts.{Counts}
 use Rattle.jb_rules.specs.declared.row.Row.{Row}
 use Rattle.jb_rules.specs.declared.row.RowState.TheVariants as state
-use Rattle.jb_job.specs.Limits.{max_rollbacks}
+use Rattle.jb_job.specs.Limits.{max_rollbacks, max_in_place}
 use Rattle.jb_rules.specs.Counts.{IsDelta}
-use Rattle.jb_rules.specs.Rows.{committed_row, rolled_row, failed_row}
+use Rattle.jb_rules.specs.Rows.{repeated_row, committed_row, rolled_row, failed_row}
 use Rattle.jb_rules.specs.States.{has_ended}
 use Rattle.jb_chunk.specs.declared.outcome.Outcome.{Outcome}
 use Rattle.jb_chunk.specs.declared.outcome.Outcome.TheVariants.{Committed, Rolled, Failed, NoMemory}
-use Rattle.jb_chunk.specs.Alone.{IsRunOf, IsOnTheWay, IsAlone, attempts_left}
-use Rattle.jb_chunk.specs.Attempt.{Ending, IsAttempt, attempt_of, block_of}
+use Rattle.jb_chunk.specs.Alone.{IsRunOf, IsOnTheWay, IsAlone, retries_in, retries_left, attempts_left}
+use Rattle.jb_chunk.specs.Attempt.{Ending, IsAttempt, trial_of, attempt_of, ending_by, end_of, block_of, task_after_repeats, again_of}
 use Rattle.jb_chunk.specs.Plain.{IsCalm, IsPlain}
 use Rattle.jb_chunk.specs.Standing.{TaskState, IsReady, taken_up}
 
@@ -34,6 +34,15 @@ CalmRunsArePlain =
 abbrev pub RunsAreShort : Type 0
 RunsAreShort = (t s : TaskState) (attempts : List Ending) → IsReady t → IsRunOf t attempts s → length attempts ≤ attempts_left t
 
+-- a row's retries grow by those of the attempts, the repeats in place and the rollbacks together, which are no more than
+-- there are left
+pub record HasRetries (t s : TaskState) (attempts : List Ending) : Type 0 where
+  pub counted : s.row.retries ≡ t.row.retries + retries_in attempts
+  pub few : retries_in attempts ≤ retries_left t
+
+abbrev pub RetriesAreFew : Type 0
+RetriesAreFew = (t s : TaskState) (attempts : List Ending) → IsRunOf t attempts s → HasRetries t s attempts
+
 -- two ways, one behind the other, are one
 abbrev pub WaysJoin : Type 0
 WaysJoin = (t between s : TaskState) → IsOnTheWay t between → IsOnTheWay between s → IsOnTheWay t s
@@ -42,9 +51,9 @@ WaysJoin = (t between s : TaskState) → IsOnTheWay t between → IsOnTheWay bet
 abbrev pub WaysEnd : Type 0
 WaysEnd = (t s : TaskState) → IsReady t → IsOnTheWay t s → has_ended s.row.state ≡ true → IsAlone t s
 
--- wherever its attempts lead, a task is ready, unless its rollbacks are beyond their limit
+-- wherever its attempts lead, a task is ready, unless its rollbacks or its repeats are beyond their limit
 abbrev pub TasksStayReady : Type 0
-TasksStayReady = (t s : TaskState) → IsReady t → IsOnTheWay t s → s.row.counts.rollback ≤ max_rollbacks → IsReady s
+TasksStayReady = (t s : TaskState) → IsReady t → IsOnTheWay t s → s.row.counts.rollback ≤ max_rollbacks → s.row.in_place ≤ max_in_place → IsReady s
 
 -- a task at its checkpoint: its reader stands there, as many results are written as its row says, and while it waits its next
 -- chunk has a record and lies in its range
@@ -80,15 +89,30 @@ CommitsTakeOneChunk =
     (t s : TaskState) (delta : Counts) → IsReady t → IsOnTheWay t s → s.row.state ≡ state.Waiting → (attempt_of s).outcome ≡ Committed delta
     → blocks_of s ≡ block_of s ∷ blocks_of (attempt_of s).task
 
--- what an attempt at the chunk that ends at `hi` does to its row, by its outcome
-abbrev pub IsStepOfLife : Outcome → (row : Row) → (hi : ℕ) → (after : Row) → Type 0
-IsStepOfLife (Committed delta) row hi after = IsDelta (hi - row.at) delta × (after ≡ committed_row row hi delta)
-IsStepOfLife (Rolled class) row hi after = after ≡ rolled_row row hi
-IsStepOfLife (Failed class) row hi after = after ≡ failed_row row
-IsStepOfLife NoMemory row hi after = after ≡ row
+-- the repeats of a task's next block are so many retries of its row, and change nothing else of it
+abbrev pub RepeatsAreRetries : Type 0
+RepeatsAreRetries = (t : TaskState) → (task_after_repeats t).row ≡ repeated_row t.row (again_of t)
+
+-- what an attempt at the chunk that ends at `hi`, with so many repeats, does to its row, by its outcome
+abbrev pub IsStepOfLife : Outcome → (again : ℕ) → (row : Row) → (hi : ℕ) → (after : Row) → Type 0
+IsStepOfLife (Committed delta) again row hi after = IsDelta (hi - row.at) delta × (after ≡ committed_row (repeated_row row again) hi delta)
+IsStepOfLife (Rolled class) again row hi after = after ≡ rolled_row (repeated_row row again) hi
+IsStepOfLife (Failed class) again row hi after = after ≡ failed_row (repeated_row row again)
+IsStepOfLife NoMemory again row hi after = after ≡ row
 
 -- each attempt takes the row a step further in its life
 abbrev pub RowsLiveOn : Type 0
 RowsLiveOn =
     (t : TaskState) (e : Ending) → IsReady t → t.row.state ≡ state.Waiting → IsAttempt t e
-    → IsStepOfLife e.outcome t.row (block_of t).hi e.task.row
+    → IsStepOfLife e.outcome e.again t.row (block_of t).hi e.task.row
+
+-- NO REPEATS
+
+-- Where no class is to roll nothing back, no call is repeated in place. The attempt is that of the block as it stands, which
+-- ends by its first fault that isn't skipped,
+abbrev pub AttemptsWithoutRepeats : Type 0
+AttemptsWithoutRepeats = (t : TaskState) → t.rules.no_rollback ≡ 0 → attempt_of t ≡ ending_by t 0 (end_of (trial_of t))
+
+-- and however an attempt ended, the row's number of repeats is what it was
+abbrev pub RepeatsStay : Type 0
+RepeatsStay = (t : TaskState) (e : Ending) → t.rules.no_rollback ≡ 0 → IsAttempt t e → (e.again ≡ 0) × (e.task.row.in_place ≡ t.row.in_place)

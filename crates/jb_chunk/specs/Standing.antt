@@ -1,6 +1,6 @@
 -- Where a task stands, and what is asked of it between two chunks.
-use Rattle.std.specs.Prelude.{ℕ, ◌≡◌, ◌≤◌, length, take}
-use Rattle.jb_job.specs.Limits.{max_retry_limit}
+use Rattle.std.specs.Prelude.{ℕ, ◌≡◌, ◌+◌, ◌-◌, ◌≤◌, length, take}
+use Rattle.jb_job.specs.Limits.{max_retry_limit, max_in_place}
 use Rattle.jb_job.specs.Records.{RulesRecord}
 use Rattle.jb_job.specs.Limits.{max_item_count}
 use Rattle.jb_rules.specs.declared.row.Row.{Row}
@@ -31,6 +31,10 @@ pub record IsReady (t : TaskState) : Type 0 where
   pub fits : Fits t.work t.row
   pub place : t.work.reader.place ≡ t.row.at
   pub count : length t.work.writer.written ≡ t.row.written
+
+-- the number of repeats in place stays in its limit, also if each retry that is left is one
+abbrev pub HasRepeats : RulesRecord → Row → Type 0
+HasRepeats rules row = row.in_place + (rules.retry_limit - row.retries) ≤ max_in_place
 
 -- reader and writer opened at the row's checkpoint: what was written past it is cut off
 abbrev pub at_checkpoint : Row → Workplace → Workplace

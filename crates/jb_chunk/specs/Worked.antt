@@ -40,11 +40,15 @@ letters = codes "a" ∷ codes "b" ∷ codes "c" ∷ codes "d" ∷ codes "e" ∷ 
 
 -- no class is skipped or retried
 abbrev pub strict : RulesRecord
-strict = record { skippable = 0; retryable = 0; skip_limit = None; retry_limit = 1000 }
+strict = record { skippable = 0; retryable = 0; no_rollback = 0; skip_limit = None; retry_limit = 1000 }
 
 -- skippable classes and retryable classes, by their bits, and no limit that is met
 abbrev pub rules_of : (skippable retryable : ℕ) → RulesRecord
 rules_of skippable retryable = record strict { skippable = skippable; retryable = retryable }
+
+-- the same, and a retry for these classes rolls nothing back
+abbrev pub in_place : (no_rollback : ℕ) → RulesRecord → RulesRecord
+in_place no_rollback rules = record rules { no_rollback = no_rollback }
 
 -- the same with skip limit 1
 abbrev pub one_skip : (skippable retryable : ℕ) → RulesRecord
@@ -119,14 +123,42 @@ read_skipped_task = task 0 0 3 2 (rules_of 1 0) (only 0 (Bad class_e)) sound sou
 abbrev pub rolled_back_task : TaskState
 rolled_back_task = task 0 0 3 2 (one_skip 1 2) (only 0 (Bad class_e)) (only 1 (Shaky (class_f ∷ []))) sound
 
+-- partitions with classes that roll nothing back
+
+abbrev pub repeated_task : TaskState
+repeated_task = task 0 0 4 4 (in_place 1 (rules_of 0 1)) sound (only 2 (Shaky (class_e ∷ []))) sound
+
+abbrev pub repeated_out_task : TaskState
+repeated_out_task = task 0 0 1 1 (in_place 1 (two_retries 0 1)) sound (only 0 (Bad class_e)) sound
+
+abbrev pub repeated_write_task : TaskState
+repeated_write_task = task 0 0 3 3 (in_place 1 (rules_of 0 1)) sound sound (only 1 (Shaky (class_e ∷ [])))
+
+abbrev pub repeated_and_rolled_task : TaskState
+repeated_and_rolled_task =
+    task 0 0 2 2 (in_place 1 (rules_of 0 3)) sound (λ k. if k == 0 then Shaky (class_e ∷ []) else (if k == 1 then Shaky (class_f ∷ []) else Sound)) sound
+
+abbrev pub repeated_then_skipped_task : TaskState
+repeated_then_skipped_task = task 0 0 4 2 (in_place 1 (record (two_retries 1 1) { skip_limit = Some 1 })) sound (only 1 (Bad class_e)) sound
+
+abbrev pub skipped_and_repeated_task : TaskState
+skipped_and_repeated_task = task 0 0 3 2 (in_place 2 (one_skip 1 2)) (only 0 (Bad class_e)) (only 1 (Shaky (class_f ∷ []))) sound
+
+abbrev pub skipped_in_redo_task : TaskState
+skipped_in_redo_task =
+    task 0 0 2 2 (in_place 1 (rules_of 1 3)) sound (λ k. if k == 0 then Shaky (class_f ∷ []) else (if k == 1 then Shaky (class_e ∷ []) else Sound)) sound
+
+abbrev pub repeated_reads_task : TaskState
+repeated_reads_task = task 0 0 2 2 (in_place 3 (two_retries 0 3)) (only 0 (Shaky (class_e ∷ class_f ∷ []))) sound (only 1 (Shaky (class_e ∷ [])))
+
 -- WHERE THEY LEAD
 
--- at, redo, retries, written, READ, WRITE, COMMIT, ROLLBACK, READ_SKIP, PROCESS_SKIP, FILTER, WRITE_SKIP
+-- at, redo, retries, written, READ, WRITE, COMMIT, ROLLBACK, READ_SKIP, PROCESS_SKIP, FILTER, WRITE_SKIP, repeats in place
 abbrev pub numbers : Row → List ℕ
 numbers r =
     r.at ∷ r.redo ∷ r.retries ∷ r.written
     ∷ r.counts.read ∷ r.counts.write ∷ r.counts.commit ∷ r.counts.rollback
-    ∷ r.counts.read_skip ∷ r.counts.process_skip ∷ r.counts.filter ∷ r.counts.write_skip ∷ []
+    ∷ r.counts.read_skip ∷ r.counts.process_skip ∷ r.counts.filter ∷ r.counts.write_skip ∷ r.in_place ∷ []
 
 -- the collector's texts of some attempts
 abbrev pub texts_in : List Ending → List (List ℕ)
@@ -148,11 +180,11 @@ pub record RunsTo (t : TaskState) (row_numbers : List ℕ) (row_state : RowState
 pub record FirstRun : Type 0 where
   pub first :
       RunsTo first_task
-      (2 ∷ 0 ∷ 0 ∷ 2 ∷ 2 ∷ 2 ∷ 1 ∷ 0 ∷ 0 ∷ 0 ∷ 0 ∷ 0 ∷ []) Finished
+      (2 ∷ 0 ∷ 0 ∷ 2 ∷ 2 ∷ 2 ∷ 1 ∷ 0 ∷ 0 ∷ 0 ∷ 0 ∷ 0 ∷ 0 ∷ []) Finished
       (codes "xa" ∷ codes "xb" ∷ []) (codes "0:2:2" ∷ codes "0:2:2:end" ∷ [])
   pub second :
       RunsTo second_task
-      (3 ∷ 2 ∷ 0 ∷ 1 ∷ 1 ∷ 1 ∷ 1 ∷ 0 ∷ 0 ∷ 0 ∷ 0 ∷ 0 ∷ []) Finished
+      (3 ∷ 2 ∷ 0 ∷ 1 ∷ 1 ∷ 1 ∷ 1 ∷ 0 ∷ 0 ∷ 0 ∷ 0 ∷ 0 ∷ 0 ∷ []) Finished
       (codes "xc" ∷ []) (codes "1:3:1" ∷ codes "1:3:1:end" ∷ [])
 
 -- everything filtered: four records that begin with z, which the processor filters, in one chunk
@@ -167,20 +199,20 @@ filtered_task = record (task 0 0 4 4 strict sound sound sound) {
 abbrev pub EverythingFiltered : Type 0
 EverythingFiltered =
     RunsTo filtered_task
-    (4 ∷ 0 ∷ 0 ∷ 0 ∷ 4 ∷ 0 ∷ 1 ∷ 0 ∷ 0 ∷ 0 ∷ 4 ∷ 0 ∷ []) Finished
+    (4 ∷ 0 ∷ 0 ∷ 0 ∷ 4 ∷ 0 ∷ 1 ∷ 0 ∷ 0 ∷ 0 ∷ 4 ∷ 0 ∷ 0 ∷ []) Finished
     [] (codes "0:4:0" ∷ codes "0:4:0:end" ∷ [])
 
 -- no record at all: no attempt is made
 abbrev pub NoRecord : Type 0
 NoRecord =
     RunsTo recordless_task
-    (0 ∷ 0 ∷ 0 ∷ 0 ∷ 0 ∷ 0 ∷ 0 ∷ 0 ∷ 0 ∷ 0 ∷ 0 ∷ 0 ∷ []) Finished [] []
+    (0 ∷ 0 ∷ 0 ∷ 0 ∷ 0 ∷ 0 ∷ 0 ∷ 0 ∷ 0 ∷ 0 ∷ 0 ∷ 0 ∷ 0 ∷ []) Finished [] []
 
 -- a retry rolls back to single records: item count 4, record 2 fails once and is retryable
 abbrev pub RetryToSingles : Type 0
 RetryToSingles =
     RunsTo retried_task
-    (4 ∷ 4 ∷ 1 ∷ 4 ∷ 4 ∷ 4 ∷ 4 ∷ 1 ∷ 0 ∷ 0 ∷ 0 ∷ 0 ∷ []) Finished
+    (4 ∷ 4 ∷ 1 ∷ 4 ∷ 4 ∷ 4 ∷ 4 ∷ 1 ∷ 0 ∷ 0 ∷ 0 ∷ 0 ∷ 0 ∷ []) Finished
     (codes "xa" ∷ codes "xb" ∷ codes "xc" ∷ codes "xd" ∷ [])
     (codes "0:1:1" ∷ codes "0:2:2" ∷ codes "0:3:3" ∷ codes "0:4:4" ∷ codes "0:4:4:end" ∷ [])
 
@@ -188,7 +220,7 @@ RetryToSingles =
 abbrev pub SkipInRedo : Type 0
 SkipInRedo =
     RunsTo skipped_task
-    (4 ∷ 2 ∷ 1 ∷ 3 ∷ 4 ∷ 3 ∷ 3 ∷ 1 ∷ 0 ∷ 1 ∷ 0 ∷ 0 ∷ []) Finished
+    (4 ∷ 2 ∷ 1 ∷ 3 ∷ 4 ∷ 3 ∷ 3 ∷ 1 ∷ 0 ∷ 1 ∷ 0 ∷ 0 ∷ 0 ∷ []) Finished
     (codes "xa" ∷ codes "xc" ∷ codes "xd" ∷ [])
     (codes "0:1:1" ∷ codes "0:2:1" ∷ codes "0:4:3" ∷ codes "0:4:3:end" ∷ [])
 
@@ -197,18 +229,18 @@ SkipInRedo =
 pub record OneFailed : Type 0 where
   pub failed :
       RunsTo failed_task
-      (2 ∷ 0 ∷ 0 ∷ 1 ∷ 2 ∷ 1 ∷ 1 ∷ 1 ∷ 0 ∷ 1 ∷ 0 ∷ 0 ∷ []) Failed
+      (2 ∷ 0 ∷ 0 ∷ 1 ∷ 2 ∷ 1 ∷ 1 ∷ 1 ∷ 0 ∷ 1 ∷ 0 ∷ 0 ∷ 0 ∷ []) Failed
       (codes "xb" ∷ []) (codes "0:2:1" ∷ [])
   pub finished :
       RunsTo beside_failed_task
-      (6 ∷ 4 ∷ 0 ∷ 2 ∷ 2 ∷ 2 ∷ 1 ∷ 0 ∷ 0 ∷ 0 ∷ 0 ∷ 0 ∷ []) Finished
+      (6 ∷ 4 ∷ 0 ∷ 2 ∷ 2 ∷ 2 ∷ 1 ∷ 0 ∷ 0 ∷ 0 ∷ 0 ∷ 0 ∷ 0 ∷ []) Finished
       (codes "xe" ∷ codes "xf" ∷ []) (codes "1:6:2" ∷ codes "1:6:2:end" ∷ [])
 
 -- a torn write that is skipped: item count 3, the writer always fails at record 1. No output is left of it.
 abbrev pub TornWrite : Type 0
 TornWrite =
     RunsTo torn_task
-    (3 ∷ 0 ∷ 0 ∷ 0 ∷ 3 ∷ 0 ∷ 1 ∷ 0 ∷ 0 ∷ 0 ∷ 0 ∷ 1 ∷ []) Finished
+    (3 ∷ 0 ∷ 0 ∷ 0 ∷ 3 ∷ 0 ∷ 1 ∷ 0 ∷ 0 ∷ 0 ∷ 0 ∷ 1 ∷ 0 ∷ []) Finished
     [] (codes "0:3:0" ∷ codes "0:3:0:end" ∷ [])
 
 -- a write that fails once with E, which is retryable: item count 2, at record 1. The result before it isn't kept, and is
@@ -216,7 +248,7 @@ TornWrite =
 abbrev pub WriteRetried : Type 0
 WriteRetried =
     RunsTo rewritten_task
-    (4 ∷ 2 ∷ 1 ∷ 4 ∷ 4 ∷ 4 ∷ 3 ∷ 1 ∷ 0 ∷ 0 ∷ 0 ∷ 0 ∷ []) Finished
+    (4 ∷ 2 ∷ 1 ∷ 4 ∷ 4 ∷ 4 ∷ 3 ∷ 1 ∷ 0 ∷ 0 ∷ 0 ∷ 0 ∷ 0 ∷ []) Finished
     (codes "xa" ∷ codes "xb" ∷ codes "xc" ∷ codes "xd" ∷ [])
     (codes "0:1:1" ∷ codes "0:2:2" ∷ codes "0:4:4" ∷ codes "0:4:4:end" ∷ [])
 
@@ -225,14 +257,14 @@ WriteRetried =
 abbrev pub WriteFailed : Type 0
 WriteFailed =
     RunsTo unwritable_task
-    (2 ∷ 0 ∷ 0 ∷ 2 ∷ 2 ∷ 2 ∷ 1 ∷ 1 ∷ 0 ∷ 0 ∷ 0 ∷ 0 ∷ []) Failed
+    (2 ∷ 0 ∷ 0 ∷ 2 ∷ 2 ∷ 2 ∷ 1 ∷ 1 ∷ 0 ∷ 0 ∷ 0 ∷ 0 ∷ 0 ∷ []) Failed
     (codes "xa" ∷ codes "xb" ∷ []) (codes "0:2:2" ∷ [])
 
 -- a write that fails first with E, which is retryable, and then with F, which is skippable: item count 3, at record 1
 abbrev pub ShakyWrite : Type 0
 ShakyWrite =
     RunsTo shaky_writes_task
-    (3 ∷ 3 ∷ 1 ∷ 2 ∷ 3 ∷ 2 ∷ 3 ∷ 1 ∷ 0 ∷ 0 ∷ 0 ∷ 1 ∷ []) Finished
+    (3 ∷ 3 ∷ 1 ∷ 2 ∷ 3 ∷ 2 ∷ 3 ∷ 1 ∷ 0 ∷ 0 ∷ 0 ∷ 1 ∷ 0 ∷ []) Finished
     (codes "xa" ∷ codes "xc" ∷ [])
     (codes "0:1:1" ∷ codes "0:2:1" ∷ codes "0:3:2" ∷ codes "0:3:2:end" ∷ [])
 
@@ -240,25 +272,82 @@ ShakyWrite =
 abbrev pub RetryLimit : Type 0
 RetryLimit =
     RunsTo retried_out_task
-    (0 ∷ 1 ∷ 2 ∷ 0 ∷ 0 ∷ 0 ∷ 0 ∷ 3 ∷ 0 ∷ 0 ∷ 0 ∷ 0 ∷ []) Failed [] []
+    (0 ∷ 1 ∷ 2 ∷ 0 ∷ 0 ∷ 0 ∷ 0 ∷ 3 ∷ 0 ∷ 0 ∷ 0 ∷ 0 ∷ 0 ∷ []) Failed [] []
 
 -- a read that is skipped: item count 2, the read of record 0 always fails and is skippable
 abbrev pub ReadSkip : Type 0
 ReadSkip =
     RunsTo read_skipped_task
-    (3 ∷ 0 ∷ 0 ∷ 2 ∷ 2 ∷ 2 ∷ 2 ∷ 0 ∷ 1 ∷ 0 ∷ 0 ∷ 0 ∷ []) Finished
+    (3 ∷ 0 ∷ 0 ∷ 2 ∷ 2 ∷ 2 ∷ 2 ∷ 0 ∷ 1 ∷ 0 ∷ 0 ∷ 0 ∷ 0 ∷ []) Finished
     (codes "xb" ∷ codes "xc" ∷ []) (codes "0:2:1" ∷ codes "0:3:2" ∷ codes "0:3:2:end" ∷ [])
 
 -- a rolled-back skip isn't counted: the same with skip limit 1, and record 1 fails once with F, which is retryable alone
 abbrev pub RolledBackSkip : Type 0
 RolledBackSkip =
     RunsTo rolled_back_task
-    (3 ∷ 2 ∷ 1 ∷ 2 ∷ 2 ∷ 2 ∷ 3 ∷ 1 ∷ 1 ∷ 0 ∷ 0 ∷ 0 ∷ []) Finished
+    (3 ∷ 2 ∷ 1 ∷ 2 ∷ 2 ∷ 2 ∷ 3 ∷ 1 ∷ 1 ∷ 0 ∷ 0 ∷ 0 ∷ 0 ∷ []) Finished
     (codes "xb" ∷ codes "xc" ∷ []) (codes "0:1:0" ∷ codes "0:2:1" ∷ codes "0:3:2" ∷ codes "0:3:2:end" ∷ [])
+
+-- a repeat in place: item count 4, record 2 fails once, is retryable and rolls nothing back
+abbrev pub Repeat : Type 0
+Repeat =
+    RunsTo repeated_task
+    (4 ∷ 0 ∷ 1 ∷ 4 ∷ 4 ∷ 4 ∷ 1 ∷ 0 ∷ 0 ∷ 0 ∷ 0 ∷ 0 ∷ 1 ∷ []) Finished
+    (codes "xa" ∷ codes "xb" ∷ codes "xc" ∷ codes "xd" ∷ []) (codes "0:4:4" ∷ codes "0:4:4:end" ∷ [])
+
+-- the retry limit reached by repeats: one record that always fails, retry limit 2
+abbrev pub RepeatLimit : Type 0
+RepeatLimit =
+    RunsTo repeated_out_task
+    (0 ∷ 0 ∷ 2 ∷ 0 ∷ 0 ∷ 0 ∷ 0 ∷ 1 ∷ 0 ∷ 0 ∷ 0 ∷ 0 ∷ 2 ∷ []) Failed [] []
+
+-- a write that is repeated: item count 3, at record 1
+abbrev pub RepeatedWrite : Type 0
+RepeatedWrite =
+    RunsTo repeated_write_task
+    (3 ∷ 0 ∷ 1 ∷ 3 ∷ 3 ∷ 3 ∷ 1 ∷ 0 ∷ 0 ∷ 0 ∷ 0 ∷ 0 ∷ 1 ∷ []) Finished
+    (codes "xa" ∷ codes "xb" ∷ codes "xc" ∷ []) (codes "0:3:3" ∷ codes "0:3:3:end" ∷ [])
+
+-- a repeat in a block that is rolled back counts: item count 2, record 0 fails once with E, which rolls nothing back, and
+-- record 1 once with F, which does
+abbrev pub RepeatedAndRolled : Type 0
+RepeatedAndRolled =
+    RunsTo repeated_and_rolled_task
+    (2 ∷ 2 ∷ 2 ∷ 2 ∷ 2 ∷ 2 ∷ 2 ∷ 1 ∷ 0 ∷ 0 ∷ 0 ∷ 0 ∷ 1 ∷ []) Finished
+    (codes "xa" ∷ codes "xb" ∷ []) (codes "0:1:1" ∷ codes "0:2:2" ∷ codes "0:2:2:end" ∷ [])
+
+-- a fault that is repeated until the retry limit and then skipped: item count 2, record 1 always fails, skip limit 1, retry
+-- limit 2; nothing is rolled back
+abbrev pub RepeatedThenSkipped : Type 0
+RepeatedThenSkipped =
+    RunsTo repeated_then_skipped_task
+    (4 ∷ 0 ∷ 2 ∷ 3 ∷ 4 ∷ 3 ∷ 2 ∷ 0 ∷ 0 ∷ 1 ∷ 0 ∷ 0 ∷ 2 ∷ []) Finished
+    (codes "xa" ∷ codes "xc" ∷ codes "xd" ∷ []) (codes "0:2:1" ∷ codes "0:4:3" ∷ codes "0:4:3:end" ∷ [])
+
+-- a skip before a repeat stands: item count 2, the read of record 0 always fails and is skippable, record 1 fails once
+abbrev pub SkippedAndRepeated : Type 0
+SkippedAndRepeated =
+    RunsTo skipped_and_repeated_task
+    (3 ∷ 0 ∷ 1 ∷ 2 ∷ 2 ∷ 2 ∷ 2 ∷ 0 ∷ 1 ∷ 0 ∷ 0 ∷ 0 ∷ 1 ∷ []) Finished
+    (codes "xb" ∷ codes "xc" ∷ []) (codes "0:2:1" ∷ codes "0:3:2" ∷ codes "0:3:2:end" ∷ [])
+
+-- in the single-record redo a fault is skipped before it is repeated: record 0 fails once with F, which rolls the block back,
+-- record 1 once with E, which is skippable and rolls nothing back
+abbrev pub SkippedInRedo : Type 0
+SkippedInRedo =
+    RunsTo skipped_in_redo_task
+    (2 ∷ 2 ∷ 1 ∷ 1 ∷ 2 ∷ 1 ∷ 2 ∷ 1 ∷ 0 ∷ 1 ∷ 0 ∷ 0 ∷ 0 ∷ []) Finished
+    (codes "xa" ∷ []) (codes "0:1:1" ∷ codes "0:2:1" ∷ codes "0:2:1:end" ∷ [])
+
+-- two repeats of one read are all that the retry limit has: the write that fails behind them fails the partition
+abbrev pub RepeatedReads : Type 0
+RepeatedReads =
+    RunsTo repeated_reads_task
+    (0 ∷ 0 ∷ 2 ∷ 0 ∷ 0 ∷ 0 ∷ 0 ∷ 1 ∷ 0 ∷ 0 ∷ 0 ∷ 0 ∷ 2 ∷ []) Failed [] []
 
 -- the Plain runs of seven records' first partition, item count 2, and of everything filtered
 pub record PlainRuns : Type 0 where
-  pub counts : numbers (plain_row (task 0 0 3 2 strict sound sound sound)) ≡ 3 ∷ 0 ∷ 0 ∷ 3 ∷ 3 ∷ 3 ∷ 2 ∷ 0 ∷ 0 ∷ 0 ∷ 0 ∷ 0 ∷ []
+  pub counts : numbers (plain_row (task 0 0 3 2 strict sound sound sound)) ≡ 3 ∷ 0 ∷ 0 ∷ 3 ∷ 3 ∷ 3 ∷ 2 ∷ 0 ∷ 0 ∷ 0 ∷ 0 ∷ 0 ∷ 0 ∷ []
   pub outputs : plain_outputs (task 0 0 3 2 strict sound sound sound) ≡ codes "xa" ∷ codes "xb" ∷ codes "xc" ∷ []
-  pub filtered : numbers (plain_row filtered_task) ≡ 4 ∷ 0 ∷ 0 ∷ 0 ∷ 4 ∷ 0 ∷ 1 ∷ 0 ∷ 0 ∷ 0 ∷ 4 ∷ 0 ∷ []
+  pub filtered : numbers (plain_row filtered_task) ≡ 4 ∷ 0 ∷ 0 ∷ 0 ∷ 4 ∷ 0 ∷ 1 ∷ 0 ∷ 0 ∷ 0 ∷ 4 ∷ 0 ∷ 0 ∷ []
   pub nothing : plain_outputs filtered_task ≡ []

@@ -1,3 +1,4 @@
 pub mod Ends
 pub mod Gathering
+pub mod Repeats
 pub mod Tried

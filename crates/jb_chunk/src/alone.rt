@@ -1,7 +1,7 @@
 //! A task's attempts, one after another.
 
-ghost use Rattle.std.specs.Prelude.{◌≡◌, ◌+◌, ◌<◌};
-ghost use Rattle.jb_job.specs.Limits.{max_retry_limit, max_rollbacks};
+ghost use Rattle.std.specs.Prelude.{◌≡◌, ◌+◌, ◌<◌, ◌≤◌};
+ghost use Rattle.jb_job.specs.Limits.{max_retry_limit, max_rollbacks, max_in_place};
 ghost use Rattle.jb_rules.specs.declared.row.RowState.TheVariants.{Waiting};
 ghost use Rattle.jb_chunk.specs.Alone.{EndsAlone, KeepsPlain};
 ghost use Rattle.jb_chunk.specs.Standing.{IsReady};
@@ -37,6 +37,7 @@ pub struct Alone<T = Task> {
 pub fn run_alone<T: PartitionTask>(alloc: Global, task: T) -> Alone<T>
     requires waiting { (T.standing task).row.state ≡ Waiting }
     requires room { (T.standing task).row.counts.rollback + max_retry_limit < max_rollbacks }
+    requires repeats { (T.standing task).row.in_place + max_retry_limit ≤ max_in_place }
     requires ready { IsReady (T.standing task) }
     ensures alone { EndsAlone (T.standing task) result.end (T.standing result.task) }
     ensures plain { KeepsPlain (T.standing task) result.end (T.standing result.task) }
@@ -49,6 +50,7 @@ pub fn run_alone<T: PartitionTask>(alloc: Global, task: T) -> Alone<T>
             task: next,
             outcome,
             values: _,
+            again: _,
         } = task.attempt(alloc);
         task = next;
         match outcome {

@@ -1,54 +1,38 @@
 //! One block tried to its end.
 
-ghost use Rattle.std.specs.Prelude.{◌≡◌, ◌≤◌, ◌<◌, ◌+◌, ◌-◌, length, take, vec_len, IfOk, OnErr};
+ghost use Rattle.std.specs.Prelude.{ℕ, ◌≡◌, ◌≤◌, ◌<◌, ◌+◌, ◌-◌, false, length, vec_len, Some, IfOk, OnErr};
+ghost use Rattle.jb_job.specs.Records.{RulesRecord};
+ghost use Rattle.jb_rules.specs.declared.row.Row.{Row};
 ghost use Rattle.jb_artifacts.specs.Reader.{reader_end, opened};
 ghost use Rattle.jb_rules.specs.Sound.{IsSoundRow};
 ghost use Rattle.jb_rules.specs.Counts.{IsDelta};
-ghost use Rattle.jb_chunk.specs.Attempt.{Trial, end_by};
+ghost use Rattle.jb_chunk.specs.Attempt.{Trial, end_at, after_repeats};
+ghost use Rattle.jb_chunk.specs.Block.{choice_at, is_again};
 ghost use Rattle.jb_chunk.specs.inside.Ends.{counts_by, place_by};
 ghost use Rattle.jb_chunk.specs.inside.Gathering.{IsSmallTally, block_tally};
-ghost use Rattle.jb_chunk.specs.inside.Tried.{IsTried, IsWriteEnd, IsFinish, IsCommitted, IsTorn};
-ghost use Rattle.jb_artifacts.specs.Writer.{write_fault, after_write, torn_write};
+ghost use Rattle.jb_chunk.specs.Standing.{HasRepeats};
+ghost use Rattle.jb_chunk.specs.inside.Repeats.{IsWriteEndAfter, IsFinishAfter, IsTornWrite};
+ghost use Rattle.jb_chunk.specs.inside.Tried.{IsTried, IsCommitted, IsTorn};
 
 use crate::end::End;
 use crate::gather::{Gathered, gather};
 use crate::partition_artifacts::PartitionArtifacts;
+use crate::repeat::write_in_place;
 use crate::tally::Tally;
 use crate::tried::Tried;
-use jb_artifacts::Item;
 use jb_job::{ArtifactError, ClassId, Rules};
 use jb_rules::{Choice, Counts, Row, decide};
 use std::alloc::{AllocError, Global};
 
-/// Writes the results, where there are any, and answers the write's fault.
-fn write_found<A: PartitionArtifacts>(
-    artifacts: &mut A,
-    found: &[(u64, Item)],
-) -> Result<Option<ClassId>, AllocError>
-    ensures ok { let w = A.workplace artifacts.old in
-        let now = A.workplace artifacts.new in
-        IfOk result (λ fault. (fault ≡ write_fault w.writer found.now) × (now ≡ record w { writer = after_write w.writer found.now })) }
-    ensures err { let w = A.workplace artifacts.old in
-        let now = A.workplace artifacts.new in
-        OnErr result (now ≡ record w { writer = torn_write w.writer found.now (length now.writer.written) }) }
-{
-    if found.is_empty() {
-        return Ok(None);
-    }
-    match artifacts.write_items(found) {
-        Ok(()) => Ok(None),
-        Err(ArtifactError::Fault(class)) => Ok(Some(class)),
-        Err(ArtifactError::Memory) => Err(AllocError),
-    }
-}
-
-/// How a fault of this class ends the block.
+/// How the block ends by a fault of this class, for which this is chosen.
 fn end_by_choice(choice: Choice, class: ClassId) -> End
-    ensures { result ≡ end_by choice class }
+    requires last { is_again choice ≡ false }
+    ensures { (rules : RulesRecord) (row : Row) (skips : ℕ) → choice ≡ choice_at rules row class skips → result ≡ end_at rules row (Some class) skips }
 {
     match choice {
         Choice::Skip => End::Unwritten,
         Choice::Retry => End::Rolled(class),
+        Choice::Again => unreachable!(),
         Choice::Fail => End::Failed(class),
     }
 }
@@ -93,53 +77,58 @@ fn reopen<A: PartitionArtifacts>(artifacts: &mut A, end: End, at: u64, hi: u64)
     }
 }
 
-/// Writes a block's results, and settles the write's fault: what isn't committed is cut back.
+/// Writes a block's results, and settles the write's fault: what isn't committed is cut back. The row counts the repeats.
 fn settle_write<A: PartitionArtifacts>(
     artifacts: &mut A,
     rules: &Rules,
-    row: &Row,
+    row: &mut Row,
     tally: &Tally,
 ) -> Result<End, AllocError>
-    requires sound { IsSoundRow row.now }
+    requires sound { IsSoundRow row.old }
+    requires room { HasRepeats rules.now row.old }
     requires few { IsSmallTally tally.now }
-    requires count { length (A.workplace artifacts.old).writer.written ≡ row.now.written }
+    requires count { length (A.workplace artifacts.old).writer.written ≡ row.old.written }
     ensures ok { let w = A.workplace artifacts.old in
-        IfOk result (λ end. IsWriteEnd rules.now row.now tally.now w end (A.workplace artifacts.new)) }
+        IfOk result (λ end. IsWriteEndAfter rules.now row.old tally.now w end row.new (A.workplace artifacts.new)) }
+    ensures sound { IsSoundRow row.new }
     ensures err { let w = A.workplace artifacts.old in
         let now = A.workplace artifacts.new in
-        OnErr result (now ≡ record w { writer = torn_write w.writer tally.now.found.items (length now.writer.written) }) }
+        OnErr result (IsTornWrite w tally.now.found.items now) }
 {
-    match write_found(artifacts, tally.found.as_slice()) {
-        Ok(None) => Ok(End::Written),
-        Ok(Some(class)) => {
-            let skips = row.skips() + tally.read_skips + tally.process_skips;
+    let skips = row.skips() + tally.read_skips + tally.process_skips;
+    match write_in_place(artifacts, rules, row, skips, tally.found.as_slice()) {
+        Ok(()) => Ok(End::Written),
+        Err(ArtifactError::Fault(class)) => {
             let choice = decide(rules, class, row.at < row.redo, skips, row.retries);
             artifacts.cut_back(row.written);
             Ok(end_by_choice(choice, class))
         }
-        Err(error) => Err(error),
+        Err(ArtifactError::Memory) => Err(AllocError),
     }
 }
 
-/// Tries the records from the row's checkpoint up to `hi`: reads, processes and writes them, and settles their faults.
+/// Tries the records from the row's checkpoint up to `hi`: reads, processes and writes them, repeats calls in place, and
+/// settles the other faults. The row counts the repeats.
 pub fn try_block<A: PartitionArtifacts>(
     alloc: Global,
     artifacts: &mut A,
     rules: &Rules,
-    row: &Row,
+    row: &mut Row,
     hi: u64,
 ) -> Result<Tried, AllocError>
-    requires sound { IsSoundRow row.now }
-    requires order { row.now.at < hi }
-    requires within { hi ≤ row.now.hi }
-    requires place { (A.workplace artifacts.old).reader.place ≡ row.now.at }
-    requires from { (A.workplace artifacts.old).reader.first ≤ row.now.at }
+    requires sound { IsSoundRow row.old }
+    requires room { HasRepeats rules.now row.old }
+    requires order { row.old.at < hi }
+    requires within { hi ≤ row.old.hi }
+    requires place { (A.workplace artifacts.old).reader.place ≡ row.old.at }
+    requires from { (A.workplace artifacts.old).reader.first ≤ row.old.at }
     requires to { hi ≤ reader_end (A.workplace artifacts.old).reader }
-    requires count { length (A.workplace artifacts.old).writer.written ≡ row.now.written }
-    ensures ok { let t : Trial = record { rules = rules.now; row = row.now; hi = hi; work = A.workplace artifacts.old } in
-        IfOk result (λ tried. IsTried t tried (A.workplace artifacts.new)) }
-    ensures counted { IfOk result (λ tried. IsCommitted tried.end → IsDelta (hi - row.now.at) tried.delta) }
-    ensures err { OnErr result (IsTorn row.now.at hi (A.workplace artifacts.old) (A.workplace artifacts.new)) }
+    requires count { length (A.workplace artifacts.old).writer.written ≡ row.old.written }
+    ensures ok { let t : Trial = record { rules = rules.now; row = row.old; hi = hi; work = A.workplace artifacts.old } in
+        IfOk result (λ tried. (row.new ≡ (after_repeats t).row) × IsTried (after_repeats t) tried (A.workplace artifacts.new)) }
+    ensures counted { IfOk result (λ tried. IsCommitted tried.end → IsDelta (hi - row.old.at) tried.delta) }
+    ensures sound { IsSoundRow row.new }
+    ensures err { OnErr result (IsTorn row.old.at hi (A.workplace artifacts.old) (A.workplace artifacts.new)) }
 {
     match gather(alloc, artifacts, rules, row, hi) {
         Ok(Gathered::Settled(_, class, choice)) => {
@@ -157,24 +146,26 @@ pub fn try_block<A: PartitionArtifacts>(
 fn finish_block<A: PartitionArtifacts>(
     artifacts: &mut A,
     rules: &Rules,
-    row: &Row,
+    row: &mut Row,
     hi: u64,
     tally: &Tally,
 ) -> Result<Tried, AllocError>
-    requires sound { IsSoundRow row.now }
-    requires order { row.now.at < hi }
+    requires sound { IsSoundRow row.old }
+    requires room { HasRepeats rules.now row.old }
+    requires order { row.old.at < hi }
     requires few { IsSmallTally tally.now }
-    requires records { tally.now.read_skips + tally.now.process_skips + tally.now.filtered + vec_len tally.now.found ≡ hi - row.now.at }
+    requires records { tally.now.read_skips + tally.now.process_skips + tally.now.filtered + vec_len tally.now.found ≡ hi - row.old.at }
     requires place { (A.workplace artifacts.old).reader.place ≡ hi }
-    requires from { (A.workplace artifacts.old).reader.first ≤ row.now.at }
+    requires from { (A.workplace artifacts.old).reader.first ≤ row.old.at }
     requires to { hi ≤ reader_end (A.workplace artifacts.old).reader }
-    requires count { length (A.workplace artifacts.old).writer.written ≡ row.now.written }
+    requires count { length (A.workplace artifacts.old).writer.written ≡ row.old.written }
     ensures ok { let w = A.workplace artifacts.old in
-        IfOk result (λ tried. IsFinish rules.now row.now hi tally.now w tried (A.workplace artifacts.new)) }
-    ensures counted { IfOk result (λ tried. IsCommitted tried.end → IsDelta (hi - row.now.at) tried.delta) }
+        IfOk result (λ tried. IsFinishAfter rules.now row.old hi tally.now w tried row.new (A.workplace artifacts.new)) }
+    ensures counted { IfOk result (λ tried. IsCommitted tried.end → IsDelta (hi - row.old.at) tried.delta) }
+    ensures sound { IsSoundRow row.new }
     ensures err { let w = A.workplace artifacts.old in
         let now = A.workplace artifacts.new in
-        OnErr result (now ≡ record w { writer = torn_write w.writer tally.now.found.items (length now.writer.written) }) }
+        OnErr result (IsTornWrite w tally.now.found.items now) }
 {
     match settle_write(artifacts, rules, row, tally) {
         Ok(end) => {

@@ -1,13 +1,19 @@
 //! The records of a block, read and processed one by one.
 
-ghost use Rattle.std.specs.Prelude.{◌≡◌, ◌+◌, ◌<◌, ◌≤◌, IfOk, OnOk, OnErr, ◌⊎◌};
+ghost use Rattle.std.specs.Prelude.{◌≡◌, ◌+◌, ◌<◌, ◌≤◌, IfOk, OnErr};
 ghost use Rattle.jb_artifacts.specs.Reader.{reader_end};
 ghost use Rattle.jb_rules.specs.Sound.{IsSoundRow};
-ghost use Rattle.jb_chunk.specs.Block.{entry};
-ghost use Rattle.jb_chunk.specs.inside.Gathering.{passed_one, IsWorn, IsGathered, IsWornTo, IsStep, IsSmallTally};
+ghost use Rattle.jb_rules.specs.Rows.{skips_of};
+ghost use Rattle.jb_chunk.specs.declared.entry.Entry.{Entry};
+ghost use Rattle.jb_chunk.specs.Attempt.{Trial};
+ghost use Rattle.jb_chunk.specs.inside.Gathering.{IsWornTo, IsStep, IsSmallTally};
+ghost use Rattle.jb_chunk.specs.Standing.{HasRepeats};
+ghost use Rattle.jb_chunk.specs.inside.Repeats.{IsDone, IsGathered};
+ghost use Rattle.jb_chunk.specs.inside.Tried.{IsTorn};
 
 use crate::entry::Entry;
 use crate::partition_artifacts::PartitionArtifacts;
+use crate::repeat::{process_in_place, read_in_place};
 use crate::tally::Tally;
 use jb_job::{ArtifactError, ClassId, Rules};
 use jb_rules::{Choice, Row, decide};
@@ -22,26 +28,31 @@ pub enum Gathered {
     Whole(Tally),
 }
 
-/// Reads the record at the reader's place and processes it.
-#[tactic(auto, unfolding(crate::specs::Block::entry))]
+/// Reads the record at the reader's place and processes it, each again after a fault that is repeated in place.
 fn read_and_process<A: PartitionArtifacts>(
     artifacts: &mut A,
+    rules: &Rules,
+    row: &mut Row,
+    skips: u64,
     number: u64,
 ) -> Result<Entry, AllocError>
+    requires sound { IsSoundRow row.old }
+    requires room { HasRepeats rules.now row.old }
     requires place { (A.workplace artifacts.old).reader.place ≡ number }
+    requires from { (A.workplace artifacts.old).reader.first ≤ number }
     requires to { number < reader_end (A.workplace artifacts.old).reader }
-    ensures entry { IfOk result (λ found. found ≡ entry (A.workplace artifacts.old) number) }
-    ensures ok { let w = A.workplace artifacts.old in
-        OnOk result (A.workplace artifacts.new ≡ passed_one w number) }
-    ensures err { let w = A.workplace artifacts.old in
-        OnErr result (IsWorn w number (A.workplace artifacts.new)) }
+    ensures done { let w = A.workplace artifacts.old in
+        IfOk result (λ found. IsDone rules.now skips row.old w number found row.new (A.workplace artifacts.new)) }
+    ensures sound { IsSoundRow row.new }
+    ensures room { HasRepeats rules.now row.new }
+    ensures err { OnErr result (IsWornTo number (number + 1) (A.workplace artifacts.old) (A.workplace artifacts.new)) }
 {
-    let record = match artifacts.read_item() {
+    let record = match read_in_place(artifacts, rules, row, skips, number) {
         Ok(record) => record,
         Err(ArtifactError::Fault(class)) => return Ok(Entry::ReadFault(class)),
         Err(ArtifactError::Memory) => return Err(AllocError),
     };
-    match artifacts.process_item(number, record.as_slice()) {
+    match process_in_place(artifacts, rules, row, skips, number, record.as_slice()) {
         Ok(Some(text)) => Ok(Entry::Found(text)),
         Ok(None) => Ok(Entry::Filtered),
         Err(ArtifactError::Fault(class)) => Ok(Entry::ProcessFault(class)),
@@ -53,24 +64,26 @@ fn read_and_process<A: PartitionArtifacts>(
 fn settle_record<A: PartitionArtifacts>(
     artifacts: &mut A,
     rules: &Rules,
-    row: &Row,
+    row: &mut Row,
     number: u64,
     tally: &mut Tally,
 ) -> Result<Option<(ClassId, Choice)>, AllocError>
-    requires sound { IsSoundRow row.now }
+    requires sound { IsSoundRow row.old }
+    requires room { HasRepeats rules.now row.old }
     requires few { IsSmallTally tally.old }
     requires place { (A.workplace artifacts.old).reader.place ≡ number }
+    requires from { (A.workplace artifacts.old).reader.first ≤ number }
     requires to { number < reader_end (A.workplace artifacts.old).reader }
-    ensures ok { let w = A.workplace artifacts.old in
-        OnOk result (A.workplace artifacts.new ≡ passed_one w number) }
     ensures stepped { let w = A.workplace artifacts.old in
-        IfOk result (λ settled. IsStep rules.now row.now (entry w number) number tally.old settled tally.new) }
-    ensures err { let w = A.workplace artifacts.old in
-        OnErr result (IsWorn w number (A.workplace artifacts.new) ⊎ (A.workplace artifacts.new ≡ passed_one w number)) }
+        let skips = skips_of row.old + tally.old.read_skips + tally.old.process_skips in
+        IfOk result (λ settled. (e : Entry) × IsDone rules.now skips row.old w number e row.new (A.workplace artifacts.new) × IsStep rules.now row.new e number tally.old settled tally.new) }
+    ensures sound { IsSoundRow row.new }
+    ensures room { HasRepeats rules.now row.new }
+    ensures err { OnErr result (IsWornTo number (number + 1) (A.workplace artifacts.old) (A.workplace artifacts.new)) }
 {
-    let entry = read_and_process(artifacts, number)?;
+    let skips = row.skips() + tally.read_skips + tally.process_skips;
+    let entry = read_and_process(artifacts, rules, row, skips, number)?;
     if let Some(class) = entry.fault() {
-        let skips = row.skips() + tally.read_skips + tally.process_skips;
         let choice = decide(rules, class, row.at < row.redo, skips, row.retries);
         if !matches!(choice, Choice::Skip) {
             return Ok(Some((class, choice)));
@@ -80,23 +93,27 @@ fn settle_record<A: PartitionArtifacts>(
     Ok(None)
 }
 
-/// Reads and processes the records from the row's checkpoint up to `hi`, until one has a fault that isn't skipped.
+/// Reads and processes the records from the row's checkpoint up to `hi`, until one has a fault that is neither skipped nor
+/// repeated. The row counts the repeats.
 pub fn gather<A: PartitionArtifacts>(
     alloc: Global,
     artifacts: &mut A,
     rules: &Rules,
-    row: &Row,
+    row: &mut Row,
     hi: u64,
 ) -> Result<Gathered, AllocError>
-    requires sound { IsSoundRow row.now }
-    requires order { row.now.at ≤ hi }
-    requires within { hi ≤ row.now.hi }
-    requires place { (A.workplace artifacts.old).reader.place ≡ row.now.at }
+    requires sound { IsSoundRow row.old }
+    requires room { HasRepeats rules.now row.old }
+    requires order { row.old.at ≤ hi }
+    requires within { hi ≤ row.old.hi }
+    requires place { (A.workplace artifacts.old).reader.place ≡ row.old.at }
+    requires from { (A.workplace artifacts.old).reader.first ≤ row.old.at }
     requires to { hi ≤ reader_end (A.workplace artifacts.old).reader }
-    ensures ok { let w = A.workplace artifacts.old in
-        let now = A.workplace artifacts.new in
-        IfOk result (λ gathered. IsGathered rules.now row.now w hi gathered now) }
-    ensures err { OnErr result (IsWornTo row.now.at hi (A.workplace artifacts.old) (A.workplace artifacts.new)) }
+    ensures ok { let t : Trial = record { rules = rules.now; row = row.old; hi = hi; work = A.workplace artifacts.old } in
+        IfOk result (λ gathered. IsGathered t gathered row.new (A.workplace artifacts.new)) }
+    ensures sound { IsSoundRow row.new }
+    ensures room { HasRepeats rules.now row.new }
+    ensures err { OnErr result (IsTorn row.old.at hi (A.workplace artifacts.old) (A.workplace artifacts.new)) }
 {
     let mut tally = Tally::new(alloc);
     for number in row.at..hi {

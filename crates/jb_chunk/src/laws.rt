@@ -1,6 +1,6 @@
 //! The laws of a task's attempts. The functions do nothing: their contracts are the laws.
 
-ghost use Rattle.jb_chunk.specs.Laws.{OneEnd, CalmRunsArePlain, RunsAreShort, WaysJoin, WaysEnd, TasksStayReady, TasksStandAtCheckpoints, SamePlace, SameEnd, CommitsTakeOneChunk, RowsLiveOn};
+ghost use Rattle.jb_chunk.specs.Laws.{OneEnd, CalmRunsArePlain, RunsAreShort, RetriesAreFew, WaysJoin, WaysEnd, TasksStayReady, TasksStandAtCheckpoints, SamePlace, SameEnd, CommitsTakeOneChunk, RowsLiveOn, RepeatsAreRetries, AttemptsWithoutRepeats, RepeatsStay};
 
 use jb_plan::chunks_follow_one_another;
 use jb_rules::rows_stay_sound;
@@ -14,10 +14,11 @@ pub fn runs_end_alike()
     chunks_follow_one_another();
 }
 
-/// A run has no more attempts than there are retries and records left; two runs, one behind the other, are one; and one to
-/// an end is a run alone.
+/// A run has no more attempts than there are retries and records left, and no more repeats in place and rollbacks together
+/// than there are retries left; two runs, one behind the other, are one; and one to an end is a run alone.
 pub fn runs_lead_to_an_end()
     ensures short { RunsAreShort }
+    ensures retries { RetriesAreFew }
     ensures join { WaysJoin }
     ensures end { WaysEnd }
 {
@@ -32,7 +33,7 @@ pub fn tasks_go_on()
     chunks_follow_one_another();
 }
 
-/// Wherever its attempts lead, a task is ready, unless its rollbacks are beyond their limit.
+/// Wherever its attempts lead, a task is ready, unless its rollbacks or its repeats in place are beyond their limit.
 pub fn tasks_stay_ready()
     ensures { TasksStayReady }
 {
@@ -49,10 +50,18 @@ pub fn tasks_stand_at_checkpoints()
 }
 
 /// Each attempt takes the row a step further in its life, and one that commits takes just the first of the chunks that
-/// are left.
+/// are left. Its repeats in place are retries of the row, and change nothing else of it.
 pub fn attempts_are_steps()
     ensures chunk { CommitsTakeOneChunk }
     ensures row { RowsLiveOn }
+    ensures repeats { RepeatsAreRetries }
 {
     chunks_follow_one_another();
 }
+
+/// Where no class is to roll nothing back, no call is repeated in place: an attempt is that of the block as it stands, and
+/// leaves the row's number of repeats as it was.
+pub fn repeats_need_a_class()
+    ensures attempt { AttemptsWithoutRepeats }
+    ensures row { RepeatsStay }
+{}

@@ -7,6 +7,7 @@
 //! - `alone`: a task's attempts, one after another.
 //! - `block`: one block tried to its end, `end`, with what it adds to the counts, `tried`.
 //! - `gather`: its records, read and processed one by one; each has an entry, `entry`, and they are counted, `tally`.
+//! - `repeat`: its calls, repeated in place.
 //! - `checkpoint`: reader and writer, opened again.
 #![tactic(auto)]
 
@@ -20,13 +21,14 @@ mod laws;
 mod outcome;
 mod partition_artifacts;
 mod partition_task;
+mod repeat;
 mod tally;
 mod task;
 mod tried;
 
 pub use alone::{Alone, AloneEnd, run_alone};
 pub use laws::{
-    attempts_are_steps, runs_end_alike, runs_lead_to_an_end, tasks_go_on,
+    attempts_are_steps, repeats_need_a_class, runs_end_alike, runs_lead_to_an_end, tasks_go_on,
     tasks_stand_at_checkpoints, tasks_stay_ready,
 };
 pub use outcome::{Done, Outcome};

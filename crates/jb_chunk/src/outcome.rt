@@ -27,4 +27,6 @@ pub struct Done<T = Task> {
     pub outcome: Outcome,
     /// The collector's texts: one for a chunk that was committed, and one more where it finished the partition.
     pub values: Vec<Item>,
+    /// How often the attempt repeated a call in place: at most 100,000 times. Each repeat was a retry.
+    pub again: u64,
 }

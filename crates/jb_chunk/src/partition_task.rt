@@ -1,12 +1,12 @@
 //! What a partition's task is to the crates above.
 
-ghost use Rattle.std.specs.Prelude.{◌≡◌, ◌↔◌, ◌<◌, IsTrue};
+ghost use Rattle.std.specs.Prelude.{◌≡◌, ◌↔◌, ◌<◌, ◌≤◌, IsTrue};
 ghost use Rattle.jb_rules.specs.Sound.{IsSoundRow};
 ghost use Rattle.jb_rules.specs.declared.row.RowState.TheVariants.{Waiting};
-ghost use Rattle.jb_job.specs.Limits.{max_rollbacks};
+ghost use Rattle.jb_job.specs.Limits.{max_rollbacks, max_retry_limit};
 ghost use Rattle.jb_artifacts.specs.Meaning.{Fits};
 ghost use Rattle.jb_chunk.specs.Attempt.{IsAttempt, ending_of};
-ghost use Rattle.jb_chunk.specs.Standing.{TaskState, IsReady, HasItemCount, started};
+ghost use Rattle.jb_chunk.specs.Standing.{TaskState, IsReady, HasItemCount, HasRepeats, started};
 
 use crate::outcome::Done;
 use jb_artifacts::Meaning;
@@ -57,15 +57,18 @@ pub trait PartitionTask: Send + Drop {
         ensures { IsTrue result ↔ IsReady (standing self.now) };
 
     /// Attempts the next chunk: reads and processes each of its records, writes the results in one call, and then calls
-    /// the collector. A fault is skipped, retried or fails the partition as `jb_rules::decide` says.
+    /// the collector. A fault is skipped, retried or fails the partition as `jb_rules::decide` says: a call that is
+    /// repeated in place is made once more, a read or a write after the reader or the writer was opened again.
     ///
     /// Where the chunk isn't committed, reader and writer stand at the checkpoint again; without memory the row is as it
     /// was, too.
     fn attempt(self, alloc: Global) -> Done<Self>
         requires waiting { (standing self).row.state ≡ Waiting }
         requires room { (standing self).row.counts.rollback < max_rollbacks }
+        requires repeats { HasRepeats (standing self).rules (standing self).row }
         requires ready { IsReady (standing self) }
-        ensures attempt { IsAttempt (standing self) (ending_of (standing result.task) result.outcome result.values.items) }
+        ensures attempt { IsAttempt (standing self) (ending_of (standing result.task) result.outcome result.values.items result.again) }
+        ensures few { result.again ≤ max_retry_limit }
         ensures ready { IsReady (standing result.task) };
 
     /// What the task worked with, as it now stands.

@@ -88,10 +88,11 @@ impl<A: PartitionArtifacts + Send> PartitionTask for Task<A> {
             mut artifacts,
         } = self;
         let block = row.block(item_count);
-        match try_block(alloc, &mut artifacts, &rules, &row, block.hi) {
+        let mut repeated = row;
+        match try_block(alloc, &mut artifacts, &rules, &mut repeated, block.hi) {
             Err(_) => unfinished(alloc, partition, row, rules, item_count, artifacts),
             Ok(tried) => {
-                let after = ended_row(&row, block.hi, &tried);
+                let after = ended_row(&repeated, block.hi, &tried);
                 match values_after(alloc, &artifacts, partition, &after, tried.end) {
                     Err(_) => unfinished(alloc, partition, row, rules, item_count, artifacts),
                     Ok(values) => Done {
@@ -104,6 +105,7 @@ impl<A: PartitionArtifacts + Send> PartitionTask for Task<A> {
                         },
                         outcome: outcome_of(&tried),
                         values,
+                        again: repeated.in_place - row.in_place,
                     },
                 }
             }
@@ -202,6 +204,7 @@ fn unfinished<A: PartitionArtifacts>(
     requires count { row.written ≤ length (A.workplace artifacts).writer.written }
     ensures outcome { result.outcome ≡ NoMemory }
     ensures values { result.values.items ≡ [] }
+    ensures again { result.again ≡ 0 }
     ensures partition { result.task.partition ≡ partition }
     ensures row { result.task.row ≡ row }
     ensures rules { result.task.rules ≡ rules }
@@ -220,5 +223,6 @@ fn unfinished<A: PartitionArtifacts>(
         },
         outcome: Outcome::NoMemory,
         values: Vec::new(alloc),
+        again: 0,
     }
 }

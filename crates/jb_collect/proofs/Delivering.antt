@@ -82,7 +82,7 @@ abbrev heard_of_dones : {T : Type 0} → (T → TaskState) → List (Done T) →
 heard_of_dones standing dones = heard_in (endings_of standing dones)
 
 abbrev how : {T : Type 0} → (T → TaskState) → Done T → Ending
-how standing d = ending_of (standing d.task) d.outcome d.values.items
+how standing d = ending_of (standing d.task) d.outcome d.values.items d.again
 
 dones_split : {T : Type 0} (standing : T → TaskState) (xs ys : List (Done T)) → heard_of_dones standing (xs ++ ys) ≡ heard_of_dones standing xs ++ heard_of_dones standing ys
 dones_split standing xs ys =

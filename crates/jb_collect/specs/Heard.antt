@@ -48,4 +48,4 @@ heard_by begun_anew rows attempts tasks = heard_first begun_anew rows ++ heard_i
 
 -- how attempts ended, of which these tasks, outcomes and texts came back
 abbrev pub endings_of : {T : Type 0} → (T → TaskState) → List (Done T) → List Ending
-endings_of standing dones = map (λ d. ending_of (standing d.task) d.outcome d.values.items) dones
+endings_of standing dones = map (λ d. ending_of (standing d.task) d.outcome d.values.items d.again) dones

@@ -35,7 +35,7 @@ fn tell_done<T: PartitionTask>(
     done: &Done<T>,
     analyzer: &mut dyn Analyzer,
 ) -> Result<(), ArtifactError>
-    ensures { TakesCalls (analyzed analyzer.old) (heard_of (ending_of (T.standing done.now.task) done.now.outcome done.now.values.items)) result (analyzed analyzer.new) }
+    ensures { TakesCalls (analyzed analyzer.old) (heard_of (ending_of (T.standing done.now.task) done.now.outcome done.now.values.items done.now.again)) result (analyzed analyzer.new) }
 {
     let partition = done.task.partition();
     tell_texts(partition, done.values.as_slice(), analyzer)?;

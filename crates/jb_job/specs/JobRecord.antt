@@ -119,13 +119,14 @@ limit_at high f d = number_at 0 high f d >>= λ n. Ok (Some n)
 
 unfoldable pub chunk_at : List (List ℕ) → Field → Data → Read (ℕ × RulesRecord)
 chunk_at classes f d = do
-  chunk ← object_at f (field.ItemCount ∷ field.SkipLimit ∷ field.RetryLimit ∷ field.SkippableExceptionClasses ∷ field.RetryableExceptionClasses ∷ []) d
+  chunk ← object_at f (field.ItemCount ∷ field.SkipLimit ∷ field.RetryLimit ∷ field.SkippableExceptionClasses ∷ field.RetryableExceptionClasses ∷ field.NoRollbackExceptionClasses ∷ []) d
   item_count ← optional (number_at 1 max_item_count) default_item_count field.ItemCount chunk
   skip_limit ← optional (limit_at max_skip_limit) None field.SkipLimit chunk
   retry_limit ← optional (number_at 0 max_retry_limit) default_retry_limit field.RetryLimit chunk
   skippable ← optional (set_at classes) 0 field.SkippableExceptionClasses chunk
   retryable ← optional (set_at classes) 0 field.RetryableExceptionClasses chunk
-  Ok (item_count, record { skippable = skippable; retryable = retryable; skip_limit = skip_limit; retry_limit = retry_limit })
+  no_rollback ← optional (set_at classes) 0 field.NoRollbackExceptionClasses chunk
+  Ok (item_count, record { skippable = skippable; retryable = retryable; no_rollback = no_rollback; skip_limit = skip_limit; retry_limit = retry_limit })
 
 -- ---- step
 

@@ -32,7 +32,7 @@ default_item_count = 10
 abbrev pub max_skip_limit : ℕ
 max_skip_limit = 10000000
 
--- chunks of a partition that are retried
+-- retries of a partition: chunks that are rolled back to be done again, and calls that are repeated in place
 abbrev pub max_retry_limit : ℕ
 max_retry_limit = 100000
 
@@ -67,6 +67,10 @@ max_threads = 64
 -- rollbacks of a partition, over all restarts
 abbrev pub max_rollbacks : ℕ
 max_rollbacks = 1000000000000
+
+-- calls of a partition that are repeated in place, over all restarts
+abbrev pub max_in_place : ℕ
+max_in_place = 1000000000000
 
 -- ---- a load, of which rounds are planned
 

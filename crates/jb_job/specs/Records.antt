@@ -5,6 +5,7 @@ use Rattle.jb_job.specs.declared.job.Range.{Range}
 pub record RulesRecord : Type 0 where
   pub skippable : ℕ
   pub retryable : ℕ
+  pub no_rollback : ℕ
   pub skip_limit : Option ℕ
   pub retry_limit : ℕ
 

@@ -11,7 +11,7 @@ ranges_text = codes "{\"id\":\"j\",\"step\":[{\"chunk\":{\"item-count\":2},\"id\
 
 -- no class is skipped or retried, and the limits are those of absent keys
 abbrev pub no_rules : RulesRecord
-no_rules = record { skippable = 0; retryable = 0; skip_limit = None; retry_limit = 1000 }
+no_rules = record { skippable = 0; retryable = 0; no_rollback = 0; skip_limit = None; retry_limit = 1000 }
 
 abbrev pub ranges_step : StepRecord
 ranges_step = record {
@@ -24,15 +24,15 @@ ranges_step = record {
 abbrev pub RangesRow : Type 0
 RangesRow = option_map job_at (tree_of ranges_text) ≡ Some (Ok (record { id = codes "j"; classes = []; steps = ranges_step ∷ [] }))
 
--- a job record with classes and limits: E and G (1 and 4) are skippable, all but F (2) are retryable
+-- a job record with classes and limits: E and G (1 and 4) are skippable, all but F (2) are retryable, G without a rollback
 abbrev pub classes_text : List ℕ
-classes_text = codes "{\"exception-classes\":[\"E\",\"F\",\"E\",\"G\"],\"id\":\"j\",\"step\":[{\"chunk\":{\"retry-limit\":0,\"skip-limit\":1,\"retryable-exception-classes\":{\"include\":[\"*\"],\"exclude\":[\"F\"]},\"skippable-exception-classes\":{\"include\":[\"G\",\"E\"]}},\"id\":\"s\",\"partition\":{\"plan\":{\"override\":true,\"partitions\":3}}}]}"
+classes_text = codes "{\"exception-classes\":[\"E\",\"F\",\"E\",\"G\"],\"id\":\"j\",\"step\":[{\"chunk\":{\"retry-limit\":0,\"skip-limit\":1,\"retryable-exception-classes\":{\"include\":[\"*\"],\"exclude\":[\"F\"]},\"no-rollback-exception-classes\":{\"include\":[\"G\"]},\"skippable-exception-classes\":{\"include\":[\"G\",\"E\"]}},\"id\":\"s\",\"partition\":{\"plan\":{\"override\":true,\"partitions\":3}}}]}"
 
 abbrev pub classes_step : StepRecord
 classes_step = record {
   id = codes "s";
   item_count = 10;
-  rules = record { skippable = 5; retryable = 18446744073709551613; skip_limit = Some 1; retry_limit = 0 };
+  rules = record { skippable = 5; retryable = 18446744073709551613; no_rollback = 4; skip_limit = Some 1; retry_limit = 0 };
   spec = record { partitions = 3; threads = 0; replace = true; ranges = None };
 }
 

@@ -69,6 +69,7 @@ pub fn chunk_parts(alloc: Global, classes: &Classes, tree: &Value) -> Result<(u6
             Field::RetryLimit,
             Field::SkippableExceptionClasses,
             Field::RetryableExceptionClasses,
+            Field::NoRollbackExceptionClasses,
         ],
         tree,
     )?;
@@ -77,9 +78,11 @@ pub fn chunk_parts(alloc: Global, classes: &Classes, tree: &Value) -> Result<(u6
     let retry_limit = retry_limit(chunk)?;
     let skippable = class_field(alloc, classes, Field::SkippableExceptionClasses, chunk)?;
     let retryable = class_field(alloc, classes, Field::RetryableExceptionClasses, chunk)?;
+    let no_rollback = class_field(alloc, classes, Field::NoRollbackExceptionClasses, chunk)?;
     let rules = Rules {
         skippable,
         retryable,
+        no_rollback,
         skip_limit,
         retry_limit,
     };

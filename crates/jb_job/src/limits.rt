@@ -1,7 +1,7 @@
 //! The limits as the code has them. Definitions and contracts have them as numbers, in `specs/Limits`.
 
 ghost use Rattle.std.specs.Prelude.{◌≡◌};
-ghost use Rattle.jb_job.specs.Limits.{max_steps, max_name, max_classes, max_class_names, max_item_count, default_item_count, max_skip_limit, max_retry_limit, default_retry_limit, max_partitions_asked, max_threads_asked, max_ranges, max_records, max_partitions, max_threads, max_rollbacks, max_load_partitions, max_chunks, max_events, max_parts, max_rounds, max_record, max_affix, max_entries, max_entry_classes, max_place};
+ghost use Rattle.jb_job.specs.Limits.{max_steps, max_name, max_classes, max_class_names, max_item_count, default_item_count, max_skip_limit, max_retry_limit, default_retry_limit, max_partitions_asked, max_threads_asked, max_ranges, max_records, max_partitions, max_threads, max_rollbacks, max_in_place, max_load_partitions, max_chunks, max_events, max_parts, max_rounds, max_record, max_affix, max_entries, max_entry_classes, max_place};
 
 /// The most steps of a job.
 pub const MAX_STEPS: usize = 16;
@@ -24,7 +24,7 @@ pub const DEFAULT_ITEM_COUNT: u64 = 10;
 /// The most faults that a partition skips, where it has a limit.
 pub const MAX_SKIP_LIMIT: u64 = 10_000_000;
 
-/// The most chunks of a partition that are retried.
+/// The most retries of a partition: chunks that are rolled back to be done again, and calls repeated in place.
 pub const MAX_RETRY_LIMIT: u64 = 100_000;
 
 /// The retry limit where the key is absent.
@@ -50,6 +50,9 @@ pub const MAX_THREADS: u32 = 64;
 
 /// The most rollbacks of a partition, over all restarts.
 pub const MAX_ROLLBACKS: u64 = 1_000_000_000_000;
+
+/// The most calls of a partition that are repeated in place, over all restarts.
+pub const MAX_IN_PLACE: u64 = 1_000_000_000_000;
 
 /// The most partitions of a load, of which rounds are planned.
 pub const MAX_LOAD_PARTITIONS: usize = 4_096;
@@ -99,6 +102,7 @@ pub fn limits_are_as_defined()
     ensures partitions { MAX_PARTITIONS ≡ max_partitions }
     ensures threads { MAX_THREADS ≡ max_threads }
     ensures rollbacks { MAX_ROLLBACKS ≡ max_rollbacks }
+    ensures in_place { MAX_IN_PLACE ≡ max_in_place }
     ensures load_partitions { MAX_LOAD_PARTITIONS ≡ max_load_partitions }
     ensures chunks { MAX_CHUNKS ≡ max_chunks }
     ensures events { MAX_EVENTS ≡ max_events }

@@ -12,7 +12,7 @@ use Rattle.jb_rules.specs.States.{has_ended, is_finished}
 use Rattle.jb_rules.specs.declared.row.Row.{Row}
 use Rattle.jb_artifacts.specs.Meaning.{Workplace}
 use Rattle.jb_chunk.specs.Alone.{IsAlone, IsOnTheWay, IsRunOf}
-use Rattle.jb_chunk.specs.Attempt.{Ending, end_of, ending_by, trial_of}
+use Rattle.jb_chunk.specs.Attempt.{Ending, again_of, end_of, ending_by, task_after_repeats, trial_of}
 use Rattle.jb_chunk.specs.declared.end.End.{End}
 use Rattle.jb_chunk.specs.declared.end.End.TheVariants as end
 use Rattle.jb_chunk.specs.Standing.{HasItemCount, IsReady, TaskState, started}
@@ -70,15 +70,15 @@ leaves below settings records outputs p row left kept is way =
 
 -- ---- an attempt leaves the partition's number as it is
 
-partition-by : (t : TaskState) (e : End) → (ending_by t e).task.partition ≡ t.partition
-partition-by t end.Written = refl
-partition-by t end.Unwritten = refl
-partition-by t (end.Rolled class) = refl
-partition-by t (end.Failed class) = refl
+partition-by : (t : TaskState) (again : ℕ) (e : End) → (ending_by t again e).task.partition ≡ t.partition
+partition-by t again end.Written = refl
+partition-by t again end.Unwritten = refl
+partition-by t again (end.Rolled class) = refl
+partition-by t again (end.Failed class) = refl
 
 same-number : (t s : TaskState) (attempts : List Ending) → IsRunOf t attempts s → s.partition ≡ t.partition
 same-number t s [] run = ap (λ (u : TaskState). u.partition) run
-same-number t s (e ∷ es) run = same-number e.task s es run.2 ∙ ap (λ (f : Ending). f.task.partition) run.1 ∙ partition-by t (end_of (trial_of t))
+same-number t s (e ∷ es) run = same-number e.task s es run.2 ∙ ap (λ (f : Ending). f.task.partition) run.1 ∙ partition-by (task_after_repeats t) (again_of t) (end_of (trial_of (task_after_repeats t)))
 
 -- ---- all partitions
 

@@ -8,10 +8,11 @@ use Rattle.jb_artifacts.specs.Meaning.{Workplace}
 use Rattle.jb_collect.specs.declared.calls.AnalyzerCall.{AnalyzerCall}
 use Rattle.jb_collect.specs.declared.calls.ReducerCall.{ReducerCall}
 use Rattle.jb_collect.specs.declared.calls.Status.{Status}
+use Rattle.jb_saved.specs.SavedTree.{tokens_of}
 use Rattle.jb_step.specs.Ending.{given_back}
 use Rattle.jb_step.specs.declared.notes.PlanNote.{PlanNote}
 use Rattle.jb_texts.specs.Report.{PartitionReport, texts_tree}
-use Rattle.jb_texts.specs.ReportTokens.{outputs_tokens, step_head, step_tail, step_tokens, tokens_of}
+use Rattle.jb_texts.specs.ReportTokens.{outputs_tokens, step_head, step_tail, step_tokens}
 use Rattle.jb_program.specs.StepRun.{committed_of, outputs_in, partitions_left}
 
 -- ---- what came back of a partition

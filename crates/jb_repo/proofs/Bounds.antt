@@ -3,7 +3,7 @@ use Rattle.std.proofs.Common.{◌≡◌, ◌+◌, ◌≤◌, List, [], ◌∷◌
 use Rattle.jb_job.specs.Limits.{max_events}
 use Rattle.jb_repo.specs.declared.events.Event.{Event}
 use Rattle.jb_repo.specs.declared.events.Event.TheVariants.{Plan, Begin, Commit, Roll, Fail, Drop, Round, Stop}
-use Rattle.jb_repo.specs.History.{running, number, is_plan, is_begin, is_outcome, is_round, is_stop}
+use Rattle.jb_repo.specs.History.{running, number, is_begin, is_outcome}
 use Rattle.jb_repo.specs.Table.{Journal, AcceptedPast}
 use Rattle.jb_repo.specs.Answers.{places_of}
 use Rattle.jb_repo.specs.Openable.{IsOpenable}
@@ -32,9 +32,9 @@ module _ (j : Journal) (past : List Event) (old : number is_begin past ≡ numbe
   ended_after : (e : Event) → 1 + running j.threads (e ∷ past) ≡ running j.threads past + places_of e → number is_begin (e ∷ past) ≡ number is_outcome (e ∷ past) + running j.threads (e ∷ past)
   ended_after (Plan n k) places = omega (arith, old, places)
   ended_after (Begin l p) places = omega (arith, old, places)
-  ended_after (Commit l d w) places = omega (arith, old, places)
-  ended_after (Roll l k) places = omega (arith, old, places)
-  ended_after (Fail l k) places = omega (arith, old, places)
+  ended_after (Commit l d w a) places = omega (arith, old, places)
+  ended_after (Roll l k a) places = omega (arith, old, places)
+  ended_after (Fail l k a) places = omega (arith, old, places)
   ended_after (Drop l) places = omega (arith, old, places)
   ended_after Round places = omega (arith, old, places)
   ended_after Stop places = omega (arith, old, places)
@@ -51,9 +51,9 @@ pub events_add_up : EventsAddUp
 events_add_up [] = omega arith
 events_add_up (Plan n k ∷ past) = omega (arith, events_add_up past)
 events_add_up (Begin l p ∷ past) = omega (arith, events_add_up past)
-events_add_up (Commit l d w ∷ past) = omega (arith, events_add_up past)
-events_add_up (Roll l k ∷ past) = omega (arith, events_add_up past)
-events_add_up (Fail l k ∷ past) = omega (arith, events_add_up past)
+events_add_up (Commit l d w a ∷ past) = omega (arith, events_add_up past)
+events_add_up (Roll l k a ∷ past) = omega (arith, events_add_up past)
+events_add_up (Fail l k a ∷ past) = omega (arith, events_add_up past)
 events_add_up (Drop l ∷ past) = omega (arith, events_add_up past)
 events_add_up (Round ∷ past) = omega (arith, events_add_up past)
 events_add_up (Stop ∷ past) = omega (arith, events_add_up past)

@@ -1,6 +1,6 @@
 -- In every accepted history a lane runs a partition exactly where the partition's row says so, and both are marked; and the
 -- rows are sound.
-use Rattle.std.proofs.Common.{◌≡◌, ◌≢◌, ℕ, zero, suc, ◌+◌, ◌<◌, Bool, true, false, cond, ◌||◌, ◌⊎◌, inl, inr, nat_eq, is_some, List, [], ◌∷◌, length, slice_get, Option, Some, None, refl, sym, ◌∙◌, ap, subst, eq-eqb, arith}
+use Rattle.std.proofs.Common.{◌≡◌, ◌≢◌, ℕ, zero, suc, ◌+◌, ◌<◌, ◌≤◌, Bool, true, false, cond, ◌||◌, ◌⊎◌, inl, inr, nat_eq, is_some, List, [], ◌∷◌, length, slice_get, Option, Some, None, refl, sym, ◌∙◌, ap, subst, eq-eqb, arith}
 use Rattle.std.proofs.lemmas.Bool.{ne_eqb, cases_eq}
 use Rattle.std.proofs.lemmas.Bool.Decides.{nat_tests}
 use Rattle.jb_rules.specs.declared.counts.Counts.{Counts}
@@ -13,15 +13,15 @@ use Rattle.jb_rules.specs.Sound.{IsSoundRow}
 use Rattle.jb_rules.specs.States.{is_running, has_ended}
 use Rattle.jb_repo.specs.History.{own, owner, names_lane, begun_by, partition_of, is_some_of, running, is_lane_marked, is_partition_marked, is_round}
 use Rattle.jb_rules.specs.Rows.{state_at}
-use Rattle.jb_repo.specs.Rows.{replayed_row}
+use Rattle.jb_repo.specs.Rows.{replayed_row, repeats_in}
 use Rattle.jb_repo.specs.Table.{Journal, refusal, AcceptedPast, is_good_commit, is_commit_of}
 use Rattle.jb_repo.specs.Openable.{IsOpenable}
 use Rattle.jb_repo.specs.inside.Below.{LawsBelow}
 use Rattle.jb_repo.specs.inside.Steps.{step, CanStep, IsCommit}
-use Rattle.jb_job.specs.Limits.{max_rollbacks}
+use Rattle.jb_job.specs.Limits.{max_rollbacks, max_retry_limit, max_in_place}
 use Rattle.jb_repo.proofs.RowLemmas.{own-yes, own-no, own-none, owner-yes, owner-no, replayed_row-step, plus_counts-zero}
 use Rattle.jb_repo.proofs.Stepping.{sound-step, waiting-before-end, running-before-end}
-use Rattle.jb_repo.proofs.Passing.{BeginPasses, begin_passes, commit_passes, roll_passes, fail_passes, drop_passes, round_passes, row_of-is, leb_false}
+use Rattle.jb_repo.proofs.Passing.{BeginPasses, begin_passes, commit_passes, roll_passes, fail_passes, drop_passes, round_passes, row_of-is, leb_false, ltb_false, or_false, roll_few, fail_few}
 
 -- the journal of the same repository at another history
 abbrev pub at_past : Journal → List Event → Journal
@@ -34,11 +34,15 @@ pub record IsLane (j : Journal) (past : List Event) (l p : ℕ) : Type 0 where
   pub lane_marked : is_lane_marked l past ≡ true
   pub partition_marked : is_partition_marked p past ≡ true
 
+-- the row may be rolled back once more, and has room for the repeats of one more chunk
+abbrev pub HasRoom : Row → Type 0
+HasRoom row = (row.counts.rollback < max_rollbacks) × (row.in_place + max_retry_limit ≤ max_in_place)
+
 pub record Consistent (j : Journal) (past : List Event) : Type 0 where
   pub lanes : (l p : ℕ) → owner l past ≡ Some p → IsLane j past l p
   pub states : (l p : ℕ) (r : Row) → owner l past ≡ Some p → slice_get j.opening p ≡ Some r → (replayed_row j.item_count r (own p past)).state ≡ Running l
   pub owners : (l p : ℕ) (r : Row) → slice_get j.opening p ≡ Some r → (replayed_row j.item_count r (own p past)).state ≡ Running l → owner l past ≡ Some p
-  pub below : (p : ℕ) (r : Row) → slice_get j.opening p ≡ Some r → is_running (replayed_row j.item_count r (own p past)).state ≡ true → (replayed_row j.item_count r (own p past)).counts.rollback < max_rollbacks
+  pub below : (p : ℕ) (r : Row) → slice_get j.opening p ≡ Some r → is_running (replayed_row j.item_count r (own p past)).state ≡ true → HasRoom (replayed_row j.item_count r (own p past))
 
 -- MARKS
 
@@ -169,14 +173,20 @@ module _ (j : Journal) (past : List Event) (old : Consistent j past) where
     begin_open : (r : Row) → slice_get j.opening p ≡ Some r → has_ended (replayed_row j.item_count r (own p past)).state ≡ false
     begin_open r o = rw (row_of-is (at_past j past) p r o) at ok.not_over
 
-    begin_below : (r : Row) → slice_get j.opening p ≡ Some r → (replayed_row j.item_count r (own p past)).counts.rollback < max_rollbacks
-    begin_below r o = let h = rw (row_of-is (at_past j past) p r o) at ok.below_limit in leb_false _ _ h
+    begin_below : (r : Row) → slice_get j.opening p ≡ Some r → HasRoom (replayed_row j.item_count r (own p past))
+    begin_below r o =
+        let h = rw (row_of-is (at_past j past) p r o) at ok.below_limit in
+        let parts = or_false _ _ h in
+        let few = ltb_false _ _ parts.1 in
+        (leb_false _ _ parts.0, omega (arith, few))
 
-    begin_below_all : (q : ℕ) (r : Row) → slice_get j.opening q ≡ Some r → is_running (replayed_row j.item_count r (own q (Begin l p ∷ past))).state ≡ true → (p ≡ q) ⊎ (p ≢ q) → (replayed_row j.item_count r (own q (Begin l p ∷ past))).counts.rollback < max_rollbacks
+    begin_below_all : (q : ℕ) (r : Row) → slice_get j.opening q ≡ Some r → is_running (replayed_row j.item_count r (own q (Begin l p ∷ past))).state ≡ true → (p ≡ q) ⊎ (p ≢ q) → HasRoom (replayed_row j.item_count r (own q (Begin l p ∷ past)))
     begin_below_all q r o s (inl e) =
         let o' : slice_get j.opening p ≡ Some r = rw e o in
-        let b = subst (λ (x : ℕ). (replayed_row j.item_count r (own x past)).counts.rollback < max_rollbacks) e (begin_below r o') in
-        rw (own-yes q (Begin l p) past (ap Some e)) (omega (arith, b))
+        let b = subst (λ (x : ℕ). HasRoom (replayed_row j.item_count r (own x past))) e (begin_below r o') in
+        let rollbacks = b.0 in
+        let repeats = b.1 in
+        rw (own-yes q (Begin l p) past (ap Some e)) (omega (arith, rollbacks), omega (arith, repeats))
     begin_below_all q r o s (inr ne) =
         let s' = rw (begin_own_other q ne) at s in
         rw (begin_own_other q ne) (old.below q r o s')
@@ -238,7 +248,7 @@ module _ (j : Journal) (past : List Event) (old : Consistent j past) where
         let not_l : l ≢ k = λ same. let h' : owner l past ≡ Some q = rw same h in ne cc in
         outcome_owner_other k not_l ∙ h
 
-    outcome_below : (q : ℕ) (r : Row) → slice_get j.opening q ≡ Some r → is_running (replayed_row j.item_count r (own q (e ∷ past))).state ≡ true → (p ≡ q) ⊎ (p ≢ q) → (replayed_row j.item_count r (own q (e ∷ past))).counts.rollback < max_rollbacks
+    outcome_below : (q : ℕ) (r : Row) → slice_get j.opening q ≡ Some r → is_running (replayed_row j.item_count r (own q (e ∷ past))).state ≡ true → (p ≡ q) ⊎ (p ≢ q) → HasRoom (replayed_row j.item_count r (own q (e ∷ past)))
     outcome_below q r o s (inl same) = let i = outcome_idle q r same in absurd cc
     outcome_below q r o s (inr ne) =
         let s' = rw (outcome_own_other q ne) at s in
@@ -266,15 +276,15 @@ commit_of_row j p r o d w is got h =
 step_keeps : (j : Journal) (past : List Event) → (e : Event) → refusal (at_past j past) e ≡ None → Consistent j past → Consistent j (e ∷ past)
 step_keeps j past (Plan n k) ok old = plan_keeps j past old n k
 step_keeps j past (Begin l p) ok old = begin_keeps j past old l p (begin_passes (at_past j past) l p ok)
-step_keeps j past (Commit l d w) ok old =
-    let q = (commit_passes (at_past j past) l d w ok).0 in
-    outcome_keeps j past old (Commit l d w) l q.partition (λ _. refl) refl q.owned refl (λ row. state_at_idle _ _) q.owned
-step_keeps j past (Roll l k) ok old =
-    let q = roll_passes (at_past j past) l k ok in
-    outcome_keeps j past old (Roll l k) l q.partition (λ _. refl) refl q.owned refl (λ row. refl) q.owned
-step_keeps j past (Fail l k) ok old =
-    let q = fail_passes (at_past j past) l k ok in
-    outcome_keeps j past old (Fail l k) l q.partition (λ _. refl) refl q.owned refl (λ row. refl) q.owned
+step_keeps j past (Commit l d w a) ok old =
+    let q = (commit_passes (at_past j past) l d w a ok).0 in
+    outcome_keeps j past old (Commit l d w a) l q.partition (λ _. refl) refl q.owned refl (λ row. state_at_idle _ _) q.owned
+step_keeps j past (Roll l k a) ok old =
+    let q = roll_passes (at_past j past) l k a ok in
+    outcome_keeps j past old (Roll l k a) l q.partition (λ _. refl) refl q.owned refl (λ row. refl) q.owned
+step_keeps j past (Fail l k a) ok old =
+    let q = fail_passes (at_past j past) l k a ok in
+    outcome_keeps j past old (Fail l k a) l q.partition (λ _. refl) refl q.owned refl (λ row. refl) q.owned
 step_keeps j past (Drop l) ok old =
     let q = drop_passes (at_past j past) l ok in
     outcome_keeps j past old (Drop l) l q.partition (λ _. refl) refl q.owned refl (λ row. refl) q.owned
@@ -284,9 +294,10 @@ step_keeps j past Stop ok old = stop_keeps j past old
 pub row_eq_opening : (c : ℕ) (r : Row) → replayed_row c r [] ≡ r
 row_eq_opening c r =
     let a : r.at + 0 ≡ r.at = omega arith in
-    let b : r.retries + 0 ≡ r.retries = omega arith in
+    let b : r.retries + 0 + 0 ≡ r.retries = omega arith in
+    let i : r.in_place + 0 ≡ r.in_place = omega arith in
     let d = plus_counts-zero r.counts in
-    rw (a, b, d) refl
+    rw (a, b, d, i) refl
 
 pub opening_consistent : (j : Journal) → IsOpenable j → Consistent j []
 opening_consistent j ready =
@@ -320,22 +331,23 @@ module _ (j : Journal) (past : List Event) (old : Consistent j past) where
       let b = (begin_passes (at_past j past) l q ok).partition in
       let e : q ≡ p = cc in
       omega (arith, b, e)
-  about (Commit l d w) p ok part = let q = (commit_passes (at_past j past) l d w ok).0 in outcome_partition l q.partition p q.owned part
-  about (Roll l k) p ok part = let q = roll_passes (at_past j past) l k ok in outcome_partition l q.partition p q.owned part
-  about (Fail l k) p ok part = let q = fail_passes (at_past j past) l k ok in outcome_partition l q.partition p q.owned part
+  about (Commit l d w a) p ok part = let q = (commit_passes (at_past j past) l d w a ok).0 in outcome_partition l q.partition p q.owned part
+  about (Roll l k a) p ok part = let q = roll_passes (at_past j past) l k a ok in outcome_partition l q.partition p q.owned part
+  about (Fail l k a) p ok part = let q = fail_passes (at_past j past) l k a ok in outcome_partition l q.partition p q.owned part
   about (Drop l) p ok part = let q = drop_passes (at_past j past) l ok in outcome_partition l q.partition p q.owned part
   about Round p ok part = absurd cc
   about Stop p ok part = absurd cc
 
 -- and where its row is sound, it can take the step
 module _ (j : Journal) (past : List Event) (old : Consistent j past) (p : ℕ) (r : Row) (opens : slice_get j.opening p ≡ Some r) (sound : IsSoundRow (replayed_row j.item_count r (own p past))) where
-  outcome_can : (e : Event) (l : ℕ) → owner l past ≡ Some p → IsCommit j.item_count (replayed_row j.item_count r (own p past)) e → CanStep j.item_count (replayed_row j.item_count r (own p past)) e
-  outcome_can e l owned commit =
+  outcome_can : (e : Event) (l : ℕ) → repeats_in e ≤ max_retry_limit → owner l past ≡ Some p → IsCommit j.item_count (replayed_row j.item_count r (own p past)) e → CanStep j.item_count (replayed_row j.item_count r (own p past)) e
+  outcome_can e l few owned commit =
       let runs = old.states l p r owned opens in
       record {
         sound = sound;
         unfinished = running-before-end _ l sound runs;
-        below_limit = λ _. old.below p r opens (ap is_running runs);
+        below_limit = λ _. (old.below p r opens (ap is_running runs)).0;
+        few_repeats = (let room = (old.below p r opens (ap is_running runs)).1 in omega (arith, room, few));
         commit = commit;
       }
 
@@ -347,12 +359,13 @@ module _ (j : Journal) (past : List Event) (old : Consistent j past) (p : ℕ) (
       let opens' : slice_get j.opening q ≡ Some r = rw e opens in
       let h : has_ended (replayed_row j.item_count r (own q past)).state ≡ false = rw (row_of-is (at_past j past) q r opens') at b.not_over in
       let h' : has_ended (replayed_row j.item_count r (own p past)).state ≡ false = subst (λ (x : ℕ). has_ended (replayed_row j.item_count r (own x past)).state ≡ false) e h in
-      record { sound = sound; unfinished = waiting-before-end _ sound h'; below_limit = λ i. absurd i; commit = tt }
-  can (Commit l d w) ok part =
-      outcome_can (Commit l d w) l part (commit_of_row (at_past j past) p r (owner l past) d w part opens (commit_passes (at_past j past) l d w ok).1)
-  can (Roll l k) ok part = outcome_can (Roll l k) l part tt
-  can (Fail l k) ok part = outcome_can (Fail l k) l part tt
-  can (Drop l) ok part = outcome_can (Drop l) l part tt
+      record { sound = sound; unfinished = waiting-before-end _ sound h'; below_limit = λ i. absurd i; few_repeats = (let few = sound.counted.few_repeats in omega (arith, few)); commit = tt }
+  can (Commit l d w a) ok part =
+      let q = commit_passes (at_past j past) l d w a ok in
+      outcome_can (Commit l d w a) l q.2 part (commit_of_row (at_past j past) p r (owner l past) d w part opens q.1)
+  can (Roll l k a) ok part = outcome_can (Roll l k a) l (roll_few (at_past j past) l k a ok) part tt
+  can (Fail l k a) ok part = outcome_can (Fail l k a) l (fail_few (at_past j past) l k a ok) part tt
+  can (Drop l) ok part = outcome_can (Drop l) l (omega arith) part tt
   can Round ok part = absurd cc
   can Stop ok part = absurd cc
 

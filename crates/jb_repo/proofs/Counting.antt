@@ -1,11 +1,11 @@
 -- The rows count a commit for each Commit.
-use Rattle.std.proofs.Common.{◌≡◌, ℕ, zero, suc, ◌+◌, Bool, true, false, cond, List, [], ◌∷◌, set, slice_get, Option, Some, None, refl, sym, ◌∙◌, ap, subst, arith}
+use Rattle.std.proofs.Common.{◌≡◌, ℕ, zero, suc, ◌+◌, Bool, cond, List, [], ◌∷◌, set, slice_get, Option, Some, None, refl, ap, arith}
 use Rattle.jb_rules.specs.declared.row.Row.{Row}
 use Rattle.jb_repo.specs.declared.events.Event.{Event}
 use Rattle.jb_repo.specs.declared.events.Event.TheVariants.{Plan, Begin, Commit, Roll, Fail, Drop, Round, Stop}
 use Rattle.jb_repo.specs.History.{own, partition_of, number, is_commit}
 use Rattle.jb_repo.specs.Rows.{replayed_row, rows_from, total_counts}
-use Rattle.jb_repo.specs.Table.{Journal, refusal, AcceptedPast, row_of}
+use Rattle.jb_repo.specs.Table.{Journal, refusal, AcceptedPast}
 use Rattle.jb_repo.specs.Openable.{IsOpenable}
 use Rattle.jb_repo.specs.Laws.{CommitsAreCounted}
 use Rattle.jb_repo.specs.inside.Below.{LawsBelow}
@@ -34,9 +34,9 @@ counted-set (row ∷ rows) (suc i) old new h = let t = counted-set rows i old ne
 counted-step : LawsBelow → (c : ℕ) (row : Row) (e : Event) → CanStep c row e → (step c row e).counts.commit ≡ row.counts.commit + one (is_commit e)
 counted-step laws c row (Plan n k) can = omega arith
 counted-step laws c row (Begin l p) can = omega arith
-counted-step laws c row (Commit l d w) can = let k = (commit_facts laws c row d w can.commit).delta.commit in omega (arith, k)
-counted-step laws c row (Roll l k) can = omega arith
-counted-step laws c row (Fail l k) can = omega arith
+counted-step laws c row (Commit l d w a) can = let k = (commit_facts laws c row d w can.commit).delta.commit in omega (arith, k)
+counted-step laws c row (Roll l k a) can = omega arith
+counted-step laws c row (Fail l k a) can = omega arith
 counted-step laws c row (Drop l) can = omega arith
 counted-step laws c row Round can = omega arith
 counted-step laws c row Stop can = omega arith
@@ -45,9 +45,9 @@ counted-step laws c row Stop can = omega arith
 no_commit : (j : Journal) (past : List Event) (e : Event) → refusal (at_past j past) e ≡ None → partition_of e past ≡ None → one (is_commit e) ≡ 0
 no_commit j past (Plan n k) ok part = refl
 no_commit j past (Begin l p) ok part = refl
-no_commit j past (Commit l d w) ok part = let o = (commit_passes (at_past j past) l d w ok).0.owned in absurd cc
-no_commit j past (Roll l k) ok part = refl
-no_commit j past (Fail l k) ok part = refl
+no_commit j past (Commit l d w a) ok part = let o = (commit_passes (at_past j past) l d w a ok).0.owned in absurd cc
+no_commit j past (Roll l k a) ok part = refl
+no_commit j past (Fail l k a) ok part = refl
 no_commit j past (Drop l) ok part = refl
 no_commit j past Round ok part = refl
 no_commit j past Stop ok part = refl

@@ -1,7 +1,6 @@
 -- Each Commit takes the first of the blocks that are left.
-use Rattle.std.proofs.Common.{◌≡◌, ℕ, ◌+◌, List, [], ◌∷◌, ◌++◌, None, subst, arith}
+use Rattle.std.proofs.Common.{◌≡◌, ℕ, List, [], ◌∷◌, ◌++◌, None, subst, arith}
 use Rattle.jb_rules.specs.declared.counts.Counts.{Counts}
-use Rattle.jb_rules.specs.declared.row.Row.{Row}
 use Rattle.jb_rules.specs.Rows.{row_block}
 use Rattle.jb_repo.specs.declared.events.Event.{Event}
 use Rattle.jb_repo.specs.declared.events.Event.TheVariants.{Commit}
@@ -9,16 +8,16 @@ use Rattle.jb_repo.specs.History.{own}
 use Rattle.jb_repo.specs.Rows.{replayed_row}
 use Rattle.jb_repo.specs.Table.{Journal, refusal, AcceptedPast}
 use Rattle.jb_repo.specs.Openable.{IsOpenable}
-use Rattle.jb_repo.specs.Laws.{with_past, TakesFirstBlock, CommitsTakeFirstBlocks}
+use Rattle.jb_repo.specs.Laws.{TakesFirstBlock, CommitsTakeFirstBlocks}
 use Rattle.jb_repo.specs.inside.Below.{LawsBelow}
 use Rattle.jb_repo.proofs.Consistent.{at_past, consistent, commit_of_row, rows-sound}
 use Rattle.jb_repo.proofs.Passing.{row_of-is, commit_passes}
 use Rattle.jb_repo.proofs.Stepping.{commit_facts, passed-block, running-before-end}
 use Rattle.jb_repo.proofs.Tables.{at_some}
 
-takes_first : LawsBelow → (j : Journal) → IsOpenable j → (past : List Event) (l : ℕ) (d : Counts) (w : ℕ) → refusal (at_past j past) (Commit l d w) ≡ None → AcceptedPast j past → TakesFirstBlock (at_past j past) l d
-takes_first laws j ready past l d w passes ok =
-    let q = commit_passes (at_past j past) l d w passes in
+takes_first : LawsBelow → (j : Journal) → IsOpenable j → (past : List Event) (l : ℕ) (d : Counts) (w a : ℕ) → refusal (at_past j past) (Commit l d w a) ≡ None → AcceptedPast j past → TakesFirstBlock (at_past j past) l d
+takes_first laws j ready past l d w a passes ok =
+    let q = commit_passes (at_past j past) l d w a passes in
     let p = q.0.partition in
     let known = consistent j ready past ok in
     let opening = at_some j.opening p (known.lanes l p q.0.owned).partition in
@@ -45,6 +44,6 @@ accepted_at j [] past ok = ok
 accepted_at j (e ∷ later) past ok = accepted_at j later past ok.1
 
 pub commits_take_first_blocks : LawsBelow → CommitsTakeFirstBlocks
-commits_take_first_blocks laws j law later past l d w is =
-    let ok = accepted_at j later (Commit l d w ∷ past) (subst (λ (x : List Event). AcceptedPast j x) is law.accepted) in
-    takes_first laws j law.ready past l d w ok.0 ok.1
+commits_take_first_blocks laws j law later past l d w a is =
+    let ok = accepted_at j later (Commit l d w a ∷ past) (subst (λ (x : List Event). AcceptedPast j x) is law.accepted) in
+    takes_first laws j law.ready past l d w a ok.0 ok.1

@@ -1,5 +1,5 @@
 -- Which Plans and Commits are accepted, and which are refused for what they say.
-use Rattle.std.proofs.Common.{◌≡◌, ℕ, ◌+◌, ◌-◌, ◌<◌, ◌≤◌, ◌↔◌, Bool, true, false, not, ◌||◌, ◌&&◌, nat_eq, nat_le, nat_lt, [], ◌∷◌, length, Option, Some, None, refl, sym, ◌∙◌, ap, arith}
+use Rattle.std.proofs.Common.{◌≡◌, ℕ, ◌+◌, ◌-◌, ◌<◌, ◌≤◌, ◌↔◌, Bool, true, false, not, ◌||◌, nat_eq, nat_le, nat_lt, [], ◌∷◌, length, Some, None, refl, sym, ◌∙◌, arith}
 use Rattle.std.proofs.lemmas.Bool.Decides.{nat_tests}
 use Rattle.jb_rules.specs.declared.counts.Counts.{Counts}
 use Rattle.jb_rules.specs.declared.row.Row.{Row}
@@ -7,12 +7,11 @@ use Rattle.jb_rules.specs.Rows.{row_block}
 use Rattle.jb_cert.specs.declared.certificates.Certificate.{Certificate}
 use Rattle.jb_cert.specs.Laws.{LeastPlanMeans}
 use Rattle.jb_repo.specs.declared.events.Event.TheVariants.{Plan, Commit}
-use Rattle.jb_job.specs.Limits.{max_events}
-use Rattle.jb_repo.specs.declared.refused.Refused.{Refused}
+use Rattle.jb_job.specs.Limits.{max_events, max_retry_limit}
 use Rattle.jb_repo.specs.declared.refused.Refused.TheVariants.{Stopping, LaneRange, NotRunning, BadDelta, StillRunning, BadPlan, Full}
 use Rattle.jb_repo.specs.History.{owner, is_stopping, is_plan_open}
 use Rattle.jb_repo.specs.Rows.{remaining}
-use Rattle.jb_repo.specs.Table.{Journal, refusal, first_refusal, outcome_conditions, row_of, rows_of, reserved, is_full, is_good_plan, is_good_commit, is_commit_of}
+use Rattle.jb_repo.specs.Table.{Journal, refusal, first_refusal, outcome_conditions, undone_conditions, row_of, rows_of, reserved, is_full, is_good_plan, is_commit_of}
 use Rattle.jb_repo.specs.Openable.{IsReplayable}
 use Rattle.jb_repo.specs.Laws.{MayPlan, IsCertified, GoodPlansAreAccepted, BadPlansAreRefused, IsCommitOfNext, GoodCommitsAreAccepted, BadCommitsAreRefused, RunningLanesMayEnd}
 use Rattle.jb_repo.specs.inside.Below.{LawsBelow}
@@ -96,6 +95,10 @@ bad_plans_are_refused means j law n k = (is_bad means j law n k, becomes_bad mea
 
 -- COMMITS
 
+or_none : (b : Bool) → (b || false) ≡ b
+or_none true = refl
+or_none false = refl
+
 -- of a lane that there is and that runs, only the third condition may hold
 last_of_three : (good : Bool) → first_refusal ((false, LaneRange) ∷ (false, NotRunning) ∷ (not good, BadDelta) ∷ []) ≡ None → good ≡ true
 last_of_three true h = refl
@@ -111,42 +114,48 @@ lane_there threads lane lt = grind (arith, nat_tests)
 same_number : (a b : ℕ) → a ≡ b → nat_eq a b ≡ true
 same_number a b h = grind (arith, nat_tests)
 
+not_more : (again : ℕ) → again ≤ max_retry_limit → nat_lt max_retry_limit again ≡ false
+not_more again few = grind (arith, nat_tests)
+
 -- where neither condition of an outcome holds, it is accepted
 pub running_lanes_may_end : RunningLanesMayEnd
 running_lanes_may_end j law l p owned =
     let there = lane_there j.threads l ((consistent j law.ready j.past law.accepted).lanes l p owned).lane in
     let accepted : first_refusal (outcome_conditions j l) ≡ None = rw (there, owned) refl in
-    record { rolled = λ class. accepted; failed = λ class. accepted; dropped = accepted }
+    let undone : (again : ℕ) → again ≤ max_retry_limit → first_refusal (undone_conditions j l again) ≡ None =
+    λ again few. (let enough = not_more again few in rw (there, owned, enough) refl) in
+    record { rolled = λ class again few. undone again few; failed = λ class again few. undone again few; dropped = accepted }
 
-module _ (laws : LawsBelow) (j : Journal) (law : IsReplayable j) (l p : ℕ) (row : Row) (owned : owner l j.past ≡ Some p) (is : row_of j p ≡ Some row) (d : Counts) (w : ℕ) where
-  judged : refusal j (Commit l d w) ≡ first_refusal ((false, LaneRange) ∷ (false, NotRunning) ∷ (not (is_commit_of j.item_count row d w), BadDelta) ∷ [])
+module _ (laws : LawsBelow) (j : Journal) (law : IsReplayable j) (l p : ℕ) (row : Row) (owned : owner l j.past ≡ Some p) (is : row_of j p ≡ Some row) (d : Counts) (w a : ℕ) (few : a ≤ max_retry_limit) where
+  judged : refusal j (Commit l d w a) ≡ first_refusal ((false, LaneRange) ∷ (false, NotRunning) ∷ (not (is_commit_of j.item_count row d w), BadDelta) ∷ [])
   judged =
+      let enough = not_more a few in
       let there = lane_there j.threads l ((consistent j law.ready j.past law.accepted).lanes l p owned).lane in
-      rw (there, owned, is) refl
+      rw (there, owned, is, enough, or_none (not (is_commit_of j.item_count row d w))) refl
 
   commit_of_next : is_commit_of j.item_count row d w ≡ true → IsCommitOfNext j.item_count row d w
   commit_of_next good = let k = commit_facts laws j.item_count row d w good in (k.delta, k.written)
 
   good_commit : IsCommitOfNext j.item_count row d w → is_commit_of j.item_count row d w ≡ true
   good_commit h =
-      let a = (laws.deltas ((row_block j.item_count row).hi - row.at) d).1 h.0 in
-      let b = same_number w (row.written + d.write) h.1 in
-      rw (a, b) refl
+      let delta = (laws.deltas ((row_block j.item_count row).hi - row.at) d).1 h.0 in
+      let number = same_number w (row.written + d.write) h.1 in
+      rw (delta, number) refl
 
-  accepted : (refusal j (Commit l d w) ≡ None) ↔ IsCommitOfNext j.item_count row d w
+  accepted : (refusal j (Commit l d w a) ≡ None) ↔ IsCommitOfNext j.item_count row d w
   accepted = (
     λ h. commit_of_next (last_of_three (is_commit_of j.item_count row d w) (sym judged ∙ h)),
     λ h. let good = good_commit h in judged ∙ rw good refl,
   )
 
-  refused : (refusal j (Commit l d w) ≡ Some BadDelta) ↔ (IsCommitOfNext j.item_count row d w → ⊥)
+  refused : (refusal j (Commit l d w a) ≡ Some BadDelta) ↔ (IsCommitOfNext j.item_count row d w → ⊥)
   refused = (
     λ h k. let good = good_commit k in let bad = is_third (is_commit_of j.item_count row d w) (sym judged ∙ h) in cc,
     λ h. let bad = uncertified (is_commit_of j.item_count row d w) (λ good. h (commit_of_next good)) in judged ∙ rw bad refl,
   )
 
 pub good_commits_are_accepted : LawsBelow → GoodCommitsAreAccepted
-good_commits_are_accepted laws j law l p row owned is d w = accepted laws j law l p row owned is d w
+good_commits_are_accepted laws j law l p row owned is d w a few = accepted laws j law l p row owned is d w a few
 
 pub bad_commits_are_refused : LawsBelow → BadCommitsAreRefused
-bad_commits_are_refused laws j law l p row owned is d w = refused laws j law l p row owned is d w
+bad_commits_are_refused laws j law l p row owned is d w a few = refused laws j law l p row owned is d w a few

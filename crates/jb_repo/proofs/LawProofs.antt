@@ -78,13 +78,13 @@ still r own = omega arith
 
 module _ (j : Journal) (p : ℕ) (r : Row) where
   -- one more of the partition's own events keeps them consecutive
-  joins : (e : Event) (own : List Event) → ((l : ℕ) (d : Counts) (w : ℕ) → e ≡ Commit l d w → (replayed_row j.item_count r own).at + (d.read + d.read_skip) ≡ (row_block j.item_count (replayed_row j.item_count r own)).hi)
+  joins : (e : Event) (own : List Event) → ((l : ℕ) (d : Counts) (w a : ℕ) → e ≡ Commit l d w a → (replayed_row j.item_count r own).at + (d.read + d.read_skip) ≡ (row_block j.item_count (replayed_row j.item_count r own)).hi)
       → AreConsecutive r.at (committed_blocks j.item_count r own) (at_after r own) → AreConsecutive r.at (committed_blocks j.item_count r (e ∷ own)) (at_after r (e ∷ own))
   joins (Plan n k) own good h = rw (still r own) h
   joins (Begin l q) own good h = rw (still r own) h
-  joins (Commit l d w) own good h = let passed = good l d w refl in (omega (arith, passed), h)
-  joins (Roll l k) own good h = rw (still r own) h
-  joins (Fail l k) own good h = rw (still r own) h
+  joins (Commit l d w a) own good h = let passed = good l d w a refl in (omega (arith, passed), h)
+  joins (Roll l k a) own good h = rw (still r own) h
+  joins (Fail l k a) own good h = rw (still r own) h
   joins (Drop l) own good h = rw (still r own) h
   joins Round own good h = rw (still r own) h
   joins Stop own good h = rw (still r own) h
@@ -94,12 +94,12 @@ joined j p r own = AreConsecutive r.at (committed_blocks j.item_count r own) (at
 
 module _ (laws : LawsBelow) (j : Journal) (ready : IsOpenable j) (p : ℕ) (r : Row) (opens : slice_get j.opening p ≡ Some r) where
   -- an accepted Commit passes the partition's next block
-  passed : (past : List Event) → AcceptedPast j past → (l : ℕ) (d : Counts) (w : ℕ) → refusal (at_past j past) (Commit l d w) ≡ None → owner l past ≡ Some p
+  passed : (past : List Event) → AcceptedPast j past → (l : ℕ) (d : Counts) (w a : ℕ) → refusal (at_past j past) (Commit l d w a) ≡ None → owner l past ≡ Some p
       → (replayed_row j.item_count r (own p past)).at + (d.read + d.read_skip) ≡ (row_block j.item_count (replayed_row j.item_count r (own p past))).hi
-  passed past ok l d w passes owned =
+  passed past ok l d w a passes owned =
       let sound = rows-sound laws j ready p r opens past ok in
       let runs = (consistent j ready past ok).states l p r owned opens in
-      let good = commit_of_row (at_past j past) p r (owner l past) d w owned opens (commit_passes (at_past j past) l d w passes).1 in
+      let good = commit_of_row (at_past j past) p r (owner l past) d w owned opens (commit_passes (at_past j past) l d w a passes).1 in
       passed-block laws j.item_count (replayed_row j.item_count r (own p past)) ready.some_items sound (running-before-end _ l sound runs) d w
       (commit_facts laws j.item_count (replayed_row j.item_count r (own p past)) d w good)
 
@@ -107,10 +107,10 @@ module _ (laws : LawsBelow) (j : Journal) (ready : IsOpenable j) (p : ℕ) (r : 
   consecutive_at e past passes ok false is h = h
   consecutive_at e past passes ok true is h =
       joins j p r e (own p past)
-      (λ l d w same.
-      let passes' : refusal (at_past j past) (Commit l d w) ≡ None = subst (λ (x : Event). refusal (at_past j past) x ≡ None) same passes in
-      let owned : partition_of (Commit l d w) past ≡ Some p = subst (λ (x : Event). partition_of x past ≡ Some p) same (some_of _ p is) in
-      passed past ok l d w passes' owned)
+      (λ l d w a same.
+      let passes' : refusal (at_past j past) (Commit l d w a) ≡ None = subst (λ (x : Event). refusal (at_past j past) x ≡ None) same passes in
+      let owned : partition_of (Commit l d w a) past ≡ Some p = subst (λ (x : Event). partition_of x past ≡ Some p) same (some_of _ p is) in
+      passed past ok l d w a passes' owned)
       h
 
   consecutive : (past : List Event) → AcceptedPast j past → joined j p r (own p past)
@@ -126,10 +126,10 @@ commits_are_consecutive laws j law p opening opens = consecutive laws j law.read
 next-is : (laws : LawsBelow) (c : ℕ) (row : Row) (e : Event) → 1 ≤ c → CanStep c row e → step c row e ≡ next_row c row e
 next-is laws c row (Plan n k) some can = refl
 next-is laws c row (Begin l p) some can = refl
-next-is laws c row (Commit l d w) some can =
-    commit-is laws c row some can.sound can.unfinished l d w (commit_facts laws c row d w can.commit)
-next-is laws c row (Roll l k) some can = refl
-next-is laws c row (Fail l k) some can = refl
+next-is laws c row (Commit l d w a) some can =
+    commit-is laws c row some can.sound can.unfinished l d w a (commit_facts laws c row d w can.commit)
+next-is laws c row (Roll l k a) some can = refl
+next-is laws c row (Fail l k a) some can = refl
 next-is laws c row (Drop l) some can = refl
 next-is laws c row Round some can = refl
 next-is laws c row Stop some can = refl
@@ -177,10 +177,10 @@ state_at-forgets at hi = elim (nat_eq at hi) as (λ b. forget_lane (cond b Finis
 step-forgets : (c : ℕ) (row : Row) (e : Event) → step c (forget_row row) (without_lane e) ≡ forget_row (step c row e)
 step-forgets c row (Plan n k) = refl
 step-forgets c row (Begin l p) = refl
-step-forgets c row (Commit l d w) =
-    ap (λ (s : RowState). record (step c row (Commit l d w)) { state = s }) (sym (state_at-forgets (row.at + (d.read + d.read_skip)) row.hi))
-step-forgets c row (Roll l k) = refl
-step-forgets c row (Fail l k) = refl
+step-forgets c row (Commit l d w a) =
+    ap (λ (s : RowState). record (step c row (Commit l d w a)) { state = s }) (sym (state_at-forgets (row.at + (d.read + d.read_skip)) row.hi))
+step-forgets c row (Roll l k a) = refl
+step-forgets c row (Fail l k a) = refl
 step-forgets c row (Drop l) = refl
 step-forgets c row Round = refl
 step-forgets c row Stop = refl
@@ -255,9 +255,9 @@ since-plan (e ∷ later) past n k none =
 one_more : (j : Journal) (e : Event) (later past : List Event) (n : ℕ) (k : Certificate) → refusal (at_past j (later ++ Plan n k ∷ past)) e ≡ None → some is_plan later ≡ false → number is_round later ≤ n → number is_round (e ∷ later) ≤ n
 one_more j (Plan m q) later past n k ok none h = omega (arith, h)
 one_more j (Begin l p) later past n k ok none h = omega (arith, h)
-one_more j (Commit l d w) later past n k ok none h = omega (arith, h)
-one_more j (Roll l q) later past n k ok none h = omega (arith, h)
-one_more j (Fail l q) later past n k ok none h = omega (arith, h)
+one_more j (Commit l d w a) later past n k ok none h = omega (arith, h)
+one_more j (Roll l q a) later past n k ok none h = omega (arith, h)
+one_more j (Fail l q a) later past n k ok none h = omega (arith, h)
 one_more j (Drop l) later past n k ok none h = omega (arith, h)
 one_more j Stop later past n k ok none h = omega (arith, h)
 one_more j Round later past n k ok none h =
@@ -290,9 +290,9 @@ not_closed (e ∷ later) none =
 no_plan : (e : Event) → goes_well e ≡ true → (is_plan e ≡ false) × (ends_plan e ≡ false)
 no_plan (Plan n k) well = absurd cc
 no_plan (Begin l p) well = (refl, refl)
-no_plan (Commit l d w) well = (refl, refl)
-no_plan (Roll l k) well = absurd cc
-no_plan (Fail l k) well = absurd cc
+no_plan (Commit l d w a) well = (refl, refl)
+no_plan (Roll l k a) well = absurd cc
+no_plan (Fail l k a) well = absurd cc
 no_plan (Drop l) well = absurd cc
 no_plan Round well = (refl, refl)
 no_plan Stop well = absurd cc

@@ -1,14 +1,10 @@
 -- What is left can be planned.
-use Rattle.std.proofs.Common.{◌≡◌, ℕ, suc, ◌≤◌, false, List, [], ◌∷◌, length, refl, ap, subst, arith}
+use Rattle.std.proofs.Common.{◌≡◌, ℕ, suc, false, List, [], ◌∷◌, length, refl, ap, subst, arith}
 use Rattle.jb_cert.specs.Load.{IsWithinLimits}
 use Rattle.jb_rules.specs.declared.row.Row.{Row}
-use Rattle.jb_rules.specs.declared.row.RowState.{RowState}
-use Rattle.jb_rules.specs.declared.row.RowState.TheVariants.{Waiting}
-use Rattle.jb_rules.specs.Sound.{IsSoundRow}
 use Rattle.jb_rules.specs.States.{has_ended}
-use Rattle.jb_repo.specs.Rows.{remaining, remaining_of}
-use Rattle.jb_repo.specs.Table.{Journal, rows_of}
-use Rattle.jb_repo.specs.Openable.{IsOpenable, IsReplayable}
+use Rattle.jb_repo.specs.Rows.{remaining}
+use Rattle.jb_repo.specs.Table.{rows_of}
 use Rattle.jb_repo.specs.Laws.{LoadsFit, OpeningLoadsFit, WaitingRowsHaveChunks}
 use Rattle.jb_repo.specs.inside.Below.{LawsBelow}
 use Rattle.jb_repo.proofs.Consistent.{at_past}

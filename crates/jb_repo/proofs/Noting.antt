@@ -35,7 +35,7 @@ running-opening (suc n) = omega (arith, running-opening n)
 
 -- any row, for the places of a list that are past its end
 abbrev pub any_row : Row
-any_row = record { lo = 0; hi = 0; at = 0; redo = 0; retries = 0; written = 0; counts = no_counts; state = Finished }
+any_row = record { lo = 0; hi = 0; at = 0; redo = 0; retries = 0; written = 0; counts = no_counts; in_place = 0; state = Finished }
 
 -- NO MORE THAN THE EVENTS
 
@@ -79,9 +79,9 @@ module _ (j : Journal) (ready : IsOpenable j) (ok : Accepted j) (e : Event) (pas
   gain-none : (f : Event) → refusal j f ≡ None → partition_of f j.past ≡ None → gain f ≡ no_counts
   gain-none (Plan n k) passes part = refl
   gain-none (Begin l p) passes part = refl
-  gain-none (Commit l d w) passes part = let owned = (commit_passes j l d w passes).0.owned in absurd cc
-  gain-none (Roll l k) passes part = let owned = (roll_passes j l k passes).owned in absurd cc
-  gain-none (Fail l k) passes part = let owned = (fail_passes j l k passes).owned in absurd cc
+  gain-none (Commit l d w a) passes part = let owned = (commit_passes j l d w a passes).0.owned in absurd cc
+  gain-none (Roll l k a) passes part = let owned = (roll_passes j l k a passes).owned in absurd cc
+  gain-none (Fail l k a) passes part = let owned = (fail_passes j l k a passes).owned in absurd cc
   gain-none (Drop l) passes part = refl
   gain-none Round passes part = refl
   gain-none Stop passes part = refl
@@ -116,9 +116,9 @@ within j ready (Plan n k) passes = record { lane = tt; partition = tt }
 within j ready (Begin l p) passes =
     let b = begin_passes j l p passes in
     record { lane = within-lane j ready l b.lane; partition = omega (arith, b.partition, ready.few_rows) }
-within j ready (Commit l d w) passes = record { lane = within-lane j ready l (commit_passes j l d w passes).0.lane; partition = tt }
-within j ready (Roll l k) passes = record { lane = within-lane j ready l (roll_passes j l k passes).lane; partition = tt }
-within j ready (Fail l k) passes = record { lane = within-lane j ready l (fail_passes j l k passes).lane; partition = tt }
+within j ready (Commit l d w a) passes = record { lane = within-lane j ready l (commit_passes j l d w a passes).0.lane; partition = tt }
+within j ready (Roll l k a) passes = record { lane = within-lane j ready l (roll_passes j l k a passes).lane; partition = tt }
+within j ready (Fail l k a) passes = record { lane = within-lane j ready l (fail_passes j l k a passes).lane; partition = tt }
 within j ready (Drop l) passes = record { lane = within-lane j ready l (drop_passes j l passes).lane; partition = tt }
 within j ready Round passes = record { lane = tt; partition = tt }
 within j ready Stop passes = record { lane = tt; partition = tt }

@@ -6,7 +6,7 @@ use Rattle.jb_rules.specs.declared.row.Row.{Row}
 use Rattle.jb_cert.specs.declared.certificates.Certificate.{Certificate}
 use Rattle.jb_job.specs.declared.class.ClassId.{ClassId}
 use Rattle.jb_repo.specs.declared.events.Event.TheVariants.{Plan, Begin, Commit, Roll, Fail, Drop, Round, Stop}
-use Rattle.jb_job.specs.Limits.{max_events}
+use Rattle.jb_job.specs.Limits.{max_events, max_retry_limit}
 use Rattle.jb_repo.specs.History.{own, owner, is_lane_marked, is_partition_marked, is_plan_open, is_stopping}
 use Rattle.jb_repo.specs.Rows.{replayed_row}
 use Rattle.jb_repo.specs.Table.{Journal, Condition, conditions, first_refusal, refusal, row_of, reserved, is_full, is_good_plan, is_good_commit, is_ended, is_at_limit}
@@ -101,27 +101,35 @@ pub record OutcomePasses (j : Journal) (l : ℕ) : Type 0 where
   pub partition : ℕ
   pub owned : owner l j.past ≡ Some partition
 
-pub commit_passes : (j : Journal) (l : ℕ) (d : Counts) (w : ℕ) → refusal j (Commit l d w) ≡ None → OutcomePasses j l × (is_good_commit j (owner l j.past) d w ≡ true)
-commit_passes j l d w h =
-    let a = passes (conditions j (Commit l d w)) h in
-    let b = a.1 in
+pub commit_passes : (j : Journal) (l : ℕ) (d : Counts) (w a : ℕ) → refusal j (Commit l d w a) ≡ None → OutcomePasses j l × (is_good_commit j (owner l j.past) d w ≡ true) × (a ≤ max_retry_limit)
+commit_passes j l d w a h =
+    let p = passes (conditions j (Commit l d w a)) h in
+    let b = p.1 in
     let c = b.1 in
     let v = some_value _ b.0 in
-    (record { lane = leb_false _ _ a.0; partition = v.0; owned = v.1 }, not_false _ c.0)
+    let good = or_false _ _ c.0 in
+    (record { lane = leb_false _ _ p.0; partition = v.0; owned = v.1 }, not_false _ good.0, ltb_false _ _ good.1)
 
-pub roll_passes : (j : Journal) (l : ℕ) (k : ClassId) → refusal j (Roll l k) ≡ None → OutcomePasses j l
-roll_passes j l k h =
-    let a = passes (conditions j (Roll l k)) h in
-    let b = a.1 in
+pub roll_passes : (j : Journal) (l : ℕ) (k : ClassId) (a : ℕ) → refusal j (Roll l k a) ≡ None → OutcomePasses j l
+roll_passes j l k a h =
+    let p = passes (conditions j (Roll l k a)) h in
+    let b = p.1 in
     let v = some_value _ b.0 in
-    record { lane = leb_false _ _ a.0; partition = v.0; owned = v.1 }
+    record { lane = leb_false _ _ p.0; partition = v.0; owned = v.1 }
 
-pub fail_passes : (j : Journal) (l : ℕ) (k : ClassId) → refusal j (Fail l k) ≡ None → OutcomePasses j l
-fail_passes j l k h =
-    let a = passes (conditions j (Fail l k)) h in
-    let b = a.1 in
+pub fail_passes : (j : Journal) (l : ℕ) (k : ClassId) (a : ℕ) → refusal j (Fail l k a) ≡ None → OutcomePasses j l
+fail_passes j l k a h =
+    let p = passes (conditions j (Fail l k a)) h in
+    let b = p.1 in
     let v = some_value _ b.0 in
-    record { lane = leb_false _ _ a.0; partition = v.0; owned = v.1 }
+    record { lane = leb_false _ _ p.0; partition = v.0; owned = v.1 }
+
+-- what an outcome repeated is no more than an attempt may
+pub roll_few : (j : Journal) (l : ℕ) (k : ClassId) (a : ℕ) → refusal j (Roll l k a) ≡ None → a ≤ max_retry_limit
+roll_few j l k a h = ltb_false _ _ (passes (conditions j (Roll l k a)) h).1.1.0
+
+pub fail_few : (j : Journal) (l : ℕ) (k : ClassId) (a : ℕ) → refusal j (Fail l k a) ≡ None → a ≤ max_retry_limit
+fail_few j l k a h = ltb_false _ _ (passes (conditions j (Fail l k a)) h).1.1.0
 
 pub drop_passes : (j : Journal) (l : ℕ) → refusal j (Drop l) ≡ None → OutcomePasses j l
 drop_passes j l h =

@@ -74,9 +74,9 @@ module _ (j : Journal) (ready : IsOpenable j) (ok : Accepted j) where
   pub places_after : (e : Event) → refusal j e ≡ None → 1 + reserved (after j e) ≡ reserved j + places_of e
   places_after (Plan n k) passes = let a = running-same j.threads (Plan n k) j.past (λ _. refl) in omega (arith, a)
   places_after (Begin l p) passes = let a = begin_places l p (begin_passes j l p passes) in omega (arith, a)
-  places_after (Commit l d w) passes = let a = outcome_places (Commit l d w) l (λ _. refl) refl (commit_passes j l d w passes).0 in omega (arith, a)
-  places_after (Roll l k) passes = let a = outcome_places (Roll l k) l (λ _. refl) refl (roll_passes j l k passes) in omega (arith, a)
-  places_after (Fail l k) passes = let a = outcome_places (Fail l k) l (λ _. refl) refl (fail_passes j l k passes) in omega (arith, a)
+  places_after (Commit l d w a) passes = let a = outcome_places (Commit l d w a) l (λ _. refl) refl (commit_passes j l d w a passes).0 in omega (arith, a)
+  places_after (Roll l k a) passes = let a = outcome_places (Roll l k a) l (λ _. refl) refl (roll_passes j l k a passes) in omega (arith, a)
+  places_after (Fail l k a) passes = let a = outcome_places (Fail l k a) l (λ _. refl) refl (fail_passes j l k a passes) in omega (arith, a)
   places_after (Drop l) passes = let a = outcome_places (Drop l) l (λ _. refl) refl (drop_passes j l passes) in omega (arith, a)
   places_after Round passes = let a = running-same j.threads Round j.past (λ _. refl) in omega (arith, a)
   places_after Stop passes = let a = running-same j.threads Stop j.past (λ _. refl) in omega (arith, a)
@@ -85,9 +85,9 @@ module _ (j : Journal) (ready : IsOpenable j) (ok : Accepted j) where
 pub needed_few : (j : Journal) (e : Event) → refusal j e ≡ None → length j.past + reserved j ≤ max_events → needed j e ≤ max_events
 needed_few j (Plan n k) passes few = (plan_passes j n k passes).room
 needed_few j (Begin l p) passes few = (begin_passes j l p passes).room
-needed_few j (Commit l d w) passes few = omega (arith, few)
-needed_few j (Roll l k) passes few = omega (arith, few)
-needed_few j (Fail l k) passes few = omega (arith, few)
+needed_few j (Commit l d w a) passes few = omega (arith, few)
+needed_few j (Roll l k a) passes few = omega (arith, few)
+needed_few j (Fail l k a) passes few = omega (arith, few)
 needed_few j (Drop l) passes few = omega (arith, few)
 needed_few j Round passes few = (round_passes j passes).room
 needed_few j Stop passes few = stop_passes j passes

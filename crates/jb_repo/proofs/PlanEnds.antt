@@ -1,5 +1,5 @@
 -- After the Round that follows an event that ends the plan, the plan isn't gone on with.
-use Rattle.std.proofs.Common.{◌≡◌, Bool, true, false, not, ◌&&◌, ◌||◌, List, [], ◌∷◌, ◌++◌, None, refl, ◌∙◌, ap, subst}
+use Rattle.std.proofs.Common.{◌≡◌, Bool, true, false, ◌&&◌, ◌||◌, List, [], ◌∷◌, ◌++◌, None, refl, ◌∙◌, ap, subst}
 use Rattle.jb_repo.specs.declared.events.Event.{Event}
 use Rattle.jb_repo.specs.declared.events.Event.TheVariants.{Plan, Begin, Commit, Roll, Fail, Drop, Round, Stop}
 use Rattle.jb_repo.specs.History.{some, since, is_plan, ends_plan, is_closed, is_plan_open}
@@ -55,9 +55,9 @@ module _ (e : Event) (between past : List Event) (no_plan : is_plan e ≡ false)
 stays : (j : Journal) (past : List Event) (x : Event) → refusal (at_past j past) x ≡ None → is_plan_open past ≡ false → goes_on x ≡ false
 stays j past (Plan n k) ok closed = refl
 stays j past (Begin l p) ok closed = let o = (begin_passes (at_past j past) l p ok).open_plan in absurd cc
-stays j past (Commit l d w) ok closed = refl
-stays j past (Roll l k) ok closed = refl
-stays j past (Fail l k) ok closed = refl
+stays j past (Commit l d w a) ok closed = refl
+stays j past (Roll l k a) ok closed = refl
+stays j past (Fail l k a) ok closed = refl
 stays j past (Drop l) ok closed = refl
 stays j past Round ok closed = let o = (round_passes (at_past j past) ok).open_plan in absurd cc
 stays j past Stop ok closed = refl

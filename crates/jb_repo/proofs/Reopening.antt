@@ -3,7 +3,7 @@ use Rattle.std.proofs.Common.{◌≡◌, ℕ, false, Some, ap, ◌∙◌}
 use Rattle.jb_rules.specs.declared.row.Row.{Row}
 use Rattle.jb_rules.specs.Sound.{IsSoundRow}
 use Rattle.jb_rules.specs.States.{is_running}
-use Rattle.jb_repo.specs.Table.{Journal, row_of, rows_of, reserved}
+use Rattle.jb_repo.specs.Table.{Journal, row_of, reserved}
 use Rattle.jb_repo.specs.Openable.{IsReplayable}
 use Rattle.jb_repo.specs.Laws.{OpeningsAreAccepted, RowsMayBeOpenedAgain}
 use Rattle.jb_repo.specs.inside.Below.{LawsBelow}

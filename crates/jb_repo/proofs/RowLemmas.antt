@@ -36,22 +36,22 @@ plus_counts-rollback a b =
 
 -- ONE MORE OWN EVENT
 
-row_eq : (lo hi at redo retries written at' redo' retries' written' : ℕ) (counts counts' : Counts) (state state' : RowState) → at ≡ at' → redo ≡ redo' → retries ≡ retries' → written ≡ written' → counts ≡ counts' → state ≡ state'
-    → ◌≡◌ {A = Row} (record { lo = lo; hi = hi; at = at; redo = redo; retries = retries; written = written; counts = counts; state = state }) (record { lo = lo; hi = hi; at = at'; redo = redo'; retries = retries'; written = written'; counts = counts'; state = state' })
-row_eq lo hi at redo retries written at' redo' retries' written' counts counts' state state' e1 e2 e3 e4 e5 e6 = rw (e1, e2, e3, e4, e5, e6) refl
+row_eq : (lo hi at redo retries written in_place at' redo' retries' written' in_place' : ℕ) (counts counts' : Counts) (state state' : RowState) → at ≡ at' → redo ≡ redo' → retries ≡ retries' → written ≡ written' → counts ≡ counts' → in_place ≡ in_place' → state ≡ state'
+    → ◌≡◌ {A = Row} (record { lo = lo; hi = hi; at = at; redo = redo; retries = retries; written = written; counts = counts; in_place = in_place; state = state }) (record { lo = lo; hi = hi; at = at'; redo = redo'; retries = retries'; written = written'; counts = counts'; in_place = in_place'; state = state' })
+row_eq lo hi at redo retries written in_place at' redo' retries' written' in_place' counts counts' state state' e1 e2 e3 e4 e5 e6 e7 = rw (e1, e2, e3, e4, e5, e6, e7) refl
 
 module _ (c : ℕ) (r : Row) where
   pub replayed_row-step : (e : Event) (own : List Event) → replayed_row c r (e ∷ own) ≡ step c (replayed_row c r own) e
-  replayed_row-step (Plan n k) own = row_eq _ _ _ _ _ _ _ _ _ _ _ _ _ _ (omega arith) refl (omega arith) refl (ap (plus_counts r.counts) (plus_counts-zero (gains own))) refl
-  replayed_row-step (Begin l p) own = row_eq _ _ _ _ _ _ _ _ _ _ _ _ _ _ (omega arith) refl (omega arith) refl (ap (plus_counts r.counts) (plus_counts-zero (gains own))) refl
-  replayed_row-step (Commit l d w) own =
+  replayed_row-step (Plan n k) own = row_eq _ _ _ _ _ _ _ _ _ _ _ _ _ _ _ _ (omega arith) refl (omega arith) refl (ap (plus_counts r.counts) (plus_counts-zero (gains own))) (omega arith) refl
+  replayed_row-step (Begin l p) own = row_eq _ _ _ _ _ _ _ _ _ _ _ _ _ _ _ _ (omega arith) refl (omega arith) refl (ap (plus_counts r.counts) (plus_counts-zero (gains own))) (omega arith) refl
+  replayed_row-step (Commit l d w a) own =
       let e : r.at + (advances own + (d.read + d.read_skip)) ≡ r.at + advances own + (d.read + d.read_skip) = omega arith in
-      row_eq _ _ _ _ _ _ _ _ _ _ _ _ _ _ e refl (omega arith) refl (plus_counts_assoc r.counts (gains own) d) (rw e refl)
-  replayed_row-step (Roll l k) own = row_eq _ _ _ _ _ _ _ _ _ _ _ _ _ _ (omega arith) refl (omega arith) refl (plus_counts-rollback r.counts (gains own)) refl
-  replayed_row-step (Fail l k) own = row_eq _ _ _ _ _ _ _ _ _ _ _ _ _ _ (omega arith) refl (omega arith) refl (plus_counts-rollback r.counts (gains own)) refl
-  replayed_row-step (Drop l) own = row_eq _ _ _ _ _ _ _ _ _ _ _ _ _ _ (omega arith) refl (omega arith) refl (ap (plus_counts r.counts) (plus_counts-zero (gains own))) refl
-  replayed_row-step Round own = row_eq _ _ _ _ _ _ _ _ _ _ _ _ _ _ (omega arith) refl (omega arith) refl (ap (plus_counts r.counts) (plus_counts-zero (gains own))) refl
-  replayed_row-step Stop own = row_eq _ _ _ _ _ _ _ _ _ _ _ _ _ _ (omega arith) refl (omega arith) refl (ap (plus_counts r.counts) (plus_counts-zero (gains own))) refl
+      row_eq _ _ _ _ _ _ _ _ _ _ _ _ _ _ _ _ e refl (omega arith) refl (plus_counts_assoc r.counts (gains own) d) (omega arith) (rw e refl)
+  replayed_row-step (Roll l k a) own = row_eq _ _ _ _ _ _ _ _ _ _ _ _ _ _ _ _ (omega arith) refl (omega arith) refl (plus_counts-rollback r.counts (gains own)) (omega arith) refl
+  replayed_row-step (Fail l k a) own = row_eq _ _ _ _ _ _ _ _ _ _ _ _ _ _ _ _ (omega arith) refl (omega arith) refl (plus_counts-rollback r.counts (gains own)) (omega arith) refl
+  replayed_row-step (Drop l) own = row_eq _ _ _ _ _ _ _ _ _ _ _ _ _ _ _ _ (omega arith) refl (omega arith) refl (ap (plus_counts r.counts) (plus_counts-zero (gains own))) (omega arith) refl
+  replayed_row-step Round own = row_eq _ _ _ _ _ _ _ _ _ _ _ _ _ _ _ _ (omega arith) refl (omega arith) refl (ap (plus_counts r.counts) (plus_counts-zero (gains own))) (omega arith) refl
+  replayed_row-step Stop own = row_eq _ _ _ _ _ _ _ _ _ _ _ _ _ _ _ _ (omega arith) refl (omega arith) refl (ap (plus_counts r.counts) (plus_counts-zero (gains own))) (omega arith) refl
 
 -- OWN EVENTS AND OWNERS
 

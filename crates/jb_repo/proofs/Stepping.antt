@@ -4,8 +4,9 @@ use Rattle.std.proofs.lemmas.Bool.Decides.{nat_tests}
 use Rattle.jb_rules.specs.declared.counts.Counts.{Counts}
 use Rattle.jb_rules.specs.declared.row.Row.{Row}
 use Rattle.jb_rules.specs.declared.row.RowState.TheVariants.{Running, Finished}
+use Rattle.jb_job.specs.Limits.{max_in_place}
 use Rattle.jb_rules.specs.Counts.{IsDelta}
-use Rattle.jb_rules.specs.Rows.{row_block, committed_row, rolled_row}
+use Rattle.jb_rules.specs.Rows.{row_block, repeated_row, committed_row, rolled_row}
 use Rattle.jb_rules.specs.Sound.{IsSoundRow}
 use Rattle.jb_rules.specs.States.{has_ended}
 use Rattle.jb_repo.specs.declared.events.Event.{Event}
@@ -60,23 +61,24 @@ module _ (laws : LawsBelow) (c : ℕ) (row : Row) (some : 1 ≤ c) (s : IsSoundR
       omega (arith, more, passed)
 
   -- and leaves the row that is committed
-  pub commit-is : (l : ℕ) (d : Counts) (w : ℕ) → IsCommitOf c row d w → step c row (Commit l d w) ≡ committed_row row (row_block c row).hi d
-  commit-is l d w k =
-      ap (λ (at : ℕ). record (committed_row row at d) { written = w }) (passed-block d w k)
-      ∙ ap (λ (n : ℕ). record (committed_row row (row_block c row).hi d) { written = n }) k.written
+  pub commit-is : (l : ℕ) (d : Counts) (w a : ℕ) → IsCommitOf c row d w → step c row (Commit l d w a) ≡ committed_row (repeated_row row a) (row_block c row).hi d
+  commit-is l d w a k =
+      ap (λ (at : ℕ). record (committed_row (repeated_row row a) at d) { written = w }) (passed-block d w k)
+      ∙ ap (λ (n : ℕ). record (committed_row (repeated_row row a) (row_block c row).hi d) { written = n }) k.written
 
-  sound-commit : (l : ℕ) (d : Counts) (w : ℕ) → IsCommitOf c row d w → IsSoundRow (step c row (Commit l d w))
-  sound-commit l d w k =
-      subst IsSoundRow (sym (commit-is l d w k)) (laws.rows.committed row (row_block c row).hi d s block_some block_within k.delta)
+  sound-commit : (l : ℕ) (d : Counts) (w a : ℕ) → row.in_place + a ≤ max_in_place → IsCommitOf c row d w → IsSoundRow (step c row (Commit l d w a))
+  sound-commit l d w a few k =
+      subst IsSoundRow (sym (commit-is l d w a k)) (laws.rows.committed (repeated_row row a) (row_block c row).hi d (laws.rows.repeated row a s few) block_some block_within k.delta)
 
 pub sound-step : (laws : LawsBelow) (c : ℕ) (row : Row) → 1 ≤ c → (e : Event) → CanStep c row e → IsSoundRow (step c row e)
 sound-step laws c row some (Plan n k) can = can.sound
 sound-step laws c row some (Begin l p) can = laws.rows.begun row l can.sound can.unfinished
-sound-step laws c row some (Commit l d w) can = sound-commit laws c row some can.sound can.unfinished l d w (commit_facts laws c row d w can.commit)
-sound-step laws c row some (Roll l k) can =
-    let rolled = laws.rows.rolled row (row_block c row).hi can.sound (block_within laws c row some can.sound can.unfinished) (can.below_limit tt) in
-    laws.rows.dropped (rolled_row row (row_block c row).hi) rolled can.unfinished
-sound-step laws c row some (Fail l k) can = laws.rows.failed row can.sound can.unfinished (can.below_limit tt)
+sound-step laws c row some (Commit l d w a) can = sound-commit laws c row some can.sound can.unfinished l d w a can.few_repeats (commit_facts laws c row d w can.commit)
+sound-step laws c row some (Roll l k a) can =
+    let repeated = laws.rows.repeated row a can.sound can.few_repeats in
+    let rolled = laws.rows.rolled (repeated_row row a) (row_block c row).hi repeated (block_within laws c row some can.sound can.unfinished) (can.below_limit tt) in
+    laws.rows.dropped (rolled_row (repeated_row row a) (row_block c row).hi) rolled can.unfinished
+sound-step laws c row some (Fail l k a) can = laws.rows.failed (repeated_row row a) (laws.rows.repeated row a can.sound can.few_repeats) can.unfinished (can.below_limit tt)
 sound-step laws c row some (Drop l) can = laws.rows.dropped row can.sound can.unfinished
 sound-step laws c row some Round can = can.sound
 sound-step laws c row some Stop can = can.sound

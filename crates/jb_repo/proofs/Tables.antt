@@ -115,7 +115,7 @@ module _ (j : Journal) (ready : IsOpenable j) (ok : Accepted j) (e : Event) (pas
 
 -- what a read past the end of a list of rows gives
 abbrev pub waiting_row : Row
-waiting_row = record { lo = 0; hi = 0; at = 0; redo = 0; retries = 0; written = 0; counts = no_counts; state = Waiting }
+waiting_row = record { lo = 0; hi = 0; at = 0; redo = 0; retries = 0; written = 0; counts = no_counts; in_place = 0; state = Waiting }
 
 pub read_row : (rows : List Row) (i : ℕ) (d : Row) → i < length rows → slice_get rows i ≡ Some (get_or rows i d)
 read_row rows i d lt = slice_get-get_or rows i d lt

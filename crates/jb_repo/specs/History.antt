@@ -11,9 +11,9 @@ is_some_of (Some m) n = nat_eq m n
 -- the lane that an event names
 abbrev pub lane_of : Event → Option ℕ
 lane_of (Begin lane partition) = Some lane
-lane_of (Commit lane delta written) = Some lane
-lane_of (Roll lane class) = Some lane
-lane_of (Fail lane class) = Some lane
+lane_of (Commit lane delta written again) = Some lane
+lane_of (Roll lane class again) = Some lane
+lane_of (Fail lane class again) = Some lane
 lane_of (Drop lane) = Some lane
 lane_of _ = None
 
@@ -32,14 +32,14 @@ is_begin _ = false
 
 -- the event ends a chunk
 abbrev pub is_outcome : Event → Bool
-is_outcome (Commit lane delta written) = true
-is_outcome (Roll lane class) = true
-is_outcome (Fail lane class) = true
+is_outcome (Commit lane delta written again) = true
+is_outcome (Roll lane class again) = true
+is_outcome (Fail lane class again) = true
 is_outcome (Drop lane) = true
 is_outcome _ = false
 
 abbrev pub is_commit : Event → Bool
-is_commit (Commit lane delta written) = true
+is_commit (Commit lane delta written again) = true
 is_commit _ = false
 
 abbrev pub is_round : Event → Bool
@@ -52,8 +52,8 @@ is_stop _ = false
 
 -- the next Round after it closes the plan
 abbrev pub ends_plan : Event → Bool
-ends_plan (Roll lane class) = true
-ends_plan (Fail lane class) = true
+ends_plan (Roll lane class again) = true
+ends_plan (Fail lane class again) = true
 ends_plan (Drop lane) = true
 ends_plan Stop = true
 ends_plan _ = false
@@ -140,9 +140,9 @@ is_stopping past = some is_stop past
 -- the partition that an event is about, after past: the one that a Begin names, or the owner of an outcome
 abbrev pub partition_of : Event → List Event → Option ℕ
 partition_of (Begin lane partition) past = Some partition
-partition_of (Commit lane delta written) past = owner lane past
-partition_of (Roll lane class) past = owner lane past
-partition_of (Fail lane class) past = owner lane past
+partition_of (Commit lane delta written again) past = owner lane past
+partition_of (Roll lane class again) past = owner lane past
+partition_of (Fail lane class again) past = owner lane past
 partition_of (Drop lane) past = owner lane past
 partition_of _ past = None
 

@@ -8,12 +8,12 @@ use Rattle.jb_job.specs.declared.class.ClassId.{ClassId}
 use Rattle.jb_cert.specs.declared.certificates.Certificate.{Certificate}
 use Rattle.jb_repo.specs.declared.events.Event.{Event}
 use Rattle.jb_repo.specs.declared.events.Event.TheVariants.{Plan, Begin, Commit, Roll, Fail, Drop, Round, Stop}
-use Rattle.jb_job.specs.Limits.{max_events}
+use Rattle.jb_job.specs.Limits.{max_retry_limit, max_events}
 use Rattle.jb_repo.specs.declared.refused.Refused.TheVariants.{BadDelta, BadPlan}
 use Rattle.jb_plan.specs.Blocks.{blocks}
 use Rattle.jb_rules.specs.Counts.{IsDelta}
 use Rattle.jb_rules.specs.Sound.{IsSoundRow}
-use Rattle.jb_rules.specs.Rows.{row_block, begun_row, committed_row, rolled_row, failed_row, dropped_row}
+use Rattle.jb_rules.specs.Rows.{row_block, begun_row, repeated_row, committed_row, rolled_row, failed_row, dropped_row}
 use Rattle.jb_job.specs.declared.job.Range.{Range}
 use Rattle.jb_cert.specs.Load.{IsWithinLimits}
 use Rattle.jb_cert.specs.Lawful.{IsLeastNumber}
@@ -80,10 +80,10 @@ abbrev pub LanesAreKnown : Type 0
 LanesAreKnown =
     (j : Journal) → IsReplayable j → (l p : ℕ) → owner l j.past ≡ Some p → (l < j.threads) × (p < length j.opening)
 
--- it may end its chunk: a rollback, a failure and a drop are accepted
+-- it may end its chunk: a rollback and a failure, after no more repeats than a chunk may make, and a drop are accepted
 pub record LanesMayEnd (j : Journal) (l : ℕ) : Type 0 where
-  pub rolled : (class : ClassId) → refusal j (Roll l class) ≡ None
-  pub failed : (class : ClassId) → refusal j (Fail l class) ≡ None
+  pub rolled : (class : ClassId) (again : ℕ) → again ≤ max_retry_limit → refusal j (Roll l class again) ≡ None
+  pub failed : (class : ClassId) (again : ℕ) → again ≤ max_retry_limit → refusal j (Fail l class again) ≡ None
   pub dropped : refusal j (Drop l) ≡ None
 
 abbrev pub RunningLanesMayEnd : Type 0
@@ -101,9 +101,9 @@ RowsAreSound = (j : Journal) → IsReplayable j → (p : ℕ) (row : Row) → ro
 -- what an event changes in the row of the partition that it is about
 abbrev pub next_row : ℕ → Row → Event → Row
 next_row item_count row (Begin lane partition) = begun_row row lane
-next_row item_count row (Commit lane delta written) = committed_row row (row_block item_count row).hi delta
-next_row item_count row (Roll lane class) = dropped_row (rolled_row row (row_block item_count row).hi)
-next_row item_count row (Fail lane class) = failed_row row
+next_row item_count row (Commit lane delta written again) = committed_row (repeated_row row again) (row_block item_count row).hi delta
+next_row item_count row (Roll lane class again) = dropped_row (rolled_row (repeated_row row again) (row_block item_count row).hi)
+next_row item_count row (Fail lane class again) = failed_row (repeated_row row again)
 next_row item_count row (Drop lane) = dropped_row row
 next_row item_count row _ = row
 
@@ -122,7 +122,7 @@ committed_block item_count row = record { lo = row.at; hi = (row_block item_coun
 -- the blocks of a partition's Commits, the newest first: each the next block of the row before it
 abbrev pub committed_blocks : ℕ → Row → List Event → List Range
 committed_blocks item_count opening [] = []
-committed_blocks item_count opening (Commit lane delta written ∷ events) =
+committed_blocks item_count opening (Commit lane delta written again ∷ events) =
     committed_block item_count (replayed_row item_count opening events) ∷ committed_blocks item_count opening events
 committed_blocks item_count opening (_ ∷ events) = committed_blocks item_count opening events
 
@@ -150,8 +150,8 @@ pub record TakesFirstBlock (j : Journal) (lane : ℕ) (delta : Counts) : Type 0 
 
 abbrev pub CommitsTakeFirstBlocks : Type 0
 CommitsTakeFirstBlocks =
-    (j : Journal) → IsReplayable j → (later past : List Event) (lane : ℕ) (delta : Counts) (written : ℕ)
-    → j.past ≡ later ++ Commit lane delta written ∷ past → TakesFirstBlock (with_past j past) lane delta
+    (j : Journal) → IsReplayable j → (later past : List Event) (lane : ℕ) (delta : Counts) (written again : ℕ)
+    → j.past ≡ later ++ Commit lane delta written again ∷ past → TakesFirstBlock (with_past j past) lane delta
 
 -- COMMITS
 
@@ -160,18 +160,18 @@ abbrev pub IsCommitOfNext : ℕ → Row → Counts → ℕ → Type 0
 IsCommitOfNext item_count row delta written =
     IsDelta ((row_block item_count row).hi - row.at) delta × (written ≡ row.written + delta.write)
 
--- a lane's Commit is accepted exactly where it is one of the row's next block ..
+-- a lane's Commit, after no more repeats than a chunk may make, is accepted exactly where it is one of the row's next block ..
 abbrev pub GoodCommitsAreAccepted : Type 0
 GoodCommitsAreAccepted =
     (j : Journal) → IsReplayable j → (lane p : ℕ) (row : Row) → owner lane j.past ≡ Some p → row_of j p ≡ Some row
-    → (delta : Counts) (written : ℕ) → (refusal j (Commit lane delta written) ≡ None) ↔ IsCommitOfNext j.item_count row delta written
+    → (delta : Counts) (written again : ℕ) → again ≤ max_retry_limit → (refusal j (Commit lane delta written again) ≡ None) ↔ IsCommitOfNext j.item_count row delta written
 
 -- .. and is BadDelta exactly where it isn't
 abbrev pub BadCommitsAreRefused : Type 0
 BadCommitsAreRefused =
     (j : Journal) → IsReplayable j → (lane p : ℕ) (row : Row) → owner lane j.past ≡ Some p → row_of j p ≡ Some row
-    → (delta : Counts) (written : ℕ)
-    → (refusal j (Commit lane delta written) ≡ Some BadDelta) ↔ (IsCommitOfNext j.item_count row delta written → ⊥)
+    → (delta : Counts) (written again : ℕ) → again ≤ max_retry_limit
+    → (refusal j (Commit lane delta written again) ≡ Some BadDelta) ↔ (IsCommitOfNext j.item_count row delta written → ⊥)
 
 -- the rows count as many commits as there are Commits, beside those that they were opened with
 abbrev pub CommitsAreCounted : Type 0
@@ -184,9 +184,9 @@ CommitsAreCounted =
 -- the event on lane 0
 abbrev pub without_lane : Event → Event
 without_lane (Begin lane partition) = Begin 0 partition
-without_lane (Commit lane delta written) = Commit 0 delta written
-without_lane (Roll lane class) = Roll 0 class
-without_lane (Fail lane class) = Fail 0 class
+without_lane (Commit lane delta written again) = Commit 0 delta written again
+without_lane (Roll lane class again) = Roll 0 class again
+without_lane (Fail lane class again) = Fail 0 class again
 without_lane (Drop lane) = Drop 0
 without_lane e = e
 
@@ -223,7 +223,7 @@ RoundsArePlanned =
 -- a chunk is begun or committed, or a round is over
 abbrev pub goes_well : Event → Bool
 goes_well (Begin lane partition) = true
-goes_well (Commit lane delta written) = true
+goes_well (Commit lane delta written again) = true
 goes_well Round = true
 goes_well _ = false
 
@@ -247,8 +247,8 @@ EndsPlan e =
 
 -- a rollback, a failure, a chunk that was given up and a stop each end the plan with their round
 pub record PlansEnd : Type 0 where
-  pub rolled : (lane : ℕ) (class : ClassId) → EndsPlan (Roll lane class)
-  pub failed : (lane : ℕ) (class : ClassId) → EndsPlan (Fail lane class)
+  pub rolled : (lane : ℕ) (class : ClassId) (again : ℕ) → EndsPlan (Roll lane class again)
+  pub failed : (lane : ℕ) (class : ClassId) (again : ℕ) → EndsPlan (Fail lane class again)
   pub dropped : (lane : ℕ) → EndsPlan (Drop lane)
   pub stopped : EndsPlan Stop
 

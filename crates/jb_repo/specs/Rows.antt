@@ -17,9 +17,9 @@ one_rollback = record no_counts { rollback = 1 }
 
 -- what an own event adds to the counts: a Commit its delta, a Roll or a Fail one rollback
 abbrev pub gain : Event → Counts
-gain (Commit lane delta written) = delta
-gain (Roll lane class) = one_rollback
-gain (Fail lane class) = one_rollback
+gain (Commit lane delta written again) = delta
+gain (Roll lane class again) = one_rollback
+gain (Fail lane class again) = one_rollback
 gain _ = no_counts
 
 abbrev pub gains : List Event → Counts
@@ -28,15 +28,26 @@ gains (e ∷ events) = plus_counts (gains events) (gain e)
 
 -- how many records a Commit passes
 abbrev pub advance : Event → ℕ
-advance (Commit lane delta written) = delta.read + delta.read_skip
+advance (Commit lane delta written again) = delta.read + delta.read_skip
 advance _ = 0
 
 abbrev pub advances : List Event → ℕ
 advances [] = 0
 advances (e ∷ events) = advances events + advance e
 
+-- how many calls an outcome's chunk repeated in place
+abbrev pub repeats_in : Event → ℕ
+repeats_in (Commit lane delta written again) = again
+repeats_in (Roll lane class again) = again
+repeats_in (Fail lane class again) = again
+repeats_in _ = 0
+
+abbrev pub all_repeats : List Event → ℕ
+all_repeats [] = 0
+all_repeats (e ∷ events) = all_repeats events + repeats_in e
+
 abbrev pub is_roll : Event → Bool
-is_roll (Roll lane class) = true
+is_roll (Roll lane class again) = true
 is_roll _ = false
 
 -- the opening `at` and what the Commits passed
@@ -46,7 +57,7 @@ at_after opening events = opening.at + advances events
 -- the last Commit's number, else the opening one
 abbrev pub written_after : ℕ → List Event → ℕ
 written_after opening [] = opening
-written_after opening (Commit lane delta written ∷ events) = written
+written_after opening (Commit lane delta written again ∷ events) = written
 written_after opening (_ ∷ events) = written_after opening events
 
 -- the greatest of the opening `redo` and the ends of the blocks that were rolled back
@@ -60,9 +71,9 @@ redo_after item_count opening (e ∷ events) =
 abbrev pub state_after : Row → List Event → RowState
 state_after opening [] = opening.state
 state_after opening (Begin lane partition ∷ events) = Running lane
-state_after opening (Commit lane delta written ∷ events) = state_at (at_after opening (Commit lane delta written ∷ events)) opening.hi
-state_after opening (Roll lane class ∷ events) = Waiting
-state_after opening (Fail lane class ∷ events) = Failed
+state_after opening (Commit lane delta written again ∷ events) = state_at (at_after opening (Commit lane delta written again ∷ events)) opening.hi
+state_after opening (Roll lane class again ∷ events) = Waiting
+state_after opening (Fail lane class again ∷ events) = Failed
 state_after opening (Drop lane ∷ events) = Waiting
 state_after opening (_ ∷ events) = state_after opening events
 
@@ -73,9 +84,10 @@ replayed_row item_count opening events = record {
   hi = opening.hi;
   at = at_after opening events;
   redo = redo_after item_count opening events;
-  retries = opening.retries + number is_roll events;
+  retries = opening.retries + number is_roll events + all_repeats events;
   written = written_after opening.written events;
   counts = plus_counts opening.counts (gains events);
+  in_place = opening.in_place + all_repeats events;
   state = state_after opening events;
 }
 

@@ -11,7 +11,7 @@ use Rattle.jb_rules.specs.States.{has_ended}
 use Rattle.jb_rules.specs.Counts.{is_delta}
 use Rattle.jb_rules.specs.Rows.{row_block}
 use Rattle.jb_cert.specs.Certificates.{is_least_plan}
-use Rattle.jb_job.specs.Limits.{max_events, max_rollbacks}
+use Rattle.jb_job.specs.Limits.{max_events, max_rollbacks, max_retry_limit, max_in_place}
 use Rattle.jb_repo.specs.History.{own, owner, running, is_lane_marked, is_partition_marked, is_plan_open, is_stopping}
 use Rattle.jb_repo.specs.Rows.{rows_from, remaining}
 
@@ -52,9 +52,10 @@ abbrev pub is_ended : Option Row → Bool
 is_ended None = false
 is_ended (Some row) = has_ended row.state
 
+-- as many rollbacks as there may be, or no room for the repeats in place of one more chunk
 abbrev pub is_at_limit : Option Row → Bool
 is_at_limit None = false
-is_at_limit (Some row) = nat_le max_rollbacks row.counts.rollback
+is_at_limit (Some row) = nat_le max_rollbacks row.counts.rollback || nat_lt (max_in_place - max_retry_limit) row.in_place
 
 -- the delta and the number written are those of a commit of the row's next block
 abbrev pub is_commit_of : ℕ → Row → Counts → ℕ → Bool
@@ -80,6 +81,14 @@ outcome_conditions j lane =
     ∷ (is_none (owner lane j.past), NotRunning)
     ∷ []
 
+-- an outcome that rolls the chunk back or fails it, after so many repeats: a chunk has no more than there may be retries
+abbrev pub undone_conditions : Journal → ℕ → (again : ℕ) → List Condition
+undone_conditions j lane again =
+    (nat_le j.threads lane, LaneRange)
+    ∷ (is_none (owner lane j.past), NotRunning)
+    ∷ (nat_lt max_retry_limit again, BadDelta)
+    ∷ []
+
 abbrev pub conditions : Journal → Event → List Condition
 conditions j (Plan n certificate) =
     (is_stopping j.past, Stopping)
@@ -96,13 +105,13 @@ conditions j (Begin lane partition) =
     ∷ (not (is_plan_open j.past), PastPlan)
     ∷ (is_full j 2 || is_at_limit (row_of j partition), Full)
     ∷ []
-conditions j (Commit lane delta written) =
+conditions j (Commit lane delta written again) =
     (nat_le j.threads lane, LaneRange)
     ∷ (is_none (owner lane j.past), NotRunning)
-    ∷ (not (is_good_commit j (owner lane j.past) delta written), BadDelta)
+    ∷ (not (is_good_commit j (owner lane j.past) delta written) || nat_lt max_retry_limit again, BadDelta)
     ∷ []
-conditions j (Roll lane class) = outcome_conditions j lane
-conditions j (Fail lane class) = outcome_conditions j lane
+conditions j (Roll lane class again) = undone_conditions j lane again
+conditions j (Fail lane class again) = undone_conditions j lane again
 conditions j (Drop lane) = outcome_conditions j lane
 conditions j Round =
     (nat_lt 0 (reserved j), StillRunning)

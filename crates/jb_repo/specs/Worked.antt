@@ -15,7 +15,7 @@ use Rattle.jb_repo.specs.Table.{Journal, refusal, after}
 use Rattle.jb_repo.specs.Openable.{opened_journal}
 
 abbrev pub fresh : ℕ → ℕ → Row
-fresh lo hi = record { lo = lo; hi = hi; at = lo; redo = lo; retries = 0; written = 0; counts = no_counts; state = Waiting }
+fresh lo hi = record { lo = lo; hi = hi; at = lo; redo = lo; retries = 0; written = 0; counts = no_counts; in_place = 0; state = Waiting }
 
 -- TWO PARTITIONS OF ONE CHUNK
 
@@ -33,10 +33,10 @@ begins =
 
 -- both commits, in either order
 abbrev pub commits : (first second : ℕ) → List Event
-commits first second = Commit first two_records 1 ∷ Commit first two_records 2 ∷ Commit second two_records 2 ∷ []
+commits first second = Commit first two_records 1 0 ∷ Commit first two_records 2 0 ∷ Commit second two_records 2 0 ∷ []
 
 abbrev pub ends : List Event
-ends = Commit 0 two_records 2 ∷ Round ∷ Round ∷ Stop ∷ Plan 0 Nothing ∷ []
+ends = Commit 0 two_records 2 0 ∷ Round ∷ Round ∷ Stop ∷ Plan 0 Nothing ∷ []
 
 abbrev pub walk : (first second : ℕ) → List Event
 walk first second = begins ++ commits first second ++ ends
@@ -48,7 +48,7 @@ answered =
     ∷ Some BadDelta ∷ None ∷ None ∷ Some NotRunning ∷ None ∷ Some PastPlan ∷ None ∷ Some Stopping ∷ []
 
 abbrev pub finished : ℕ → ℕ → Row
-finished lo hi = record { lo = lo; hi = hi; at = hi; redo = lo; retries = 0; written = 2; counts = two_records; state = Finished }
+finished lo hi = record { lo = lo; hi = hi; at = hi; redo = lo; retries = 0; written = 2; counts = two_records; in_place = 0; state = Finished }
 
 -- one partition of four records, in one chunk
 abbrev pub four_records : Journal
@@ -57,11 +57,11 @@ four_records = opened_journal (fresh 0 4 ∷ []) 1 4
 -- a rollback ends the plan after its round, and the chunk is done again record by record
 abbrev pub rollback : ClassId → List Event
 rollback class =
-    Plan 1 (Longest 0) ∷ Begin 0 0 ∷ Roll 0 class ∷ Begin 0 0 ∷ Round ∷ Begin 0 0 ∷ Plan 3 (Longest 0) ∷ Plan 4 (Longest 0) ∷ []
+    Plan 1 (Longest 0) ∷ Begin 0 0 ∷ Roll 0 class 0 ∷ Begin 0 0 ∷ Round ∷ Begin 0 0 ∷ Plan 3 (Longest 0) ∷ Plan 4 (Longest 0) ∷ []
 
 -- a chunk that is given up: the plan is closed after its round, and the row waits where it was
 abbrev pub given_up : List Event
-given_up = Plan 1 (Longest 0) ∷ Begin 0 0 ∷ Begin 1 1 ∷ Commit 0 two_records 2 ∷ Drop 1 ∷ Round ∷ []
+given_up = Plan 1 (Longest 0) ∷ Begin 0 0 ∷ Begin 1 1 ∷ Commit 0 two_records 2 0 ∷ Drop 1 ∷ Round ∷ []
 
 -- PLANS THAT ARE ENDED WITH ROUNDS LEFT
 
@@ -72,7 +72,7 @@ two_rounds = opened_journal (fresh 0 4 ∷ fresh 4 8 ∷ []) 2 2
 -- the other chunk of the first round is ended by `ends`; then the next round
 abbrev pub ended_at_first : List Event → List Event
 ended_at_first ends =
-    Plan 2 FullLoad ∷ Begin 0 0 ∷ Begin 1 1 ∷ Commit 1 two_records 2 ∷ (ends ++ Round ∷ Begin 1 1 ∷ Round ∷ [])
+    Plan 2 FullLoad ∷ Begin 0 0 ∷ Begin 1 1 ∷ Commit 1 two_records 2 0 ∷ (ends ++ Round ∷ Begin 1 1 ∷ Round ∷ [])
 
 -- two partitions of three records each, two threads, chunks of one item: three rounds
 abbrev pub three_rounds : Journal
@@ -85,8 +85,8 @@ one_record_written = record no_counts { read = 1; write = 1; commit = 1 }
 -- the other chunk of the second round is ended by `ends`; then the third round
 abbrev pub ended_at_second : List Event → List Event
 ended_at_second ends =
-    Plan 3 (Longest 1) ∷ Begin 0 0 ∷ Begin 1 1 ∷ Commit 0 one_record_written 1 ∷ Commit 1 one_record_written 1 ∷ Round
-    ∷ Begin 0 1 ∷ Begin 1 0 ∷ Commit 0 one_record_written 2 ∷ (ends ++ Round ∷ Begin 0 1 ∷ Round ∷ [])
+    Plan 3 (Longest 1) ∷ Begin 0 0 ∷ Begin 1 1 ∷ Commit 0 one_record_written 1 0 ∷ Commit 1 one_record_written 1 0 ∷ Round
+    ∷ Begin 0 1 ∷ Begin 1 0 ∷ Commit 0 one_record_written 2 0 ∷ (ends ++ Round ∷ Begin 0 1 ∷ Round ∷ [])
 
 -- so many events are accepted, and then no chunk is begun and no round ends
 abbrev pub no_further : ℕ → List (Option Refused)
@@ -109,8 +109,8 @@ write_skipped written filtered = record no_counts { read = 2; write = written; c
 -- a skipped write call had results, writes none of them, and leaves the number of results
 abbrev pub skipped_writes : List Event
 skipped_writes =
-    Plan 1 (Longest 0) ∷ Begin 0 0 ∷ Commit 0 (write_skipped 1 0) 1 ∷ Commit 0 (write_skipped 0 2) 0 ∷ Commit 0 (write_skipped 0 0) 2
-    ∷ Commit 0 (write_skipped 0 1) 0 ∷ []
+    Plan 1 (Longest 0) ∷ Begin 0 0 ∷ Commit 0 (write_skipped 1 0) 1 0 ∷ Commit 0 (write_skipped 0 2) 0 0 ∷ Commit 0 (write_skipped 0 0) 2 0
+    ∷ Commit 0 (write_skipped 0 1) 0 0 ∷ []
 
 -- OTHER ENDS
 
@@ -120,8 +120,8 @@ one_record = opened_journal (fresh 0 1 ∷ []) 1 1
 
 abbrev pub tries : ClassId → List Event
 tries class =
-    Plan 1 (Longest 0) ∷ Begin 0 0 ∷ Roll 0 class ∷ Round ∷ Plan 1 (Longest 0) ∷ Begin 0 0 ∷ Roll 0 class ∷ Round
-    ∷ Plan 1 (Longest 0) ∷ Begin 0 0 ∷ Fail 0 class ∷ Round ∷ Begin 0 0 ∷ Plan 0 Nothing ∷ []
+    Plan 1 (Longest 0) ∷ Begin 0 0 ∷ Roll 0 class 0 ∷ Round ∷ Plan 1 (Longest 0) ∷ Begin 0 0 ∷ Roll 0 class 0 ∷ Round
+    ∷ Plan 1 (Longest 0) ∷ Begin 0 0 ∷ Fail 0 class 0 ∷ Round ∷ Begin 0 0 ∷ Plan 0 Nothing ∷ []
 
 abbrev pub tried_out : Row
 tried_out = record (fresh 0 1) { redo = 1; retries = 2; counts = record no_counts { rollback = 3 }; state = Failed }
@@ -143,13 +143,13 @@ journal_after j (e ∷ events) = journal_after (if is_none (refusal j e) then af
 
 -- A plan of two rounds that is ended in its first one, and a plan of three that is ended in its second; a Commit ends neither
 pub record EndedPlans : Type 0 where
-  pub rolled : (class : ClassId) → table_answers two_rounds (ended_at_first (Roll 0 class ∷ [])) ≡ no_further 6
-  pub failed : (class : ClassId) → table_answers two_rounds (ended_at_first (Fail 0 class ∷ [])) ≡ no_further 6
+  pub rolled : (class : ClassId) → table_answers two_rounds (ended_at_first (Roll 0 class 0 ∷ [])) ≡ no_further 6
+  pub failed : (class : ClassId) → table_answers two_rounds (ended_at_first (Fail 0 class 0 ∷ [])) ≡ no_further 6
   pub dropped : table_answers two_rounds (ended_at_first (Drop 0 ∷ [])) ≡ no_further 6
-  pub stopped : table_answers two_rounds (ended_at_first (Commit 0 two_records 2 ∷ Stop ∷ [])) ≡ stopping 7
-  pub committed : table_answers two_rounds (ended_at_first (Commit 0 two_records 2 ∷ [])) ≡ further 7
-  pub later_rolled : (class : ClassId) → table_answers three_rounds (ended_at_second (Roll 1 class ∷ [])) ≡ no_further 11
-  pub later_failed : (class : ClassId) → table_answers three_rounds (ended_at_second (Fail 1 class ∷ [])) ≡ no_further 11
+  pub stopped : table_answers two_rounds (ended_at_first (Commit 0 two_records 2 0 ∷ Stop ∷ [])) ≡ stopping 7
+  pub committed : table_answers two_rounds (ended_at_first (Commit 0 two_records 2 0 ∷ [])) ≡ further 7
+  pub later_rolled : (class : ClassId) → table_answers three_rounds (ended_at_second (Roll 1 class 0 ∷ [])) ≡ no_further 11
+  pub later_failed : (class : ClassId) → table_answers three_rounds (ended_at_second (Fail 1 class 0 ∷ [])) ≡ no_further 11
   pub later_dropped : table_answers three_rounds (ended_at_second (Drop 1 ∷ [])) ≡ no_further 11
-  pub later_stopped : table_answers three_rounds (ended_at_second (Stop ∷ Commit 1 one_record_written 2 ∷ [])) ≡ stopping 12
-  pub later_committed : table_answers three_rounds (ended_at_second (Commit 1 one_record_written 2 ∷ [])) ≡ further 12
+  pub later_stopped : table_answers three_rounds (ended_at_second (Stop ∷ Commit 1 one_record_written 2 0 ∷ [])) ≡ stopping 12
+  pub later_committed : table_answers three_rounds (ended_at_second (Commit 1 one_record_written 2 0 ∷ [])) ≡ further 12

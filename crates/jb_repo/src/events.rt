@@ -16,12 +16,13 @@ pub enum Event {
     Plan(u64, Certificate),
     /// The lane begins the next chunk of the partition.
     Begin(u32, u32),
-    /// The lane's chunk is committed: what it adds to the counts, and how many results the writer holds then.
-    Commit(u32, Counts, u64),
-    /// The lane's chunk is rolled back to be retried, by a fault of this class.
-    Roll(u32, ClassId),
-    /// The lane's partition has failed, by a fault of this class.
-    Fail(u32, ClassId),
+    /// The lane's chunk is committed: what it adds to the counts, how many results the writer holds then, and how often a
+    /// call of it was repeated in place.
+    Commit(u32, Counts, u64, u64),
+    /// The lane's chunk is rolled back to be retried, by a fault of this class, after so many repeats in place.
+    Roll(u32, ClassId, u64),
+    /// The lane's partition has failed, by a fault of this class, after so many repeats in place.
+    Fail(u32, ClassId, u64),
     /// The lane gives its chunk up, and nothing was done.
     Drop(u32),
     /// A round is over.
@@ -37,9 +38,9 @@ impl Event {
     {
         match *self {
             Event::Begin(lane, _)
-            | Event::Commit(lane, _, _)
-            | Event::Roll(lane, _)
-            | Event::Fail(lane, _)
+            | Event::Commit(lane, _, _, _)
+            | Event::Roll(lane, _, _)
+            | Event::Fail(lane, _, _)
             | Event::Drop(lane) => Some(lane),
             Event::Plan(_, _) | Event::Round | Event::Stop => None,
         }
@@ -62,7 +63,10 @@ impl Event {
         match *self {
             Event::Begin(_, _) => 2,
             Event::Plan(_, _) | Event::Round | Event::Stop => 1,
-            Event::Commit(_, _, _) | Event::Roll(_, _) | Event::Fail(_, _) | Event::Drop(_) => 0,
+            Event::Commit(_, _, _, _)
+            | Event::Roll(_, _, _)
+            | Event::Fail(_, _, _)
+            | Event::Drop(_) => 0,
         }
     }
 
@@ -71,8 +75,8 @@ impl Event {
         ensures { result ≡ gain self.now }
     {
         match *self {
-            Event::Commit(_, delta, _) => delta,
-            Event::Roll(_, _) | Event::Fail(_, _) => Counts {
+            Event::Commit(_, delta, _, _) => delta,
+            Event::Roll(_, _, _) | Event::Fail(_, _, _) => Counts {
                 rollback: 1,
                 ..Counts::ZERO
             },

@@ -42,9 +42,9 @@ impl Lanes {
     {
         match event {
             Event::Begin(_, partition) => Some(partition),
-            Event::Commit(lane, _, _)
-            | Event::Roll(lane, _)
-            | Event::Fail(lane, _)
+            Event::Commit(lane, _, _, _)
+            | Event::Roll(lane, _, _)
+            | Event::Fail(lane, _, _)
             | Event::Drop(lane) => self.owner(lane),
             Event::Plan(_, _) | Event::Round | Event::Stop => None,
         }

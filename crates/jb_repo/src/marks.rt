@@ -55,9 +55,9 @@ impl Marks {
             }
             Event::Round => *self = Marks::new(),
             Event::Plan(_, _)
-            | Event::Commit(_, _, _)
-            | Event::Roll(_, _)
-            | Event::Fail(_, _)
+            | Event::Commit(_, _, _, _)
+            | Event::Roll(_, _, _)
+            | Event::Fail(_, _, _)
             | Event::Drop(_)
             | Event::Stop => {}
         }

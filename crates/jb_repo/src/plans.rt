@@ -64,12 +64,12 @@ impl Plans {
                 self.used += 1;
                 self.closed = self.closed || self.ended;
             }
-            Event::Roll(_, _) | Event::Fail(_, _) | Event::Drop(_) => self.ended = true,
+            Event::Roll(_, _, _) | Event::Fail(_, _, _) | Event::Drop(_) => self.ended = true,
             Event::Stop => {
                 self.ended = true;
                 self.stopping = true;
             }
-            Event::Begin(_, _) | Event::Commit(_, _, _) => {}
+            Event::Begin(_, _) | Event::Commit(_, _, _, _) => {}
         }
     }
 }

@@ -32,9 +32,15 @@ pub fn stepped(row: Row, event: Event, item_count: u64) -> Row
     laws_below();
     match event {
         Event::Begin(lane, _) => row.begun(lane),
-        Event::Commit(_, delta, _) => row.committed(row.block(item_count).hi, &delta),
-        Event::Roll(_, _) => row.rolled(row.block(item_count).hi).dropped(),
-        Event::Fail(_, _) => row.failed(),
+        Event::Commit(_, delta, _, again) => {
+            row.repeated(again)
+                .committed(row.block(item_count).hi, &delta)
+        }
+        Event::Roll(_, _, again) => row
+            .repeated(again)
+            .rolled(row.block(item_count).hi)
+            .dropped(),
+        Event::Fail(_, _, again) => row.repeated(again).failed(),
         Event::Drop(_) => row.dropped(),
         Event::Plan(_, _) | Event::Round | Event::Stop => row,
     }

@@ -7,7 +7,7 @@ ghost use Rattle.jb_repo.specs.inside.Fit.{CountsFit};
 ghost use Rattle.jb_repo.specs.Rows.{remaining, remaining_of, total_counts};
 ghost use Rattle.jb_repo.specs.Table.{is_ended, is_at_limit};
 
-use jb_job::MAX_ROLLBACKS;
+use jb_job::{MAX_IN_PLACE, MAX_RETRY_LIMIT, MAX_ROLLBACKS};
 use jb_plan::chunks_left;
 use jb_rules::{Counts, Row, RowState};
 
@@ -21,12 +21,14 @@ pub fn is_ended(row: Option<Row>) -> bool
     }
 }
 
-/// Whether the row has as many rollbacks as it may have.
+/// Whether the row has as many rollbacks as it may have, or no room for the repeats of one more chunk.
 pub fn is_at_limit(row: Option<Row>) -> bool
     ensures { result ≡ is_at_limit row }
 {
     match row {
-        Some(row) => row.counts.rollback >= MAX_ROLLBACKS,
+        Some(row) => {
+            row.counts.rollback >= MAX_ROLLBACKS || row.in_place > MAX_IN_PLACE - MAX_RETRY_LIMIT
+        }
         None => false,
     }
 }

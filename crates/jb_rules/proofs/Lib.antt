@@ -1,3 +1,4 @@
 pub mod Deltas
+pub mod Places
 pub mod RowTests
 pub mod StaySound

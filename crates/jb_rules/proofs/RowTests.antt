@@ -78,7 +78,9 @@ some-by at lo commit false e h = le-to 1 commit (h (above-from at lo e))
 
 counted-from : (r : Row) → is_counted r ≡ true → IsCounted r
 counted-from r e =
-    let k = and_parts _ _ e in
+    let n = and_parts _ _ e in
+    let m = and_parts _ _ n.0 in
+    let k = and_parts _ _ m.0 in
     let h = and_parts _ _ k.0 in
     let g = and_parts _ _ h.0 in
     let f = and_parts _ _ g.0 in
@@ -94,8 +96,10 @@ counted-from r e =
       write_skips = le-from _ _ d.1;
       commits = le-from _ _ f.1;
       committed = some-from r.at r.lo r.counts.commit g.1;
-      retried = le-from _ _ h.1;
-      rolled = le-from _ _ k.1;
+      repeated = le-from _ _ h.1;
+      retried = le-from _ _ k.1;
+      rolled = le-from _ _ m.1;
+      few_repeats = le-from _ _ n.1;
     }
 
 counted-to : (r : Row) → IsCounted r → is_counted r ≡ true
@@ -106,8 +110,10 @@ counted-to r p =
     let d = and_from _ _ c (le-to _ _ p.write_skips) in
     let f = and_from _ _ d (le-to _ _ p.commits) in
     let g = and_from _ _ f (some-by r.at r.lo r.counts.commit (nat_le r.at r.lo) refl p.committed) in
-    let h = and_from _ _ g (le-to _ _ p.retried) in
-    and_from _ _ h (le-to _ _ p.rolled)
+    let h = and_from _ _ g (le-to _ _ p.repeated) in
+    let k = and_from _ _ h (le-to _ _ p.retried) in
+    let m = and_from _ _ k (le-to _ _ p.rolled) in
+    and_from _ _ m (le-to _ _ p.few_repeats)
 
 -- a state that is Finished exactly where b holds
 abbrev done_by : RowState → Bool → Bool

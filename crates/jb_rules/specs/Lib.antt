@@ -5,3 +5,4 @@ pub mod RowTest
 pub mod Rows
 pub mod Sound
 pub mod States
+pub mod Numbers

@@ -1,6 +1,6 @@
 -- The row rules as a test.
 use Rattle.std.specs.Prelude.{ℕ, ◌+◌, ◌-◌, ◌==◌, ◌&&◌, ◌||◌, Bool, nat_le, nat_lt, not, if◌then◌else◌}
-use Rattle.jb_job.specs.Limits.{max_records, max_rollbacks}
+use Rattle.jb_job.specs.Limits.{max_records, max_rollbacks, max_in_place}
 use Rattle.jb_rules.specs.declared.row.Row.{Row}
 use Rattle.jb_rules.specs.States.{is_finished}
 
@@ -21,8 +21,10 @@ is_counted r =
     && nat_le r.counts.write_skip r.counts.commit
     && nat_le r.counts.commit (r.at - r.lo)
     && (nat_le r.at r.lo || nat_le 1 r.counts.commit)
-    && nat_le r.retries r.counts.rollback
+    && nat_le r.in_place r.retries
+    && nat_le r.retries (r.counts.rollback + r.in_place)
     && nat_le r.counts.rollback max_rollbacks
+    && nat_le r.in_place max_in_place
 
 -- Finished exactly where no record is left
 abbrev pub is_finished_at_end : Row → Bool

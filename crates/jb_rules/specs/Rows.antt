@@ -22,6 +22,7 @@ fresh_row r = record {
   retries = 0;
   written = 0;
   counts = no_counts;
+  in_place = 0;
   state = state_at r.lo r.hi;
 }
 
@@ -36,6 +37,10 @@ row_block item_count row = next_block row.at row.redo row.hi item_count
 -- the row when a lane begins its next chunk
 abbrev pub begun_row : Row → (lane : ℕ) → Row
 begun_row row lane = record row { state = Running lane }
+
+-- the row after so many calls of its chunk were repeated in place: each repeat is a retry
+abbrev pub repeated_row : Row → (again : ℕ) → Row
+repeated_row row again = record row { retries = row.retries + again; in_place = row.in_place + again }
 
 -- the row after a chunk that ends at `at` was committed
 abbrev pub committed_row : Row → (at : ℕ) → Counts → Row

@@ -1,6 +1,6 @@
 -- The rules that the row of a partition keeps (this project's own choice, but for the meaning of the counts).
 use Rattle.std.specs.Prelude.{◌≡◌, ◌+◌, ◌-◌, ◌≤◌, ◌<◌, ◌↔◌}
-use Rattle.jb_job.specs.Limits.{max_records, max_rollbacks}
+use Rattle.jb_job.specs.Limits.{max_records, max_rollbacks, max_in_place}
 use Rattle.jb_rules.specs.declared.row.Row.{Row}
 use Rattle.jb_rules.specs.declared.row.RowState.TheVariants.{Finished}
 
@@ -13,7 +13,8 @@ pub record IsPlaced (r : Row) : Type 0 where
   pub records : r.hi ≤ max_records
 
 -- The counts account for the records up to the checkpoint: each was read or its read skipped; of the items read, each had
--- its process call skipped, was filtered, was written, or was dropped by a skipped write call; each commit passed a record.
+-- its process call skipped, was filtered, was written, or was dropped by a skipped write call; each commit passed a
+-- record. Each retry repeated a call in place, or rolled a chunk back.
 pub record IsCounted (r : Row) : Type 0 where
   pub passed : r.counts.read + r.counts.read_skip ≡ r.at - r.lo
   pub written : r.counts.write ≡ r.written
@@ -22,8 +23,10 @@ pub record IsCounted (r : Row) : Type 0 where
   pub write_skips : r.counts.write_skip ≤ r.counts.commit
   pub commits : r.counts.commit ≤ r.at - r.lo
   pub committed : r.lo < r.at → 1 ≤ r.counts.commit
-  pub retried : r.retries ≤ r.counts.rollback
+  pub repeated : r.in_place ≤ r.retries
+  pub retried : r.retries ≤ r.counts.rollback + r.in_place
   pub rolled : r.counts.rollback ≤ max_rollbacks
+  pub few_repeats : r.in_place ≤ max_in_place
 
 -- the row rules
 pub record IsSoundRow (r : Row) : Type 0 where

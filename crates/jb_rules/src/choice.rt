@@ -12,6 +12,8 @@ pub enum Choice {
     Skip,
     /// The chunk is rolled back and done again.
     Retry,
+    /// The call that failed is repeated in place, and nothing is rolled back.
+    Again,
     /// The partition fails.
     Fail,
 }
@@ -31,20 +33,26 @@ fn is_below(limit: Option<u64>, used: u64) -> bool
     }
 }
 
-/// Settles a fault of this class, where `skips` faults were skipped and `retries` chunks were retried before it.
+/// Settles a fault of this class, where `skips` faults were skipped and `retries` retries made before it.
 ///
 /// A fault that is both skippable and retryable is retried first; where the record is done again after a rollback, it
 /// is skipped first (Jakarta Batch 2.1, "Retry and Skip the Same Exception"). A fault over both limits, or of a class in
-/// neither set, fails the partition. The limits hold for each partition by itself.
+/// neither set, fails the partition. A retry for a class that is to roll nothing back repeats the call in place (Jakarta
+/// Batch 2.1, "Preventing Rollback During Retry"). The limits hold for each partition by itself.
 pub fn decide(rules: &Rules, class: ClassId, retrying: bool, skips: u64, retries: u64) -> Choice
     ensures { result ≡ choice_of rules.now class retrying skips retries }
 {
     let skip_open = has_class(rules.skippable, class) && is_below(rules.skip_limit, skips);
     let retry_open = has_class(rules.retryable, class) && retries < rules.retry_limit;
+    let retry = if has_class(rules.no_rollback, class) {
+        Choice::Again
+    } else {
+        Choice::Retry
+    };
     match (retrying, skip_open, retry_open) {
-        (false, _, true) => Choice::Retry,
+        (false, _, true) => retry,
         (_, true, _) => Choice::Skip,
-        (_, false, true) => Choice::Retry,
+        (_, false, true) => retry,
         (_, false, false) => Choice::Fail,
     }
 }

@@ -3,15 +3,18 @@
 //! - `counts`: the metrics of a chunk step.
 //! - `row`: how a partition stands, and the rules that each row keeps.
 //! - `life`: a row's next chunk, and the row after it was begun, committed, rolled back, failed or given up.
+//! - `numbers`: a row as texts list it.
 //! - `choice`: what becomes of a fault.
 #![tactic(auto)]
 
 mod choice;
 mod counts;
 mod life;
+mod numbers;
 mod row;
 
 pub use choice::{Choice, decide};
 pub use counts::{Counts, deltas_are_tested};
 pub use life::rows_stay_sound;
+pub use numbers::numbers_make_rows;
 pub use row::{Row, RowState, rows_are_tested, unfinished_rows_go_on};

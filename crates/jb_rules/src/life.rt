@@ -1,10 +1,10 @@
 //! The life of a row: its next chunk, and what becomes of it when the chunk is begun and when it ends.
 
-ghost use Rattle.std.specs.Prelude.{◌≡◌, ◌≤◌, ◌-◌, ◌*◌, ◌<◌};
-ghost use Rattle.jb_job.specs.Limits.{max_item_count, max_records, max_rollbacks};
+ghost use Rattle.std.specs.Prelude.{◌≡◌, ◌≤◌, ◌+◌, ◌-◌, ◌*◌, ◌<◌};
+ghost use Rattle.jb_job.specs.Limits.{max_item_count, max_records, max_rollbacks, max_in_place};
 ghost use Rattle.jb_rules.specs.Counts.{IsDelta};
 ghost use Rattle.jb_rules.specs.Laws.{RowsStaySound};
-ghost use Rattle.jb_rules.specs.Rows.{row_block, begun_row, committed_row, skips_of, rolled_row, failed_row, dropped_row};
+ghost use Rattle.jb_rules.specs.Rows.{row_block, begun_row, repeated_row, committed_row, skips_of, rolled_row, failed_row, dropped_row};
 ghost use Rattle.jb_rules.specs.Sound.{IsSoundRow};
 
 use crate::counts::Counts;
@@ -40,6 +40,20 @@ impl Row {
     {
         Row {
             state: RowState::Running(lane),
+            ..*self
+        }
+    }
+
+    /// The row after so many calls of its chunk were repeated in place. Each repeat is a retry.
+    pub fn repeated(&self, again: u64) -> Row
+        requires sound { IsSoundRow self.now }
+        requires room { self.now.in_place + again ≤ max_in_place }
+        ensures row { result ≡ repeated_row self.now again }
+        ensures sound { IsSoundRow result }
+    {
+        Row {
+            retries: self.retries + again,
+            in_place: self.in_place + again,
             ..*self
         }
     }

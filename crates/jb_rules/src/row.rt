@@ -8,7 +8,7 @@ ghost use Rattle.jb_rules.specs.States.{is_waiting, is_running, is_finished, is_
 ghost use Rattle.jb_rules.specs.Sound.{IsCounted, IsPlaced, IsSoundRow};
 
 use crate::counts::Counts;
-use jb_job::{MAX_RECORDS, MAX_ROLLBACKS, Range};
+use jb_job::{MAX_IN_PLACE, MAX_RECORDS, MAX_ROLLBACKS, Range};
 
 /// Where a partition stands.
 #[derive(Clone, Copy, Debug, PartialEq, Eq)]
@@ -71,12 +71,14 @@ pub struct Row {
     pub at: u64,
     /// Up to here records are done in chunks of one, since an earlier chunk was rolled back.
     pub redo: u64,
-    /// How many chunks were rolled back to be retried.
+    /// How many retries were made: chunks that were rolled back to be done again, and calls that were repeated in place.
     pub retries: u64,
     /// How many results the writer holds.
     pub written: u64,
     /// The metrics.
     pub counts: Counts,
+    /// How many calls were repeated in place.
+    pub in_place: u64,
     /// Where the partition stands.
     pub state: RowState,
 }
@@ -94,6 +96,7 @@ impl Row {
             retries: 0,
             written: 0,
             counts: Counts::ZERO,
+            in_place: 0,
             state: if range.lo == range.hi {
                 RowState::Finished
             } else {
@@ -134,6 +137,9 @@ impl Row {
         if counts.write != self.written || counts.write > counts.read {
             return false;
         }
+        if self.in_place > self.retries || self.retries - self.in_place > counts.rollback {
+            return false;
+        }
         let left = counts.read - counts.write;
         if counts.process_skip > left || counts.filter > left - counts.process_skip {
             return false;
@@ -143,8 +149,8 @@ impl Row {
             && counts.write_skip <= counts.commit
             && counts.commit <= passed
             && (passed == 0 || counts.commit >= 1)
-            && self.retries <= counts.rollback
             && counts.rollback <= MAX_ROLLBACKS
+            && self.in_place <= MAX_IN_PLACE
     }
 
     /// Whether the row keeps the row rules, which every row that a run leaves does.

@@ -1,7 +1,8 @@
 mod Trees
-mod TextTrees
 mod TextRead
 mod RoundTrip
+mod Written
+mod Numbers
 mod Unfit
 mod Kept
 mod Inverse

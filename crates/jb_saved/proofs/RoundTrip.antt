@@ -1,23 +1,25 @@
 -- Reading the tree of saved rows gives the rows.
-use Rattle.std.proofs.Common.{◌≡◌, ℕ, zero, suc, ◌≤◌, ◌&&◌, ◌++◌, true, false, List, [], ◌∷◌, length, map, Option, Some, Ok, Err, Result, refl, sym, ap, ◌∙◌, subst, append_assoc, append-nil, arith, inl, inr, ◌⊎◌}
-use Rattle.std.specs.Prelude.{nat_le, MatchResult}
+use Rattle.std.proofs.Common.{◌≡◌, ℕ, zero, suc, ◌≤◌, ◌&&◌, ◌++◌, Bool, true, false, cond, List, [], ◌∷◌, length, map, take, Option, Some, Ok, Err, Result, refl, sym, ap, ◌∙◌, subst, append_assoc, append-nil, arith, inl, inr, ◌⊎◌}
+use Rattle.std.specs.Prelude.{◌==◌, nat_le, MatchResult}
 use Rattle.std.proofs.lemmas.Bool.Decides.{nat_tests}
 use Rattle.std.proofs.lemmas.Bool.{cases_lt}
-use Rattle.serde_json.specs.Data.{Data}
+use Rattle.serde_json.specs.Data.{Data, string}
 use Rattle.serde_json.specs.Events.{items_len}
 use Rattle.serde_json.specs.View.{items_of}
 use Rattle.jb_rules.specs.declared.row.Row.{Row}
 use Rattle.jb_rules.specs.declared.row.RowState.{RowState}
 use Rattle.jb_rules.specs.declared.row.RowState.TheVariants.{Waiting, Running, Finished, Failed}
+use Rattle.jb_rules.specs.Numbers.{numbers_of, row_of_numbers, state_name, state_named}
 use Rattle.jb_rules.specs.States.{is_running}
 use Rattle.jb_saved.specs.declared.place.SavedPlace.{SavedPlace}
 use Rattle.jb_saved.specs.declared.place.SavedPlace.TheVariants.{NotJson, Shape, Version, Rows, Step, Records, Override}
 use Rattle.jb_saved.specs.declared.error.StepError.{StepError}
 use Rattle.jb_saved.specs.declared.error.StepError.TheVariants as error
 use Rattle.jb_saved.specs.SavedRows.{SavedRows, IsSaved}
-use Rattle.jb_saved.specs.SavedTree.{state_name, row_tree, saved_tree}
+use Rattle.jb_saved.specs.Laws.{IsSavedTree}
+use Rattle.jb_saved.specs.SavedTree.{number_tree, CanHold, row_tree_in, rows_tree_in, saved_tree}
 use Rattle.jb_saved.specs.inside.Forms.{AreStill}
-use Rattle.jb_saved.specs.SavedForm.{◌>>=◌, state_named, counts_in, row_of, rows_from, rows_of, keyed, step_of, saved_of, form_at}
+use Rattle.jb_saved.specs.SavedForm.{◌>>=◌, row_parts, row_of, rows_from, rows_of, keyed, step_of, saved_of, form_at}
 use Rattle.jb_job.specs.Limits.{max_name, max_partitions}
 use Rattle.jb_saved.specs.Answers.{AllFit, IsFirstUnfit, form_of, IsAnswer}
 use Rattle.jb_saved.specs.Reading.{GivesSaved}
@@ -30,46 +32,82 @@ state-back (Running lane) still = cc
 state-back Finished still = refl
 state-back Failed still = refl
 
-abbrev with_state : Row → RowState → Row
-with_state r s = record r { state = s }
+parts-back : (ns : List ℕ) (s : RowState) → is_running s ≡ false → row_parts (length ns) (items_of (map number_tree ns ++ string (state_name s) ∷ [])) ≡ Some (ns, s)
+parts-back [] s still = ap (λ (o : Option RowState). o >>= λ t. Some ([], t)) (state-back s still)
+parts-back (n ∷ ns) s still = ap (λ (o : Option (List ℕ × RowState)). o >>= λ more. Some (n ∷ more.0, more.1)) (parts-back ns s still)
 
--- a row is read back
-pub row-back : (r : Row) → is_running r.state ≡ false → row_of (row_tree r) ≡ Some r
-unfolding row_of counts_in
-row-back r still = ap (λ (o : Option RowState). o >>= λ s. Some (with_state r s)) (state-back r.state still)
+abbrev made : Option (List ℕ × RowState) → Option Row
+made o = o >>= λ parts. Some (row_of_numbers parts.0 parts.1)
+
+-- what is listed of a row is the row: all its numbers, or all but a last one that is 0
+row-by-back : (b : Bool) (r : Row) → is_running r.state ≡ false → (b ≡ true → r.in_place ≡ 0)
+    → made (row_parts (cond b 14 15) (items_of (map number_tree (take (cond b 14 15) (numbers_of r)) ++ string (state_name r.state) ∷ []))) ≡ Some r
+row-by-back true r still none =
+    ap made (parts-back (take 14 (numbers_of r)) r.state still)
+    ∙ ap (λ (n : ℕ). Some (record r { in_place = n })) (sym (none refl))
+row-by-back false r still none = ap made (parts-back (numbers_of r) r.state still)
+
+is-one : (n : ℕ) → (n == 1) ≡ true → n ≡ 1
+is-one n e = grind (arith, nat_tests)
+
+-- a row is read back of its tree, in each version that can hold it
+row-back : (n : ℕ) (r : Row) → is_running r.state ≡ false → (n ≡ 1 → r.in_place ≡ 0) → row_of n (row_tree_in n r) ≡ Some r
+unfolding row_of
+row-back n r still none = row-by-back (n == 1) r still (λ e. none (is-one n e))
 
 still-tail : (r : Row) (rows : List Row) → AreStill (r ∷ rows) → AreStill rows
 still-tail r rows still i s is = still (suc i) s is
 
-pub rows-back : (done rows : List Row) → AreStill rows → rows_from done (items_of (map row_tree rows)) ≡ Some (done ++ rows)
-rows-back done [] still = ap Some (sym (append-nil done))
-rows-back done (r ∷ rows) still =
-    ap (λ (o : Option Row). o >>= λ row. rows_from (done ++ row ∷ []) (items_of (map row_tree rows))) (row-back r (still zero r refl))
-    ∙ rows-back (done ++ r ∷ []) rows (still-tail r rows still)
+held-tail : (n : ℕ) (r : Row) (rows : List Row) → CanHold n (r ∷ rows) → CanHold n rows
+held-tail n r rows held one i s is = held one (suc i) s is
+
+pub rows-back : (n : ℕ) (done rows : List Row) → AreStill rows → CanHold n rows → rows_from n done (items_of (map (row_tree_in n) rows)) ≡ Some (done ++ rows)
+rows-back n done [] still held = ap Some (sym (append-nil done))
+rows-back n done (r ∷ rows) still held =
+    ap (λ (o : Option Row). o >>= λ row. rows_from n (done ++ row ∷ []) (items_of (map (row_tree_in n) rows))) (row-back n r (still zero r refl) (λ one. held one zero r refl))
+    ∙ rows-back n (done ++ r ∷ []) rows (still-tail r rows still) (held-tail n r rows held)
     ∙ ap Some (append_assoc done (r ∷ []) rows)
 
-items-len : (rows : List Row) → items_len (items_of (map row_tree rows)) ≡ length rows
-items-len [] = refl
-items-len (r ∷ rows) = ap suc (items-len rows)
+items-len : (n : ℕ) (rows : List Row) → items_len (items_of (map (row_tree_in n) rows)) ≡ length rows
+items-len n [] = refl
+items-len n (r ∷ rows) = ap suc (items-len n rows)
 
 within : (low n high : ℕ) → low ≤ n → n ≤ high → (nat_le low n && nat_le n high) ≡ true
 within low n high a b = grind (arith, nat_tests)
 
-pub saved-back : (s : SavedRows) → IsSaved s → form_at (saved_tree s) ≡ Ok s
-unfolding form_at saved_of keyed rows_of step_of
-saved-back s kept =
-    let count = within 1 (items_len (items_of (map row_tree s.rows))) max_partitions (subst (λ n. 1 ≤ n) (sym (items-len s.rows)) kept.some_rows) (subst (λ n. n ≤ max_partitions) (sym (items-len s.rows)) kept.few_rows) in
-    let size = within 1 (length s.step) max_name kept.named.some kept.named.short in
-    let rows = rows-back [] s.rows (λ i r is. (kept.idle i r is).1) in
-    rw (count, rows, size) refl
+rows-of-back : (n : ℕ) (s : SavedRows) → IsSaved s → CanHold n s.rows → rows_of n (rows_tree_in n s.rows) ≡ Some s.rows
+unfolding rows_of
+rows-of-back n s kept held =
+    let len = items-len n s.rows in
+    let count = within 1 (items_len (items_of (map (row_tree_in n) s.rows))) max_partitions (subst (λ m. 1 ≤ m) (sym len) kept.some_rows) (subst (λ m. m ≤ max_partitions) (sym len) kept.few_rows) in
+    rw count (rows-back n [] s.rows (λ i r is. (kept.idle i r is).1) held)
+
+step-of-back : (s : SavedRows) → IsSaved s → step_of (string s.step) ≡ Some s.step
+unfolding step_of
+step-of-back s kept = rw (within 1 (length s.step) max_name kept.named.some kept.named.short) refl
+
+-- an object that holds what a saved one holds is read as the saved rows
+pub object-back : (n : ℕ) (d : Data) (s : SavedRows) → IsSavedTree n d s → IsSaved s → form_at d ≡ Ok s
+unfolding form_at saved_of
+object-back n d s tree kept = rw (tree.version, tree.known, tree.keys, tree.rows, tree.step, rows-of-back n s kept tree.holds, step-of-back s kept) refl
+
+two-holds : (rows : List Row) → CanHold 2 rows
+two-holds rows one = absurd (omega (arith, one))
+
+tree-is : (s : SavedRows) → IsSavedTree 2 (saved_tree s) s
+unfolding keyed
+tree-is s = record { known = refl; holds = two-holds s.rows; keys = refl; rows = refl; step = refl; version = refl }
 
 -- ---- answers
 
 pub all-fit : (s : SavedRows) → IsSaved s → AllFit s.rows
 all-fit s kept i lt r is = ((kept.idle i r is).0, λ k t below has. apart_of s.rows kept.disjoint k i t r below has is)
 
-pub answer-back : (s : SavedRows) → IsSaved s → IsAnswer (Some (saved_tree s)) (Ok s)
-answer-back s kept = (saved-back s kept, all-fit s kept)
+pub answer-back : (n : ℕ) (d : Data) (s : SavedRows) → IsSavedTree n d s → IsSaved s → IsAnswer (Some d) (Ok s)
+answer-back n d s tree kept = (object-back n d s tree kept, all-fit s kept)
+
+pub written-back : (s : SavedRows) → IsSaved s → IsAnswer (Some (saved_tree s)) (Ok s)
+written-back s kept = answer-back 2 (saved_tree s) s (tree-is s) kept
 
 -- an answer that is a fault: of the form, or of a row
 err-cases : (tree : Option Data) (p : SavedPlace) → IsAnswer tree (Err p) → (form_of tree ≡ Err p) ⊎ ((i : ℕ) × (s : SavedRows) × (p ≡ Rows i) × (form_of tree ≡ Ok s) × IsFirstUnfit s.rows i)

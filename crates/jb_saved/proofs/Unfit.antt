@@ -1,6 +1,6 @@
 -- The first row that doesn't fit, by tests.
 use Rattle.std.proofs.Common.{◌+◌, ◌≡◌, ℕ, ◌≤◌, ◌<◌, ◌⊎◌, inl, inr, Bool, true, false, cond, not, max, min, refl, sym, ap, ◌∙◌, subst, arith, List, [], ◌∷◌, take, length, get_or, slice_get, Some, None, Option, Ok, Err, Result}
-use Rattle.std.specs.Prelude.{◌==◌, ◌||◌, nat_lt}
+use Rattle.std.specs.Prelude.{◌||◌, nat_lt}
 use Rattle.std.specs.List.{list_any, enumerate_from, prefix_len}
 use Rattle.std.proofs.lemmas.Bool.{cases_eq}
 use Rattle.std.proofs.lemmas.Bool.Decides.{nat_tests}
@@ -20,11 +20,12 @@ use Rattle.jb_rules.specs.Rows.{range_of}
 use Rattle.jb_saved.specs.declared.place.SavedPlace.{SavedPlace}
 use Rattle.jb_saved.specs.declared.place.SavedPlace.TheVariants.{Shape, Version}
 use Rattle.jb_saved.specs.SavedRows.{SavedRows, IsSaved}
-use Rattle.jb_saved.specs.SavedTree.{saved_tree}
+use Rattle.jb_saved.specs.Laws.{IsSavedTree}
+use Rattle.jb_saved.specs.SavedTree.{is_known, saved_tree}
 use Rattle.jb_saved.specs.SavedForm.{form_at, form_by, saved_of, shaped, version_of}
 use Rattle.jb_saved.specs.Answers.{IsApartFromEarlier, Fits, AllFit, IsFirstUnfit, IsAnswer}
 use Rattle.jb_saved.specs.Reading.{is_unfit, first_unfit, checked_by, checked_rows, saved_at, answer_of}
-use Rattle.jb_saved.proofs.RoundTrip.{one-answer, answer-back}
+use Rattle.jb_saved.proofs.RoundTrip.{one-answer, answer-back, written-back}
 use Rattle.jb_saved.proofs.Kept.{past_end}
 
 apart : (r s : Range) → do_overlap r s ≡ false → HaveNoneInCommon r s
@@ -151,7 +152,7 @@ form-by false o p e = inr cc
 
 form-err : (v : Option ℕ) (d : Data) (p : SavedPlace) → form_by v d ≡ Err p → (p ≡ Shape) ⊎ (p ≡ Version)
 form-err None d p e = inl cc
-form-err (Some n) d p e = form-by (n == 1) (saved_of d) p e
+form-err (Some n) d p e = form-by (is_known n) (saved_of n d) p e
 
 form-place : (d : Data) (p : SavedPlace) → form_at d ≡ Err p → (p ≡ Shape) ⊎ (p ≡ Version)
 unfolding form_at
@@ -182,7 +183,10 @@ all-fit law rows none i lt =
     fits-before law rows i (omega (arith, end, lt, len)) lt
 
 pub tree-read : RowsAreTested → (s : SavedRows) → IsSaved s → saved_at (saved_tree s) ≡ Ok s
-tree-read law s kept = one-answer (Some (saved_tree s)) (saved_at (saved_tree s)) (Ok s) (answer-computed law (Some (saved_tree s))) (answer-back s kept)
+tree-read law s kept = one-answer (Some (saved_tree s)) (saved_at (saved_tree s)) (Ok s) (answer-computed law (Some (saved_tree s))) (written-back s kept)
+
+pub trees-read : RowsAreTested → (n : ℕ) (d : Data) (s : SavedRows) → IsSavedTree n d s → IsSaved s → saved_at d ≡ Ok s
+trees-read law n d s tree kept = one-answer (Some d) (saved_at d) (Ok s) (answer-computed law (Some d)) (answer-back n d s tree kept)
 
 -- ---- found by a loop
 

@@ -6,16 +6,16 @@ use Rattle.serde_json.proofs.OnLiterals.{serde_json_on_literals}
 use Rattle.jb_saved.specs.SavedTree.{saved_tree}
 use Rattle.std.specs.Fmt.{digits}
 use Rattle.jb_saved.specs.Worked.{WorkedSaved, stopped}
-use Rattle.jb_saved.specs.SavedForm.{counts_in, row_of, rows_of, keyed, step_of, saved_of, form_at}
+use Rattle.jb_saved.specs.SavedForm.{row_of, rows_of, keyed, step_of, saved_of, form_at}
 use Rattle.jb_rules.specs.RowTest.{is_sound}
 use Rattle.jb_saved.specs.Reading.{first_unfit, saved_at}
 
-written : compact_text (saved_tree stopped) ≡ codes "{\"rows\":[[0,3,2,0,0,2,2,2,1,0,0,0,0,0,\"waiting\"],[3,5,5,3,0,2,2,2,1,0,0,0,0,0,\"done\"],[5,7,5,5,0,0,0,0,0,0,0,0,0,0,\"waiting\"]],\"step\":\"s\",\"version\":1}"
+written : compact_text (saved_tree stopped) ≡ codes "{\"rows\":[[0,3,2,0,0,2,2,2,1,0,0,0,0,0,0,\"waiting\"],[3,5,5,3,0,2,2,2,1,0,0,0,0,0,0,\"done\"],[5,7,5,5,0,0,0,0,0,0,0,0,0,0,0,\"waiting\"]],\"step\":\"s\",\"version\":2}"
 unfolding digits serde_json_on_literals
 written = refl
 
 pub worked : WorkedSaved
-unfolding digits counts_in row_of rows_of keyed step_of saved_of form_at is_sound first_unfit saved_at
+unfolding digits row_of rows_of keyed step_of saved_of form_at is_sound first_unfit saved_at
 worked = record {
   text = written;
   read = refl;
@@ -23,7 +23,15 @@ worked = record {
   overlap = refl;
   empty = refl;
   unfinished = refl;
-  version = refl;
+  later = refl;
+  earlier = refl;
+  version_alone = refl;
+  first = refl;
+  rows_of_the_first = refl;
+  rows_of_the_second = refl;
+  repeated = refl;
+  not_retried = refl;
+  not_repeated = refl;
   no_number = refl;
   no_step = refl;
   no_row = refl;

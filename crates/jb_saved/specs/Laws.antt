@@ -1,5 +1,5 @@
 -- What the definitions of reading a saved text say of one another.
-use Rattle.std.specs.Prelude.{◌≡◌, codes, Option, Some, Result, Ok}
+use Rattle.std.specs.Prelude.{◌≡◌, ℕ, true, codes, Option, Some, Result, Ok}
 use Rattle.serde_json.specs.Data.{Data, string}
 use Rattle.serde_json.specs.Find.{get}
 use Rattle.serde_json.specs.Read.{read}
@@ -9,7 +9,7 @@ use Rattle.jb_saved.specs.Answers.{IsAnswer}
 use Rattle.jb_saved.specs.Reading.{answer_of, saved_at}
 use Rattle.jb_saved.specs.SavedForm.{keyed}
 use Rattle.jb_saved.specs.SavedRows.{SavedRows, IsSaved}
-use Rattle.jb_saved.specs.SavedTree.{number_tree, rows_tree, saved_tree, version}
+use Rattle.jb_saved.specs.SavedTree.{number_tree, is_known, CanHold, rows_tree_in, saved_tree}
 
 -- the answer is the one that the row rules allow: each row before the named one fits, and the named one doesn't
 abbrev pub AnswerIsComputed : Type 0
@@ -19,21 +19,28 @@ AnswerIsComputed = (tree : Option Data) → IsAnswer tree (answer_of tree)
 abbrev pub OneAnswer : Type 0
 OneAnswer = (tree : Option Data) (one other : Result SavedRows SavedPlace) → IsAnswer tree one → IsAnswer tree other → one ≡ other
 
--- the tree of saved rows is read as these rows
-abbrev pub TreeIsRead : Type 0
-TreeIsRead = (s : SavedRows) → IsSaved s → saved_at (saved_tree s) ≡ Ok s
-
 -- the compact text of saved rows has their tree, whatever bytes their id has
 abbrev pub TextIsRead : Type 0
 TextIsRead = (s : SavedRows) → IsSaved s → read (compact_text (saved_tree s)) ≡ Some (saved_tree s)
 
--- an object with the keys of a saved one and no other, which hold what the saved tree holds
-pub record IsSavedTree (d : Data) (s : SavedRows) : Type 0 where
+-- a saved object of a known version that can hold these rows: with the keys of one and no other, in any order, which hold
+-- what the tree of this version holds
+pub record IsSavedTree (n : ℕ) (d : Data) (s : SavedRows) : Type 0 where
+  pub known : is_known n ≡ true
+  pub holds : CanHold n s.rows
   pub keys : keyed d ≡ Some d
-  pub rows : get (codes "rows") d ≡ Some (rows_tree s.rows)
+  pub rows : get (codes "rows") d ≡ Some (rows_tree_in n s.rows)
   pub step : get (codes "step") d ≡ Some (string s.step)
-  pub version : get (codes "version") d ≡ Some (number_tree version)
+  pub version : get (codes "version") d ≡ Some (number_tree n)
 
--- rows are read of their own tree alone
+-- a saved object of either version is read as its rows
+abbrev pub SavedTreesAreRead : Type 0
+SavedTreesAreRead = (n : ℕ) (d : Data) (s : SavedRows) → IsSavedTree n d s → IsSaved s → saved_at d ≡ Ok s
+
+-- the tree that is written is one
+abbrev pub TreeIsRead : Type 0
+TreeIsRead = (s : SavedRows) → IsSaved s → saved_at (saved_tree s) ≡ Ok s
+
+-- and rows are read of no other tree
 abbrev pub OnlySavedTrees : Type 0
-OnlySavedTrees = (d : Data) (s : SavedRows) → saved_at d ≡ Ok s → IsSavedTree d s
+OnlySavedTrees = (d : Data) (s : SavedRows) → saved_at d ≡ Ok s → (n : ℕ) × IsSavedTree n d s

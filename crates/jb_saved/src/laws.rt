@@ -1,20 +1,22 @@
 //! Laws of the definitions. The functions do nothing: their contracts are the laws.
 
-ghost use Rattle.jb_saved.specs.Laws.{AnswerIsComputed, OneAnswer, TreeIsRead, TextIsRead, OnlySavedTrees};
+ghost use Rattle.jb_saved.specs.Laws.{AnswerIsComputed, OneAnswer, SavedTreesAreRead, TreeIsRead, TextIsRead, OnlySavedTrees};
 ghost use Rattle.jb_saved.specs.Worked.{WorkedSaved};
 
-use jb_rules::rows_are_tested;
+use jb_rules::{numbers_make_rows, rows_are_tested};
 
-/// The definition of reading gives, of each text, the one answer that the row rules allow; it reads the tree of saved rows,
-/// and the tree of their text, as these rows, and no other tree as them.
+/// The definition of reading gives, of each text, the one answer that the row rules allow; it reads the trees of saved rows in
+/// both versions, and the tree of their text, as these rows, and no other tree as them.
 pub fn answers_are_computed()
     ensures answer { AnswerIsComputed }
     ensures one { OneAnswer }
+    ensures trees { SavedTreesAreRead }
     ensures tree { TreeIsRead }
     ensures text { TextIsRead }
     ensures only { OnlySavedTrees }
 {
     rows_are_tested();
+    numbers_make_rows();
 }
 
 /// What the definitions give for worked rows.

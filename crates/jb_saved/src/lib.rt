@@ -1,6 +1,6 @@
 //! The rows of a stopped step: their text, reading it, and the rows with which a restart goes on.
 //!
-//! - `saved`: saved rows, of a snapshot or of a text. `text`: their text, which reads back as them.
+//! - `saved`: saved rows, of a snapshot or of a text. `text`: writing them; their text reads back as them.
 //! - `form`: what a JSON tree holds as saved rows, and `rows`: the first of its rows that can't be.
 //! - `going_on`: saved rows as a step goes on from them.
 //! - `error`, `place`: why a step has no answer, and what of saved rows is refused.
@@ -21,4 +21,4 @@ pub use going_on::rows_to_go_on;
 pub use laws::{answers_are_computed, worked_saved};
 pub use place::SavedPlace;
 pub use saved::{Saved, read_saved, written_and_read};
-pub use text::{saved_text, saved_value};
+pub use text::{saved_text, write_saved};

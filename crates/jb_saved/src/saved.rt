@@ -6,7 +6,7 @@ ghost use Rattle.jb_saved.specs.Reading.{GivesSaved, answer_of};
 ghost use Rattle.jb_saved.specs.declared.error.StepError.TheVariants.{Memory};
 
 use crate::error::StepError;
-use crate::form::{saved_of, version_of};
+use crate::form::{is_known, saved_of, version_of};
 use crate::place::SavedPlace;
 use crate::rows::{first_running, first_unfit};
 use crate::text::saved_text;
@@ -16,9 +16,6 @@ use jb_rules::{Row, rows_are_tested};
 use serde_json::Value;
 use std::alloc::Global;
 use std::marker::Model;
-
-/// The version of the form of saved rows.
-const VERSION: u64 = 1;
 
 /// The rows of a step's partitions, with the step's id, as a restart needs them.
 ///
@@ -66,19 +63,18 @@ impl Saved {
     /// The saved rows that a JSON tree stands for.
     ///
     /// # Errors
-    /// `Saved` with the first of: `Version`, where the tree is an object whose version is another number than 1; `Shape`,
+    /// `Saved` with the first of: `Version`, where the tree is an object whose version is another number than 1 and 2;
     /// where it is of another form; `Rows`, the first row that breaks a row rule or overlaps an earlier one. And `Memory`.
     #[tactic(auto, unfolding(crate::specs::SavedForm::form_at, crate::specs::Reading::saved_at))]
     pub fn of_value(alloc: Global, tree: &Value) -> Result<Saved, StepError>
         ensures { GivesSaved result (saved_at (view tree.now)) }
     {
         rows_are_tested();
-        match version_of(tree) {
-            None => return Err(StepError::Saved(SavedPlace::Shape)),
-            Some(VERSION) => {}
-            Some(_) => return Err(StepError::Saved(SavedPlace::Version)),
+        let version = version_of(tree).ok_or(StepError::Saved(SavedPlace::Shape))?;
+        if !is_known(version) {
+            return Err(StepError::Saved(SavedPlace::Version));
         }
-        let (step, rows) = saved_of(alloc, tree)?;
+        let (step, rows) = saved_of(alloc, tree, version)?;
         match first_unfit(&rows) {
             Some(i) => Err(StepError::Saved(SavedPlace::Rows(i))),
             None => Ok(Saved { step, rows }),

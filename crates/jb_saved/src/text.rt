@@ -1,92 +1,87 @@
-//! The text of saved rows.
+//! Writing saved rows: the saved object, and its text.
 
-ghost use Rattle.std.specs.Prelude.{◌≡◌, ◌≤◌, false, Some, IfOk, string_bytes};
-ghost use Rattle.serde_json.specs.Data.{depth};
-ghost use Rattle.serde_json.specs.Read.{max_depth};
-ghost use Rattle.serde_json.specs.View.{view};
-ghost use Rattle.serde_json.specs.Written.{compact_text, has_float};
+ghost use Rattle.std.specs.Prelude.{◌≡◌, ◌++◌, Some, flat_map, map, decimal, IfOk, OnOk, string_bytes};
+ghost use Rattle.std.specs.Str.{IsUtf8};
+ghost use Rattle.json.specs.Token.{number};
+ghost use Rattle.serde_json.specs.Written.{compact_text};
 ghost use Rattle.jb_job.specs.Reading.{tree_of};
-ghost use Rattle.jb_saved.specs.SavedTree.{state_name, row_tree, rows_tree, saved_tree};
+ghost use Rattle.jb_saved.specs.SavedTree.{row_tree, rows_tree, saved_tree, tokens_of};
 
+use crate::form::VERSION;
 use crate::saved::Saved;
-use jb_rules::{Row, RowState};
-use serde_json::{Value, json};
+use jb_rules::Row;
+use json::Writer;
 use std::alloc::{AllocError, Global};
 
-fn state_text(state: RowState) -> &'static str
-    ensures { result.now ≡ state_name state }
+fn write_numbers(out: &mut Writer, numbers: &[u64]) -> Result<(), AllocError>
+    ensures numbers { OnOk result (out.new.tokens ≡ out.old.tokens ++ map (λ n. number (decimal n)) numbers.now) }
+    ensures before { out.new.before ≡ out.old.before }
 {
-    match state {
-        RowState::Waiting => "waiting",
-        RowState::Running(_) => "running",
-        RowState::Finished => "done",
-        RowState::Failed => "failed",
+    for n in numbers {
+        out.u64(*n)?;
     }
+    Ok(())
 }
 
-fn row_value(alloc: Global, row: &Row) -> Result<Value, AllocError>
-    ensures { IfOk result (λ v. view v ≡ row_tree row.now) }
+fn write_row(out: &mut Writer, row: &Row) -> Result<(), AllocError>
+    ensures row { OnOk result (out.new.tokens ≡ out.old.tokens ++ tokens_of (row_tree row.now)) }
+    ensures before { out.new.before ≡ out.old.before }
 {
-    json!(in alloc; [
-        row.lo,
-        row.hi,
-        row.at,
-        row.redo,
-        row.retries,
-        row.written,
-        row.counts.read,
-        row.counts.write,
-        row.counts.commit,
-        row.counts.rollback,
-        row.counts.read_skip,
-        row.counts.process_skip,
-        row.counts.filter,
-        row.counts.write_skip,
-        state_text(row.state)
-    ])
+    out.begin_array()?;
+    write_numbers(out, &row.numbers())?;
+    out.string(row.state.name())?;
+    out.end_array()
 }
 
-fn rows_value(alloc: Global, rows: &[Row]) -> Result<Value, AllocError>
-    ensures { IfOk result (λ v. view v ≡ rows_tree rows.now) }
+fn write_members(out: &mut Writer, rows: &[Row]) -> Result<(), AllocError>
+    ensures rows { OnOk result (out.new.tokens ≡ out.old.tokens ++ flat_map (λ row. tokens_of (row_tree row)) rows.now) }
+    ensures before { out.new.before ≡ out.old.before }
 {
-    let mut values = Vec::new(alloc);
     for row in rows {
-        values.push(row_value(alloc, row)?)?;
+        write_row(out, row)?;
     }
-    Ok(Value::Array(values))
+    Ok(())
 }
 
-/// The saved object, which a report holds.
-pub fn saved_value(alloc: Global, saved: &Saved) -> Result<Value, AllocError>
-    ensures { IfOk result (λ v. view v ≡ saved_tree saved.now) }
+/// Writes the list of the rows.
+fn write_rows(out: &mut Writer, rows: &[Row]) -> Result<(), AllocError>
+    ensures rows { OnOk result (out.new.tokens ≡ out.old.tokens ++ tokens_of (rows_tree rows.now)) }
+    ensures before { out.new.before ≡ out.old.before }
 {
-    let rows = rows_value(alloc, saved.rows())?;
-    json!(in alloc; {
-        "rows": rows,
-        "step": (saved.step_id()),
-        "version": 1u64
-    })
+    out.begin_array()?;
+    write_members(out, rows)?;
+    out.end_array()
 }
 
-/// A tree's text with no space. The tree has no float and nests no deeper than a text may, so the text reads back as it.
-#[tactic(auto, using(crate::proofs::TextTrees::tree_of_read))]
-fn tree_text(alloc: Global, tree: &Value) -> Result<String, AllocError>
-    requires whole { has_float (view tree.now) ≡ false }
-    requires flat { depth (view tree.now) ≤ max_depth }
-    ensures text { IfOk result (λ s. string_bytes s ≡ compact_text (view tree.now)) }
-    ensures reads_back { IfOk result (λ s. tree_of (string_bytes s) ≡ Some (view tree.now)) }
+/// Writes the saved object of these rows of the step of this id, as a saved text and a report have it.
+pub fn write_saved(out: &mut Writer, rows: &[Row], id: &str) -> Result<(), AllocError>
+    ensures saved { OnOk result (out.new.tokens ≡ out.old.tokens ++ tokens_of (saved_tree (record { step = id.now; rows = rows.now }))) }
+    ensures before { out.new.before ≡ out.old.before }
 {
-    let text = tree.to_string(alloc)?;
-    let _utf8 = text.as_str().as_bytes();
-    Ok(text)
+    out.begin_object()?;
+    out.key("rows")?;
+    write_rows(out, rows)?;
+    out.key("step")?;
+    out.string(id)?;
+    out.key("version")?;
+    out.u64(VERSION)?;
+    out.end_object()
+}
+
+/// The text of bytes that are one.
+fn text_of(bytes: Vec<u8>) -> Result<String, AllocError>
+    requires { IsUtf8 bytes.items }
+    ensures { IfOk result (λ s. string_bytes s ≡ bytes.items) }
+{
+    String::from_utf8(bytes).map_err(|_| AllocError)
 }
 
 /// The saved object as one JSON text with no space, which reads back as the object.
-#[tactic(auto, using(crate::proofs::TextTrees::text_steps))]
 pub fn saved_text(alloc: Global, saved: &Saved) -> Result<String, AllocError>
     ensures text { IfOk result (λ s. string_bytes s ≡ compact_text (saved_tree saved.now)) }
     ensures reads_back { IfOk result (λ s. tree_of (string_bytes s) ≡ Some (saved_tree saved.now)) }
 {
-    let tree = saved_value(alloc, saved)?;
-    tree_text(alloc, &tree)
+    let mut out = Writer::new(Vec::new(alloc));
+    write_saved(&mut out, saved.rows(), saved.step_id())?;
+    text_of(out.into_inner())
 }

@@ -8,7 +8,7 @@ use Rattle.jb_cert.specs.Lawful.{IsLeast}
 use Rattle.jb_cert.specs.Laws.{WrapAroundIsLeast}
 use Rattle.jb_cert.specs.Plans.{sets_of as slots_sets}
 use Rattle.jb_cert.specs.WrapAround.{wrapped_rounds}
-use Rattle.jb_chunk.specs.Attempt.{end_of, work_with}
+use Rattle.jb_chunk.specs.Attempt.{end_of, asks_repeat, repeated_up_to, after_repeats, work_with}
 use Rattle.jb_chunk.specs.Block.{entry, results, count_of, settles, settling, used_between}
 use Rattle.jb_step.specs.Worked.{SevenRecords, SevenOnOneThread, StoppedAndRestarted, OneRoundEach, OneFailed, NoRecord, Retried, Skipped, Refused, WorkedRows, seven, seven_tasks, skipping, skipping_tasks, stopped_seven, plan_run, chunks}
 use Rattle.jb_step.specs.Runs.{PlanRun, IsPlanRun, ArePlanRuns, sets_of}
@@ -16,7 +16,7 @@ use Rattle.jb_step.specs.Setup.{counts_now}
 use Rattle.jb_step.proofs.Planning.{least-wrapped}
 
 seven_records : WrapAroundIsLeast → SevenRecords
-unfolding end_of settling settles entry results count_of work_with used_between used_at digits blocks
+unfolding end_of asks_repeat repeated_up_to after_repeats settling settles entry results count_of work_with used_between used_at digits blocks
 seven_records law = record {
   gives = record {
     run = (
@@ -41,7 +41,7 @@ seven_records law = record {
 }
 
 seven_on_one_thread : WrapAroundIsLeast → SevenOnOneThread
-unfolding end_of settling settles entry results count_of work_with used_between used_at digits blocks
+unfolding end_of asks_repeat repeated_up_to after_repeats settling settles entry results count_of work_with used_between used_at digits blocks
 seven_on_one_thread law = record {
   gives = record {
     run = (
@@ -66,7 +66,7 @@ seven_on_one_thread law = record {
 }
 
 stopped_and_restarted : WrapAroundIsLeast → StoppedAndRestarted
-unfolding end_of settling settles entry results count_of work_with used_between used_at digits blocks
+unfolding end_of asks_repeat repeated_up_to after_repeats settling settles entry results count_of work_with used_between used_at digits blocks
 stopped_and_restarted law = record {
   stopped = record {
     run = (
@@ -110,7 +110,7 @@ stopped_and_restarted law = record {
 }
 
 one_round_each : WrapAroundIsLeast → OneRoundEach
-unfolding end_of settling settles entry results count_of work_with used_between used_at digits blocks
+unfolding end_of asks_repeat repeated_up_to after_repeats settling settles entry results count_of work_with used_between used_at digits blocks
 one_round_each law = record {
   first = record {
     run = (
@@ -187,7 +187,7 @@ one_round_each law = record {
 }
 
 one_failed : WrapAroundIsLeast → OneFailed
-unfolding end_of settling settles entry results count_of work_with used_between used_at digits blocks
+unfolding end_of asks_repeat repeated_up_to after_repeats settling settles entry results count_of work_with used_between used_at digits blocks
 one_failed law = record {
   failed = record {
     run = (
@@ -229,7 +229,7 @@ one_failed law = record {
 }
 
 no_record : NoRecord
-unfolding end_of settling settles entry results count_of work_with used_between used_at digits blocks
+unfolding end_of asks_repeat repeated_up_to after_repeats settling settles entry results count_of work_with used_between used_at digits blocks
 no_record = record {
   run = tt;
   notes_are = refl;
@@ -240,7 +240,7 @@ no_record = record {
 }
 
 retried : WrapAroundIsLeast → Retried
-unfolding end_of settling settles entry results count_of work_with used_between used_at digits blocks
+unfolding end_of asks_repeat repeated_up_to after_repeats settling settles entry results count_of work_with used_between used_at digits blocks
 retried law = record {
   gives = record {
     run = (
@@ -274,7 +274,7 @@ retried law = record {
 }
 
 skipped : WrapAroundIsLeast → Skipped
-unfolding end_of settling settles entry results count_of work_with used_between used_at digits blocks
+unfolding end_of asks_repeat repeated_up_to after_repeats settling settles entry results count_of work_with used_between used_at digits blocks
 skipped law = record {
   run = (
     (
@@ -315,11 +315,11 @@ too_slow law plan four run =
     absurd (omega (arith, four, few))
 
 goes_on : IsPlanRun skipping skipping_tasks (plan_run (Longest 0) (chunks (1 ∷ 0 ∷ [])) []) → ⊥
-unfolding end_of settling settles entry results count_of work_with used_between used_at digits blocks
+unfolding end_of asks_repeat repeated_up_to after_repeats settling settles entry results count_of work_with used_between used_at digits blocks
 goes_on run = let broken : true ≡ false = run.quiet.1 in cc
 
 left_open : ArePlanRuns (seven 2) (seven_tasks 2) (plan_run FullLoad [] [] ∷ stopped_seven) → ⊥
-unfolding end_of settling settles entry results count_of work_with used_between used_at digits blocks
+unfolding end_of asks_repeat repeated_up_to after_repeats settling settles entry results count_of work_with used_between used_at digits blocks
 left_open runs = elim runs.1 [ inl none ↦ cc | inr broken ↦ cc ]
 
 refused : WrapAroundIsLeast → Refused

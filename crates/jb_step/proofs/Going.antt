@@ -5,23 +5,23 @@ use Rattle.std.specs.List.{list_all, list_any, enumerate_from, AllByRecursion}
 use Rattle.std.proofs.lemmas.Bool.{cases_lt}
 use Rattle.std.proofs.lemmas.Bool.Decides.{nat_tests}
 use Rattle.std.proofs.lemmas.List.{get_or_at, length-reverse}
-use Rattle.jb_plan.specs.Blocks.{ChunksFollow}
 use Rattle.jb_rules.specs.declared.row.Row.{Row}
 use Rattle.jb_rules.specs.declared.row.RowState.{RowState}
 use Rattle.jb_rules.specs.declared.row.RowState.TheVariants as state
 use Rattle.jb_rules.specs.States.{is_waiting, has_ended}
 use Rattle.jb_cert.specs.Lawful.{Pair, IsLawful, StandsIn}
-use Rattle.jb_chunk.specs.Attempt.{Ending, attempt_of, trial_of, end_of}
+use Rattle.jb_chunk.specs.Attempt.{Ending, attempt_of}
 use Rattle.jb_chunk.specs.Standing.{TaskState, IsReady}
 use Rattle.jb_repo.specs.Rows.{remaining, remaining_of}
 use Rattle.jb_step.specs.Going.{IsTable, NextCanRun, RunsInOrder, RunsAll}
 use Rattle.jb_step.specs.Parts.{tasks_at}
 use Rattle.jb_step.specs.Rounds.{is_commit, has_partition, has_task, tasks_in, after_round, after_rounds, CanRunAll, AreQuiet}
 use Rattle.jb_step.specs.Setup.{Setup, row_now, counts_now}
+use Rattle.jb_step.specs.inside.Below.{ChunkLaws}
 use Rattle.jb_step.proofs.Adding.{sets-more}
 use Rattle.jb_step.proofs.Apart.{at-rounds, all-some, left-of, right-of, both}
 use Rattle.jb_step.proofs.Holding.{apart-of, rest-of}
-use Rattle.jb_step.proofs.Steady.{IsSteady, steady, next-steady, waits, rem, falls-by, same-partition, same-count}
+use Rattle.jb_step.proofs.Steady.{IsSteady, steady, next-steady, waits, rem, falls-one, same-partition, same-count}
 
 abbrev pub one_if : Bool → ℕ
 one_if true = 1
@@ -53,13 +53,13 @@ record IsFallen (rounds : List (List Pair)) (t u : TaskState) : Type 0 where
 abbrev IsFallenTo : List (List Pair) → TaskState → List TaskState → Type 0
 IsFallenTo rounds t ts = (u : TaskState) × (ts ≡ u ∷ []) × IsFallen rounds t u
 
-fallen-one : ChunksFollow → (b : Bool) (set : List Pair) (older : List (List Pair)) (t u : TaskState) → has_partition set u.partition ≡ b → IsFallen older t u
+fallen-one : ChunkLaws → (b : Bool) (set : List Pair) (older : List (List Pair)) (t u : TaskState) → has_partition set u.partition ≡ b → IsFallen older t u
     → list_all row_waits (cond b (u ∷ []) []) ≡ true → list_all commits (cond b (u ∷ []) []) ≡ true → IsFallenTo (set ∷ older) t (cond b (attempt_of u).task u ∷ [])
 fallen-one law true set older t u has f wait commit =
     let w = waits u.row.state (left-of (row_waits u) true wait) in
     let c = left-of (commits u) true commit in
-    let next = next-steady law u (end_of (trial_of u)) f.steady w in
-    let less : rem t.item_count (attempt_of u).task.row + 1 ≡ rem t.item_count u.row = subst (λ n. rem n (attempt_of u).task.row + 1 ≡ rem n u.row) f.item_count (falls-by law u (end_of (trial_of u)) f.steady w c) in
+    let next = next-steady law u f.steady w in
+    let less : rem t.item_count (attempt_of u).task.row + 1 ≡ rem t.item_count u.row = subst (λ n. rem n (attempt_of u).task.row + 1 ≡ rem n u.row) f.item_count (falls-one law u f.steady w c) in
     let one : one_if (has_partition set t.partition) ≡ 1 = ap one_if (ap (has_partition set) (sym f.partition) ∙ has) in
     let was = f.fallen in
     ((attempt_of u).task, refl, record { steady = next; item_count = same-count u ∙ f.item_count; partition = same-partition u ∙ f.partition; fallen = omega (arith, less, one, was) })
@@ -68,7 +68,7 @@ fallen-one law false set older t u has f wait commit =
     let was = f.fallen in
     (u, refl, record { steady = f.steady; item_count = f.item_count; partition = f.partition; fallen = omega (arith, none, was) })
 
-fallen-all : ChunksFollow → (rounds : List (List Pair)) (t : TaskState) → IsSteady t → AllIn row_waits rounds (t ∷ []) → AllIn commits rounds (t ∷ []) → IsFallenTo rounds t (after_rounds rounds (t ∷ []))
+fallen-all : ChunkLaws → (rounds : List (List Pair)) (t : TaskState) → IsSteady t → AllIn row_waits rounds (t ∷ []) → AllIn commits rounds (t ∷ []) → IsFallenTo rounds t (after_rounds rounds (t ∷ []))
 fallen-all law [] t st wait commit = (t, refl, record { steady = st; item_count = refl; partition = refl; fallen = omega arith })
 fallen-all law (set ∷ older) t st wait commit =
     let before = fallen-all law older t st wait.0 commit.0 in
@@ -274,7 +274,7 @@ members-wait set (u ∷ ts) h =
 abbrev IsWaitingAt : ℕ → List TaskState → Type 0
 IsWaitingAt p ts = (u : TaskState) × (tasks_at p ts ≡ u ∷ []) × (row_waits u ≡ true)
 
-by-tasks : ChunksFollow → (s : Setup) (before : List TaskState) (rounds : List (List Pair)) (p j : ℕ) (row : Row) (us : List TaskState)
+by-tasks : ChunkLaws → (s : Setup) (before : List TaskState) (rounds : List (List Pair)) (p j : ℕ) (row : Row) (us : List TaskState)
     → IsTable s before → CanRunAll rounds before → AreQuiet rounds before → slice_get s.rows p ≡ Some row → j < rem s.item_count (row_now before p row) → runs_of p rounds ≤ j
     → tasks_at p before ≡ us → IsWaitingAt p (after_rounds rounds before)
 by-tasks law s before rounds p j row [] table can quiet get less few e =
@@ -297,7 +297,7 @@ by-tasks law s before rounds p j row (t ∷ (v ∷ vs)) table can quiet get less
     let two = ap length e in
     absurd (omega (arith, one, two))
 
-pub next_can_run : ChunksFollow → NextCanRun
+pub next_can_run : ChunkLaws → NextCanRun
 next_can_run law s before rounds set left table lawful can quiet =
     let sets = reverse rounds ++ set ∷ left in
     let n = length rounds in
@@ -398,7 +398,7 @@ same-row : (rows : List Row) (p : ℕ) (row other : Row) → slice_get rows p �
 same-row rows p row other a b = cc
 
 -- the counts of one partition with one task fall by one in each round that has it
-fall-at : ChunksFollow → (s : Setup) (before : List TaskState) (rounds : List (List Pair)) (p : ℕ) (t : TaskState) → IsTable s before → CanRunAll rounds before → AreQuiet rounds before → p < length s.rows
+fall-at : ChunkLaws → (s : Setup) (before : List TaskState) (rounds : List (List Pair)) (p : ℕ) (t : TaskState) → IsTable s before → CanRunAll rounds before → AreQuiet rounds before → p < length s.rows
     → tasks_at p before ≡ t ∷ [] → slice_index (counts_now s (after_rounds rounds before)) p + runs_of p rounds ≡ slice_index (counts_now s before) p
 fall-at law s before rounds p t table can quiet lt e =
     let after = after_rounds rounds before in
@@ -417,7 +417,7 @@ fall-at law s before rounds p t table can quiet lt e =
     omega (arith, runs, was, now, fallen)
 
 -- and its one task stays one
-pub by-at : ChunksFollow → (s : Setup) (before : List TaskState) (rounds : List (List Pair)) (p : ℕ) (t : TaskState) → IsTable s before → CanRunAll rounds before → AreQuiet rounds before → tasks_at p before ≡ t ∷ []
+pub by-at : ChunkLaws → (s : Setup) (before : List TaskState) (rounds : List (List Pair)) (p : ℕ) (t : TaskState) → IsTable s before → CanRunAll rounds before → AreQuiet rounds before → tasks_at p before ≡ t ∷ []
     → (u : TaskState) × (tasks_at p (after_rounds rounds before) ≡ u ∷ [])
 by-at law s before rounds p t table can quiet e =
     let both_are : IsReady t × (t.item_count ≡ s.item_count) = member (λ (u : TaskState). IsReady u × (u.item_count ≡ s.item_count)) before p t [] table.tasks e in
@@ -426,7 +426,7 @@ by-at law s before rounds p t table can quiet e =
     let end = fallen-all law rounds t (steady t both_are.0) w c in
     (end.0, at-rounds p rounds before ∙ ap (after_rounds rounds) e ∙ end.1)
 
-order-by : ChunksFollow → (s : Setup) (before : List TaskState) (rounds : List (List Pair)) (p j : ℕ) (us : List TaskState) → IsTable s before → CanRunAll rounds before → AreQuiet rounds before → p < length s.rows
+order-by : ChunkLaws → (s : Setup) (before : List TaskState) (rounds : List (List Pair)) (p j : ℕ) (us : List TaskState) → IsTable s before → CanRunAll rounds before → AreQuiet rounds before → p < length s.rows
     → j < slice_index (counts_now s before) p → runs_of p rounds ≡ j → tasks_at p before ≡ us → slice_index (counts_now s (after_rounds rounds before)) p + j ≡ slice_index (counts_now s before) p
 order-by law s before rounds p j [] table can quiet lt less runs e =
     let one = count-in s before p lt in
@@ -438,7 +438,7 @@ order-by law s before rounds p j (t ∷ (v ∷ vs)) table can quiet lt less runs
     let two = ap length e in
     absurd (omega (arith, one, two))
 
-pub runs_in_order : ChunksFollow → RunsInOrder
+pub runs_in_order : ChunkLaws → RunsInOrder
 runs_in_order law s before rounds set left table lawful can quiet p j c =
     let sets = reverse rounds ++ set ∷ left in
     let n = length rounds in
@@ -449,7 +449,7 @@ runs_in_order law s before rounds set left table lawful can quiet p j c =
     let within : p < length s.rows = let low = known.0 in omega (arith, low, length-counts s.item_count before s.rows 0) in
     order-by law s before rounds p j (tasks_at p before) table can quiet within known.1 (runs-cnt p rounds (set ∷ left) ∙ cnt-is (counts_now s before) s.threads sets lawful p j n stands) refl
 
-all-by : ChunksFollow → (s : Setup) (before : List TaskState) (rounds : List (List Pair)) (p : ℕ) (us : List TaskState) → IsTable s before → CanRunAll rounds before → AreQuiet rounds before → p < length s.rows
+all-by : ChunkLaws → (s : Setup) (before : List TaskState) (rounds : List (List Pair)) (p : ℕ) (us : List TaskState) → IsTable s before → CanRunAll rounds before → AreQuiet rounds before → p < length s.rows
     → slice_index (counts_now s before) p ≤ runs_of p rounds → tasks_at p before ≡ us → slice_index (counts_now s (after_rounds rounds before)) p ≡ 0
 all-by law s before rounds p [] table can quiet lt few e =
     let after = after_rounds rounds before in
@@ -466,7 +466,7 @@ all-by law s before rounds p (t ∷ (v ∷ vs)) table can quiet lt few e =
     let two = ap length e in
     absurd (omega (arith, one, two))
 
-pub runs_all : ChunksFollow → RunsAll
+pub runs_all : ChunkLaws → RunsAll
 runs_all law s before rounds table lawful can quiet p lt =
     let sets = reverse rounds in
     let within : p < length (counts_now s before) = omega (arith, lt, length-counts s.item_count before s.rows 0) in
@@ -486,7 +486,7 @@ ended-at : (ts : List TaskState) → list_all (λ (t : TaskState). has_ended t.r
 ended-at [] e = tt
 ended-at (t ∷ ts) e = (left-of (has_ended t.row.state) (list_all (λ (u : TaskState). has_ended u.row.state) ts) e, ended-at ts (right-of (has_ended t.row.state) (list_all (λ (u : TaskState). has_ended u.row.state) ts) e))
 
-ended-by : ChunksFollow → (s : Setup) (before : List TaskState) (rounds : List (List Pair)) (p : ℕ) (us : List TaskState) → IsTable s before → CanRunAll rounds before → AreQuiet rounds before
+ended-by : ChunkLaws → (s : Setup) (before : List TaskState) (rounds : List (List Pair)) (p : ℕ) (us : List TaskState) → IsTable s before → CanRunAll rounds before → AreQuiet rounds before
     → list_all (λ (t : TaskState). has_ended t.row.state) (after_rounds rounds before) ≡ true → p < length s.rows → tasks_at p before ≡ us → slice_index (counts_now s before) p ≤ runs_of p rounds
 ended-by law s before rounds p [] table can quiet ended lt e =
     let one = count-in s before p lt in
@@ -506,6 +506,6 @@ ended-by law s before rounds p (t ∷ (v ∷ vs)) table can quiet ended lt e =
     let two = ap length e in
     absurd (omega (arith, one, two))
 
-pub runs-from-ended : ChunksFollow → (s : Setup) (before : List TaskState) (rounds : List (List Pair)) → IsTable s before → CanRunAll rounds before → AreQuiet rounds before
+pub runs-from-ended : ChunkLaws → (s : Setup) (before : List TaskState) (rounds : List (List Pair)) → IsTable s before → CanRunAll rounds before → AreQuiet rounds before
     → list_all (λ (t : TaskState). has_ended t.row.state) (after_rounds rounds before) ≡ true → (p : ℕ) → p < length s.rows → slice_index (counts_now s before) p ≤ runs_of p rounds
 runs-from-ended law s before rounds table can quiet ended p lt = ended-by law s before rounds p (tasks_at p before) table can quiet ended lt refl

@@ -4,18 +4,18 @@ use Rattle.std.specs.Prelude.{nat_eq, slice_get, Contains}
 use Rattle.std.specs.List.{list_all}
 use Rattle.std.proofs.lemmas.List.{get_or_at, length-reverse, drop-drop}
 use Rattle.jb_job.specs.declared.job.Range.{Range}
-use Rattle.jb_plan.specs.Blocks.{ChunksFollow}
 use Rattle.jb_rules.specs.declared.row.RowState.TheVariants as state
 use Rattle.jb_cert.specs.Lawful.{Pair, IsLawful, StandsIn}
-use Rattle.jb_chunk.specs.Attempt.{attempt_of, trial_of, end_of}
+use Rattle.jb_chunk.specs.Attempt.{attempt_of}
 use Rattle.jb_chunk.specs.Standing.{TaskState, IsReady}
 use Rattle.jb_step.specs.Going.{IsTable, ChunksAreBlocks}
 use Rattle.jb_step.specs.Parts.{tasks_at}
 use Rattle.jb_step.specs.Rounds.{has_partition, tasks_in, after_round, after_rounds, CanRunAll, AreQuiet}
 use Rattle.jb_step.specs.Setup.{Setup, counts_now}
+use Rattle.jb_step.specs.inside.Below.{ChunkLaws}
 use Rattle.jb_step.proofs.Apart.{all-some, at-rounds, left-of}
 use Rattle.jb_step.proofs.Going.{AllIn, row_waits, commits, one_if, runs_of, runs-cnt, chunk-has, cnt-is, waits-in, commits-in, member, named, next_can_run}
-use Rattle.jb_step.proofs.Steady.{IsSteady, steady, next-steady, waits, listing, next-list, drops-by, same-partition}
+use Rattle.jb_step.proofs.Steady.{IsSteady, steady, next-steady, waits, listing, next-list, drops-one, same-partition}
 
 record IsDropped (rounds : List (List Pair)) (t u : TaskState) : Type 0 where
   steady_now : IsSteady u
@@ -25,12 +25,12 @@ record IsDropped (rounds : List (List Pair)) (t u : TaskState) : Type 0 where
 abbrev IsDroppedTo : List (List Pair) → TaskState → List TaskState → Type 0
 IsDroppedTo rounds t ts = (u : TaskState) × (ts ≡ u ∷ []) × IsDropped rounds t u
 
-dropped-one : ChunksFollow → (b : Bool) (set : List Pair) (older : List (List Pair)) (t u : TaskState) → has_partition set u.partition ≡ b → IsDropped older t u
+dropped-one : ChunkLaws → (b : Bool) (set : List Pair) (older : List (List Pair)) (t u : TaskState) → has_partition set u.partition ≡ b → IsDropped older t u
     → list_all row_waits (cond b (u ∷ []) []) ≡ true → list_all commits (cond b (u ∷ []) []) ≡ true → IsDroppedTo (set ∷ older) t (cond b (attempt_of u).task u ∷ [])
 dropped-one law true set older t u has f wait commit =
     let w = waits u.row.state (left-of (row_waits u) true wait) in
     let c = left-of (commits u) true commit in
-    let next = next-steady law u (end_of (trial_of u)) f.steady_now w in
+    let next = next-steady law u f.steady_now w in
     let one : one_if (has_partition set t.partition) ≡ 1 = ap one_if (ap (has_partition set) (sym f.partition) ∙ has) in
     let number : one_if (has_partition set t.partition) + runs_of t.partition older ≡ runs_of t.partition older + 1 = omega (arith, one) in (
       (attempt_of u).task,
@@ -42,7 +42,7 @@ dropped-one law true set older t u has f wait commit =
             ap (λ n. drop n (listing t)) number
             ∙ sym (drop-drop 1 (runs_of t.partition older) (listing t))
             ∙ ap (drop 1) f.dropped
-            ∙ drops-by law u (end_of (trial_of u)) f.steady_now w c;
+            ∙ drops-one law u f.steady_now w c;
       },
     )
 dropped-one law false set older t u has f wait commit =
@@ -50,7 +50,7 @@ dropped-one law false set older t u has f wait commit =
     let number : one_if (has_partition set t.partition) + runs_of t.partition older ≡ runs_of t.partition older = omega (arith, none) in
     (u, refl, record { steady_now = f.steady_now; partition = f.partition; dropped = ap (λ n. drop n (listing t)) number ∙ f.dropped })
 
-dropped-all : ChunksFollow → (rounds : List (List Pair)) (t : TaskState) → IsSteady t → AllIn row_waits rounds (t ∷ []) → AllIn commits rounds (t ∷ []) → IsDroppedTo rounds t (after_rounds rounds (t ∷ []))
+dropped-all : ChunkLaws → (rounds : List (List Pair)) (t : TaskState) → IsSteady t → AllIn row_waits rounds (t ∷ []) → AllIn commits rounds (t ∷ []) → IsDroppedTo rounds t (after_rounds rounds (t ∷ []))
 dropped-all law [] t st wait commit = (t, refl, record { steady_now = st; partition = refl; dropped = refl })
 dropped-all law (set ∷ older) t st wait commit =
     let before = dropped-all law older t st wait.0 commit.0 in
@@ -69,7 +69,7 @@ same-head : (u v : TaskState) → u ∷ [] ≡ v ∷ [] → u ≡ v
 same-head u v e = cc
 
 -- the one task of a partition of the next round waits
-waits-now : ChunksFollow → (s : Setup) (before : List TaskState) (rounds : List (List Pair)) (set : List Pair) (left : List (List Pair)) → IsTable s before → IsLawful (counts_now s before) s.threads (reverse rounds ++ set ∷ left)
+waits-now : ChunkLaws → (s : Setup) (before : List TaskState) (rounds : List (List Pair)) (set : List Pair) (left : List (List Pair)) → IsTable s before → IsLawful (counts_now s before) s.threads (reverse rounds ++ set ∷ left)
     → CanRunAll rounds before → AreQuiet rounds before → (p j : ℕ) → Contains set (p, j) → (u : TaskState) → tasks_at p (after_rounds rounds before) ≡ u ∷ [] → u.row.state ≡ state.Waiting
 waits-now law s before rounds set left table lawful can quiet p j chunk u there =
     let has = chunk-has set p j chunk.0 chunk.1 chunk.2 in
@@ -79,7 +79,7 @@ waits-now law s before rounds set left table lawful can quiet p j chunk u there 
     let its : has_partition set u.partition ≡ true = ap (has_partition set) (named (after_rounds rounds before) p u [] there) ∙ has in
     waits u.row.state (left-of (row_waits u) true (subst (λ b. list_all row_waits (cond b (u ∷ []) []) ≡ true) its one))
 
-pub chunks_are_blocks : ChunksFollow → ChunksAreBlocks
+pub chunks_are_blocks : ChunkLaws → ChunksAreBlocks
 chunks_are_blocks law s before rounds set left table lawful can quiet p j chunk t u here there =
     let sets = reverse rounds ++ set ∷ left in
     let n = length rounds in

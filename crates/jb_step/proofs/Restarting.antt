@@ -396,7 +396,7 @@ fit-open law [] [] ready way = tt
 fit-open law [] (u ∷ us) ready way = absurd way
 fit-open law (t ∷ ts) [] ready way = absurd way
 fit-open law (t ∷ ts) (u ∷ us) ready way =
-    fit-one (is_unfinished u) u (open_tasks us) (λ sound. (law t u ready.0 way.0 sound.counted.rolled).fits) (fit-open law ts us ready.1 way.1)
+    fit-one (is_unfinished u) u (open_tasks us) (λ sound. (law t u ready.0 way.0 sound.counted.rolled sound.counted.few_repeats).fits) (fit-open law ts us ready.1 way.1)
 
 fit-rows : (ts : List TaskState) → AllByRecursion FitsIfSound ts → AllByRecursion (λ (t : TaskState). IsSoundRow t.row) ts → FitRows (map numbered ts) (map (λ (t : TaskState). t.work) ts)
 fit-rows [] fit sound = tt

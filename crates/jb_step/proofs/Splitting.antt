@@ -28,8 +28,8 @@ attempt_by (Failed class) t e h m = h
 attempt_by NoMemory t e h m = let never : ⊥ = cc in absurd never
 
 module _ {T : Type 0} (standing : T → TaskState) where
-  is_attempt : (t : T) (d : Done T) → IsAttemptOf standing t d → had_memory d.outcome ≡ true → ending_of (standing d.task) d.outcome d.values.items ≡ attempt_of (standing t)
-  is_attempt t d h m = attempt_by d.outcome (standing t) (ending_of (standing d.task) d.outcome d.values.items) h.attempt m
+  is_attempt : (t : T) (d : Done T) → IsAttemptOf standing t d → had_memory d.outcome ≡ true → ending_of (standing d.task) d.outcome d.values.items d.again ≡ attempt_of (standing t)
+  is_attempt t d h m = attempt_by d.outcome (standing t) (ending_of (standing d.task) d.outcome d.values.items d.again) h.attempt m
 
   merged-one : (b : Bool) (t : T) (us : List T) (rest : List (Option T)) (after : List TaskState) (ds : List (Done T)) → ((es : List (Done T)) → AreDonesOf standing us es → AreWhole es → map standing (merged rest es) ≡ after) → AreDonesOf standing (cond b (t ∷ us) us) ds → AreWhole ds → map standing (merged (cond b None (Some t) ∷ rest) ds) ≡ cond b (attempt_of (standing t)).task (standing t) ∷ after
   merged-one false t us rest after ds more h m = ap (λ xs. standing t ∷ xs) (more ds h m)
@@ -80,7 +80,7 @@ pub heard-is : {T : Type 0} (standing : T → TaskState) (set : List Pair) (ts :
 heard-is standing set ts ds h m = ap heard_in (round-endings standing set ts ds h m)
 
 pub attempts-are : {T : Type 0} (standing : T → TaskState) (set : List Pair) (ts : List T) (ds : List (Done T)) → AreDonesOf standing (taken standing set ts) ds → AreWhole ds → length ds ≡ length (attempts_in set (map standing ts))
-attempts-are standing set ts ds h m = sym (length-map ds (λ (d : Done _). ending_of (standing d.task) d.outcome d.values.items)) ∙ ap length (round-endings standing set ts ds h m)
+attempts-are standing set ts ds h m = sym (length-map ds (λ (d : Done _). ending_of (standing d.task) d.outcome d.values.items d.again)) ∙ ap length (round-endings standing set ts ds h m)
 
 -- THE WORKS
 

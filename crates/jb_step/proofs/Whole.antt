@@ -3,7 +3,6 @@ use Rattle.std.proofs.Common.{◌≡◌, ℕ, ◌+◌, ◌≤◌, ◌<◌, Bool,
 use Rattle.std.specs.Prelude.{Contains}
 use Rattle.std.proofs.lemmas.Bool.{cases_lt}
 use Rattle.std.proofs.lemmas.List.{get_or_append_left, length-reverse}
-use Rattle.jb_plan.specs.Blocks.{ChunksFollow}
 use Rattle.jb_cert.specs.Lawful.{Pair, IsLawful, StandsIn, HasOnePerPartition}
 use Rattle.jb_chunk.specs.Standing.{TaskState}
 use Rattle.jb_step.specs.Going.{IsTable, EndsWhole}
@@ -12,6 +11,7 @@ use Rattle.jb_step.specs.Rounds.{CanRun, last_breaks}
 use Rattle.jb_step.specs.Runs.{PlanRun, ArePlanRuns, IsOver, table_after, rounds_of}
 use Rattle.jb_step.specs.Setup.{Setup, counts_now}
 use Rattle.jb_step.specs.Ways.{have_ended}
+use Rattle.jb_step.specs.inside.Below.{ChunkLaws}
 use Rattle.jb_step.proofs.Adding.{after_rounds-append, quiet-more}
 use Rattle.jb_step.proofs.Going.{next_can_run, cnt-le, runs-cnt, runs-from-ended, length-counts}
 
@@ -42,7 +42,7 @@ none-left : (left : List (List Pair)) → length left ≤ 0 → left ≡ []
 none-left [] le = refl
 none-left (set ∷ left) le = absurd (omega arith)
 
-pub ends_whole : ChunksFollow → EndsWhole
+pub ends_whole : ChunkLaws → EndsWhole
 ends_whole law s before rounds left table least can quiet ended =
     let counts = counts_now s before in
     let one = reverse rounds in
@@ -64,7 +64,7 @@ ends_whole law s before rounds left table least can quiet ended =
     let short = least.least one (front-lawful counts s.threads one left lawful here) in
     none-left left (omega (arith, short, length-append one left))
 
-pub open_plan_goes_on : ChunksFollow → OpenPlanGoesOn
+pub open_plan_goes_on : ChunkLaws → OpenPlanGoesOn
 open_plan_goes_on law s start plan older set left runs table next quiet =
     let before = table_after older start in
     let one = runs.2 in
@@ -72,10 +72,10 @@ open_plan_goes_on law s start plan older set left runs table next quiet =
     subst (λ ts. CanRun set ts) (sym (after_rounds-append plan.rounds (rounds_of older) start))
     (next_can_run law s before plan.rounds set left table lawful one.run (quiet-more plan.rounds before one.quiet quiet))
 
-pub new_plan_begins : ChunksFollow → NewPlanBegins
+pub new_plan_begins : ChunkLaws → NewPlanBegins
 new_plan_begins law s before set left table least = next_can_run law s before [] set left table least.lawful tt tt
 
-over-by : ChunksFollow → (b : Bool) (s : Setup) (start : List TaskState) (plan : PlanRun) (older : List PlanRun) → last_breaks plan.rounds (table_after older start) ≡ b
+over-by : ChunkLaws → (b : Bool) (s : Setup) (start : List TaskState) (plan : PlanRun) (older : List PlanRun) → last_breaks plan.rounds (table_after older start) ≡ b
     → ArePlanRuns s start (plan ∷ older) → IsTable s (table_after older start) → have_ended (table_after (plan ∷ older) start) ≡ true → IsOver (table_after older start) plan
 over-by law true s start plan older e runs table ended = inr e
 over-by law false s start plan older e runs table ended =
@@ -84,5 +84,5 @@ over-by law false s start plan older e runs table ended =
     inl (ends_whole law s before plan.rounds plan.left table one.least one.run (quiet-more plan.rounds before one.quiet e)
     (subst (λ ts. have_ended ts ≡ true) (after_rounds-append plan.rounds (rounds_of older) start) ended))
 
-pub last_plan_is_over : ChunksFollow → LastPlanIsOver
+pub last_plan_is_over : ChunkLaws → LastPlanIsOver
 last_plan_is_over law s start plan older runs table ended = over-by law (last_breaks plan.rounds (table_after older start)) s start plan older refl runs table ended

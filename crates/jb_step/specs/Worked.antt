@@ -192,7 +192,7 @@ note certificate planned ran = record { certificate = certificate; planned = pla
 -- at, redo, retries, written, READ, WRITE, COMMIT, ROLLBACK, PROCESS_SKIP, in rows without other counts
 abbrev pub row : ℕ → ℕ → ℕ → ℕ → ℕ → ℕ → ℕ → ℕ → ℕ → List ℕ
 row at redo retries written read write commit rollback process_skip =
-    at ∷ redo ∷ retries ∷ written ∷ read ∷ write ∷ commit ∷ rollback ∷ 0 ∷ process_skip ∷ 0 ∷ 0 ∷ []
+    at ∷ redo ∷ retries ∷ written ∷ read ∷ write ∷ commit ∷ rollback ∷ 0 ∷ process_skip ∷ 0 ∷ 0 ∷ 0 ∷ []
 
 abbrev pub text : ℕ → List ℕ → AnalyzerCall
 text p t = call.Collected p t

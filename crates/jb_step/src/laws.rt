@@ -7,7 +7,9 @@ ghost use Rattle.jb_step.specs.Parts.{AttemptsAreAlone, HeardOfPartition, Others
 ghost use Rattle.jb_step.specs.Restarts.{RestartsAreOnTheWay, RestartsEndAlone, RestartsEndAsUnstopped, RestartsFit};
 
 use jb_cert::{bound_is_least, wrap_around_is_least};
-use jb_chunk::{runs_end_alike, runs_lead_to_an_end, tasks_go_on, tasks_stay_ready};
+use jb_chunk::{
+    attempts_are_steps, runs_end_alike, runs_lead_to_an_end, tasks_go_on, tasks_stay_ready,
+};
 use jb_collect::{calls_end_at_a_fault, partitions_are_heard_apart};
 use jb_plan::chunks_follow_one_another;
 use jb_saved::answers_are_computed;
@@ -43,7 +45,7 @@ pub fn plans_can_be_run()
     ensures rows { BeginsWithRows }
     ensures stay { PartitionsStay }
 {
-    chunks_follow_one_another();
+    laws_below();
 }
 
 /// A step that is stopped any number of times, and restarted each time through its saved text, ends, once nothing stops it,
@@ -69,6 +71,7 @@ pub(crate) fn laws_below()
     ensures { LawsBelow }
 {
     chunks_follow_one_another();
+    attempts_are_steps();
     wrap_around_is_least();
     bound_is_least();
     calls_end_at_a_fault();

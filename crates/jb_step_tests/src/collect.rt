@@ -29,7 +29,7 @@ fn worked_rows()
 fn attempt(alloc: Global, partition: u32) -> Option<Done<OneRecordTask>> {
     let task = own_task(alloc, partition)?;
     let row = *task.row();
-    if row.state.is_waiting() && row.counts.rollback < MAX_ROLLBACKS {
+    if row.state.is_waiting() && row.counts.rollback < MAX_ROLLBACKS && row.in_place == 0 {
         Some(task.attempt(alloc))
     } else {
         None

@@ -5,7 +5,7 @@ ghost use denote.Param.Send.{IsSend};
 ghost use Rattle.jb_rules.specs.declared.row.RowState.TheVariants.{Waiting};
 ghost use Rattle.jb_job.specs.Limits.{max_rollbacks};
 ghost use Rattle.jb_chunk.specs.Attempt.{IsAttempt, ending_of};
-ghost use Rattle.jb_chunk.specs.Standing.{IsReady};
+ghost use Rattle.jb_chunk.specs.Standing.{IsReady, HasRepeats};
 
 use crate::workers::tasks::{RULES, boxes, fresh_rows, task_of};
 use jb_artifacts::{Artifacts, FaultPlans, Item};
@@ -24,7 +24,7 @@ struct Attempts<T> {
 }
 
 impl<T: PartitionTask> Promise<Done<T>> for Attempts<T> {
-    ghost kept_by = { λ p d. IsAttempt (T.standing p.task.value) (ending_of (T.standing d.task) d.outcome d.values.items) };
+    ghost kept_by = { λ p d. IsAttempt (T.standing p.task.value) (ending_of (T.standing d.task) d.outcome d.values.items d.again) };
 }
 
 /// Attempts the task's next chunk in a thread of its own, where one can be made.
@@ -35,15 +35,16 @@ fn attempt_in_thread<T: PartitionTask + Send + 'static>(
 ) -> Option<Done<T>>
     requires waiting { (T.standing task).row.state ≡ Waiting }
     requires room { (T.standing task).row.counts.rollback < max_rollbacks }
+    requires repeats { HasRepeats (T.standing task).rules (T.standing task).row }
     requires ready { IsReady (T.standing task) }
-    ensures { IfSome result (λ d. IsAttempt (T.standing task) (ending_of (T.standing d.task) d.outcome d.values.items)) }
+    ensures { IfSome result (λ d. IsAttempt (T.standing task) (ending_of (T.standing d.task) d.outcome d.values.items d.again)) }
 {
     let promise = Attempts {
         task: Snapshot::of(&task),
     };
     let job = move || -> Done<T>
-        requires { IsSend T.row × ((T.standing task).row.state ≡ Waiting) × ((T.standing task).row.counts.rollback < max_rollbacks) × IsReady (T.standing task) }
-        ensures { IsAttempt (T.standing task) (ending_of (T.standing result.task) result.outcome result.values.items) }
+        requires { IsSend T.row × ((T.standing task).row.state ≡ Waiting) × ((T.standing task).row.counts.rollback < max_rollbacks) × HasRepeats (T.standing task).rules (T.standing task).row × IsReady (T.standing task) }
+        ensures { IsAttempt (T.standing task) (ending_of (T.standing result.task) result.outcome result.values.items result.again) }
     { task.attempt(alloc) };
     match thread::spawn_with(rt, promise, job) {
         Ok(child) => Some(child.join(rt)),
@@ -60,7 +61,7 @@ fn attempted<T: PartitionTask + Send + 'static>(
     let [row, _] = fresh_rows();
     let task = task_of::<T>(7, row, RULES, 2, artifacts)?;
     let row = *task.row();
-    if row.state.is_waiting() && row.counts.rollback < MAX_ROLLBACKS {
+    if row.state.is_waiting() && row.counts.rollback < MAX_ROLLBACKS && row.in_place == 0 {
         attempt_in_thread(rt, alloc, task)
     } else {
         None

@@ -117,12 +117,12 @@ fn restart_of(alloc: Global, resume: &str) -> Result<Vec<u8>, AllocError> {
 
 /// The saved rows of a step that was stopped after one round.
 const STOPPED: &str =
-    r#""saved":{"rows":[[0,3,2,0,0,2,2,2,1,0,0,0,0,0,"waiting"],[3,5,5,3,0,2,2,2,1,0,0,0,0,0,"done"],[5,7,5,5,0,0,0,0,0,0,0,0,0,0,"waiting"]],"step":"#;
+    r#""saved":{"rows":[[0,3,2,0,0,2,2,2,1,0,0,0,0,0,0,"waiting"],[3,5,5,3,0,2,2,2,1,0,0,0,0,0,0,"done"],[5,7,5,5,0,0,0,0,0,0,0,0,0,0,0,"waiting"]],"step":"#;
 
 /// A line for each restart: what it is refused for, or `accepted`; and what follows the job. `#` stands for the saved rows up to
 /// their step's id.
 const RESTARTS: &str =
-    r#"accepted ,"resume":{"outputs":[["xa","xb","xc"],["xd","xe"],[]],#"s","version":1}}
+    r#"accepted ,"resume":{"outputs":[["xa","xb","xc"],["xd","xe"],[]],#"s","version":2}}
 WrongShape(resume) 
 WrongShape(resume) ,"resume":[]
 WrongShape(unknown) ,"resume":[],"rounds":1
@@ -132,10 +132,11 @@ WrongShape(outputs) ,"resume":{"outputs":[["xa",7]],"saved":7}
 WrongShape(outputs) ,"resume":{"outputs":[[],"xa"],"saved":7}
 WrongShape(saved) ,"resume":{"outputs":[]}
 Saved(Shape) ,"resume":{"outputs":[],"saved":null}
-Saved(Version) ,"resume":{"outputs":[],#"t","version":2}}
-WrongShape(outputs) ,"resume":{"outputs":[[],["xd","xe"]],#"t","version":1}}
-OutOfRange(outputs) ,"resume":{"outputs":[["xa"],["xd","xe"],[]],#"t","version":1}}
-Saved(Step) ,"resume":{"outputs":[["xa","xb"],["xd","xe"],[]],#"t","version":1}}"#;
+Saved(Version) ,"resume":{"outputs":[],#"t","version":3}}
+Saved(Shape) ,"resume":{"outputs":[],#"t","version":1}}
+WrongShape(outputs) ,"resume":{"outputs":[[],["xd","xe"]],#"t","version":2}}
+OutOfRange(outputs) ,"resume":{"outputs":[["xa"],["xd","xe"],[]],#"t","version":2}}
+Saved(Step) ,"resume":{"outputs":[["xa","xb"],["xd","xe"],[]],#"t","version":2}}"#;
 
 /// The document of what follows the job in a line.
 fn restart_bytes(alloc: Global, resume: &str) -> Result<Vec<u8>, AllocError> {

@@ -24,8 +24,11 @@ fn worked_rows()
 const RANGES: &str =
     r#"{"id":"j","step":[{"chunk":{"item-count":2},"id":"s","partition":{"plan":{"ranges":[[0,2],[2,3]],"threads":1}}}]}"#;
 
-/// Whether the step has two ranges, and two items in a chunk.
+/// Whether the step has two ranges, two items in a chunk, and no class that is to roll nothing back.
 fn has_two_ranges(step: &Step) -> bool {
+    if step.rules().no_rollback != 0 {
+        return false;
+    }
     match step.spec().ranges() {
         Some(ranges) => ranges.as_slice().len() == 2 && step.item_count() == 2,
         None => false,
@@ -56,7 +59,7 @@ fn ranges_are_read_or_memory_is_wanted(rt: HostRuntime) {
 }
 
 const CLASSES: &str =
-    r#"{"exception-classes":["E","F","E","é"],"id":"j","step":[{"chunk":{"retry-limit":0,"skip-limit":1,"retryable-exception-classes":{"include":["*"],"exclude":["F"]},"skippable-exception-classes":{"include":["é","E"]}},"id":"s","partition":{"plan":{"override":true,"partitions":3}}}]}"#;
+    r#"{"exception-classes":["E","F","E","é"],"id":"j","step":[{"chunk":{"retry-limit":0,"skip-limit":1,"retryable-exception-classes":{"include":["*"],"exclude":["F"]},"no-rollback-exception-classes":{"include":["*"],"exclude":["é"]},"skippable-exception-classes":{"include":["é","E"]}},"id":"s","partition":{"plan":{"override":true,"partitions":3}}}]}"#;
 
 /// The number of a class of the job.
 fn number_of(job: &Job, name: &str) -> Option<u8> {
@@ -77,6 +80,7 @@ fn has_rules(step: &Step) -> bool {
     let rules = Rules {
         skippable: 0b101,
         retryable: u64::MAX - 0b10,
+        no_rollback: u64::MAX - 0b100,
         skip_limit: Some(1),
         retry_limit: 0,
     };

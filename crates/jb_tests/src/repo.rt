@@ -1,17 +1,16 @@
 //! The worked lists of events, the refusals, the limits, and memory that is refused.
 
-ghost use Rattle.std.specs.Prelude.{◌≡◌, ◌∷◌, [], Some, None, IfOk};
-ghost use Rattle.jb_rules.specs.Rows.{fresh_row};
+ghost use Rattle.std.specs.Prelude.{◌≡◌, ◌∷◌, [], Some, None};
+ghost use Rattle.jb_rules.specs.Counts.{no_counts};
 ghost use Rattle.jb_job.specs.declared.class.ClassId.{ClassId};
-ghost use Rattle.jb_repo.specs.Openable.{IsOpenable, opened_journal};
 ghost use Rattle.jb_repo.specs.Rows.{total_counts};
 ghost use Rattle.jb_repo.specs.Table.{rows_of};
 ghost use Rattle.jb_repo.specs.Worked.{table_answers, journal_after};
-ghost use Rattle.jb_repo.specs.Worked.{fresh, two_partitions, walk, answered, finished, four_records, rollback, given_up, one_record, tries, tried_out, at_limit};
+ghost use Rattle.jb_repo.specs.Worked.{fresh, two_partitions, two_records, walk, answered, finished, four_records, rollback, given_up, one_record, tries, tried_out, at_limit};
 ghost use Rattle.jb_repo.specs.Worked.{EndedPlans, skipped_writes};
 
 use jb_cert::Certificate;
-use jb_job::{ClassId, MAX_ROLLBACKS, Range};
+use jb_job::{ClassId, Range};
 use jb_repo::*;
 use jb_rules::{Counts, Row, RowState};
 use std::alloc::{AllocError, Global};
@@ -33,6 +32,18 @@ fn worked_lists()
     ensures at_limit { table_answers at_limit (Event.Plan 1 (Certificate.Longest 0) ∷ Event.Begin 0 0 ∷ []) ≡ None ∷ Some Refused.Full ∷ [] }
     ensures ended_plans { EndedPlans }
     ensures skipped_writes { table_answers two_partitions skipped_writes ≡ None ∷ None ∷ Some Refused.BadDelta ∷ Some Refused.BadDelta ∷ Some Refused.BadDelta ∷ None ∷ [] }
+{}
+
+/// The same of repeats in place: as many as an attempt makes, and one more; and a row with room for those of one more chunk, and one
+/// that has too many before.
+fn worked_repeats()
+    ensures few { (class : ClassId) → table_answers two_partitions (Event.Plan 1 (Certificate.Longest 0) ∷ Event.Begin 0 0 ∷ Event.Begin 1 1 ∷ Event.Commit 0 two_records 2 100000 ∷ Event.Roll 1 class 100000 ∷ []) ≡ None ∷ None ∷ None ∷ None ∷ None ∷ [] }
+    ensures many { (class : ClassId) → table_answers two_partitions (Event.Plan 1 (Certificate.Longest 0) ∷ Event.Begin 0 0 ∷ Event.Commit 0 two_records 2 100001 ∷ Event.Roll 0 class 100001 ∷ Event.Fail 0 class 100001 ∷ []) ≡ None ∷ None ∷ Some Refused.BadDelta ∷ Some Refused.BadDelta ∷ Some Refused.BadDelta ∷ [] }
+    ensures room { let repeated = record one_record { opening = record (fresh 0 1) { retries = 999999900000; in_place = 999999900000 } ∷ [] } in
+        table_answers repeated (Event.Plan 1 (Certificate.Longest 0) ∷ Event.Begin 0 0 ∷ []) ≡ None ∷ None ∷ [] }
+    ensures no_room { let repeated = record one_record { opening = record (fresh 0 1) { retries = 999999900001; in_place = 999999900001 } ∷ [] } in
+        table_answers repeated (Event.Plan 1 (Certificate.Longest 0) ∷ Event.Begin 0 0 ∷ []) ≡ None ∷ Some Refused.Full ∷ [] }
+    ensures counted { (class : ClassId) → rows_of (journal_after one_record (Event.Plan 1 (Certificate.Longest 0) ∷ Event.Begin 0 0 ∷ Event.Roll 0 class 3 ∷ [])) ≡ record (fresh 0 1) { redo = 1; retries = 4; counts = record no_counts { rollback = 1 }; in_place = 3 } ∷ [] }
 {}
 
 const TWO_RECORDS: Counts = Counts {
@@ -91,12 +102,15 @@ fn walk(first: u32, second: u32) -> [(Event, Option<Refused>); 17] {
         (Event::Begin(1, 1), None),
         (Event::Round, Some(Refused::StillRunning)),
         (
-            Event::Commit(first, TWO_RECORDS, 1),
+            Event::Commit(first, TWO_RECORDS, 1, 0),
             Some(Refused::BadDelta),
         ),
-        (Event::Commit(first, TWO_RECORDS, 2), None),
-        (Event::Commit(second, TWO_RECORDS, 2), None),
-        (Event::Commit(0, TWO_RECORDS, 2), Some(Refused::NotRunning)),
+        (Event::Commit(first, TWO_RECORDS, 2, 0), None),
+        (Event::Commit(second, TWO_RECORDS, 2, 0), None),
+        (
+            Event::Commit(0, TWO_RECORDS, 2, 0),
+            Some(Refused::NotRunning),
+        ),
         (Event::Round, None),
         (Event::Round, Some(Refused::PastPlan)),
         (Event::Stop, None),
@@ -161,11 +175,17 @@ fn both_orders(rt: HostRuntime) -> Result<(), AllocError> {
     Ok(())
 }
 
-/// Events on two partitions, with each refusal of each event.
-fn refusals() -> [(Event, Option<Refused>); 33] {
+/// The most repeats in place that an attempt makes.
+const MOST_REPEATS: u64 = 100_000;
+
+/// Events on two partitions, with each refusal of each event. One repeat in place too many is looked at last.
+fn refusals() -> [(Event, Option<Refused>); 36] {
     let class = ClassId::new(0);
     let plan = Event::Plan(1, Certificate::Longest(0));
-    let commit = Event::Commit(0, TWO_RECORDS, 2);
+    let commit = Event::Commit(0, TWO_RECORDS, 2, MOST_REPEATS);
+    let too_often = Event::Commit(0, TWO_RECORDS, 2, MOST_REPEATS + 1);
+    let rolled_too_often = Event::Roll(0, class, MOST_REPEATS + 1);
+    let failed_too_often = Event::Fail(0, class, MOST_REPEATS + 1);
     [
         (Event::Begin(0, 0), Some(Refused::PastPlan)),
         (Event::Round, Some(Refused::PastPlan)),
@@ -176,18 +196,27 @@ fn refusals() -> [(Event, Option<Refused>); 33] {
         (Event::Plan(1, Certificate::Nothing), Some(Refused::BadPlan)),
         (plan, None),
         (plan, Some(Refused::StillRunning)),
-        (Event::Commit(2, TWO_RECORDS, 2), Some(Refused::LaneRange)),
-        (Event::Roll(2, class), Some(Refused::LaneRange)),
-        (Event::Fail(2, class), Some(Refused::LaneRange)),
+        (
+            Event::Commit(2, TWO_RECORDS, 2, 0),
+            Some(Refused::LaneRange),
+        ),
+        (Event::Roll(2, class, 0), Some(Refused::LaneRange)),
+        (
+            Event::Fail(2, class, MOST_REPEATS + 1),
+            Some(Refused::LaneRange),
+        ),
         (Event::Drop(2), Some(Refused::LaneRange)),
-        (commit, Some(Refused::NotRunning)),
-        (Event::Roll(0, class), Some(Refused::NotRunning)),
-        (Event::Fail(0, class), Some(Refused::NotRunning)),
+        (too_often, Some(Refused::NotRunning)),
+        (rolled_too_often, Some(Refused::NotRunning)),
+        (failed_too_often, Some(Refused::NotRunning)),
         (Event::Drop(0), Some(Refused::NotRunning)),
         (Event::Begin(2, 2), Some(Refused::NoPartition)),
         (Event::Begin(0, 0), None),
         (Event::Begin(1, 1), None),
         (plan, Some(Refused::StillRunning)),
+        (too_often, Some(Refused::BadDelta)),
+        (rolled_too_often, Some(Refused::BadDelta)),
+        (failed_too_often, Some(Refused::BadDelta)),
         (commit, None),
         (Event::Begin(0, 0), Some(Refused::LaneBusy)),
         (Event::Drop(1), None),
@@ -196,7 +225,7 @@ fn refusals() -> [(Event, Option<Refused>); 33] {
         (Event::Plan(1, Certificate::Longest(1)), None),
         (Event::Begin(0, 0), Some(Refused::NotIdle)),
         (Event::Begin(0, 1), None),
-        (Event::Fail(0, class), None),
+        (Event::Fail(0, class, MOST_REPEATS), None),
         (Event::Begin(1, 1), Some(Refused::NotIdle)),
         (Event::Stop, None),
         (Event::Begin(1, 1), Some(Refused::Stopping)),
@@ -209,10 +238,22 @@ fn refusals() -> [(Event, Option<Refused>); 33] {
     ]
 }
 
+/// The rows after those events: the first partition is finished, the second has failed, each after as many repeats as there may be.
+fn rows_after_refusals() -> [Row; 2] {
+    let finished = [0, 2, 2, 0, 100_000, 2, 2, 2, 1, 0, 0, 0, 0, 0, 100_000];
+    let failed = [2, 4, 2, 2, 100_000, 0, 0, 0, 0, 1, 0, 0, 0, 0, 100_000];
+    [
+        Row::of_numbers(&finished, RowState::Finished),
+        Row::of_numbers(&failed, RowState::Failed),
+    ]
+}
+
 #[test]
 fn refusals_of_each_event(rt: HostRuntime) -> Result<(), AllocError> {
     let mut repo = two_partitions(&rt, rt.alloc())?;
+    worked_repeats();
     apply_all(&rt, &mut repo, &refusals());
+    assert!(rt; has_rows(&repo, &rows_after_refusals())?);
     Ok(())
 }
 
@@ -231,7 +272,7 @@ fn rollback() -> [Event; 7] {
     [
         Event::Plan(1, Certificate::Longest(0)),
         Event::Begin(0, 0),
-        Event::Roll(0, ClassId::new(0)),
+        Event::Roll(0, ClassId::new(0), 0),
         Event::Round,
         Event::Begin(0, 0),
         Event::Plan(1, Certificate::Longest(0)),
@@ -298,7 +339,7 @@ fn end_first_round(
         Event::Plan(2, Certificate::FullLoad),
         Event::Begin(0, 0),
         Event::Begin(1, 1),
-        Event::Commit(1, TWO_RECORDS, 2),
+        Event::Commit(1, TWO_RECORDS, 2, 0),
     ];
     accept_all(rt, &mut repo, &begun);
     end_round(rt, &mut repo, ends, Event::Begin(1, 1), next);
@@ -308,9 +349,9 @@ fn end_first_round(
 #[test]
 fn plans_ended_in_the_first_of_two_rounds(rt: HostRuntime) -> Result<(), AllocError> {
     let class = ClassId::new(0);
-    let commit = Event::Commit(0, TWO_RECORDS, 2);
-    end_first_round(&rt, rt.alloc(), &[Event::Roll(0, class)], NO_FURTHER)?;
-    end_first_round(&rt, rt.alloc(), &[Event::Fail(0, class)], NO_FURTHER)?;
+    let commit = Event::Commit(0, TWO_RECORDS, 2, 0);
+    end_first_round(&rt, rt.alloc(), &[Event::Roll(0, class, 0)], NO_FURTHER)?;
+    end_first_round(&rt, rt.alloc(), &[Event::Fail(0, class, 0)], NO_FURTHER)?;
     end_first_round(&rt, rt.alloc(), &[Event::Drop(0)], NO_FURTHER)?;
     end_first_round(&rt, rt.alloc(), &[commit, Event::Stop], STOPPING)?;
     end_first_round(&rt, rt.alloc(), &[commit], FURTHER)?;
@@ -323,12 +364,12 @@ fn up_to_the_second_round() -> [Event; 9] {
         Event::Plan(3, Certificate::Longest(1)),
         Event::Begin(0, 0),
         Event::Begin(1, 1),
-        Event::Commit(0, ONE_RECORD, 1),
-        Event::Commit(1, ONE_RECORD, 1),
+        Event::Commit(0, ONE_RECORD, 1, 0),
+        Event::Commit(1, ONE_RECORD, 1, 0),
         Event::Round,
         Event::Begin(0, 1),
         Event::Begin(1, 0),
-        Event::Commit(0, ONE_RECORD, 2),
+        Event::Commit(0, ONE_RECORD, 2, 0),
     ]
 }
 
@@ -348,9 +389,9 @@ fn end_second_round(
 #[test]
 fn plans_ended_in_the_second_of_three_rounds(rt: HostRuntime) -> Result<(), AllocError> {
     let class = ClassId::new(0);
-    let commit = Event::Commit(1, ONE_RECORD, 2);
-    end_second_round(&rt, rt.alloc(), &[Event::Roll(1, class)], NO_FURTHER)?;
-    end_second_round(&rt, rt.alloc(), &[Event::Fail(1, class)], NO_FURTHER)?;
+    let commit = Event::Commit(1, ONE_RECORD, 2, 0);
+    end_second_round(&rt, rt.alloc(), &[Event::Roll(1, class, 0)], NO_FURTHER)?;
+    end_second_round(&rt, rt.alloc(), &[Event::Fail(1, class, 0)], NO_FURTHER)?;
     end_second_round(&rt, rt.alloc(), &[Event::Drop(1)], NO_FURTHER)?;
     end_second_round(&rt, rt.alloc(), &[Event::Stop, commit], STOPPING)?;
     end_second_round(&rt, rt.alloc(), &[commit], FURTHER)?;
@@ -381,10 +422,10 @@ fn skipped_writes() -> [(Event, Option<Refused>); 6] {
     [
         (Event::Plan(1, Certificate::Longest(0)), None),
         (Event::Begin(0, 0), None),
-        (Event::Commit(0, one_written, 1), bad),
-        (Event::Commit(0, all_filtered, 0), bad),
-        (Event::Commit(0, skipped, 2), bad),
-        (Event::Commit(0, one_filtered, 0), None),
+        (Event::Commit(0, one_written, 1, 0), bad),
+        (Event::Commit(0, all_filtered, 0, 0), bad),
+        (Event::Commit(0, skipped, 2, 0), bad),
+        (Event::Commit(0, one_filtered, 0, 0), None),
     ]
 }
 
@@ -404,7 +445,7 @@ fn run_round(rt: &impl Abort, repo: &mut Repo, first: u32) {
     assert!(rt; repo.apply(Event::Begin(64, 0)) == Err(Refused::LaneRange));
     assert!(rt; repo.apply(Event::Begin(0, 256)) == Err(Refused::NoPartition));
     for lane in 0..64 {
-        assert!(rt; repo.apply(Event::Commit(lane, ONE_RECORD, 1)).is_ok());
+        assert!(rt; repo.apply(Event::Commit(lane, ONE_RECORD, 1, 0)).is_ok());
     }
     assert!(rt; repo.apply(Event::Round).is_ok());
 }
@@ -447,7 +488,7 @@ fn first_round(alloc: Global) -> Result<Vec<Event>, AllocError> {
         events.push(Event::Begin(lane, 255 - lane))?;
     }
     for lane in 0..64 {
-        events.push(Event::Commit(lane, ONE_RECORD, 1))?;
+        events.push(Event::Commit(lane, ONE_RECORD, 1, 0))?;
     }
     events.push(Event::Round)?;
     Ok(events)
@@ -488,7 +529,7 @@ fn ten_thousand_chunks(alloc: Global) -> Result<Vec<Event>, AllocError> {
     events.push(Event::Plan(10_000, Certificate::Longest(0)))?;
     for written in 1..10_001 {
         events.push(Event::Begin(0, 0))?;
-        events.push(Event::Commit(0, ONE_RECORD, written))?;
+        events.push(Event::Commit(0, ONE_RECORD, written, 0))?;
         events.push(Event::Round)?;
     }
     Ok(events)
@@ -504,31 +545,58 @@ fn a_list_of_30_001_events(rt: HostRuntime) -> Result<(), AllocError> {
     Ok(())
 }
 
-/// A repository of one partition of one record, with so many rollbacks before.
-fn rolled_back(rt: &impl Abort, alloc: Global, before: u64) -> Result<Repo, AllocError> {
-    let mut row = Row::fresh(Range { lo: 0, hi: 1 });
-    row.counts.rollback = before;
-    Ok(opened(rt, Vec::from_slice(alloc, &[row])?, 1, 1))
+/// The most rollbacks that a row has, and the most repeats in place.
+const MOST: u64 = 1_000_000_000_000;
+
+/// The row of a partition of one record that waits, with this redo mark, so many retries, rollbacks and repeats in place.
+fn tried_row([redo, retries, rollbacks, in_place]: [u64; 4]) -> Row {
+    let numbers = [
+        0, 1, 0, redo, retries, 0, 0, 0, 0, rollbacks, 0, 0, 0, 0, in_place,
+    ];
+    Row::of_numbers(&numbers, RowState::Waiting)
 }
 
+/// A partition at its limits and one below them: its row, the answers to the Begin of its chunk and to a Roll after as many repeats in
+/// place as there may be, and its row then.
+const AT_LIMITS: [([u64; 4], [Option<Refused>; 2], [u64; 4]); 4] = [
+    (
+        [0, 0, MOST, 0],
+        [Some(Refused::Full), Some(Refused::NotRunning)],
+        [0, 0, MOST, 0],
+    ),
+    (
+        [0, 0, MOST - 1, 0],
+        [None, None],
+        [1, 100_001, MOST, 100_000],
+    ),
+    (
+        [0, 999_999_900_001, 0, 999_999_900_001],
+        [Some(Refused::Full), Some(Refused::NotRunning)],
+        [0, 999_999_900_001, 0, 999_999_900_001],
+    ),
+    (
+        [0, 999_999_900_000, 0, 999_999_900_000],
+        [None, None],
+        [1, MOST + 1, 1, MOST],
+    ),
+];
+
 #[test]
-fn a_partition_at_its_limit_of_rollbacks(rt: HostRuntime) -> Result<(), AllocError> {
-    for (before, begin, roll) in [
-        (
-            MAX_ROLLBACKS,
-            Some(Refused::Full),
-            Some(Refused::NotRunning),
-        ),
-        (MAX_ROLLBACKS - 1, None, None),
-    ] {
-        let mut repo = rolled_back(&rt, rt.alloc(), before)?;
+fn a_partition_at_its_limits(rt: HostRuntime) -> Result<(), AllocError> {
+    for (before, [begin, roll], after) in AT_LIMITS {
+        let mut repo = opened(
+            &rt,
+            Vec::from_slice(rt.alloc(), &[tried_row(before)])?,
+            1,
+            1,
+        );
         let events = [
             (Event::Plan(1, Certificate::Longest(0)), None),
             (Event::Begin(0, 0), begin),
-            (Event::Roll(0, ClassId::new(0)), roll),
+            (Event::Roll(0, ClassId::new(0), MOST_REPEATS), roll),
         ];
         apply_all(&rt, &mut repo, &events);
-        assert!(rt; repo.totals().rollback == MAX_ROLLBACKS);
+        assert!(rt; has_rows(&repo, &[tried_row(after)])?);
     }
     Ok(())
 }
@@ -567,7 +635,8 @@ fn how_many_rows_a_repository_is_opened_with(rt: HostRuntime) -> Result<(), Allo
 /// Whether the event ends a chunk, which takes no memory.
 fn ends_a_chunk(event: &Event) -> bool {
     match event {
-        Event::Commit(_, _, _) | Event::Roll(_, _) | Event::Fail(_, _) | Event::Drop(_) => true,
+        Event::Commit(_, _, _, _) | Event::Roll(_, _, _) | Event::Fail(_, _, _) | Event::Drop(_) =>
+            true,
         Event::Plan(_, _) | Event::Begin(_, _) | Event::Round | Event::Stop => false,
     }
 }
@@ -598,9 +667,9 @@ fn apply_each(rt: &impl Abort, repo: &mut Repo, events: &[Event]) {
 fn memory_refused_before_each_end(rt: HostRuntime) {
     let class = ClassId::new(0);
     let ends = [
-        Event::Commit(0, TWO_RECORDS, 2),
-        Event::Roll(0, class),
-        Event::Fail(0, class),
+        Event::Commit(0, TWO_RECORDS, 2, 0),
+        Event::Roll(0, class, 0),
+        Event::Fail(0, class, 0),
         Event::Drop(0),
     ];
     for end in ends {
@@ -644,7 +713,7 @@ fn memory_refused(rt: HostRuntime) {
     let one_by_one = [
         Event::Plan(1, Certificate::Longest(0)),
         Event::Begin(0, 0),
-        Event::Commit(0, TWO_RECORDS, 2),
+        Event::Commit(0, TWO_RECORDS, 2, 0),
         Event::Begin(1, 1),
         Event::Drop(1),
         Event::Round,
@@ -654,8 +723,8 @@ fn memory_refused(rt: HostRuntime) {
     let as_one_list = [
         Event::Plan(1, Certificate::Longest(1)),
         Event::Begin(0, 1),
-        Event::Commit(0, TWO_RECORDS, 4),
-        Event::Commit(0, TWO_RECORDS, 2),
+        Event::Commit(0, TWO_RECORDS, 4, 0),
+        Event::Commit(0, TWO_RECORDS, 2, 0),
         Event::Round,
         Event::Stop,
     ];

@@ -39,7 +39,7 @@ fn definitions_meet_worked_rows(_rt: HostRuntime) {
 
 /// The report of a step with one partition, which has no record.
 const NO_RECORD: &str =
-    r#"{"job":"j","status":"COMPLETED","steps":[{"heard":[["COMPLETED"]],"outputs":[[]],"plans":[["Longest(0)",2,2]],"reducer":["begin"],"saved":{"rows":[[0,0,0,0,0,0,0,0,0,0,0,0,0,0,"done"]],"step":"s","version":1},"status":"COMPLETED","step":"s"}]}"#;
+    r#"{"job":"j","status":"COMPLETED","steps":[{"heard":[["COMPLETED"]],"outputs":[[]],"plans":[["Longest(0)",2,2]],"reducer":["begin"],"saved":{"rows":[[0,0,0,0,0,0,0,0,0,0,0,0,0,0,0,"done"]],"step":"s","version":2},"status":"COMPLETED","step":"s"}]}"#;
 
 fn report_of(alloc: Global) -> Result<ReportText, AllocError> {
     let note = PlanNote {

@@ -16,11 +16,11 @@ use Rattle.json.specs.Print.{print, print_from, escape_byte}
 use Rattle.jb_collect.specs.declared.calls.AnalyzerCall.{AnalyzerCall}
 use Rattle.jb_collect.specs.declared.calls.Status.{Status}
 use Rattle.jb_collect.specs.Laws.{partition_of}
-use Rattle.jb_saved.specs.SavedTree.{list_tree, saved_tree}
+use Rattle.jb_saved.specs.SavedTree.{list_tree, saved_tree, tokens_of}
 use Rattle.jb_step.specs.Parts.{calls_about}
 use Rattle.jb_texts.specs.Statuses.{status_name}
 use Rattle.jb_texts.specs.Report.{StepReport, heard_text, heard_tree, plans_tree, reducer_tree, texts_tree, step_tree, steps_tree, report_text}
-use Rattle.jb_texts.specs.ReportTokens.{tokens_of, outputs_tokens, step_tokens, steps_tokens}
+use Rattle.jb_texts.specs.ReportTokens.{outputs_tokens, step_tokens, steps_tokens}
 use Rattle.jb_texts.specs.inside.Head.{head_text}
 use Rattle.jb_texts.specs.inside.Heard.{call_tokens}
 
@@ -42,12 +42,6 @@ list-written tree xs old begun passed new begins passes ends =
     ends ∙ ap (λ ts. ts ++ end_array ∷ []) passes ∙ ap (λ ts. (ts ++ members) ++ end_array ∷ []) begins
     ∙ append_assoc (old ++ begin_array ∷ []) members (end_array ∷ []) ∙ append_assoc old (begin_array ∷ []) (members ++ end_array ∷ [])
     ∙ ap (λ ts. old ++ ts) (sym (list-tokens tree xs))
-
--- an object of a list and two other members, written one after another
-pub object-written : (start first second third fourth fifth last : Token) (rows old a b c d e f g new : List Token)
-    → a ≡ old ++ start ∷ [] → b ≡ a ++ first ∷ [] → c ≡ b ++ rows → d ≡ c ++ second ∷ [] → e ≡ d ++ third ∷ [] → f ≡ e ++ fourth ∷ [] → g ≡ f ++ fifth ∷ [] → new ≡ g ++ last ∷ []
-    → new ≡ old ++ start ∷ first ∷ (rows ++ second ∷ third ∷ fourth ∷ fifth ∷ last ∷ [])
-object-written start first second third fourth fifth last rows old a b c d e f g new s1 s2 s3 s4 s5 s6 s7 s8 = rw (s8, s7, s6, s5, s4, s3, s2, s1) (simp append_assoc)
 
 -- the same of results that stand for texts
 pub texts-written : (written : List (List ℕ)) (count place : ℕ) (old begun passed new : List Token) → begun ≡ old ++ begin_array ∷ []

@@ -1,21 +1,14 @@
 -- The JSON tokens of a report's parts, in which it is written while the job runs.
 use Rattle.std.specs.Prelude.{ℕ, List, [], ◌∷◌, ◌++◌, map, flat_map, length, codes}
-use Rattle.serde_json.specs.Data.{Data}
-use Rattle.serde_json.specs.Written.{outline}
 use Rattle.json.specs.Token.{Token, begin_object, end_object, begin_array, end_array, key, string}
-use Rattle.json.specs.Tree.{json_tokens}
 use Rattle.jb_rules.specs.declared.row.Row.{Row}
 use Rattle.jb_collect.specs.declared.calls.AnalyzerCall.{AnalyzerCall}
 use Rattle.jb_collect.specs.declared.calls.ReducerCall.{ReducerCall}
 use Rattle.jb_collect.specs.declared.calls.Status.{Status}
-use Rattle.jb_saved.specs.SavedTree.{saved_tree}
+use Rattle.jb_saved.specs.SavedTree.{saved_tree, tokens_of}
 use Rattle.jb_step.specs.declared.notes.PlanNote.{PlanNote}
 use Rattle.jb_texts.specs.Statuses.{status_name}
 use Rattle.jb_texts.specs.Report.{PartitionReport, StepReport, heard_tree, plans_tree, reducer_tree, texts_tree}
-
--- the tokens of a tree
-abbrev pub tokens_of : Data → List Token
-tokens_of d = json_tokens (outline d)
 
 -- a step begins with what was heard of its partitions; then come the outputs of these, one list after another
 abbrev pub step_head : (partitions : ℕ) → List AnalyzerCall → List Token

@@ -38,6 +38,7 @@ finished_row lo hi redo commits = record {
   retries = 0;
   written = hi - lo;
   counts = record { read = hi - lo; write = hi - lo; commit = commits; rollback = 0; read_skip = 0; process_skip = 0; filter = 0; write_skip = 0 };
+  in_place = 0;
   state = Finished;
 }
 
@@ -60,4 +61,4 @@ seven_records = record {
 }
 
 abbrev pub seven_records_text : List ℕ
-seven_records_text = codes "{\"job\":\"j\",\"status\":\"COMPLETED\",\"steps\":[{\"heard\":[[\"0:2:2\",\"0:3:3\",\"0:3:3:end\",\"COMPLETED\"],[\"1:5:2\",\"1:5:2:end\",\"COMPLETED\"],[\"2:7:2\",\"2:7:2:end\",\"COMPLETED\"]],\"outputs\":[[\"xa\",\"xb\",\"xc\"],[\"xd\",\"xe\"],[\"xf\",\"xg\"]],\"plans\":[[\"Longest(0)\",2,2]],\"reducer\":[\"begin\",\"before\",\"after COMMIT\"],\"saved\":{\"rows\":[[0,3,3,0,0,3,3,3,2,0,0,0,0,0,\"done\"],[3,5,5,3,0,2,2,2,1,0,0,0,0,0,\"done\"],[5,7,7,5,0,2,2,2,1,0,0,0,0,0,\"done\"]],\"step\":\"s\",\"version\":1},\"status\":\"COMPLETED\",\"step\":\"s\"}]}\n"
+seven_records_text = codes "{\"job\":\"j\",\"status\":\"COMPLETED\",\"steps\":[{\"heard\":[[\"0:2:2\",\"0:3:3\",\"0:3:3:end\",\"COMPLETED\"],[\"1:5:2\",\"1:5:2:end\",\"COMPLETED\"],[\"2:7:2\",\"2:7:2:end\",\"COMPLETED\"]],\"outputs\":[[\"xa\",\"xb\",\"xc\"],[\"xd\",\"xe\"],[\"xf\",\"xg\"]],\"plans\":[[\"Longest(0)\",2,2]],\"reducer\":[\"begin\",\"before\",\"after COMMIT\"],\"saved\":{\"rows\":[[0,3,3,0,0,3,3,3,2,0,0,0,0,0,0,\"done\"],[3,5,5,3,0,2,2,2,1,0,0,0,0,0,0,\"done\"],[5,7,7,5,0,2,2,2,1,0,0,0,0,0,0,\"done\"]],\"step\":\"s\",\"version\":2},\"status\":\"COMPLETED\",\"step\":\"s\"}]}\n"

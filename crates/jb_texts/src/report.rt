@@ -7,7 +7,6 @@
 //! - `outputs`: the results of a partition.
 //! - `plans`: the plans of a step's rounds.
 //! - `reducer`: the calls of a step's reducer.
-//! - `rows`: the rows of a step's partitions.
 //! - `steps`: the reports of the steps, one after another.
 //! - `finished`: the whole text.
 
@@ -16,7 +15,6 @@ mod heard;
 mod outputs;
 mod plans;
 mod reducer;
-mod rows;
 mod steps;
 mod text;
 

@@ -12,4 +12,4 @@ use Rattle.jb_workers.specs.Events.{event_of}
 abbrev pub RowsAgree : Type 0
 RowsAgree =
     (task : TaskState) (lane : ℕ) (end : Ending) → task.row.state ≡ Waiting → IsAttempt task end
-    → next_row task.item_count (begun_row task.row lane) (event_of lane end.outcome end.task.row.written) ≡ end.task.row
+    → next_row task.item_count (begun_row task.row lane) (event_of lane end.outcome end.task.row.written end.again) ≡ end.task.row

@@ -6,12 +6,13 @@ use Rattle.jb_repo.specs.declared.events.Event.{Event}
 use Rattle.jb_repo.specs.declared.events.Event.TheVariants.{Commit, Roll, Fail, Drop}
 use Rattle.jb_repo.specs.History.{is_commit, number}
 
--- the event by which a lane's attempt enters the history; `written` is the row's number of results after the attempt
-abbrev pub event_of : (lane : ℕ) → Outcome → (written : ℕ) → Event
-event_of lane (Committed delta) written = Commit lane delta written
-event_of lane (Rolled class) written = Roll lane class
-event_of lane (Failed class) written = Fail lane class
-event_of lane NoMemory written = Drop lane
+-- the event by which a lane's attempt enters the history; `written` is the row's number of results after the attempt, `again`
+-- how often it repeated a call in place
+abbrev pub event_of : (lane : ℕ) → Outcome → (written again : ℕ) → Event
+event_of lane (Committed delta) written again = Commit lane delta written again
+event_of lane (Rolled class) written again = Roll lane class again
+event_of lane (Failed class) written again = Fail lane class again
+event_of lane NoMemory written again = Drop lane
 
 -- the number of Commits of a history
 abbrev pub commits : List Event → ℕ

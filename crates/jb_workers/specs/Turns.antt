@@ -1,6 +1,6 @@
 -- What a worker's turns of the lock say of its work: its Begin first, and last the event of what came of it.
-use Rattle.std.specs.Prelude.{◌≡◌, ◌≤◌, ◌⊎◌, Result, MatchResult}
-use Rattle.jb_job.specs.Limits.{max_rollbacks}
+use Rattle.std.specs.Prelude.{◌≡◌, ◌≤◌, ◌<◌, ◌-◌, ◌⊎◌, Result, MatchResult}
+use Rattle.jb_job.specs.Limits.{max_rollbacks, max_retry_limit, max_in_place}
 use Rattle.jb_chunk.specs.Standing.{TaskState}
 use Rattle.jb_chunk.specs.declared.outcome.Done.{Done}
 use Rattle.jb_repo.specs.declared.events.Event.TheVariants.{Begin}
@@ -16,7 +16,7 @@ use Rattle.jb_workers.specs.Works.{IsAttemptOf}
 -- the table accepted the work's Begin, and the event of what came of it
 pub record IsEntered {T : Type 0} (standing : T → TaskState) (work : Work T) (done : Done T) : Type 0 where
   pub begun : IsAccepted (Begin work.lane (standing work.task).partition)
-  pub ended : IsAccepted (event_of work.lane done.outcome (standing done.task).row.written)
+  pub ended : IsAccepted (event_of work.lane done.outcome (standing done.task).row.written done.again)
 
 -- the work was done: its task was attempted, and what came of it was entered
 pub record IsDoneOf {T : Type 0} (standing : T → TaskState) (work : Work T) (done : Done T) : Type 0 where
@@ -27,11 +27,11 @@ pub record IsDoneOf {T : Type 0} (standing : T → TaskState) (work : Work T) (d
 pub record IsEndRefused {T : Type 0} (standing : T → TaskState) (work : Work T) (refused : Refused) : Type 0 where
   pub done : Done T
   pub attempted : IsAttemptOf standing work.task done
-  pub refuses : IsRefused (event_of work.lane done.outcome (standing done.task).row.written) refused
+  pub refuses : IsRefused (event_of work.lane done.outcome (standing done.task).row.written done.again) refused
 
--- the task is at its limit of rollbacks
+-- the task is at its limit of rollbacks, or has no room for the repeats in place of one more chunk
 abbrev pub IsAtLimit : TaskState → Type 0
-IsAtLimit task = max_rollbacks ≤ task.row.counts.rollback
+IsAtLimit task = (max_rollbacks ≤ task.row.counts.rollback) ⊎ (max_in_place - max_retry_limit < task.row.in_place)
 
 -- why a work has no attempt in the history: its Begin was refused, or its task was at its limit, or its outcome was refused
 pub record IsKeptOut {T : Type 0} (standing : T → TaskState) (work : Work T) (why : RoundError) : Type 0 where

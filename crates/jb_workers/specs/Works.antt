@@ -18,7 +18,7 @@ AllCanBegin standing works = All (λ work. CanBegin (standing work.task)) works
 
 -- the task ended so: by its attempt, and it is ready again
 pub record IsAttemptOf {T : Type 0} (standing : T → TaskState) (task : T) (done : Done T) : Type 0 where
-  pub attempt : IsAttempt (standing task) (ending_of (standing done.task) done.outcome done.values.items)
+  pub attempt : IsAttempt (standing task) (ending_of (standing done.task) done.outcome done.values.items done.again)
   pub ready : IsReady (standing done.task)
 
 -- the works come by rising partition

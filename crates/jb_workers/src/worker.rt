@@ -1,6 +1,7 @@
 //! What one worker of a round does.
 
-ghost use Rattle.std.specs.Prelude.{◌≡◌, ◌+◌, IfOk, IfErr, MatchResult};
+ghost use Rattle.std.specs.Prelude.{◌≡◌, ◌+◌, ◌-◌, ◌≤◌, ◌<◌, ◌⊎◌, true, false, IfOk, IfErr, MatchResult};
+ghost use Rattle.jb_job.specs.Limits.{max_rollbacks, max_retry_limit, max_in_place};
 ghost use Rattle.jb_workers.specs.Events.{commit_of};
 ghost use Rattle.jb_workers.specs.Works.{CanBegin};
 ghost use Rattle.jb_workers.specs.Turns.{IsDoneOf, IsKeptOut};
@@ -14,8 +15,9 @@ use crate::round::RoundError;
 use crate::worker::entry::event_of;
 use crate::worker::lane_work::Work;
 use jb_chunk::{Done, PartitionTask};
-use jb_job::MAX_ROLLBACKS;
+use jb_job::{MAX_IN_PLACE, MAX_RETRY_LIMIT, MAX_ROLLBACKS};
 use jb_repo::Refused;
+use jb_rules::Row;
 use std::alloc::Global;
 use std::sync::Wait;
 use std::sync::ledger::{Ledger, Share};
@@ -24,7 +26,7 @@ use std::sync::ledger::{Ledger, Share};
 /// enters what came of it, and comes by the gate again. Its share of the book is one higher exactly where the Done is
 /// Committed. The desk's lock is held while an event is applied, and not during the attempt.
 ///
-/// Where Begin is refused, nothing else is done. Where the task is at its limit of rollbacks, Drop is entered in place
+/// Where Begin is refused, nothing else is done. Where the task is at its limit of rollbacks or of repeats, Drop is entered in place
 /// of an attempt, and the refusal is Full. Where the desk refuses what came of the attempt, or the attempt found no memory,
 /// Drop is entered.
 pub fn work<L: Ledger, T: PartitionTask, G: Gate, R: Wait>(
@@ -49,17 +51,25 @@ pub fn work<L: Ledger, T: PartitionTask, G: Gate, R: Wait>(
         Err(refused) => return (Err(RoundError::Refused(refused)), share),
     };
     gate.arrive(lane, round);
-    if task.row().counts.rollback >= MAX_ROLLBACKS {
+    if is_at_limit(task.row()) {
         desk.give_up(rt, lane);
         gate.leave(lane, round);
         return (Err(RoundError::Refused(Refused::Full)), share);
     }
     let done = task.attempt(alloc);
-    let event = event_of(lane, done.outcome, done.task.row().written);
+    let event = event_of(lane, done.outcome, done.task.row().written, done.again);
     let ended = desk.end(rt, lane, event, &mut share);
     gate.leave(lane, round);
     match ended {
         Ok(()) => (Ok(done), share),
         Err(refused) => (Err(RoundError::Refused(refused)), share),
     }
+}
+
+/// Whether the row has as many rollbacks as it may have, or no room for the repeats in place of one more chunk.
+fn is_at_limit(row: &Row) -> bool
+    ensures yes { result ≡ true → (max_rollbacks ≤ row.now.counts.rollback) ⊎ (max_in_place - max_retry_limit < row.now.in_place) }
+    ensures no { result ≡ false → (row.now.counts.rollback < max_rollbacks) × (row.now.in_place + max_retry_limit ≤ max_in_place) }
+{
+    row.counts.rollback >= MAX_ROLLBACKS || row.in_place > MAX_IN_PLACE - MAX_RETRY_LIMIT
 }

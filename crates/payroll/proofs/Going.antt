@@ -6,9 +6,8 @@ use Rattle.std.proofs.lemmas.List.Elements.{filter_map-append}
 use Rattle.std.proofs.lemmas.Bool.Decides.{nat_tests}
 use Rattle.jb_job.specs.declared.class.ClassId.{ClassId}
 use Rattle.jb_job.specs.Records.{RulesRecord}
-use Rattle.jb_rules.specs.declared.choice.Choice.{Choice}
-use Rattle.jb_rules.specs.declared.choice.Choice.TheVariants.{Skip, Retry, Fail}
-use Rattle.jb_rules.specs.Decide.{choice_by}
+use Rattle.jb_rules.specs.Decide.{choice_by, retry_open}
+use Rattle.jb_rules.specs.declared.choice.Choice.TheVariants.{Retry}
 use Rattle.jb_rules.specs.declared.row.Row.{Row}
 use Rattle.jb_rules.specs.declared.row.RowState.TheVariants as state
 use Rattle.jb_artifacts.specs.declared.faults.FaultPlan.{FaultPlan}
@@ -20,10 +19,10 @@ use Rattle.jb_artifacts.specs.Meaning.{Workplace}
 use Rattle.jb_chunk.specs.declared.end.End.{End}
 use Rattle.jb_chunk.specs.declared.end.End.TheVariants.{Written, Unwritten, Rolled, Failed}
 use Rattle.jb_chunk.specs.Alone.{IsOnTheWay, IsRunOf}
-use Rattle.jb_chunk.specs.Attempt.{Trial, Ending, attempt_of, trial_of, block_of, found_in, settled_at, end_of, end_after, end_at, end_by, work_with, read_end, write_plans, ending_by}
+use Rattle.jb_chunk.specs.Attempt.{Trial, Ending, attempt_of, trial_of, block_of, found_in, settled_at, end_of, end_after, end_at, work_with, read_end, write_plans, ending_by, task_after_repeats, again_of}
 use Rattle.jb_chunk.specs.Block.{entry, entry_by, process_entry, results, settles, settling, stops, is_skip, choice_at, skips_before, used_between}
 use Rattle.jb_chunk.specs.Entries.{fault_in, text_in, numbered}
-use Rattle.jb_chunk.specs.Laws.{TasksStandAtCheckpoints, WaysJoin}
+use Rattle.jb_chunk.specs.Laws.{AttemptsWithoutRepeats, RepeatsAreRetries, TasksStandAtCheckpoints, WaysJoin}
 use Rattle.jb_chunk.specs.Standing.{IsReady, TaskState}
 use Rattle.payroll.specs.Runs.{HasSlips, IsSamePart, PartsStay, SlipsGoOn}
 use Rattle.payroll.specs.Sheets.{slip_of}
@@ -117,7 +116,7 @@ never : true ≡ false → ⊥
 never e = cc
 
 -- a try that is made again isn't skipped
-retry-choice : (retrying retry : Bool) → is_skip (choice_by retrying false retry) ≡ false
+retry-choice : (retrying retry : Bool) → is_skip (choice_by Retry retrying false retry) ≡ false
 retry-choice false true = refl
 retry-choice false false = refl
 retry-choice true true = refl
@@ -218,14 +217,14 @@ Commits Unwritten = Unit {0}
 Commits (Rolled class) = ⊥
 Commits (Failed class) = ⊥
 
-choice-fails : (choice : Choice) (class : ClassId) → not (is_skip choice) ≡ true → Commits (end_by choice class) → ⊥
-choice-fails Skip class h e = never (sym h)
-choice-fails Retry class h e = e
-choice-fails Fail class h e = e
+end-fails : (skip retried : Bool) (class : ClassId) → not skip ≡ true → Commits (cond skip Unwritten (cond retried (Rolled class) (Failed class))) → ⊥
+end-fails true retried class h e = never (sym h)
+end-fails false true class h e = e
+end-fails false false class h e = e
 
 fault-fails : (rules : RulesRecord) (row : Row) (fault : Option ClassId) (skips : ℕ) → stops rules row fault skips ≡ true → Commits (end_at rules row fault skips) → ⊥
 fault-fails rules row None skips h e = never (sym h)
-fault-fails rules row (Some class) skips h e = choice-fails (choice_at rules row class skips) class h e
+fault-fails rules row (Some class) skips h e = end-fails (is_skip (choice_at rules row class skips)) (retry_open rules class row.retries) class h e
 
 settling-stops : (rules : RulesRecord) (row : Row) (w : Workplace) (hi k : ℕ) → settling rules row w hi ≡ Some k → stops rules row (fault_in (entry w k)) (skips_before row w k) ≡ true
 unfolding settling settles
@@ -274,9 +273,9 @@ ends-at false at hi e finished = absurd cc
 abbrev IsNumbered : TaskState → Type 0
 IsNumbered t = length t.work.writer.written ≡ t.row.written
 
-attempt-by : (lines : List (List ℕ)) (t : TaskState) (e : End) → end_of (trial_of t) ≡ e → t.row.at < (block_of t).hi → HasSlips lines t → IsNumbered (ending_by t e).task
-    → HasSlips lines (ending_by t e).task
-attempt-by lines t Written is lt has number =
+attempt-by : (lines : List (List ℕ)) (t : TaskState) (again : ℕ) (e : End) → end_of (trial_of t) ≡ e → t.row.at < (block_of t).hi → HasSlips lines t → IsNumbered (ending_by t again e).task
+    → HasSlips lines (ending_by t again e).task
+attempt-by lines t again Written is lt has number =
     let b = trial_of t in
     let none = commit-none b (subst Commits (sym is) tt) in
     let le : t.row.at ≤ (block_of t).hi = omega (arith, lt) in
@@ -289,8 +288,8 @@ attempt-by lines t Written is lt has number =
       number = number;
       whole = ends-at (b.hi == t.row.hi) b.hi t.row.hi refl;
     }
-attempt-by lines t Unwritten is lt has number = absurd (never-unwritten (trial_of t) has.work.writes is)
-attempt-by lines t (Rolled class) is lt has number =
+attempt-by lines t again Unwritten is lt has number = absurd (never-unwritten (trial_of t) has.work.writes is)
+attempt-by lines t again (Rolled class) is lt has number =
     let b = trial_of t in
     record {
       work = work-left t.row.lo (sheets_of lines t.row) b (settled_at b) t.row.at t.work.writer.written has.work;
@@ -300,7 +299,7 @@ attempt-by lines t (Rolled class) is lt has number =
       number = number;
       whole = has.whole;
     }
-attempt-by lines t (Failed class) is lt has number =
+attempt-by lines t again (Failed class) is lt has number =
     let b = trial_of t in
     record {
       work = work-left t.row.lo (sheets_of lines t.row) b (settled_at b) t.row.at t.work.writer.written has.work;
@@ -316,33 +315,42 @@ way-on : WaysJoin → (start t s : TaskState) (e : Ending) → IsOnTheWay start 
 way-on join start t s e way waiting is to = join start t s way (record { attempts = e ∷ []; run = (waiting, is, to) })
 
 -- each place on the way has its pay slips if the one before has
-run-slips : TasksStandAtCheckpoints → WaysJoin → (lines : List (List ℕ)) (start : TaskState) → IsReady start
+run-slips : TasksStandAtCheckpoints → WaysJoin → AttemptsWithoutRepeats → (lines : List (List ℕ)) (start : TaskState) → IsReady start
     → (es : List Ending) (t s : TaskState) → IsOnTheWay start t → HasSlips lines t → IsRunOf t es s → HasSlips lines s
-run-slips stand join lines start ready [] t s way has run = subst (HasSlips lines) (sym run) has
-run-slips stand join lines start ready (e ∷ es) t s way has run =
+run-slips stand join same lines start ready [] t s way has run = subst (HasSlips lines) (sym run) has
+run-slips stand join same lines start ready (e ∷ es) t s way has run =
     let waiting = run.0 in
     let on = way-on join start t e.task e way waiting run.1 refl in
-    let number : IsNumbered (attempt_of t).task = subst (λ (x : Ending). IsNumbered x.task) run.1 (stand start e.task ready on).count in
-    let next = attempt-by lines t (end_of (trial_of t)) refl ((stand start t ready way).chunk waiting).0 has number in
-    run-slips stand join lines start ready es e.task s on (subst (λ (x : Ending). HasSlips lines x.task) (sym run.1) next) run.2
+    let is : e ≡ ending_by t 0 (end_of (trial_of t)) = run.1 ∙ same t (ap (λ (r : RulesRecord). r.no_rollback) has.rules) in
+    let number = subst (λ (x : Ending). IsNumbered x.task) is (stand start e.task ready on).count in
+    let next = attempt-by lines t 0 (end_of (trial_of t)) refl ((stand start t ready way).chunk waiting).0 has number in
+    run-slips stand join same lines start ready es e.task s on (subst (λ (x : Ending). HasSlips lines x.task) (sym is) next) run.2
 
-pub slips-go : TasksStandAtCheckpoints → WaysJoin → SlipsGoOn
-slips-go stand join lines t s ready has way = run-slips stand join lines t ready way.attempts t s (record { attempts = []; run = refl }) has way.run
+pub slips-go : TasksStandAtCheckpoints → WaysJoin → AttemptsWithoutRepeats → SlipsGoOn
+slips-go stand join same lines t s ready has way = run-slips stand join same lines t ready way.attempts t s (record { attempts = []; run = refl }) has way.run
 
 -- ---- THE PARTITION AND ITS RANGE
 
-part-by : (t : TaskState) (e : End) → IsSamePart t (ending_by t e).task
-part-by t Written = record { partition = refl; lo = refl; hi = refl }
-part-by t Unwritten = record { partition = refl; lo = refl; hi = refl }
-part-by t (Rolled class) = record { partition = refl; lo = refl; hi = refl }
-part-by t (Failed class) = record { partition = refl; lo = refl; hi = refl }
+part-by : (t : TaskState) (again : ℕ) (e : End) → IsSamePart t (ending_by t again e).task
+part-by t again Written = record { partition = refl; lo = refl; hi = refl }
+part-by t again Unwritten = record { partition = refl; lo = refl; hi = refl }
+part-by t again (Rolled class) = record { partition = refl; lo = refl; hi = refl }
+part-by t again (Failed class) = record { partition = refl; lo = refl; hi = refl }
 
-run-part : (es : List Ending) (t s : TaskState) → IsRunOf t es s → IsSamePart t s
-run-part [] t s run = subst (IsSamePart t) (sym run) (record { partition = refl; lo = refl; hi = refl })
-run-part (e ∷ es) t s run =
-    let next : IsSamePart t e.task = subst (λ (x : Ending). IsSamePart t x.task) (sym run.1) (part-by t (end_of (trial_of t))) in
-    let later = run-part es e.task s run.2 in
-    record { partition = later.partition ∙ next.partition; lo = later.lo ∙ next.lo; hi = later.hi ∙ next.hi }
+part-joins : (t u s : TaskState) → IsSamePart t u → IsSamePart u s → IsSamePart t s
+part-joins t u s first later = record { partition = later.partition ∙ first.partition; lo = later.lo ∙ first.lo; hi = later.hi ∙ first.hi }
 
-pub parts-stay : PartsStay
-parts-stay t s way = run-part way.attempts t s way.run
+-- repeats in place are retries of the row alone
+part-after : RepeatsAreRetries → (t : TaskState) → IsSamePart t (task_after_repeats t)
+part-after law t = record { partition = refl; lo = ap (λ (r : Row). r.lo) (law t); hi = ap (λ (r : Row). r.hi) (law t) }
+
+part-attempt : RepeatsAreRetries → (t : TaskState) → IsSamePart t (attempt_of t).task
+part-attempt law t = part-joins t (task_after_repeats t) (attempt_of t).task (part-after law t) (part-by (task_after_repeats t) (again_of t) (end_of (trial_of (task_after_repeats t))))
+
+run-part : RepeatsAreRetries → (es : List Ending) (t s : TaskState) → IsRunOf t es s → IsSamePart t s
+run-part law [] t s run = subst (IsSamePart t) (sym run) (record { partition = refl; lo = refl; hi = refl })
+run-part law (e ∷ es) t s run =
+    part-joins t e.task s (subst (λ (x : Ending). IsSamePart t x.task) (sym run.1) (part-attempt law t)) (run-part law es e.task s run.2)
+
+pub parts-stay : RepeatsAreRetries → PartsStay
+parts-stay law t s way = run-part law way.attempts t s way.run

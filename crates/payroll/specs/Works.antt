@@ -14,7 +14,7 @@ use Rattle.payroll.specs.Sheets.{is_shaky, slip_of}
 
 -- ---- faults
 
--- a time sheet without a pay slip can't be read, and is skipped; a first try that fails is made again
+-- a time sheet without a pay slip can't be read, and is skipped; a first try that fails is made again, its chunk being rolled back
 abbrev pub broken_class : ClassId
 broken_class = record { number = 0; below = lit< tt }
 
@@ -22,7 +22,7 @@ abbrev pub unsteady_class : ClassId
 unsteady_class = record { number = 1; below = lit< tt }
 
 abbrev pub payroll_rules : RulesRecord
-payroll_rules = record { skippable = 1; retryable = 2; skip_limit = None; retry_limit = default_retry_limit }
+payroll_rules = record { skippable = 1; retryable = 2; no_rollback = 0; skip_limit = None; retry_limit = default_retry_limit }
 
 abbrev pub plan_by : (slip : Option (List ℕ)) → FaultPlan
 plan_by None = Bad broken_class

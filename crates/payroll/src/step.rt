@@ -36,6 +36,7 @@ const CHUNK: u64 = 2;
 const RULES: Rules = Rules {
     skippable: 1,
     retryable: 2,
+    no_rollback: 0,
     skip_limit: None,
     retry_limit: DEFAULT_RETRY_LIMIT,
 };

@@ -21,20 +21,20 @@ use std::alloc::{AllocError, Global};
 use std::sync::Wait;
 use std::thread::Threads;
 
-/// A word, its document, what it prints and its status.
+/// A word, its document, what it prints and its status. The saved rows of `restart` are of version 1, which is read and not written.
 type Row = (&'static str, &'static str, &'static str, u8);
 
 const ROWS: [Row; 4] = [
     (
         "run",
         r#"{"data":[{"records":["a","b","c"],"prefix":"x"}],"job":{"id":"j","step":[{"id":"s","chunk":{"item-count":2},"partition":{"plan":{"ranges":[[0,2],[2,3]],"threads":1}}}]}}"#,
-        "{\"job\":\"j\",\"status\":\"COMPLETED\",\"steps\":[{\"heard\":[[\"0:2:2\",\"0:2:2:end\",\"COMPLETED\"],[\"1:3:1\",\"1:3:1:end\",\"COMPLETED\"]],\"outputs\":[[\"xa\",\"xb\"],[\"xc\"]],\"plans\":[[\"FullLoad\",2,2]],\"reducer\":[\"begin\",\"before\",\"after COMMIT\"],\"saved\":{\"rows\":[[0,2,2,0,0,2,2,2,1,0,0,0,0,0,\"done\"],[2,3,3,2,0,1,1,1,1,0,0,0,0,0,\"done\"]],\"step\":\"s\",\"version\":1},\"status\":\"COMPLETED\",\"step\":\"s\"}]}\n",
+        "{\"job\":\"j\",\"status\":\"COMPLETED\",\"steps\":[{\"heard\":[[\"0:2:2\",\"0:2:2:end\",\"COMPLETED\"],[\"1:3:1\",\"1:3:1:end\",\"COMPLETED\"]],\"outputs\":[[\"xa\",\"xb\"],[\"xc\"]],\"plans\":[[\"FullLoad\",2,2]],\"reducer\":[\"begin\",\"before\",\"after COMMIT\"],\"saved\":{\"rows\":[[0,2,2,0,0,2,2,2,1,0,0,0,0,0,0,\"done\"],[2,3,3,2,0,1,1,1,1,0,0,0,0,0,0,\"done\"]],\"step\":\"s\",\"version\":2},\"status\":\"COMPLETED\",\"step\":\"s\"}]}\n",
         0,
     ),
     (
         "restart",
         r#"{"data":[{"records":["a","b","c"],"prefix":"x"}],"job":{"id":"j","step":[{"id":"s","chunk":{"item-count":2}}]},"resume":{"outputs":[["xa","xb"]],"saved":{"rows":[[0,3,2,0,0,2,2,2,1,0,0,0,0,0,"waiting"]],"step":"s","version":1}}}"#,
-        "{\"job\":\"j\",\"status\":\"COMPLETED\",\"steps\":[{\"heard\":[[\"0:3:3\",\"0:3:3:end\",\"COMPLETED\"]],\"outputs\":[[\"xa\",\"xb\",\"xc\"]],\"plans\":[[\"Longest(0)\",1,1]],\"reducer\":[\"begin\",\"before\",\"after COMMIT\"],\"saved\":{\"rows\":[[0,3,3,0,0,3,3,3,2,0,0,0,0,0,\"done\"]],\"step\":\"s\",\"version\":1},\"status\":\"COMPLETED\",\"step\":\"s\"}]}\n",
+        "{\"job\":\"j\",\"status\":\"COMPLETED\",\"steps\":[{\"heard\":[[\"0:3:3\",\"0:3:3:end\",\"COMPLETED\"]],\"outputs\":[[\"xa\",\"xb\",\"xc\"]],\"plans\":[[\"Longest(0)\",1,1]],\"reducer\":[\"begin\",\"before\",\"after COMMIT\"],\"saved\":{\"rows\":[[0,3,3,0,0,3,3,3,2,0,0,0,0,0,0,\"done\"]],\"step\":\"s\",\"version\":2},\"status\":\"COMPLETED\",\"step\":\"s\"}]}\n",
         0,
     ),
     (
@@ -58,7 +58,7 @@ const FAULTS: [Fault; 6] = [
     ("run", "[]", 0, 3, "refused: WrongShape(unknown)\n", 3),
     (
         "restart",
-        r#"{"data":[{"records":["a"],"prefix":"x"}],"job":{"id":"j","step":[{"id":"s","chunk":{"item-count":2}}]},"resume":{"outputs":[[]],"saved":{"version":2}}}"#,
+        r#"{"data":[{"records":["a"],"prefix":"x"}],"job":{"id":"j","step":[{"id":"s","chunk":{"item-count":2}}]},"resume":{"outputs":[[]],"saved":{"version":3}}}"#,
         0,
         152,
         "refused: Saved(Version)\n",

@@ -1,5 +1,5 @@
 -- What the functions that read and process a block keep, record by record.
-use Rattle.std.specs.Prelude.{ℕ, ◌≡◌, ◌+◌, ◌≤◌, ◌++◌, ◌⊎◌, length, false, Option, Some, None, option_to_list}
+use Rattle.std.specs.Prelude.{ℕ, ◌≡◌, ◌+◌, ◌≤◌, ◌++◌, length, false, Option, Some, None, option_to_list}
 use Rattle.jb_job.specs.declared.class.ClassId.{ClassId}
 use Rattle.jb_job.specs.Limits.{max_records}
 use Rattle.jb_rules.specs.declared.row.Row.{Row}
@@ -7,13 +7,11 @@ use Rattle.jb_job.specs.Records.{RulesRecord}
 use Rattle.jb_artifacts.specs.Faults.{Plans, live, used_at}
 use Rattle.jb_artifacts.specs.Meaning.{Workplace}
 use Rattle.jb_chunk.specs.declared.tally.Tally.{Tally}
-use Rattle.jb_chunk.specs.declared.gather.Gathered.{Gathered}
-use Rattle.jb_chunk.specs.declared.gather.Gathered.TheVariants.{Settled, Whole}
 use Rattle.jb_rules.specs.declared.choice.Choice.{Choice}
 use Rattle.jb_rules.specs.Rows.{skips_of}
 use Rattle.jb_chunk.specs.declared.entry.Entry.{Entry}
 use Rattle.jb_chunk.specs.Attempt.{BlockTally}
-use Rattle.jb_chunk.specs.Block.{entry, results, count_of, skips_before, choice_at, settling, passed, is_skip, stops, MayBeUsed}
+use Rattle.jb_chunk.specs.Block.{results, count_of, choice_at, is_skip, stops, MayBeUsed}
 use Rattle.jb_chunk.specs.Entries.{fault_in, is_read_fault, is_process_fault, is_filtered, text_in, numbered, one_if}
 
 -- the tally of the records `lo` to `hi - 1`
@@ -33,17 +31,6 @@ block_tally records t = record {
   found = length t.found.items;
 }
 
--- a fault settled the block at its first record whose fault isn't skipped, or there is none
-abbrev pub IsGathered : RulesRecord → Row → Workplace → (hi : ℕ) → Gathered → Workplace → Type 0
-IsGathered rules row w hi (Settled number class choice) now =
-    (settling rules row w hi ≡ Some number)
-    × (fault_in (entry w number) ≡ Some class)
-    × (choice ≡ choice_at rules row class (skips_before row w number))
-    × (is_skip choice ≡ false)
-    × (now ≡ passed w row.at (number + 1))
-IsGathered rules row w hi (Whole tally) now =
-    (settling rules row w hi ≡ None) × IsTally w row.at hi tally × (now ≡ passed w row.at hi)
-
 -- the processor's plans after record `k`: only a record that was read is processed
 abbrev pub processed_at : (read_fault : Option ClassId) → Plans → ℕ → Plans
 processed_at (Some class) plans k = plans
@@ -55,12 +42,6 @@ passed_one w k = record w {
   reader = record w.reader { place = k + 1; faults = used_at w.reader.faults k };
   processor = record w.processor { faults = processed_at (live (w.reader.faults k)) w.processor.faults k };
 }
-
--- after record `k` without memory: it may be read, but it isn't processed
-abbrev pub IsWorn : Workplace → ℕ → Workplace → Type 0
-IsWorn w k now =
-    (now ≡ w)
-    ⊎ (now ≡ record w { reader = record w.reader { place = k + 1; faults = used_at w.reader.faults k } })
 
 -- reader and processor may have worked on the records from `lo` to `hi - 1`, and nothing else
 pub record IsWornTo (lo hi : ℕ) (w now : Workplace) : Type 0 where

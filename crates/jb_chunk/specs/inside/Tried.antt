@@ -53,6 +53,6 @@ pub record IsTorn (lo hi : ℕ) (w now : Workplace) : Type 0 where
   pub collector : now.collector ≡ w.collector
   pub read_plans : MayBeUsed lo hi w.reader.faults now.reader.faults
   pub process_plans : MayBeUsed lo hi w.processor.faults now.processor.faults
-  pub write_plans : now.writer.faults ≡ w.writer.faults
+  pub write_plans : MayBeUsed lo hi w.writer.faults now.writer.faults
   pub written : take (length w.writer.written) now.writer.written ≡ w.writer.written
   pub longer : length w.writer.written ≤ length now.writer.written

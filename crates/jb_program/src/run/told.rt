@@ -3,9 +3,10 @@
 ghost use Rattle.std.specs.Prelude.{◌≡◌, ◌+◌, ◌≤◌, ◌++◌, ◌==◌, find, flat_map, length, OnOk};
 ghost use Rattle.std.specs.List.{enumerate_from};
 ghost use Rattle.jb_job.specs.Limits.{max_partitions};
+ghost use Rattle.jb_saved.specs.SavedTree.{tokens_of};
 ghost use Rattle.jb_step.specs.Ending.{given_back};
 ghost use Rattle.jb_texts.specs.Report.{texts_tree};
-ghost use Rattle.jb_texts.specs.ReportTokens.{step_tokens, tokens_of};
+ghost use Rattle.jb_texts.specs.ReportTokens.{step_tokens};
 ghost use Rattle.jb_program.specs.StepRun.{committed_of, outputs_in, partitions_left};
 
 use crate::run::artifacts::OwnArtifacts;

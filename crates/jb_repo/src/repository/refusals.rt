@@ -1,13 +1,14 @@
 //! The table of refusals, memory aside.
 
 ghost use Rattle.std.specs.Prelude.{◌≡◌, ◌<◌, ◌≤◌, length};
-ghost use Rattle.jb_repo.specs.Table.{refusal, first_refusal, outcome_conditions};
+ghost use Rattle.jb_repo.specs.Table.{refusal, first_refusal, outcome_conditions, undone_conditions};
 
 use crate::events::Event;
 use crate::refused::Refused;
 use crate::repository::Repo;
 use crate::table::{is_at_limit, is_ended};
 use jb_cert::Certificate;
+use jb_job::MAX_RETRY_LIMIT;
 use jb_rules::Counts;
 
 impl Repo {
@@ -50,14 +51,29 @@ impl Repo {
         }
     }
 
-    fn commit_refusal(&self, lane: u32, delta: Counts, written: u64) -> Option<Refused>
-        ensures { result ≡ refusal self.now (Event.Commit lane delta written) }
+    fn commit_refusal(&self, lane: u32, delta: Counts, written: u64, again: u64) -> Option<Refused>
+        ensures { result ≡ refusal self.now (Event.Commit lane delta written again) }
     {
         if lane >= self.threads {
             Some(Refused::LaneRange)
         } else if self.owner(lane).is_none() {
             Some(Refused::NotRunning)
-        } else if !self.is_good_commit(lane, delta, written) {
+        } else if !self.is_good_commit(lane, delta, written) || again > MAX_RETRY_LIMIT {
+            Some(Refused::BadDelta)
+        } else {
+            None
+        }
+    }
+
+    /// A chunk that was rolled back, or failed, after so many repeats.
+    fn undone_refusal(&self, lane: u32, again: u64) -> Option<Refused>
+        ensures { result ≡ first_refusal (undone_conditions self.now lane again) }
+    {
+        if lane >= self.threads {
+            Some(Refused::LaneRange)
+        } else if self.owner(lane).is_none() {
+            Some(Refused::NotRunning)
+        } else if again > MAX_RETRY_LIMIT {
             Some(Refused::BadDelta)
         } else {
             None
@@ -107,10 +123,13 @@ impl Repo {
         match event {
             Event::Plan(rounds, certificate) => self.plan_refusal(rounds, certificate),
             Event::Begin(lane, partition) => self.begin_refusal(lane, partition),
-            Event::Commit(lane, delta, written) => self.commit_refusal(lane, delta, written),
-            Event::Roll(lane, _) | Event::Fail(lane, _) | Event::Drop(lane) => {
-                self.outcome_refusal(lane)
+            Event::Commit(lane, delta, written, again) => {
+                self.commit_refusal(lane, delta, written, again)
             }
+            Event::Roll(lane, _, again) | Event::Fail(lane, _, again) => {
+                self.undone_refusal(lane, again)
+            }
+            Event::Drop(lane) => self.outcome_refusal(lane),
             Event::Round => self.round_refusal(),
             Event::Stop => self.stop_refusal(),
         }

@@ -52,9 +52,9 @@ const STEP: &str = "step";
 /// Records and their partitions.
 ///
 /// They are written as a text: each letter is a record, and each `/` ends a partition. Behind a letter stands how its calls
-/// fail: `!` each time that it is processed, `?` the first time, `<` each time that it is read, `(` the first time, `>` each time
-/// that it is written, `)` the first time. The class of `?`, `(` and `)` is 1, that of the others 0. `~` is no fault: the first time
-/// that the record is processed, there is no memory. A record `-` is filtered.
+/// fail: `!` each time that it is processed, `?` and `*` the first time, `<` each time that it is read, `(` the first time, `>` each
+/// time that it is written, `)` the first time. The class of `?`, `(` and `)` is 1, that of the others 0. `~` is no fault: the first
+/// time that the record is processed, there is no memory. A record `-` is filtered.
 #[derive(Drop)]
 pub(crate) struct Given {
     records: Vec<Item>,
@@ -91,9 +91,10 @@ impl Given {
             b'!' => self.take_bad(last, bad),
             b'<' => self.reads.insert(last, bad),
             b'>' => self.writes.insert(last, bad),
-            b'?' => self.processes.insert(last, once(alloc)?),
-            b'(' => self.reads.insert(last, once(alloc)?),
-            b')' => self.writes.insert(last, once(alloc)?),
+            b'*' => self.processes.insert(last, once(alloc, ClassId::new(0))?),
+            b'?' => self.processes.insert(last, once(alloc, ClassId::new(1))?),
+            b'(' => self.reads.insert(last, once(alloc, ClassId::new(1))?),
+            b')' => self.writes.insert(last, once(alloc, ClassId::new(1))?),
             sign => self.take_record(alloc, last, sign),
         }
     }
@@ -163,9 +164,9 @@ impl Given {
     }
 }
 
-/// A fault of class 1, once.
-fn once(alloc: Global) -> Result<FaultPlan, AllocError> {
-    let classes = Vec::from_slice(alloc, &[ClassId::new(1)])?;
+/// A fault of this class, once.
+fn once(alloc: Global, class: ClassId) -> Result<FaultPlan, AllocError> {
+    let classes = Vec::from_slice(alloc, &[class])?;
     Ok(FaultPlan::Shaky(FaultList::from_vec(classes)))
 }
 

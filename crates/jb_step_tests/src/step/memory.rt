@@ -19,7 +19,7 @@ struct Unmet {
     partitions: [&'static str; 2],
 }
 
-const CASES: [Unmet; 3] = [
+const CASES: [Unmet; 4] = [
     Unmet {
         number: 0,
         records: "abc/de/fg/",
@@ -29,16 +29,24 @@ const CASES: [Unmet; 3] = [
         number: 7,
         records: "abcd/",
         partitions: [
-            "4 0 0 4 | 4 4 1 0 0 0 0 0 | Finished xa xb xc xd\n",
-            "4 4 1 4 | 4 4 4 1 0 0 0 0 | Finished xa xb xc xd\n",
+            "0 4 4 0 0 4 4 4 1 0 0 0 0 0 0 done xa xb xc xd\n",
+            "0 4 4 4 1 4 4 4 4 1 0 0 0 0 0 done xa xb xc xd\n",
         ],
     },
     Unmet {
         number: 8,
         records: "abcd/",
         partitions: [
-            "4 0 0 4 | 4 4 2 0 0 0 0 0 | Finished xa xb xc xd\n",
-            "4 2 1 4 | 4 4 3 1 0 0 0 0 | Finished xa xb xc xd\n",
+            "0 4 4 0 0 4 4 4 2 0 0 0 0 0 0 done xa xb xc xd\n",
+            "0 4 4 2 1 4 4 4 3 1 0 0 0 0 0 done xa xb xc xd\n",
+        ],
+    },
+    Unmet {
+        number: 17,
+        records: "ab/",
+        partitions: [
+            "0 2 2 0 0 2 2 2 1 0 0 0 0 0 0 done xa xb\n",
+            "0 2 2 2 2 2 2 2 2 1 0 0 0 0 1 done xa xb\n",
         ],
     },
 ];

@@ -33,17 +33,23 @@ enum Wrong {
     AtLimit,
     /// The same of its second partition, while the first one commits.
     SecondAtLimit,
+    /// Its partition has no room for the repeats in place of one more chunk, and can't begin.
+    RepeatsAtLimit,
 }
 
 const RECORDS: &str = "ab/c/";
 
 /// The saved row of one record, whose partition was rolled back 1,000,000,000,000 times.
 const AT_LIMIT: &str =
-    "{\"rows\":[[0,1,0,0,0,0,0,0,0,1000000000000,0,0,0,0,\"waiting\"]],\"step\":\"step\",\"version\":1}";
+    "{\"rows\":[[0,1,0,0,0,0,0,0,0,1000000000000,0,0,0,0,0,\"waiting\"]],\"step\":\"step\",\"version\":2}";
 
-/// The same of the second of two records, each in a partition of its own.
+/// The same of a partition with 999,999,900,001 repeats in place.
+const REPEATS_AT_LIMIT: &str =
+    "{\"rows\":[[0,1,0,0,999999900001,0,0,0,0,0,0,0,0,0,999999900001,\"waiting\"]],\"step\":\"step\",\"version\":2}";
+
+/// The first of these of the second of two records, each in a partition of its own.
 const SECOND_AT_LIMIT: &str =
-    "{\"rows\":[[0,1,0,0,0,0,0,0,0,0,0,0,0,0,\"waiting\"],[1,2,1,1,0,0,0,0,0,1000000000000,0,0,0,0,\"waiting\"]],\"step\":\"step\",\"version\":1}";
+    "{\"rows\":[[0,1,0,0,0,0,0,0,0,0,0,0,0,0,0,\"waiting\"],[1,2,1,1,0,0,0,0,0,1000000000000,0,0,0,0,0,\"waiting\"]],\"step\":\"step\",\"version\":2}";
 
 /// Six records. Of either partition chunks of two and of three records are equally many.
 const SIX: &str = "abcd/ef/";
@@ -55,8 +61,8 @@ Begin Rollback After(Rollback) .
 ";
 
 /// What its partitions come to then.
-const LEFT: &str = "0 0 0 0 | 0 0 0 0 0 0 0 0 | Waiting
-6 4 0 2 | 2 2 1 0 0 0 0 0 | Finished xe xf
+const LEFT: &str = "0 4 0 0 0 0 0 0 0 0 0 0 0 0 0 waiting
+4 6 6 4 0 2 2 2 1 0 0 0 0 0 0 done xe xf
 ";
 
 /// The course of the restart.
@@ -68,8 +74,8 @@ Completed 7
 ";
 
 /// What the partitions of the whole step come to.
-const WHOLE: &str = "4 0 0 4 | 4 4 2 0 0 0 0 0 | Finished xa xb xc xd
-6 4 0 2 | 2 2 1 0 0 0 0 0 | Finished xe xf
+const WHOLE: &str = "0 4 4 0 0 4 4 4 2 0 0 0 0 0 0 done xa xb xc xd
+4 6 6 4 0 2 2 2 1 0 0 0 0 0 0 done xe xf
 ";
 
 /// The records of the step and those of its desk's rows, the desk's threads, and the saved rows of both, if they have any.
@@ -88,6 +94,7 @@ fn rows_of(wrong: Wrong) -> Rows {
         Wrong::OneThread => (RECORDS, RECORDS, 1, None),
         Wrong::AtLimit => ("a/", "a/", 2, Some(AT_LIMIT)),
         Wrong::SecondAtLimit => ("a/b/", "a/b/", 2, Some(SECOND_AT_LIMIT)),
+        Wrong::RepeatsAtLimit => ("a/", "a/", 2, Some(REPEATS_AT_LIMIT)),
     };
     Rows {
         own,
@@ -200,6 +207,7 @@ fn desks_are_refused(rt: HostRuntime) -> Result<(), Fail> {
         (Wrong::OneThread, 2, 0, 0),
         (Wrong::AtLimit, 1, 1, 0),
         (Wrong::SecondAtLimit, 2, 3, 1),
+        (Wrong::RepeatsAtLimit, 1, 1, 0),
     ];
     for (wrong, partition, events, commits) in cases {
         let blank = Blank::new(MAX_PARTS);

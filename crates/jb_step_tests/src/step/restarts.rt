@@ -8,8 +8,8 @@ use crate::step::given::{
     Given, Letters, Works, all_works, saved_again, stopped_after, works, works_from,
 };
 use crate::step::rows::{
-    Asked, Case, ONE_SKIP, PLAIN, SEVEN, add_course, add_partition, add_reduced, assert_text,
-    case_at, left_of,
+    Asked, Case, FIRST_REPEATED, ONE_SKIP, PLAIN, SEVEN, add_course, add_partition, add_reduced,
+    assert_text, case_at, left_of,
 };
 use crate::step::runs::started_or_not;
 use jb_artifacts::ArtifactsOf;
@@ -17,7 +17,7 @@ use jb_collect::{Analyzer, ListAnalyzer, ListReducer, Reducer, Status};
 use jb_job::MAX_PARTS;
 use jb_repo::Snapshot;
 use jb_rules::Row;
-use jb_step::{Prepared, Saved, StepEnd, StepError};
+use jb_step::{Prepared, Saved, StepEnd, StepError, read_saved};
 use jb_workers::Desk;
 use std::alloc::{AllocError, Global};
 use std::marker::Brand;
@@ -35,19 +35,21 @@ struct Journey {
     records: &'static str,
     again: &'static str,
     asked: Asked,
+    /// What the first run saved, as a text of version 1, where the restarts begin with it.
+    earlier: Option<&'static str>,
     /// The partitions that each run needs artifacts for, and its course.
     courses: &'static str,
     /// What each partition comes to.
     partitions: &'static str,
 }
 
-fn journey_at(number: u64) -> Option<Journey> {
-    Some(match number {
-        0 => Journey {
-            records: "abc/de/fg/",
-            again: "abc/de/fg/",
-            asked: PLAIN,
-            courses: "[0, 1, 2]
+/// Seven records, stopped after one round and restarted.
+const STOPPED_ONCE: Journey = Journey {
+    records: "abc/de/fg/",
+    again: "abc/de/fg/",
+    asked: PLAIN,
+    earlier: None,
+    courses: "[0, 1, 2]
 Longest(0) 1 of 2
 0:2:2 1:5:2 1:5:2:end 1 Completed 0 Stopped 2 Stopped .
 Begin Rollback After(Rollback) .
@@ -58,12 +60,24 @@ Longest(0) 1 of 1
 Begin Before After(Commit) .
 Completed 6
 ",
-            partitions: SEVEN,
-        },
+    partitions: SEVEN,
+};
+
+/// What the first run of a step saved, as a text of version 1: of these records after their first round, and of a chunk that was
+/// rolled back.
+const EARLIER: [&str; 2] = [
+    r#"{"rows":[[0,3,2,0,0,2,2,2,1,0,0,0,0,0,"waiting"],[3,5,5,3,0,2,2,2,1,0,0,0,0,0,"done"],[5,7,5,5,0,0,0,0,0,0,0,0,0,0,"waiting"]],"step":"step","version":1}"#,
+    r#"{"rows":[[0,2,0,2,1,0,0,0,0,1,0,0,0,0,"waiting"]],"step":"step","version":1}"#,
+];
+
+fn journey_at(number: u64) -> Option<Journey> {
+    Some(match number {
+        0 => STOPPED_ONCE,
         1 => Journey {
             records: "abc/de/fg/",
             again: "abc/de/fg/",
             asked: PLAIN,
+            earlier: None,
             courses: "[0, 1, 2]
 FullLoad 1 of 4
 0:2:2 0 Stopped 1 Stopped 2 Stopped .
@@ -91,6 +105,7 @@ Completed 4
             records: "a/b///",
             again: "a/b///",
             asked: PLAIN,
+            earlier: None,
             courses: "[0, 1]
 2 Completed 3 Completed 0 Stopped 1 Stopped .
 Begin Rollback After(Rollback) .
@@ -101,10 +116,10 @@ Longest(0) 1 of 1
 Begin Before After(Commit) .
 Completed 6
 ",
-            partitions: "1 0 0 1 | 1 1 1 0 0 0 0 0 | Finished xa
-2 1 0 1 | 1 1 1 0 0 0 0 0 | Finished xb
-2 2 0 0 | 0 0 0 0 0 0 0 0 | Finished
-2 2 0 0 | 0 0 0 0 0 0 0 0 | Finished
+            partitions: "0 1 1 0 0 1 1 1 1 0 0 0 0 0 0 done xa
+1 2 2 1 0 1 1 1 1 0 0 0 0 0 0 done xb
+2 2 2 2 0 0 0 0 0 0 0 0 0 0 0 done
+2 2 2 2 0 0 0 0 0 0 0 0 0 0 0 done
 ",
         },
         3 => Journey {
@@ -114,6 +129,7 @@ Completed 6
                 rules: ONE_SKIP,
                 ..PLAIN
             },
+            earlier: None,
             courses: "[0, 1]
 Longest(0) 2 of 2
 0:2:1 1:6:2 1:6:2:end 1 Completed 0 Failed .
@@ -125,14 +141,15 @@ Longest(0) 1 of 1
 Begin Before After(Commit) .
 Completed 4
 ",
-            partitions: "4 0 0 3 | 4 3 2 1 0 1 0 0 | Finished xb xc xd
-6 4 0 2 | 2 2 1 0 0 0 0 0 | Finished xe xf
+            partitions: "0 4 4 0 0 3 4 3 2 1 0 1 0 0 0 done xb xc xd
+4 6 6 4 0 2 2 2 1 0 0 0 0 0 0 done xe xf
 ",
         },
         4 => Journey {
             records: "a/b/c/",
             again: "abc/",
             asked: PLAIN,
+            earlier: None,
             courses: "[0, 1, 2]
 0 Stopped 1 Stopped 2 Stopped .
 Begin Rollback After(Rollback) .
@@ -143,28 +160,60 @@ FullLoad 3 of 3
 Begin Before After(Commit) .
 Completed 10
 ",
-            partitions: "1 0 0 1 | 1 1 1 0 0 0 0 0 | Finished xa
-2 1 0 1 | 1 1 1 0 0 0 0 0 | Finished xb
-3 2 0 1 | 1 1 1 0 0 0 0 0 | Finished xc
+            partitions: "0 1 1 0 0 1 1 1 1 0 0 0 0 0 0 done xa
+1 2 2 1 0 1 1 1 1 0 0 0 0 0 0 done xb
+2 3 3 2 0 1 1 1 1 0 0 0 0 0 0 done xc
 ",
         },
         5 => Journey {
             records: "ab/c~d/",
             again: "ab/cd/",
             asked: PLAIN,
+            earlier: None,
             courses: "[0, 1]
 Memory 6 1
 Begin Rollback After(Rollback) .
-2 0 0 2 | 2 2 1 0 0 0 0 0 | Finished xa xb
-2 2 0 0 | 0 0 0 0 0 0 0 0 | Waiting
+0 2 2 0 0 2 2 2 1 0 0 0 0 0 0 done xa xb
+2 4 2 2 0 0 0 0 0 0 0 0 0 0 0 waiting
 [1]
 Longest(1) 1 of 1
 1:4:2 1:4:2:end 1 Completed .
 Begin Before After(Commit) .
 Completed 4
 ",
-            partitions: "2 0 0 2 | 2 2 1 0 0 0 0 0 | Finished xa xb
-4 2 0 2 | 2 2 1 0 0 0 0 0 | Finished xc xd
+            partitions: "0 2 2 0 0 2 2 2 1 0 0 0 0 0 0 done xa xb
+2 4 4 2 0 2 2 2 1 0 0 0 0 0 0 done xc xd
+",
+        },
+        6 => Journey {
+            earlier: Some(EARLIER[0]),
+            ..STOPPED_ONCE
+        },
+        7 => Journey {
+            records: "a?b*/",
+            again: "a?b*/",
+            asked: Asked {
+                rules: FIRST_REPEATED,
+                ..PLAIN
+            },
+            earlier: Some(EARLIER[1]),
+            courses: "[0]
+Longest(0) 1 of 1
+0 Stopped .
+Begin Rollback After(Rollback) .
+Stopped 5
+[0]
+Longest(0) 1 of 2
+0:1:1 0 Stopped .
+Begin Rollback After(Rollback) .
+Stopped 5
+[0]
+Longest(0) 1 of 1
+0:2:2 0:2:2:end 0 Completed .
+Begin Before After(Commit) .
+Completed 4
+",
+            partitions: "0 2 2 2 2 2 2 2 2 1 0 0 0 0 1 done xa xb
 ",
         },
         _ => return None,
@@ -174,11 +223,12 @@ Completed 4
 /// The threads that the plan of a journey's run asks for, and its greatest number of rounds.
 fn leg_at(journey: u64, run: u64) -> Option<(u32, Option<u64>)> {
     Some(match (journey, run) {
-        (0, 0) => (2, Some(1)),
-        (1, 0..=3) => (1, Some(1)),
+        (0 | 6, 0) => (2, Some(1)),
+        (1, 0..=3) | (7, 0..=1) => (1, Some(1)),
         (2 | 4, 0) => (2, Some(0)),
-        (3 | 5, 0) | (0 | 2 | 3 | 5, 1) => (2, None),
+        (3 | 5, 0) | (0 | 2 | 3 | 5 | 6, 1) => (2, None),
         (4, 1) => (0, None),
+        (7, 2) => (1, None),
         _ => return None,
     })
 }
@@ -264,6 +314,19 @@ impl Between {
     fn hold(&mut self, alloc: Global, snapshot: &Snapshot) -> Result<(), Fail> {
         let saved = saved_again(alloc, snapshot)?;
         self.rows = Vec::from_slice(alloc, saved.rows())?;
+        self.saved = Some(saved);
+        Ok(())
+    }
+
+    /// Goes on from a text, if there is one, that has the rows which were saved.
+    fn take_text(&mut self, alloc: Global, text: Option<&str>) -> Result<(), Fail> {
+        let Some(text) = text else {
+            return Ok(());
+        };
+        let saved = read_saved(alloc, text.as_bytes())?;
+        if saved.rows() != self.rows.as_slice() {
+            return Err(Fail::from("other rows"));
+        }
         self.saved = Some(saved);
         Ok(())
     }
@@ -484,13 +547,16 @@ fn course_of_leg<R: Threads + Wait + Sync>(
         ..journey.asked
     };
     let others = records != journey.records;
+    if run == 1 {
+        between.take_text(alloc, journey.earlier)?;
+    }
     let (_, course) = gone_on(rt, alloc, asked, records, others, rounds, between)?;
     Ok(course)
 }
 
 #[test]
 fn restarts(rt: HostRuntime) -> Result<(), Fail> {
-    for number in 0..6 {
+    for number in 0..8 {
         let Some(journey) = journey_at(number) else {
             return Err(Fail::from("a journey"));
         };
@@ -558,7 +624,7 @@ fn is_unchanged<R: Threads + Wait + Sync>(
 
 #[test]
 fn stops_change_nothing(rt: HostRuntime) -> Result<(), Fail> {
-    for number in 0..14 {
+    for number in 0..20 {
         let Some(case) = case_at(number) else {
             return Err(Fail::from("a case"));
         };

@@ -23,11 +23,11 @@ use std::thread::Threads;
 
 /// Three records in two partitions, none of them read.
 const SAVED: &str =
-    "{\"rows\":[[0,2,0,0,0,0,0,0,0,0,0,0,0,0,\"waiting\"],[2,3,2,2,0,0,0,0,0,0,0,0,0,0,\"waiting\"]],\"step\":\"step\",\"version\":1}";
+    "{\"rows\":[[0,2,0,0,0,0,0,0,0,0,0,0,0,0,0,\"waiting\"],[2,3,2,2,0,0,0,0,0,0,0,0,0,0,0,\"waiting\"]],\"step\":\"step\",\"version\":2}";
 
 /// The same of another step.
 const OTHER: &str =
-    "{\"rows\":[[0,2,0,0,0,0,0,0,0,0,0,0,0,0,\"waiting\"],[2,3,2,2,0,0,0,0,0,0,0,0,0,0,\"waiting\"]],\"step\":\"other\",\"version\":1}";
+    "{\"rows\":[[0,2,0,0,0,0,0,0,0,0,0,0,0,0,0,\"waiting\"],[2,3,2,2,0,0,0,0,0,0,0,0,0,0,0,\"waiting\"]],\"step\":\"other\",\"version\":2}";
 
 /// The records of the step that is stopped, and its course up to then.
 const RECORDS: &str = "abc/de/fg/";
@@ -39,9 +39,9 @@ Stopped 7
 ";
 
 /// What its partitions come to then.
-const STOPPED: &str = "2 0 0 2 | 2 2 1 0 0 0 0 0 | Waiting xa xb
-5 3 0 2 | 2 2 1 0 0 0 0 0 | Finished xd xe
-5 5 0 0 | 0 0 0 0 0 0 0 0 | Waiting
+const STOPPED: &str = "0 3 2 0 0 2 2 2 1 0 0 0 0 0 0 waiting xa xb
+3 5 5 3 0 2 2 2 1 0 0 0 0 0 0 done xd xe
+5 7 5 5 0 0 0 0 0 0 0 0 0 0 0 waiting
 ";
 
 /// The course of the whole step.

@@ -11,7 +11,7 @@ use jb_artifacts::{ItemWriter, ListWriter};
 use jb_chunk::{PartitionTask, run_alone};
 use jb_collect::{Analyzer, ListAnalyzer, ListReducer, Reducer};
 use jb_job::{ClassId, MAX_PARTS, Range, Rules};
-use jb_rules::{Counts, Row, RowState};
+use jb_rules::Row;
 use jb_step::{PlanNote, StepEnd};
 use jb_workers::NoGate;
 use std::alloc::{AllocError, Global};
@@ -47,6 +47,7 @@ pub(crate) struct Case {
 pub(crate) const STRICT: Rules = Rules {
     skippable: 0,
     retryable: 0,
+    no_rollback: 0,
     skip_limit: None,
     retry_limit: 2,
 };
@@ -54,6 +55,20 @@ pub(crate) const STRICT: Rules = Rules {
 pub(crate) const ONE_SKIP: Rules = Rules {
     skippable: 1,
     skip_limit: Some(1),
+    ..STRICT
+};
+
+/// Class 1 is retried in place.
+const REPEATED: Rules = Rules {
+    retryable: 0b10,
+    no_rollback: 0b10,
+    ..STRICT
+};
+
+/// Class 0 is retried in place, class 1 rolls back.
+pub(crate) const FIRST_REPEATED: Rules = Rules {
+    retryable: 0b11,
+    no_rollback: 0b01,
     ..STRICT
 };
 
@@ -65,9 +80,9 @@ pub(crate) const PLAIN: Asked = Asked {
 };
 
 /// What the partitions of seven records come to.
-pub(crate) const SEVEN: &str = "3 0 0 3 | 3 3 2 0 0 0 0 0 | Finished xa xb xc
-5 3 0 2 | 2 2 1 0 0 0 0 0 | Finished xd xe
-7 5 0 2 | 2 2 1 0 0 0 0 0 | Finished xf xg
+pub(crate) const SEVEN: &str = "0 3 3 0 0 3 3 3 2 0 0 0 0 0 0 done xa xb xc
+3 5 5 3 0 2 2 2 1 0 0 0 0 0 0 done xd xe
+5 7 7 5 0 2 2 2 1 0 0 0 0 0 0 done xf xg
 ";
 
 pub(crate) fn case_at(number: u64) -> Option<Case> {
@@ -119,8 +134,8 @@ Failed 11
 Begin Before After(Commit) .
 Completed 7
 ",
-            partitions: "2 0 0 2 | 2 2 1 0 0 0 0 0 | Finished xa xb
-3 2 0 1 | 1 1 1 0 0 0 0 0 | Finished xc
+            partitions: "0 2 2 0 0 2 2 2 1 0 0 0 0 0 0 done xa xb
+2 3 3 2 0 1 1 1 1 0 0 0 0 0 0 done xc
 ",
         },
         4 => Case {
@@ -130,7 +145,7 @@ Completed 7
 Begin Before After(Commit) .
 Completed 0
 ",
-            partitions: "0 0 0 0 | 0 0 0 0 0 0 0 0 | Finished
+            partitions: "0 0 0 0 0 0 0 0 0 0 0 0 0 0 0 done
 ",
         },
         5 => Case {
@@ -141,10 +156,10 @@ Completed 0
 Begin Before After(Commit) .
 Completed 6
 ",
-            partitions: "1 0 0 1 | 1 1 1 0 0 0 0 0 | Finished xa
-2 1 0 1 | 1 1 1 0 0 0 0 0 | Finished xb
-2 2 0 0 | 0 0 0 0 0 0 0 0 | Finished
-2 2 0 0 | 0 0 0 0 0 0 0 0 | Finished
+            partitions: "0 1 1 0 0 1 1 1 1 0 0 0 0 0 0 done xa
+1 2 2 1 0 1 1 1 1 0 0 0 0 0 0 done xb
+2 2 2 2 0 0 0 0 0 0 0 0 0 0 0 done
+2 2 2 2 0 0 0 0 0 0 0 0 0 0 0 done
 ",
         },
         6 => Case {
@@ -158,8 +173,8 @@ Completed 6
 Begin Rollback After(Rollback) .
 Failed 9
 ",
-            partitions: "2 0 0 1 | 2 1 1 1 0 1 0 0 | Failed xb
-6 4 0 2 | 2 2 1 0 0 0 0 0 | Finished xe xf
+            partitions: "0 4 2 0 0 1 2 1 1 1 0 1 0 0 0 failed xb
+4 6 6 4 0 2 2 2 1 0 0 0 0 0 0 done xe xf
 ",
         },
         7 => Case {
@@ -178,7 +193,7 @@ Longest(0) 4 of 4
 Begin Before After(Commit) .
 Completed 17
 ",
-            partitions: "4 4 1 4 | 4 4 4 1 0 0 0 0 | Finished xa xb xc xd
+            partitions: "0 4 4 4 1 4 4 4 4 1 0 0 0 0 0 done xa xb xc xd
 ",
         },
         8 => Case {
@@ -196,7 +211,7 @@ Longest(0) 3 of 3
 Begin Before After(Commit) .
 Completed 14
 ",
-            partitions: "4 2 1 3 | 4 3 3 1 0 1 0 0 | Finished xa xc xd
+            partitions: "0 4 4 2 1 3 4 3 3 1 0 1 0 0 0 done xa xc xd
 ",
         },
         9 => Case {
@@ -216,7 +231,7 @@ Longest(0) 1 of 1
 Begin Rollback After(Rollback) .
 Failed 12
 ",
-            partitions: "0 1 2 0 | 0 0 0 3 0 0 0 0 | Failed
+            partitions: "0 1 0 1 2 0 0 0 0 3 0 0 0 0 0 failed
 ",
         },
         10 => Case {
@@ -234,7 +249,7 @@ Longest(0) 3 of 3
 Begin Before After(Commit) .
 Completed 14
 ",
-            partitions: "3 2 1 2 | 2 2 3 1 1 0 0 0 | Finished xb xc
+            partitions: "0 3 3 2 1 2 2 2 3 1 1 0 0 0 0 done xb xc
 ",
         },
         11 => Case {
@@ -249,7 +264,7 @@ Completed 14
 Begin Before After(Commit) .
 Completed 4
 ",
-            partitions: "3 0 0 0 | 3 0 1 0 0 0 0 1 | Finished
+            partitions: "0 3 3 0 0 0 3 0 1 0 0 0 0 1 0 done
 ",
         },
         12 => Case {
@@ -266,7 +281,7 @@ Completed 4
 Begin Before After(Commit) .
 Completed 7
 ",
-            partitions: "3 0 0 2 | 2 2 2 0 1 0 0 0 | Finished xb xc
+            partitions: "0 3 3 0 0 2 2 2 2 0 1 0 0 0 0 done xb xc
 ",
         },
         13 => Case {
@@ -287,56 +302,130 @@ Longest(1) 2 of 2
 Begin Before After(Commit) .
 Completed 34
 ",
-            partitions: "6 6 1 1 | 5 1 4 1 1 1 1 1 | Finished xe
-10 10 2 4 | 4 4 4 2 0 0 0 0 | Finished xf xg xh xi
-12 10 0 2 | 2 2 1 0 0 0 0 0 | Finished xj xk
+            partitions: "0 6 6 6 1 1 5 1 4 1 1 1 1 1 0 done xe
+6 10 10 10 2 4 4 4 4 2 0 0 0 0 0 done xf xg xh xi
+10 12 12 10 0 2 2 2 1 0 0 0 0 0 0 done xj xk
+",
+        },
+        14 => Case {
+            records: "abc?d/",
+            asked: Asked {
+                item_count: 4,
+                rules: REPEATED,
+                ..PLAIN
+            },
+            course: "Longest(0) 1 of 1
+0:4:4 0:4:4:end 0 Completed .
+Begin Before After(Commit) .
+Completed 4
+",
+            partitions: "0 4 4 0 1 4 4 4 1 0 0 0 0 0 1 done xa xb xc xd
+",
+        },
+        15 => Case {
+            records: "a!/",
+            asked: Asked {
+                item_count: 1,
+                rules: Rules {
+                    retryable: 1,
+                    no_rollback: 1,
+                    ..STRICT
+                },
+                ..PLAIN
+            },
+            course: "Longest(0) 1 of 1
+0 Failed .
+Begin Rollback After(Rollback) .
+Failed 4
+",
+            partitions: "0 1 0 0 2 0 0 0 0 1 0 0 0 0 2 failed
+",
+        },
+        16 => Case {
+            records: "ab)c/",
+            asked: Asked {
+                item_count: 3,
+                rules: REPEATED,
+                ..PLAIN
+            },
+            course: "Longest(0) 1 of 1
+0:3:3 0:3:3:end 0 Completed .
+Begin Before After(Commit) .
+Completed 4
+",
+            partitions: "0 3 3 0 1 3 3 3 1 0 0 0 0 0 1 done xa xb xc
+",
+        },
+        17 => Case {
+            records: "a*b?/",
+            asked: Asked {
+                rules: FIRST_REPEATED,
+                ..PLAIN
+            },
+            course: "Longest(0) 1 of 1
+Longest(0) 2 of 2
+0:1:1 0:2:2 0:2:2:end 0 Completed .
+Begin Before After(Commit) .
+Completed 11
+",
+            partitions: "0 2 2 2 2 2 2 2 2 1 0 0 0 0 1 done xa xb
+",
+        },
+        18 => Case {
+            records: "a?b!c*/",
+            asked: Asked {
+                item_count: 3,
+                rules: Rules {
+                    skippable: 1,
+                    skip_limit: Some(1),
+                    ..FIRST_REPEATED
+                },
+                ..PLAIN
+            },
+            course: "Longest(0) 1 of 1
+Longest(0) 3 of 3
+0:1:1 0:2:1 0:3:2 0:3:2:end 0 Completed .
+Begin Before After(Commit) .
+Completed 14
+",
+            partitions: "0 3 3 3 2 2 3 2 3 1 0 1 0 0 1 done xa xc
+",
+        },
+        19 => Case {
+            records: "a(b?c)/d(e?f/",
+            asked: Asked {
+                item_count: 3,
+                rules: REPEATED,
+                ..PLAIN
+            },
+            course: "Longest(0) 1 of 1
+0 Failed 1:6:3 1:6:3:end 1 Completed .
+Begin Rollback After(Rollback) .
+Failed 6
+",
+            partitions: "0 3 0 0 2 0 0 0 0 1 0 0 0 0 2 failed
+3 6 6 3 2 3 3 3 1 0 0 0 0 0 2 done xd xe xf
 ",
         },
         _ => return None,
     })
 }
 
-/// Adds a line that tells how a partition stands: its row's place (at, redo, retries, written), its counts, its state and its
-/// outputs.
+/// Adds a line that tells how a partition stands: its row's numbers, its state and its outputs.
 pub(crate) fn add_partition(
     text: &mut String,
     alloc: Global,
     row: &Row,
     works: &Works,
 ) -> Result<(), AllocError> {
-    add_place(text, alloc, row)?;
-    add_counts(text, alloc, &row.counts)?;
-    add_outputs(text, alloc, row.state, &works.writer)
+    for number in row.numbers() {
+        text.push_str(format!(in alloc; "{number} ")?.as_str())?;
+    }
+    text.push_str(row.state.name())?;
+    add_outputs(text, alloc, &works.writer)
 }
 
-fn add_place(text: &mut String, alloc: Global, row: &Row) -> Result<(), AllocError> {
-    let place = format!(in alloc;
-        "{} {} {} {} | ",
-        row.at, row.redo, row.retries, row.written
-    )?;
-    text.push_str(place.as_str())
-}
-
-fn add_counts(text: &mut String, alloc: Global, counts: &Counts) -> Result<(), AllocError> {
-    let done = format!(in alloc;
-        "{} {} {} {} ",
-        counts.read, counts.write, counts.commit, counts.rollback
-    )?;
-    text.push_str(done.as_str())?;
-    let skips = format!(in alloc;
-        "{} {} {} {} | ",
-        counts.read_skip, counts.process_skip, counts.filter, counts.write_skip
-    )?;
-    text.push_str(skips.as_str())
-}
-
-fn add_outputs(
-    text: &mut String,
-    alloc: Global,
-    state: RowState,
-    writer: &ListWriter,
-) -> Result<(), AllocError> {
-    text.push_str(format!(in alloc; "{state:?}")?.as_str())?;
+fn add_outputs(text: &mut String, alloc: Global, writer: &ListWriter) -> Result<(), AllocError> {
     for number in 0..writer.count() {
         if let Some(output) = writer.item_at(number) {
             text.push_str(" ")?;
@@ -514,7 +603,7 @@ fn runs<R: Threads + Wait + Abort + Sync>(rt: &R, alloc: Global, case: &Case) ->
 
 #[test]
 fn steps(rt: HostRuntime) -> Result<(), Fail> {
-    for number in 0..14 {
+    for number in 0..20 {
         let Some(case) = case_at(number) else {
             return Err(Fail::from("a case"));
         };

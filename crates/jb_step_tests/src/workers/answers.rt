@@ -32,10 +32,12 @@ const TWO_WRITTEN: Counts = Counts {
 struct First {
     item_count: u64,
     rollbacks: u64,
+    repeats: u64,
     /// Whether each call of the processor for record 1 fails with the class of number 0.
     bad: bool,
-    /// The set of classes that are retried.
+    /// The set of classes that are retried, and of those that roll nothing back.
     retryable: u64,
+    no_rollback: u64,
     /// Whether the processor finds memory.
     memory: bool,
 }
@@ -43,8 +45,10 @@ struct First {
 const SOUND: First = First {
     item_count: 2,
     rollbacks: 0,
+    repeats: 0,
     bad: false,
     retryable: 0,
+    no_rollback: 0,
     memory: true,
 };
 
@@ -62,7 +66,7 @@ struct Case {
     commits: u64,
 }
 
-fn cases() -> [Case; 10] {
+fn cases() -> [Case; 12] {
     let class = ClassId::new(0);
     let sound = Case {
         first: SOUND,
@@ -99,6 +103,16 @@ fn cases() -> [Case; 10] {
         },
         Case {
             first: First {
+                retryable: 1,
+                no_rollback: 1,
+                ..bad
+            },
+            answer: Ok(Outcome::Failed(class)),
+            commits: 1,
+            ..sound
+        },
+        Case {
+            first: First {
                 memory: false,
                 ..SOUND
             },
@@ -120,6 +134,17 @@ fn cases() -> [Case; 10] {
         Case {
             first: First {
                 rollbacks: MAX_ROLLBACKS,
+                ..SOUND
+            },
+            other: None,
+            answer: Err(RoundError::Refused(Refused::Full)),
+            events: 3,
+            commits: 0,
+            ..sound
+        },
+        Case {
+            first: First {
+                repeats: 999_999_900_001,
                 ..SOUND
             },
             other: None,
@@ -163,6 +188,7 @@ fn works_of<T: PartitionTask>(
 {
     let rules = Rules {
         retryable: case.first.retryable,
+        no_rollback: case.first.no_rollback,
         retry_limit: 1,
         ..RULES
     };
@@ -244,14 +270,19 @@ fn is_left(case: &Case, after: &Snapshot) -> bool {
         && after.rows.iter().all(|row| !row.state.is_running())
 }
 
-/// The row that the task of partition 0 has: the desk's, but for its rollbacks.
+/// The row that the task of partition 0 has: the desk's, but for its rollbacks and repeats in place.
 fn first_row(first: &First) -> Row {
     let [row, _] = fresh_rows();
     let counts = Counts {
         rollback: first.rollbacks,
         ..row.counts
     };
-    Row { counts, ..row }
+    Row {
+        counts,
+        retries: first.repeats,
+        in_place: first.repeats,
+        ..row
+    }
 }
 
 fn faults(alloc: Global, first: &First) -> Result<FaultPlans, AllocError> {

@@ -19,6 +19,7 @@ use std::alloc::{AllocError, Global};
 pub(crate) const RULES: Rules = Rules {
     skippable: 0,
     retryable: 0,
+    no_rollback: 0,
     skip_limit: None,
     retry_limit: 0,
 };

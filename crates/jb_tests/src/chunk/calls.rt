@@ -1,15 +1,15 @@
-//! How often each artifact is called in an attempt, which no clause says.
+//! How often each artifact is called in an attempt, and which calls are repeated in place, which no clause says.
 
-ghost use Rattle.std.specs.Prelude.{◌≡◌, ◌<◌, true};
+ghost use Rattle.std.specs.Prelude.{◌≡◌, ◌+◌, ◌≤◌, ◌<◌, true};
 ghost use Rattle.jb_rules.specs.declared.row.RowState.TheVariants.{Waiting};
-ghost use Rattle.jb_job.specs.Limits.{max_rollbacks};
+ghost use Rattle.jb_job.specs.Limits.{max_rollbacks, max_retry_limit, max_in_place};
 
 use jb_artifacts::{
     Artifacts, ArtifactsOf, Collector, CountCollector, FaultList, FaultPlan, FaultPlans, Item,
     ItemProcessor, ItemReader, ItemWriter, ListWriter, PrefixProcessor, RowView, TableReader,
 };
 use jb_chunk::{Outcome, PartitionArtifacts, PartitionTask, Task};
-use jb_job::{ArtifactError, ClassId, MAX_ROLLBACKS, Range, Rules};
+use jb_job::{ArtifactError, ClassId, MAX_IN_PLACE, MAX_RETRY_LIMIT, MAX_ROLLBACKS, Range, Rules};
 use jb_rules::{Counts, Row};
 use std::alloc::{AllocError, Global};
 use std::sync::Arc;
@@ -43,10 +43,29 @@ impl Calls {
     }
 }
 
+/// A call of a reader, a processor or a writer.
+#[derive(Clone, Copy, Debug, PartialEq, Eq)]
+enum Call {
+    /// It was opened at this place.
+    Open(u64),
+    /// The record of this number was to be read.
+    Read(u64),
+    /// An item that begins with this letter was to be processed, that of the record of this number.
+    Process(u64, char),
+    /// So many results were to be written.
+    Write(usize),
+}
+
+/// Notes a call, where there is memory.
+fn note(noted: &mut Vec<Call>, call: Call) {
+    let _unnoted = noted.push(call);
+}
+
 #[derive(Drop)]
 struct CountedReader {
     table: TableReader,
     calls: Calls,
+    noted: Vec<Call>,
 }
 
 impl ItemReader for CountedReader {
@@ -65,11 +84,13 @@ impl ItemReader for CountedReader {
     }
 
     fn open_at(&mut self, at: u64) {
+        note(&mut self.noted, Call::Open(at));
         self.table.open_at(at);
     }
 
     fn read_item(&mut self) -> Result<Option<Item>, ArtifactError> {
         self.calls.count();
+        note(&mut self.noted, Call::Read(self.table.place()));
         self.table.read_item()
     }
 }
@@ -80,6 +101,7 @@ struct CountedProcessor {
     prefixer: PrefixProcessor,
     forgets: Option<u64>,
     calls: Calls,
+    noted: Vec<Call>,
 }
 
 impl ItemProcessor for CountedProcessor {
@@ -87,6 +109,8 @@ impl ItemProcessor for CountedProcessor {
 
     fn process_item(&mut self, number: u64, item: &[u8]) -> Result<Option<Item>, ArtifactError> {
         self.calls.count();
+        let letter = item.first().map_or(' ', |letter| char::from(*letter));
+        note(&mut self.noted, Call::Process(number, letter));
         if self.forgets == Some(number) {
             self.forgets = None;
             return Err(ArtifactError::Memory);
@@ -99,6 +123,7 @@ impl ItemProcessor for CountedProcessor {
 struct CountedWriter {
     list: ListWriter,
     calls: Calls,
+    noted: Vec<Call>,
 }
 
 impl ItemWriter for CountedWriter {
@@ -109,11 +134,13 @@ impl ItemWriter for CountedWriter {
     }
 
     fn open_at(&mut self, count: u64) {
+        note(&mut self.noted, Call::Open(count));
         self.list.open_at(count);
     }
 
     fn write_items(&mut self, results: &[(u64, Item)]) -> Result<(), ArtifactError> {
         self.calls.count();
+        note(&mut self.noted, Call::Write(results.len()));
         self.list.write_items(results)
     }
 
@@ -239,7 +266,11 @@ fn reader_of(alloc: Global, told: &Told<'_>, calls: &AllCalls) -> Result<Counted
         lines.push(Item::copy_of(alloc, line.as_bytes())?)?;
     }
     let table = TableReader::new(alloc, 0, lines, faults);
-    Ok(CountedReader { table, calls })
+    Ok(CountedReader {
+        table,
+        calls,
+        noted: Vec::new(alloc),
+    })
 }
 
 /// A processor that puts an x before each line and filters those that begin with z.
@@ -256,13 +287,18 @@ fn processor_of(
         prefixer: PrefixProcessor::new(alloc, prefix, dropped, faults),
         forgets: told.forgets,
         calls,
+        noted: Vec::new(alloc),
     })
 }
 
 fn writer_of(alloc: Global, told: &Told<'_>, calls: &AllCalls) -> Result<CountedWriter, Fail> {
     let calls = calls.writes.shared()?;
     let list = ListWriter::new(alloc, Vec::new(alloc), plans(alloc, told.writes)?);
-    Ok(CountedWriter { list, calls })
+    Ok(CountedWriter {
+        list,
+        calls,
+        noted: Vec::new(alloc),
+    })
 }
 
 /// Artifacts over the lines.
@@ -279,7 +315,7 @@ fn counting(alloc: Global, told: &Told<'_>, calls: &AllCalls) -> Result<Counting
 }
 
 /// A task over so many records, two at a time, if the artifacts serve them. Faults of class 0 are skipped, those of class 1
-/// retried.
+/// retried, and those of class 2 retried in place.
 pub(crate) fn begun<A: PartitionArtifacts + Send>(hi: u64, artifacts: A) -> Option<Task<A>> {
     let row = Row::fresh(Range { lo: 0, hi });
     if !row.sound() || !row.state.is_waiting() || !Task::fits(&artifacts, &row) {
@@ -287,7 +323,8 @@ pub(crate) fn begun<A: PartitionArtifacts + Send>(hi: u64, artifacts: A) -> Opti
     }
     let rules = Rules {
         skippable: 0b01,
-        retryable: 0b10,
+        retryable: 0b110,
+        no_rollback: 0b100,
         skip_limit: None,
         retry_limit: 10,
     };
@@ -296,9 +333,13 @@ pub(crate) fn begun<A: PartitionArtifacts + Send>(hi: u64, artifacts: A) -> Opti
 
 /// Whether a chunk may be attempted after this row.
 pub(crate) fn waits(row: &Row) -> bool
-    ensures { result ≡ true → (row.now.state ≡ Waiting) × (row.now.counts.rollback < max_rollbacks) }
+    ensures state { result ≡ true → row.now.state ≡ Waiting }
+    ensures rollbacks { result ≡ true → row.now.counts.rollback < max_rollbacks }
+    ensures repeats { result ≡ true → row.now.in_place + max_retry_limit ≤ max_in_place }
 {
-    row.state.is_waiting() && row.counts.rollback < MAX_ROLLBACKS
+    row.state.is_waiting()
+        && row.counts.rollback < MAX_ROLLBACKS
+        && row.in_place <= MAX_IN_PLACE - MAX_RETRY_LIMIT
 }
 
 fn name_of(outcome: &Outcome) -> &'static str {
@@ -333,12 +374,14 @@ fn attempts<T: PartitionTask>(
     Ok(task)
 }
 
-/// A partition whose chunks were attempted: its row, a line for each attempt, and its outputs, each with a blank behind it.
+/// A partition whose chunks were attempted: its row, a line for each attempt, its outputs, each with a blank behind it, and a line for
+/// each of reader, processor and writer: its calls.
 #[derive(Drop)]
 struct Ran {
     row: Row,
     log: String,
     outputs: Vec<u8>,
+    noted: String,
 }
 
 fn add_output(outputs: &mut Vec<u8>, text: Option<&[u8]>) -> Result<(), Fail> {
@@ -356,6 +399,14 @@ fn outputs_of(alloc: Global, writer: &CountedWriter) -> Result<Vec<u8>, Fail> {
     Ok(outputs)
 }
 
+/// The calls of reader, processor and writer.
+fn noted_in(alloc: Global, artifacts: &Counting) -> Result<String, AllocError> {
+    format!(in alloc;
+        "{:?}\n{:?}\n{:?}\n",
+        artifacts.reader.noted, artifacts.processor.noted, artifacts.writer.noted
+    )
+}
+
 /// Attempts what was told.
 fn run(alloc: Global, told: &Told<'_>) -> Result<Ran, Fail> {
     let calls = AllCalls::new(alloc)?;
@@ -364,8 +415,15 @@ fn run(alloc: Global, told: &Told<'_>) -> Result<Ran, Fail> {
     let task = begun(told.records(), artifacts).ok_or("a task")?;
     let task = attempts(alloc, task, &calls, &mut log)?;
     let row = *task.row();
-    let outputs = outputs_of(alloc, &task.into_artifacts().writer)?;
-    Ok(Ran { row, log, outputs })
+    let artifacts = task.into_artifacts();
+    let outputs = outputs_of(alloc, &artifacts.writer)?;
+    let noted = noted_in(alloc, &artifacts)?;
+    Ok(Ran {
+        row,
+        log,
+        outputs,
+        noted,
+    })
 }
 
 /// The attempts at thirteen records: a chunk with a filtered item, one in which a read is skipped after it had found no memory, a
@@ -438,8 +496,13 @@ no memory 2 1 0 0 at 2, 2 written
 committed 2 2 1 2 at 4, 4 written
 ";
 
+const REPEAT_USED_UP: &str = "committed 2 2 1 1 at 2, 2 written
+no memory 3 2 0 0 at 2, 2 written
+committed 2 2 1 2 at 4, 4 written
+";
+
 /// A fault that comes once was met in the attempt that found no memory. The next attempt is made on the artifacts as that one left
-/// them: it doesn't meet the fault, and skips no record.
+/// them: it doesn't meet the fault, and neither skips a record nor repeats a call.
 #[test]
 fn a_fault_that_was_met_is_used_up(rt: HostRuntime) -> Result<(), Fail> {
     let told = Told {
@@ -449,6 +512,82 @@ fn a_fault_that_was_met_is_used_up(rt: HostRuntime) -> Result<(), Fail> {
         ..no_fault()
     };
     assert!(rt; is_logged(rt.alloc(), &told, USED_UP)?);
+    let told = Told {
+        reads: &[once(2, ClassId::new(2))],
+        ..told
+    };
+    assert!(rt; is_logged(rt.alloc(), &told, REPEAT_USED_UP)?);
+    Ok(())
+}
+
+/// Four records with these faults.
+fn faults<'a>(reads: &'a [Fault], processes: &'a [Fault], writes: &'a [Fault]) -> Told<'a> {
+    Told {
+        lines: "a\nb\nc\nd",
+        reads,
+        processes,
+        writes,
+        forgets: None,
+    }
+}
+
+/// What comes of a partition: a line for each attempt, the calls of reader, processor and writer, and the row's numbers.
+fn story_of(alloc: Global, told: &Told<'_>) -> Result<String, Fail> {
+    let ran = run(alloc, told)?;
+    let mut story = ran.log;
+    story.push_str(ran.noted.as_str())?;
+    story.push_str(format!(in alloc; "{:?}\n", ran.row.numbers())?.as_str())?;
+    Ok(story)
+}
+
+const READ_AGAIN: &str = "committed 2 2 1 1 at 2, 2 written
+committed 3 2 1 2 at 4, 4 written
+[Open(0), Read(0), Read(1), Read(2), Read(3), Open(3), Read(3)]
+[Process(0, 'a'), Process(1, 'b'), Process(2, 'c'), Process(3, 'd')]
+[Open(0), Write(2), Write(2)]
+[0, 4, 4, 0, 1, 4, 4, 4, 2, 0, 0, 0, 0, 0, 1]
+";
+
+const PROCESSED_AGAIN: &str = "committed 2 2 1 1 at 2, 2 written
+committed 2 3 1 2 at 4, 4 written
+[Open(0), Read(0), Read(1), Read(2), Read(3)]
+[Process(0, 'a'), Process(1, 'b'), Process(2, 'c'), Process(2, 'c'), Process(3, 'd')]
+[Open(0), Write(2), Write(2)]
+[0, 4, 4, 0, 1, 4, 4, 4, 2, 0, 0, 0, 0, 0, 1]
+";
+
+const WRITTEN_AGAIN: &str = "committed 2 2 1 1 at 2, 2 written
+committed 2 2 2 2 at 4, 4 written
+[Open(0), Read(0), Read(1), Read(2), Read(3)]
+[Process(0, 'a'), Process(1, 'b'), Process(2, 'c'), Process(3, 'd')]
+[Open(0), Write(2), Write(2), Open(2), Write(2)]
+[0, 4, 4, 0, 1, 4, 4, 4, 2, 0, 0, 0, 0, 0, 1]
+";
+
+const ALL_AGAIN: &str = "committed 2 2 1 1 at 2, 2 written
+committed 3 3 2 2 at 4, 4 written
+[Open(0), Read(0), Read(1), Read(2), Open(2), Read(2), Read(3)]
+[Process(0, 'a'), Process(1, 'b'), Process(2, 'c'), Process(3, 'd'), Process(3, 'd')]
+[Open(0), Write(2), Write(2), Open(2), Write(2)]
+[0, 4, 4, 0, 3, 4, 4, 4, 2, 0, 0, 0, 0, 0, 3]
+";
+
+/// A call that is repeated in place is made once more, with the same record, item or list; before a read the reader is opened at the
+/// record, before a write the writer behind the committed results. No other call is made again, and the collector isn't told.
+#[test]
+fn calls_repeated_in_place(rt: HostRuntime) -> Result<(), Fail> {
+    let class = ClassId::new(2);
+    let (third, fourth) = ([once(2, class)], [once(3, class)]);
+    let cases = [
+        (faults(&fourth, &[], &[]), READ_AGAIN),
+        (faults(&[], &third, &[]), PROCESSED_AGAIN),
+        (faults(&[], &[], &fourth), WRITTEN_AGAIN),
+        (faults(&third, &fourth, &third), ALL_AGAIN),
+    ];
+    for (told, wanted) in cases {
+        let story = story_of(rt.alloc(), &told)?;
+        assert_eq!(rt; story.as_str(), wanted);
+    }
     Ok(())
 }
 
@@ -456,19 +595,25 @@ const WRITE_FAILED: &str = "committed 2 2 1 1 at 2, 2 written
 failed 1 1 1 0 at 2, 2 written
 ";
 
-/// A chunk that fails is not collected; it has a write call where its records are done.
+/// A chunk that fails is not collected; it has a write call where its records are done. A call that always fails is made as often as
+/// the retry limit allows, ten times, and once more.
 #[test]
 fn partitions_that_fail(rt: HostRuntime) -> Result<(), Fail> {
     let processed = Told {
-        processes: &[always(0, ClassId::new(2))],
+        processes: &[always(0, ClassId::new(3))],
         ..no_fault()
     };
     assert!(rt; is_logged(rt.alloc(), &processed, "failed 1 1 0 0 at 0, 0 written\n")?);
     let written = Told {
-        writes: &[always(2, ClassId::new(2))],
+        writes: &[always(2, ClassId::new(3))],
         ..no_fault()
     };
     assert!(rt; is_logged(rt.alloc(), &written, WRITE_FAILED)?);
+    let repeated = Told {
+        processes: &[always(1, ClassId::new(2))],
+        ..no_fault()
+    };
+    assert!(rt; is_logged(rt.alloc(), &repeated, "failed 2 12 0 0 at 0, 0 written\n")?);
     Ok(())
 }
 

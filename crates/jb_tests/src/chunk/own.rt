@@ -167,6 +167,7 @@ fn run(alloc: Global, text: &[u8], range: Range) -> Result<Ran, Fail> {
     let rules = Rules {
         skippable: 0,
         retryable: 0,
+        no_rollback: 0,
         skip_limit: None,
         retry_limit: 0,
     };

@@ -89,6 +89,7 @@ fn run(
     let rules = Rules {
         skippable: 1,
         retryable,
+        no_rollback: 0,
         skip_limit: Some(1),
         retry_limit: 1000,
     };

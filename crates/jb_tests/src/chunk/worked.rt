@@ -1,6 +1,6 @@
 //! The definitions, computed on worked rows apart from the code.
 
-ghost use Rattle.jb_chunk.specs.Worked.{FirstRun, EverythingFiltered, NoRecord, RetryToSingles, SkipInRedo, OneFailed, TornWrite, WriteRetried, WriteFailed, ShakyWrite, RetryLimit, ReadSkip, RolledBackSkip, PlainRuns};
+ghost use Rattle.jb_chunk.specs.Worked.{FirstRun, EverythingFiltered, NoRecord, RetryToSingles, SkipInRedo, OneFailed, TornWrite, WriteRetried, WriteFailed, ShakyWrite, RetryLimit, ReadSkip, RolledBackSkip, Repeat, RepeatLimit, RepeatedWrite, RepeatedAndRolled, RepeatedThenSkipped, SkippedAndRepeated, SkippedInRedo, RepeatedReads, PlainRuns};
 
 use std::test::*;
 
@@ -18,6 +18,14 @@ fn worked_rows()
     ensures retry_limit { RetryLimit }
     ensures read_skip { ReadSkip }
     ensures rolled_back_skip { RolledBackSkip }
+    ensures repeat { Repeat }
+    ensures repeat_limit { RepeatLimit }
+    ensures repeated_write { RepeatedWrite }
+    ensures repeated_and_rolled { RepeatedAndRolled }
+    ensures repeated_then_skipped { RepeatedThenSkipped }
+    ensures skipped_and_repeated { SkippedAndRepeated }
+    ensures skipped_in_redo { SkippedInRedo }
+    ensures repeated_reads { RepeatedReads }
     ensures plain_runs { PlainRuns }
 {}
 

@@ -4,11 +4,10 @@ use Rattle.json.specs.Token.{Token, end_array, end_object, key, string}
 use Rattle.jb_rules.specs.declared.row.Row.{Row}
 use Rattle.jb_collect.specs.declared.calls.ReducerCall.{ReducerCall}
 use Rattle.jb_collect.specs.declared.calls.Status.{Status}
-use Rattle.jb_saved.specs.SavedTree.{saved_tree}
+use Rattle.jb_saved.specs.SavedTree.{saved_tree, tokens_of}
 use Rattle.jb_step.specs.declared.notes.PlanNote.{PlanNote}
 use Rattle.jb_texts.specs.Statuses.{status_name}
 use Rattle.jb_texts.specs.Report.{plans_tree, reducer_tree}
-use Rattle.jb_texts.specs.ReportTokens.{tokens_of}
 
 -- the end of the outputs, the plans and the reducer's calls
 abbrev pub lists_tokens : List PlanNote → List ReducerCall → List Token

@@ -4,8 +4,8 @@ ghost use Rattle.std.specs.Prelude.{◌≡◌, ◌++◌, ◌∷◌, [], nat_eq, 
 ghost use Rattle.std.specs.List.{range_with_len};
 ghost use Rattle.json.specs.Token.{string};
 ghost use Rattle.jb_collect.specs.Laws.{partition_of};
+ghost use Rattle.jb_saved.specs.SavedTree.{tokens_of};
 ghost use Rattle.jb_texts.specs.Report.{heard_of, heard_text, heard_tree};
-ghost use Rattle.jb_texts.specs.ReportTokens.{tokens_of};
 ghost use Rattle.jb_texts.specs.inside.Heard.{call_tokens};
 
 use crate::report::text::write_text;

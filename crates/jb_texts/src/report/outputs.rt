@@ -3,8 +3,8 @@
 ghost use Rattle.std.specs.Prelude.{◌≡◌, ◌++◌, ◌∷◌, [], map, length, ◌<◌, get_or, OnOk};
 ghost use Rattle.std.specs.Str.Lossy.{utf8_lossy};
 ghost use Rattle.json.specs.Token.{string};
+ghost use Rattle.jb_saved.specs.SavedTree.{tokens_of};
 ghost use Rattle.jb_texts.specs.Report.{texts_tree};
-ghost use Rattle.jb_texts.specs.ReportTokens.{tokens_of};
 
 use crate::report::text::write_text;
 use jb_artifacts::ItemWriter;

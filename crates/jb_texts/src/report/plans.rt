@@ -1,8 +1,8 @@
 //! The plans of a step's rounds.
 
 ghost use Rattle.std.specs.Prelude.{◌≡◌, ◌++◌, flat_map, OnOk};
+ghost use Rattle.jb_saved.specs.SavedTree.{tokens_of};
 ghost use Rattle.jb_texts.specs.Report.{plan_tree, plans_tree};
-ghost use Rattle.jb_texts.specs.ReportTokens.{tokens_of};
 
 use jb_step::PlanNote;
 use json::Writer;

@@ -2,8 +2,8 @@
 
 ghost use Rattle.std.specs.Prelude.{◌≡◌, ◌++◌, map, OnOk};
 ghost use Rattle.json.specs.Token.{string};
+ghost use Rattle.jb_saved.specs.SavedTree.{tokens_of};
 ghost use Rattle.jb_texts.specs.Report.{call_name, reducer_tree};
-ghost use Rattle.jb_texts.specs.ReportTokens.{tokens_of};
 
 use jb_collect::{PartitionStatus, ReducerCall};
 use json::Writer;

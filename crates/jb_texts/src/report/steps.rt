@@ -2,19 +2,20 @@
 
 ghost use Rattle.std.specs.Prelude.{◌≡◌, ◌++◌, map, [], string_bytes, IfOk, OnOk};
 ghost use Rattle.std.specs.Str.Lossy.{utf8_lossy};
+ghost use Rattle.jb_saved.specs.SavedTree.{tokens_of};
 ghost use Rattle.jb_texts.specs.Report.{texts_tree};
 ghost use Rattle.jb_texts.specs.inside.Tail.{end_tokens, lists_tokens};
-ghost use Rattle.jb_texts.specs.ReportTokens.{step_head, step_tail, steps_tokens, tokens_of};
+ghost use Rattle.jb_texts.specs.ReportTokens.{step_head, step_tail, steps_tokens};
 
 use crate::report::heard::write_heard;
 use crate::report::outputs::write_outputs;
 use crate::report::plans::write_plans;
 use crate::report::reducer::write_reducer;
-use crate::report::rows::write_saved;
 use crate::status::status_name;
 use jb_artifacts::ItemWriter;
 use jb_collect::{AnalyzerCall, ReducerCall, Status};
 use jb_rules::Row;
+use jb_saved::write_saved;
 use jb_step::PlanNote;
 use json::Writer;
 use std::alloc::{AllocError, Global};

@@ -7,16 +7,16 @@ ghost use Rattle.jb_workers.specs.Events.{event_of, commit_in, commit_of};
 use jb_chunk::Outcome;
 use jb_repo::Event;
 
-/// The event of a lane's attempt that ended so and left so many results written.
-pub(crate) fn event_of(lane: u32, outcome: Outcome, written: u64) -> Event
-    ensures event { result ≡ event_of lane outcome written }
+/// The event of a lane's attempt that ended so, left so many results written, and repeated so many calls in place.
+pub(crate) fn event_of(lane: u32, outcome: Outcome, written: u64, again: u64) -> Event
+    ensures event { result ≡ event_of lane outcome written again }
     ensures commit { commit_in result ≡ commit_of outcome }
     ensures no_round { is_round result ≡ false }
 {
     match outcome {
-        Outcome::Committed(delta) => Event::Commit(lane, delta, written),
-        Outcome::Rolled(class) => Event::Roll(lane, class),
-        Outcome::Failed(class) => Event::Fail(lane, class),
+        Outcome::Committed(delta) => Event::Commit(lane, delta, written, again),
+        Outcome::Rolled(class) => Event::Roll(lane, class, again),
+        Outcome::Failed(class) => Event::Fail(lane, class, again),
         Outcome::NoMemory => Event::Drop(lane),
     }
 }
@@ -26,11 +26,11 @@ pub(crate) fn commits_in(event: Event) -> u64
     ensures { result ≡ commit_in event }
 {
     match event {
-        Event::Commit(_, _, _) => 1,
+        Event::Commit(_, _, _, _) => 1,
         Event::Plan(_, _)
         | Event::Begin(_, _)
-        | Event::Roll(_, _)
-        | Event::Fail(_, _)
+        | Event::Roll(_, _, _)
+        | Event::Fail(_, _, _)
         | Event::Drop(_)
         | Event::Round
         | Event::Stop => 0,

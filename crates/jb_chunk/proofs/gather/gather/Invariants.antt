@@ -1,17 +1,20 @@
-use Rattle.std.proofs.Common.{◌≡◌, ◌-◌, ◌≤◌, None}
-use Rattle.jb_chunk.specs.Block.{settling, passed}
-use Rattle.jb_chunk.specs.inside.Gathering.{IsTally}
+use Rattle.std.proofs.Common.{◌-◌, ◌≤◌}
+use Rattle.jb_rules.specs.Sound.{IsSoundRow}
+use Rattle.jb_chunk.specs.Attempt.{Trial}
+use Rattle.jb_chunk.specs.Standing.{HasRepeats}
+use Rattle.jb_chunk.specs.inside.Repeats.{IsGathering}
 use Rattle.jb_chunk.proofs.gather.gather.Given as goal
 
--- the records so far are done, and each of their faults is skipped
+-- the records so far are done, and each of their faults is skipped or its call repeated
 abbrev pub invariant-loop-number : goal.invariant-loop-number
 invariant-loop-number g l =
-    let old = g.A.Meaning.workplace l.fn.artifacts in
+    let meaning = g.A.Meaning.workplace in
+    let t : Trial = record { rules = l.rules; row = l.fn.row; hi = l.hi; work = meaning l.fn.artifacts } in
     record {
-      moved : g.A.Meaning.workplace l.artifacts ≡ passed old l.row.at l.number;
-      tally : IsTally old l.row.at l.number l.tally;
-      none : settling l.rules l.row old l.number ≡ None;
-      read_skips : l.tally.read_skips ≤ l.number - l.row.at;
-      process_skips : l.tally.process_skips ≤ l.number - l.row.at;
-      filtered : l.tally.filtered ≤ l.number - l.row.at;
+      gathering : IsGathering t l.number l.tally l.row (meaning l.artifacts);
+      sound : IsSoundRow l.row;
+      room : HasRepeats l.rules l.row;
+      read_skips : l.tally.read_skips ≤ l.number - l.fn.row.at;
+      process_skips : l.tally.process_skips ≤ l.number - l.fn.row.at;
+      filtered : l.tally.filtered ≤ l.number - l.fn.row.at;
     }

@@ -10,6 +10,9 @@ returns-clause-partitions c = refl
 pub returns-clause-threads : goal.returns-clause-threads
 returns-clause-threads c = refl
 
+pub returns-clause-in_place : goal.returns-clause-in_place
+returns-clause-in_place c = refl
+
 pub returns-clause-rollbacks : goal.returns-clause-rollbacks
 returns-clause-rollbacks c = refl
 

@@ -6,7 +6,7 @@ use Rattle.jb_saved.proofs.form.rows_in.Given as goal
 
 abbrev pub invariant-loop-item : goal.invariant-loop-item
 invariant-loop-item l = record {
-  form : rows_from l.rows.items (items_view (drop l.item-index l.items.items)) ≡ rows_from [] (items_view l.items.items);
+  form : rows_from l.version l.rows.items (items_view (drop l.item-index l.items.items)) ≡ rows_from l.version [] (items_view l.items.items);
   count : length l.rows.items ≡ l.item-index;
   still : AreStill l.rows.items;
 }

@@ -2,8 +2,8 @@ use Rattle.std.proofs.Common.{rules, tests, ◌≡◌, ◌++◌, ◌==◌, find,
 use Rattle.std.proofs.lemmas.Iterator.{YieldsList-from_slice}
 use Rattle.std.proofs.lemmas.Iterator.Search.{find_from_yields_List}
 use Rattle.std.specs.Str.Lossy.{utf8_lossy}
+use Rattle.jb_saved.specs.SavedTree.{tokens_of}
 use Rattle.jb_texts.specs.Report.{texts_tree}
-use Rattle.jb_texts.specs.ReportTokens.{tokens_of}
 use Rattle.jb_program.specs.StepRun.{committed_of}
 use Rattle.jb_program.proofs.Told.{outputs-found, outputs-missing}
 use Rattle.jb_program.proofs.run.told.write_outputs_of.Goals as goal

@@ -9,6 +9,6 @@ pub invariant_of-result : goal.invariant_of-result
 invariant_of-result c =
     let parts = c.in_ok-step.ensures in
     let rows = c.in_ok-step.rows.items in
-    let none : first_unfit c.deref.result.now ≡ None = cc (c.first_unfit.ensures, c.in-None-first_unfit.is) in
+    let none : first_unfit c.deref.result.now ≡ None = cc (c.first_unfit.ensures, c.in-None.is) in
     kept c.in_ok-step.step rows parts.named parts.some parts.few parts.still
     (all-fit c.rows_are_tested.ensures rows (subst (λ (xs : List Row). first_unfit xs ≡ None) c.deref.ensures.value none))

@@ -1,4 +1,4 @@
-use Rattle.jb_chunk.proofs.Worked.{first_run, everything_filtered, no_record, retry_to_singles, skip_in_redo, one_failed, torn_write, write_retried, write_failed, shaky_write, retry_limit, read_skip, rolled_back_skip, plain_runs}
+use Rattle.jb_chunk.proofs.Worked.{first_run, everything_filtered, no_record, retry_to_singles, skip_in_redo, one_failed, torn_write, write_retried, write_failed, shaky_write, retry_limit, read_skip, rolled_back_skip, repeat, repeat_limit, repeated_write, repeated_and_rolled, repeated_then_skipped, skipped_and_repeated, skipped_in_redo, repeated_reads, plain_runs}
 use Rattle.jb_tests.proofs.chunk.worked.worked_rows.Goals as goal
 
 pub returns-clause-first_run : goal.returns-clause-first_run
@@ -39,6 +39,30 @@ returns-clause-read_skip c = read_skip
 
 pub returns-clause-rolled_back_skip : goal.returns-clause-rolled_back_skip
 returns-clause-rolled_back_skip c = rolled_back_skip
+
+pub returns-clause-repeat : goal.returns-clause-repeat
+returns-clause-repeat c = repeat
+
+pub returns-clause-repeat_limit : goal.returns-clause-repeat_limit
+returns-clause-repeat_limit c = repeat_limit
+
+pub returns-clause-repeated_write : goal.returns-clause-repeated_write
+returns-clause-repeated_write c = repeated_write
+
+pub returns-clause-repeated_and_rolled : goal.returns-clause-repeated_and_rolled
+returns-clause-repeated_and_rolled c = repeated_and_rolled
+
+pub returns-clause-repeated_then_skipped : goal.returns-clause-repeated_then_skipped
+returns-clause-repeated_then_skipped c = repeated_then_skipped
+
+pub returns-clause-skipped_and_repeated : goal.returns-clause-skipped_and_repeated
+returns-clause-skipped_and_repeated c = skipped_and_repeated
+
+pub returns-clause-skipped_in_redo : goal.returns-clause-skipped_in_redo
+returns-clause-skipped_in_redo c = skipped_in_redo
+
+pub returns-clause-repeated_reads : goal.returns-clause-repeated_reads
+returns-clause-repeated_reads c = repeated_reads
 
 pub returns-clause-plain_runs : goal.returns-clause-plain_runs
 returns-clause-plain_runs c = plain_runs

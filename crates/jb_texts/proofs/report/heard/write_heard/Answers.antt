@@ -2,8 +2,8 @@ use Rattle.std.proofs.Common.{rules, ◌≡◌, ◌++◌, ◌∷◌, [], flat_ma
 use Rattle.std.proofs.lemmas.Result.{on_ok_weaker}
 use Rattle.std.specs.List.{range_with_len}
 use Rattle.json.specs.Token.{begin_array}
+use Rattle.jb_saved.specs.SavedTree.{tokens_of}
 use Rattle.jb_texts.specs.Report.{heard_of}
-use Rattle.jb_texts.specs.ReportTokens.{tokens_of}
 use Rattle.jb_texts.proofs.Tokens.{list-written}
 use Rattle.jb_texts.proofs.report.heard.write_heard.Goals as goal
 

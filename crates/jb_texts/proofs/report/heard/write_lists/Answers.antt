@@ -2,8 +2,8 @@ use Rattle.std.proofs.Common.{rules, ℕ, List, ◌++◌, ap, sym, ◌∙◌, ap
 use Rattle.std.proofs.lemmas.Grind.{common_steps}
 use Rattle.std.specs.List.{range_with_len}
 use Rattle.json.specs.Token.{Token}
+use Rattle.jb_saved.specs.SavedTree.{tokens_of}
 use Rattle.jb_texts.specs.Report.{heard_of}
-use Rattle.jb_texts.specs.ReportTokens.{tokens_of}
 use Rattle.jb_texts.proofs.Tokens.{lists-more}
 use Rattle.jb_texts.proofs.report.heard.write_lists.Goals as goal
 

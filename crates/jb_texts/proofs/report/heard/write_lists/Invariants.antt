@@ -1,7 +1,7 @@
 use Rattle.std.proofs.Common.{◌≡◌, ◌++◌, flat_map}
 use Rattle.std.specs.List.{range_with_len}
+use Rattle.jb_saved.specs.SavedTree.{tokens_of}
 use Rattle.jb_texts.specs.Report.{heard_of}
-use Rattle.jb_texts.specs.ReportTokens.{tokens_of}
 use Rattle.jb_texts.proofs.report.heard.write_lists.Given as goal
 
 -- the lists of the partitions so far are written

@@ -1,8 +1,8 @@
 use Rattle.std.proofs.Common.{rules, ◌≡◌, ◌++◌, ◌∷◌, [], flat_map}
 use Rattle.std.proofs.lemmas.Result.{on_ok_weaker}
 use Rattle.json.specs.Token.{begin_array}
+use Rattle.jb_saved.specs.SavedTree.{tokens_of}
 use Rattle.jb_texts.specs.Report.{plan_tree}
-use Rattle.jb_texts.specs.ReportTokens.{tokens_of}
 use Rattle.jb_texts.proofs.Tokens.{list-written}
 use Rattle.jb_texts.proofs.report.plans.write_plans.Goals as goal
 

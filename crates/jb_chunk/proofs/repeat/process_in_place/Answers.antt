@@ -1,0 +1,39 @@
+use Rattle.std.proofs.Common.{refl, ◌∙◌, sym}
+use Rattle.jb_chunk.specs.inside.Repeats.{fault_answered, process_call}
+use Rattle.jb_chunk.proofs.Calling.{calling-none, processing-more, processing-last, room-more, room-one, fewer-left}
+use Rattle.jb_chunk.proofs.repeat.process_in_place.Goals as goal
+
+pub loop-answer-init : goal.loop-answer-init
+loop-answer-init g c = record {
+  calling = calling-none _ _ _ (process_call (g.A.Meaning.workplace c.args.artifacts.now) c.args.number) (g.A.Meaning.workplace c.args.artifacts.now) refl;
+  sound = c.requires.sound;
+  room = c.requires.room;
+}
+
+pub returns-then-not-is_repeated-clause-processed : goal.returns-then-not-is_repeated-clause-processed
+returns-then-not-is_repeated-clause-processed g c =
+    let meaning = g.A.Meaning.workplace in
+    let made = c.process_item-answer.ensures in
+    processing-last _ _ _ _ (meaning c.args.artifacts.now) (meaning c.loop-answer.artifacts) (meaning c.process_item-answer.new.self) _ _ c.process_item-answer.result c.loop-answer.invariant.calling made.answered made.faulted made.no_memory (sym c.is_repeated.ensures ∙ c.if-not-is_repeated.true)
+
+pub returns-then-not-is_repeated-clause-sound : goal.returns-then-not-is_repeated-clause-sound
+returns-then-not-is_repeated-clause-sound g c = c.loop-answer.invariant.sound
+
+pub returns-then-not-is_repeated-clause-room : goal.returns-then-not-is_repeated-clause-room
+returns-then-not-is_repeated-clause-room g c = c.loop-answer.invariant.room
+
+pub repeated-requires-clause-room : goal.repeated-requires-clause-room
+repeated-requires-clause-room g c = room-one c.args.rules.now c.loop-answer.row (fault_answered c.process_item-answer.result) c.args.skips c.loop-answer.invariant.room (sym c.is_repeated.ensures ∙ c.if-not-is_repeated.false)
+
+pub loop-answer-smaller : goal.loop-answer-smaller
+loop-answer-smaller g c = fewer-left c.args.rules.now c.loop-answer.row c.repeated.result (fault_answered c.process_item-answer.result) c.args.skips (sym c.is_repeated.ensures ∙ c.if-not-is_repeated.false) c.repeated.ensures.row
+
+pub loop-answer-preserved : goal.loop-answer-preserved
+loop-answer-preserved g c =
+    let meaning = g.A.Meaning.workplace in
+    let asked = sym c.is_repeated.ensures ∙ c.if-not-is_repeated.false in
+    record {
+      calling = processing-more _ _ _ _ _ (meaning c.args.artifacts.now) (meaning c.loop-answer.artifacts) (meaning c.process_item-answer.new.self) _ c.process_item-answer.result c.loop-answer.invariant.calling c.process_item-answer.ensures.faulted asked c.repeated.ensures.row;
+      sound = c.repeated.ensures.sound;
+      room = room-more c.args.rules.now c.loop-answer.row c.repeated.result (fault_answered c.process_item-answer.result) c.args.skips c.loop-answer.invariant.room asked c.repeated.ensures.row;
+    }
