@@ -1,15 +1,17 @@
 #!/usr/bin/env python3
 """What one step of 100,000 and 1,000,000 records takes on 1, 2 and 4 threads, beside its partitions run alone, one after another.
 
-The records have ten bytes, and no call fails. There are eight partitions or 256, even ones, or the last one has a good half of the records. `cpu s`
-is the processor time of all threads and `wall s` the time that passed, each the least of five runs, less that of a run that makes the records
-and the artifacts and does no more. `to alone` is the step's processor time by that of `run_alone` over the same partitions. Ten times the
-chunks should take about ten times as long.
+The records have ten bytes, and no call fails. There are 8, 64, 256 or 1,024 even partitions, or eight of which the last one has a good half of
+the records. `cpu s` is the processor time of all threads and `wall s` the time that passed, each the least of five runs, less that of a run that
+makes the records and the artifacts and does no more. `to alone` is the step's processor time by that of `run_alone` over the same partitions. Ten
+times the chunks should take about ten times as long.
 
     bench/step.py [--instructions]
 
-With `--instructions` it counts, by valgrind's callgrind, what the processor does on one thread, at 100,000 records: a count that no load of the
-machine changes. The program `step` is no part of the gate (programs.py), and no number here decides it; on a busy machine read `cpu s`.
+With `--instructions` it counts, by valgrind's callgrind, what the processor does at 100,000 records: a count that no load of the machine changes.
+`a work` is the step's instructions by its chunks, each of which is one work of a round: on one thread a round has one work, on eight threads
+eight, for each of which but one a thread is started. It should be about the same whatever the number of partitions. The program `step` is no part
+of the gate (programs.py), and no number here decides it; on a busy machine read `cpu s`.
 """
 import os
 import re
@@ -23,6 +25,7 @@ from programs import build
 STANDS_ON = ("jb_job", "jb_plan", "jb_rules", "jb_mapper", "jb_artifacts", "jb_chunk", "jb_repo", "jb_workers", "jb_collect", "jb_step")
 SIZES = (100_000, 1_000_000)
 ITEM_COUNTS = (1_000, 10)
+SHAPES = ((8, "even"), (64, "even"), (256, "even"), (1_024, "even"), (8, "long"))
 RUNS = 5
 
 
@@ -48,7 +51,7 @@ def line(program, shape, partitions, records, item_count):
 
 
 def named(shape, partitions, records, item_count):
-    return f"{records:,} records, {partitions} partitions, {shape}, chunks of {item_count:,}"
+    return f"{records:,} records, {partitions:,} partitions, {shape}, chunks of {item_count:,}"
 
 
 def instructions(program, *words):
@@ -58,12 +61,23 @@ def instructions(program, *words):
     return int(re.search(r"Collected : (\d+)", ran.stderr)[1])
 
 
+def chunks(shape, partitions, records, item_count):
+    """How many chunks the partitions have: each of a partition's but the last is full."""
+    even = records // partitions
+    length = even // 2 if shape == "long" else even
+    lengths = [length] * (partitions - 1) + [records - length * (partitions - 1)]
+    return sum(-(-each // item_count) for each in lengths)
+
+
 def count(program, shape, partitions, item_count):
-    """Prints a line: instructions alone, and as a step on one thread."""
-    given = (shape, partitions, min(SIZES), item_count, 1)
-    made, alone, step = (instructions(program, way, *given) for way in ("made", "alone", "step"))
-    cells = f"{alone - made:>14,}  {step - made:>14,}  {(step - made) / (alone - made):>8.2f}"
-    print(f"{named(shape, partitions, min(SIZES), item_count):<62}  {cells}", flush=True)
+    """Prints a line: instructions alone, and as a step on one thread and on eight."""
+    given = (shape, partitions, min(SIZES), item_count)
+    made, alone = (instructions(program, way, *given, 1) for way in ("made", "alone"))
+    cells = [f"{alone - made:>14,}"]
+    for threads in (1, 8):
+        step = instructions(program, "step", *given, threads) - made
+        cells.append(f"{step:>14,} {step / (alone - made):>8.2f} {step // chunks(*given):>10,}")
+    print(f"{named(*given):<62}  {'  '.join(cells)}", flush=True)
 
 
 def main():
@@ -71,12 +85,13 @@ def main():
     with tempfile.TemporaryDirectory() as room:
         program = build("step", STANDS_ON, room, words=("step", "even", "8", "1000", "10", "2"))
         if counted:
-            print(f"{'what':<62}  {'alone':>14}  {'one thread':>14}  {'to alone':>8}")
+            print(f"{'':<62}  {'alone':>14}{'one thread':>36}{'eight threads':>36}")
+            print(f"{'what':<62}  {'':>14}{'  instructions   to alone     a work' * 2}")
         else:
             print(f"{'':<62}  {'alone':>15}{'one thread':>24}{'two threads':>24}{'four threads':>24}")
             print(f"{'what':<62}  {'cpu s  wall s':>15}{'   cpu s  wall s to alone' * 3}")
         for item_count in ITEM_COUNTS:
-            for partitions, shape in ((8, "even"), (8, "long"), (256, "even")):
+            for partitions, shape in SHAPES:
                 if counted:
                     count(program, shape, partitions, item_count)
                     continue

@@ -7,6 +7,7 @@ import dataclasses
 import json
 
 MOST = 2**64
+MOST_PARTITIONS = 1_024
 MOST_ROLLBACKS = 1_000_000_000_000
 MOST_REPEATS = 1_000_000_000_000
 ROOM_FOR_REPEATS = 100_000  # at most as many as a chunk may have
@@ -342,7 +343,7 @@ def saved_of(_, tree):
     saved_if(type(version) is int and tree.keys() == {"rows", "step", "version"}, "Shape")
     rows, step = tree["rows"], tree["step"]
     saved_if(isinstance(step, str) and 1 <= len(step.encode()) <= 64, "Shape")
-    saved_if(isinstance(rows, list) and 1 <= len(rows) <= 256, "Shape")
+    saved_if(isinstance(rows, list) and 1 <= len(rows) <= MOST_PARTITIONS, "Shape")
     saved_if(all(is_row(NUMBERS[version], row) for row in rows), "Shape")
     rows = [row_of(version, row) for row in rows]
     for place, row in enumerate(rows):
@@ -382,7 +383,7 @@ def even_ranges(records, partitions):
 def checked_ranges(records, ranges):
     if not ranges:
         raise Refused("NoPartition")
-    if len(ranges) > 256:
+    if len(ranges) > MOST_PARTITIONS:
         raise Refused("TooMany")
     for place, (lo, hi) in enumerate(ranges):
         if hi < lo:
@@ -531,8 +532,13 @@ class Step:
     """The plans of a step's rounds, and what its analyzer heard of each partition."""
 
     def __init__(self, tasks, threads, begun_anew):
-        self.tasks, self.threads, self.stopped = tasks, threads, False
+        self.tasks, self.threads, self.stopped, self.begun = tasks, threads, False, ["begin"]
         self.plans, self.heard = [], [["COMPLETED"] if begun_anew and task.lo == task.hi else [] for task in tasks]
+
+    def discard(self):
+        """What an earlier run saved is discarded before the step begins anew."""
+        self.begun.append("rollback")
+        return self
 
     def run(self, limit):
         """Runs the partitions to their ends, in at most so many rounds."""
@@ -578,7 +584,7 @@ class Step:
             "heard": self.heard,
             "outputs": [task.outputs for task in self.tasks],
             "plans": self.plans,
-            "reducer": ["begin", "before", "after COMMIT"] if completed else ["begin", "rollback", "after ROLLBACK"],
+            "reducer": [*self.begun, *(["before", "after COMMIT"] if completed else ["rollback", "after ROLLBACK"])],
             "saved": {"rows": [task.row() for task in self.tasks], "step": name, "version": VERSION},
             "status": self.status(),
             "step": name,
@@ -599,11 +605,12 @@ def first_step(chunk, plan, given):
 
 
 def restarted_step(chunk, plan, given, rows, outputs):
-    """A step that goes on from its saved rows: its plan gives the number of threads alone."""
+    """A step that goes on from its saved rows: its plan gives the number of threads alone, unless it overrides them."""
     records = len(given[0])
     ranges = plan.ranges_of(records)
+    if plan.override:
+        return first_step(chunk, plan, given).discard()
     saved_if(all(row[1] <= records for row in rows), "Records")
-    saved_if(not plan.override, "Override")
     tasks = [Partition(chunk, given, row[:2]).go_on(row, texts) for row, texts in zip(rows, outputs)]
     return Step(tasks, min(plan.threads or len(ranges), 64), False)
 

@@ -1,5 +1,5 @@
 -- Plans of a table after a call.
-use Rattle.std.proofs.Common.{◌≡◌, ℕ, List, [], ◌∷◌, Bool, true, false, refl, ap, sym, ◌∙◌, Option, Some, None, arith}
+use Rattle.std.proofs.Common.{◌≡◌, ℕ, List, [], ◌∷◌, Bool, true, false, length, refl, ap, sym, ◌∙◌, Option, Some, None, arith}
 use Rattle.std.proofs.Math.Path.{fun_ext}
 use Rattle.std.specs.Prelude.{unwrap_or, ◌==◌, if◌then◌else◌}
 use Rattle.std.proofs.lemmas.Bool.{eqb-true}
@@ -53,3 +53,8 @@ used_at-sound plans k none = fun_ext (λ j. at (j == k) j refl)
     at : (b : Bool) (j : ℕ) → (j == k) ≡ b → (if b then used (plans j) else plans j) ≡ plans j
     at false j is = refl
     at true j is = sound_used (plans j) (ap (λ n. live (plans n)) (eqb-true j k is) ∙ none)
+
+-- where no plan was put in, no call fails
+pub none-planned : (entries : List (ℕ × FaultPlan)) (number : ℕ) → length entries ≡ 0 → live (plans_of entries number) ≡ None
+none-planned [] number none = refl
+none-planned (entry ∷ entries) number none = absurd (omega (arith, none))

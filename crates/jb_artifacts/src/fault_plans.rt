@@ -65,6 +65,9 @@ impl FaultPlans {
         ensures plans { plans_of self.new ≡ used_at (plans_of self.old) number }
         ensures sound { result ≡ None → plans_of self.new ≡ plans_of self.old }
     {
+        if self.table.is_empty() {
+            return None;
+        }
         match self.table.get_mut(&number) {
             Some(plan) => plan.strike(),
             None => None,

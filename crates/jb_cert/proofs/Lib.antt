@@ -5,6 +5,7 @@ pub mod EndToEnd
 pub mod Sets
 pub mod Planned
 pub mod Lanes
+pub mod Rising
 pub mod Certified
 pub mod Judged
 pub mod FirstFault

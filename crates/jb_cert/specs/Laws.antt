@@ -1,10 +1,11 @@
 -- What holds of every load, whatever its size.
-use Rattle.std.specs.Prelude.{◌≡◌, ℕ, ◌+◌, ◌<◌, ◌≤◌, ◌↔◌, List, length, find, slice_index, IsTrue, Some, ◌==◌}
+use Rattle.std.specs.Prelude.{◌≡◌, ℕ, ◌+◌, ◌<◌, ◌≤◌, ◌↔◌, List, length, map, find, slice_index, IsTrue, Some, ◌==◌}
 use Rattle.jb_cert.specs.declared.certificates.Certificate.{Certificate}
 use Rattle.jb_cert.specs.Load.{mcnaughton}
 use Rattle.jb_cert.specs.Lawful.{NoneIsShorter, IsLeastNumber}
 use Rattle.jb_cert.specs.Certificates.{Holds, certifies, is_least_plan, bound_certificate}
 use Rattle.jb_cert.specs.Plans.{StandsForLeast}
+use Rattle.jb_cert.specs.Rising.{Rise}
 use Rattle.jb_cert.specs.WrapAround.{start_of, partition_at_place, slot_of, lane_slot, slots_of_round, wrapped_rounds}
 
 -- THE BOUND
@@ -61,6 +62,10 @@ abbrev pub LanesAreFound : Type 0
 LanesAreFound =
     (counts : List ℕ) (threads r l : ℕ) → l < threads
     → find (λ slot. slot.lane == l) (slots_of_round counts threads r) ≡ lane_slot counts threads r l
+
+-- the slots of a round, which come by rising lane, come by rising partition too
+abbrev pub PartitionsRise : Type 0
+PartitionsRise = (counts : List ℕ) (threads r : ℕ) → Rise (map (λ slot. slot.partition) (slots_of_round counts threads r))
 
 -- the partition at a place is the one whose chunks lie round it
 abbrev pub PlacesLieRound : Type 0

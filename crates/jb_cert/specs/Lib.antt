@@ -2,6 +2,7 @@ pub mod Load
 pub mod Lawful
 pub mod Certificates
 pub mod WrapAround
+pub mod Rising
 pub mod Plans
 pub mod Faults
 pub mod WrongPlans

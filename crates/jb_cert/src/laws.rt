@@ -1,6 +1,6 @@
 //! Laws over every load. The functions do nothing: their contracts are the laws.
 ghost use Rattle.jb_cert.specs.WrongPlans.{FirstFaultSays, HasLaneOutOfRange, HasMissing, HasOutOfOrder, HasStranger, HasTwiceInRound};
-ghost use Rattle.jb_cert.specs.Laws.{BoundIsLeast, BoundIsCertified, CertifiedIsShortest, CertifiesWhatHolds, LeastPlanMeans, WrapAroundIsBound, WrapAroundIsLeast, SlotsAreKnown, LanesAreFound, PlacesLieRound};
+ghost use Rattle.jb_cert.specs.Laws.{BoundIsLeast, BoundIsCertified, CertifiedIsShortest, CertifiesWhatHolds, LeastPlanMeans, WrapAroundIsBound, WrapAroundIsLeast, SlotsAreKnown, LanesAreFound, PartitionsRise, PlacesLieRound};
 
 use crate::plans::PlanFault;
 
@@ -25,9 +25,11 @@ pub fn wrap_around_is_least()
     ensures known { SlotsAreKnown }
 {}
 
-/// In a round of the wrap-around the slot of a lane, if it has one, is found by its lane.
+/// In a round of the wrap-around the slot of a lane, if it has one, is found by its lane; and the partitions rise with the
+/// lanes.
 pub fn lanes_are_found()
-    ensures { LanesAreFound }
+    ensures found { LanesAreFound }
+    ensures rise { PartitionsRise }
 {}
 
 /// In the row of all chunks, the partition at a place is the one whose chunks lie round it.

@@ -12,7 +12,7 @@ use Rattle.jb_chunk.specs.Attempt.{Ending, attempt_of, end_of, asks_repeat, repe
 use Rattle.jb_chunk.specs.Block.{entry, results, count_of, settles, settling, used_between}
 use Rattle.jb_chunk.specs.Plain.{plain_answers}
 use Rattle.jb_chunk.specs.Standing.{TaskState}
-use Rattle.jb_chunk.specs.Worked.{FirstRun, EverythingFiltered, NoRecord, RetryToSingles, SkipInRedo, OneFailed, TornWrite, WriteRetried, WriteFailed, ShakyWrite, RetryLimit, ReadSkip, RolledBackSkip, Repeat, RepeatLimit, RepeatedWrite, RepeatedAndRolled, RepeatedThenSkipped, SkippedAndRepeated, SkippedInRedo, RepeatedReads, PlainRuns, RunsTo, numbers, texts_in, filtered_task, first_task, second_task, recordless_task, retried_task, skipped_task, failed_task, beside_failed_task, torn_task, rewritten_task, unwritable_task, shaky_writes_task, retried_out_task, read_skipped_task, rolled_back_task, repeated_task, repeated_out_task, repeated_write_task, repeated_and_rolled_task, repeated_then_skipped_task, skipped_and_repeated_task, skipped_in_redo_task, repeated_reads_task}
+use Rattle.jb_chunk.specs.Worked.{FirstRun, EverythingFiltered, NoRecord, RetryToSingles, SkipInRedo, OneFailed, TornWrite, WriteRetried, WriteFailed, ShakyWrite, RetryLimit, ReadSkip, SkippedBeforeWrite, RolledBackSkip, Repeat, RepeatLimit, RepeatedWrite, RepeatedAndRolled, RepeatedThenSkipped, SkippedAndRepeated, SkippedInRedo, RepeatedReads, AllSeen, PlainRuns, RunsTo, numbers, texts_in, filtered_task, first_task, second_task, recordless_task, retried_task, skipped_task, failed_task, beside_failed_task, torn_task, rewritten_task, unwritable_task, shaky_writes_task, retried_out_task, read_skipped_task, skipped_and_unwritable_task, rolled_back_task, repeated_task, repeated_out_task, repeated_write_task, repeated_and_rolled_task, repeated_then_skipped_task, skipped_and_repeated_task, skipped_in_redo_task, repeated_reads_task, seen_task}
 
 -- the first `n` attempts, while the task waits, and where they lead
 unfoldable attempts : ℕ → TaskState → List Ending
@@ -102,6 +102,10 @@ pub read_skip : ReadSkip
 unfolding attempts place end_of asks_repeat repeated_up_to after_repeats settling settles entry results count_of work_with used_between used_at digits blocks
 read_skip = runs_to read_skipped_task 2 refl (lit≤ tt) refl refl refl refl
 
+pub skipped_before_write : SkippedBeforeWrite
+unfolding attempts place end_of asks_repeat repeated_up_to after_repeats settling settles entry results count_of work_with used_between used_at digits blocks
+skipped_before_write = runs_to skipped_and_unwritable_task 1 refl (lit≤ tt) refl refl refl refl
+
 pub rolled_back_skip : RolledBackSkip
 unfolding attempts place end_of asks_repeat repeated_up_to after_repeats settling settles entry results count_of work_with used_between used_at digits blocks
 rolled_back_skip = runs_to rolled_back_task 4 refl (lit≤ tt) refl refl refl refl
@@ -148,6 +152,10 @@ skipped_in_redo = runs_to skipped_in_redo_task 3 refl (lit≤ tt) refl refl refl
 pub repeated_reads : RepeatedReads
 unfolding attempts place end_of asks_repeat repeated_up_to after_repeats settling settles entry results count_of work_with used_between used_at digits blocks
 repeated_reads = runs_to repeated_reads_task 1 refl (lit≤ tt) refl refl refl refl
+
+pub all_seen : AllSeen
+unfolding attempts place end_of asks_repeat repeated_up_to after_repeats settling settles entry results count_of work_with used_between used_at digits blocks
+all_seen = runs_to seen_task 2 refl (lit≤ tt) refl refl refl refl
 
 pub plain_runs : PlainRuns
 unfolding plain_answers blocks

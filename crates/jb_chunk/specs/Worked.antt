@@ -9,6 +9,7 @@ use Rattle.jb_rules.specs.declared.row.RowState.{RowState}
 use Rattle.jb_rules.specs.declared.row.RowState.TheVariants.{Finished, Failed}
 use Rattle.jb_rules.specs.Rows.{fresh_row}
 use Rattle.jb_artifacts.specs.declared.faults.FaultPlan.{FaultPlan}
+use Rattle.jb_artifacts.specs.declared.view.RowView.{RowView}
 use Rattle.jb_artifacts.specs.declared.faults.FaultPlan.TheVariants.{Sound, Bad, Shaky}
 use Rattle.jb_artifacts.specs.Collected.{count_text}
 use Rattle.jb_artifacts.specs.Faults.{Plans}
@@ -120,6 +121,9 @@ retried_out_task = task 0 0 1 1 (two_retries 0 1) sound (only 0 (Bad class_e)) s
 abbrev pub read_skipped_task : TaskState
 read_skipped_task = task 0 0 3 2 (rules_of 1 0) (only 0 (Bad class_e)) sound sound
 
+abbrev pub skipped_and_unwritable_task : TaskState
+skipped_and_unwritable_task = task 0 0 2 2 (one_skip 1 0) (only 0 (Bad class_e)) sound (only 1 (Bad class_e))
+
 abbrev pub rolled_back_task : TaskState
 rolled_back_task = task 0 0 3 2 (one_skip 1 2) (only 0 (Bad class_e)) (only 1 (Shaky (class_f ∷ []))) sound
 
@@ -150,6 +154,34 @@ skipped_in_redo_task =
 
 abbrev pub repeated_reads_task : TaskState
 repeated_reads_task = task 0 0 2 2 (in_place 3 (two_retries 0 3)) (only 0 (Shaky (class_e ∷ class_f ∷ []))) sound (only 1 (Shaky (class_e ∷ [])))
+
+-- a collector that tells all that it sees
+abbrev pub all_seen : RowView → List ℕ
+all_seen view =
+    view.partition ∷ view.lo ∷ view.hi ∷ view.at
+    ∷ view.counts.read ∷ view.counts.write ∷ view.counts.commit ∷ view.counts.rollback
+    ∷ view.counts.read_skip ∷ view.counts.process_skip ∷ view.counts.filter ∷ view.counts.write_skip
+    ∷ (if view.last then 1 else 0) ∷ []
+
+-- the last two of the records 10 to 45, where each count has another value; two results were written before them
+abbrev pub seen_task : TaskState
+seen_task = record (task 8 10 46 1 strict sound sound sound) {
+  row = record (fresh_row (record { lo = 10; hi = 46 })) {
+    at = 44;
+    written = 2;
+    counts = record { read = 31; write = 2; commit = 9; rollback = 6; read_skip = 3; process_skip = 5; filter = 7; write_skip = 4 };
+  };
+  work = record (works 44 sound sound sound) {
+    reader = record { first = 40; records = letters; place = 44; faults = sound };
+    writer = record { written = codes "xm" ∷ codes "xn" ∷ []; faults = sound };
+    collector = all_seen;
+  };
+}
+
+-- what it then sees: the checkpoint, READ, WRITE and COMMIT change
+abbrev pub seen_at : (at read write commit last : ℕ) → List ℕ
+seen_at at read write commit last =
+    8 ∷ 10 ∷ 46 ∷ at ∷ read ∷ write ∷ commit ∷ 6 ∷ 3 ∷ 5 ∷ 7 ∷ 4 ∷ last ∷ []
 
 -- WHERE THEY LEAD
 
@@ -281,7 +313,14 @@ ReadSkip =
     (3 ∷ 0 ∷ 0 ∷ 2 ∷ 2 ∷ 2 ∷ 2 ∷ 0 ∷ 1 ∷ 0 ∷ 0 ∷ 0 ∷ 0 ∷ []) Finished
     (codes "xb" ∷ codes "xc" ∷ []) (codes "0:2:1" ∷ codes "0:3:2" ∷ codes "0:3:2:end" ∷ [])
 
--- a rolled-back skip isn't counted: the same with skip limit 1, and record 1 fails once with F, which is retryable alone
+-- the skips before a write count at its fault: item count 2, the read of record 0 and the write of record 1 always fail, skip
+-- limit 1. The write call isn't skipped, and the partition fails.
+abbrev pub SkippedBeforeWrite : Type 0
+SkippedBeforeWrite =
+    RunsTo skipped_and_unwritable_task
+    (0 ∷ 0 ∷ 0 ∷ 0 ∷ 0 ∷ 0 ∷ 0 ∷ 1 ∷ 0 ∷ 0 ∷ 0 ∷ 0 ∷ 0 ∷ []) Failed [] []
+
+-- a rolled-back skip isn't counted: the read of record 0 is skipped, with skip limit 1, and record 1 fails once with F, which is retryable alone
 abbrev pub RolledBackSkip : Type 0
 RolledBackSkip =
     RunsTo rolled_back_task
@@ -344,6 +383,14 @@ abbrev pub RepeatedReads : Type 0
 RepeatedReads =
     RunsTo repeated_reads_task
     (0 ∷ 0 ∷ 2 ∷ 0 ∷ 0 ∷ 0 ∷ 0 ∷ 1 ∷ 0 ∷ 0 ∷ 0 ∷ 0 ∷ 2 ∷ []) Failed [] []
+
+-- what a collector sees of a row: its partition, its range, its checkpoint, each count, and at last that nothing is left
+abbrev pub AllSeen : Type 0
+AllSeen =
+    RunsTo seen_task
+    (46 ∷ 10 ∷ 0 ∷ 4 ∷ 33 ∷ 4 ∷ 11 ∷ 6 ∷ 3 ∷ 5 ∷ 7 ∷ 4 ∷ 0 ∷ []) Finished
+    (codes "xm" ∷ codes "xn" ∷ codes "xe" ∷ codes "xf" ∷ [])
+    (seen_at 45 32 3 10 0 ∷ seen_at 46 33 4 11 0 ∷ seen_at 46 33 4 11 1 ∷ [])
 
 -- the Plain runs of seven records' first partition, item count 2, and of everything filtered
 pub record PlainRuns : Type 0 where

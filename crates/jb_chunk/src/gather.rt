@@ -115,7 +115,7 @@ pub fn gather<A: PartitionArtifacts>(
     ensures room { HasRepeats rules.now row.new }
     ensures err { OnErr result (IsTorn row.old.at hi (A.workplace artifacts.old) (A.workplace artifacts.new)) }
 {
-    let mut tally = Tally::new(alloc);
+    let mut tally = Tally::with_room(alloc, hi - row.at)?;
     for number in row.at..hi {
         match settle_record(artifacts, rules, row, number, &mut tally) {
             Ok(None) => {}

@@ -1,6 +1,6 @@
 //! What the records of a block came to.
 
-ghost use Rattle.std.specs.Prelude.{◌≡◌, ◌+◌, ◌<◌, ◌^◌, ◌++◌, [], OnOk};
+ghost use Rattle.std.specs.Prelude.{◌≡◌, ◌+◌, ◌<◌, ◌^◌, ◌++◌, [], IfOk, OnOk};
 ghost use Rattle.jb_chunk.specs.Entries.{is_read_fault, is_process_fault, is_filtered, text_in, one_if, numbered};
 ghost use Rattle.std.specs.Prelude.{option_to_list};
 
@@ -18,18 +18,19 @@ pub struct Tally {
 }
 
 impl Tally {
-    pub fn new(alloc: Global) -> Tally
-        ensures found { result.found.items ≡ [] }
-        ensures read_skips { result.read_skips ≡ 0 }
-        ensures process_skips { result.process_skips ≡ 0 }
-        ensures filtered { result.filtered ≡ 0 }
+    /// Nothing so far, with room for what so many records come to.
+    pub fn with_room(alloc: Global, records: u64) -> Result<Tally, AllocError>
+        ensures found { IfOk result (λ tally. tally.found.items ≡ []) }
+        ensures read_skips { IfOk result (λ tally. tally.read_skips ≡ 0) }
+        ensures process_skips { IfOk result (λ tally. tally.process_skips ≡ 0) }
+        ensures filtered { IfOk result (λ tally. tally.filtered ≡ 0) }
     {
-        Tally {
-            found: Vec::new(alloc),
+        Ok(Tally {
+            found: Vec::with_capacity(alloc, records as usize)?,
             read_skips: 0,
             process_skips: 0,
             filtered: 0,
-        }
+        })
     }
 
     /// Counts a record's entry; its fault, if it has one, is a skip.

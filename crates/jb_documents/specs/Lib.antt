@@ -1,6 +1,7 @@
 pub mod CheckDocument
 pub mod Classes
 pub mod FaultLists
+pub mod FaultOrder
 pub mod inside
 pub mod PlanDocument
 pub mod RestartDocument

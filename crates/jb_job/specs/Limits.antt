@@ -58,7 +58,7 @@ max_records = 10000000
 
 -- partitions
 abbrev pub max_partitions : ℕ
-max_partitions = 256
+max_partitions = 1024
 
 -- threads, of a load too
 abbrev pub max_threads : ℕ

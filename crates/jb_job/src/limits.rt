@@ -43,7 +43,7 @@ pub const MAX_RANGES: usize = 4_096;
 pub const MAX_RECORDS: u64 = 10_000_000;
 
 /// The most partitions of a step.
-pub const MAX_PARTITIONS: usize = 256;
+pub const MAX_PARTITIONS: usize = 1_024;
 
 /// The most threads that a step uses, however many its plan asks for, and the most of a load.
 pub const MAX_THREADS: u32 = 64;

@@ -83,7 +83,7 @@ pub fn even_cover(records: u64, partitions: u32)
     ensures { IsEvenCover records partitions (even_ranges records partitions) }
 {}
 
-/// The law of even plans: with 1 to 256 partitions and at most 4,096 threads they can be run, so `jb_plan::checked`
+/// The law of even plans: with 1 to 1,024 partitions and at most 4,096 threads they can be run, so `jb_plan::checked`
 /// accepts them for each number of records that it takes.
 pub fn even_plan_is_runnable(records: u64, partitions: u32, threads: u32, replace: bool)
     requires some { 1 ≤ partitions }

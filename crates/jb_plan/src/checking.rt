@@ -77,7 +77,7 @@ pub fn are_disjoint(ranges: &[Range]) -> bool
 
 /// Checks a plan for a step of so many records.
 ///
-/// It is refused where it has no range or more than 256, where a range is reversed or ends past the last record, where
+/// It is refused where it has no range or more than 1,024, where a range is reversed or ends past the last record, where
 /// some record stands in two ranges, and where it asks for more than 4,096 threads. Of several faults the first in
 /// this order is answered, ranges and pairs of ranges by their places. No memory is taken.
 pub fn checked(plan: PartitionPlan, records: u64) -> Result<Checked, PlanError>

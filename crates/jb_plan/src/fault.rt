@@ -8,7 +8,7 @@ use std::fmt;
 pub enum PlanError {
     /// The plan has no range.
     NoPartition,
-    /// The plan has more than 256 ranges.
+    /// The plan has more than 1,024 ranges.
     TooMany,
     /// This range ends before it begins.
     Reversed(usize),

@@ -18,7 +18,7 @@ pub struct PartitionPlan {
     pub replace: bool,
 }
 
-/// A plan that can be run: 1 to 256 ranges, none reversed, no record in two of them, and 1 to 64 threads.
+/// A plan that can be run: 1 to 1,024 ranges, none reversed, no record in two of them, and 1 to 64 threads.
 #[derive(Debug, Drop)]
 pub struct Checked {
     ranges: Ranges,

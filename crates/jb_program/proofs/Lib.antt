@@ -7,6 +7,7 @@ pub mod Known
 pub mod Least
 pub mod Mapped
 pub mod Opening
+pub mod Own
 pub mod PartitionRuns
 pub mod Partitions
 pub mod Prepared
@@ -17,5 +18,6 @@ pub mod StepRuns
 pub mod Steps
 pub mod Told
 pub mod Unfinished
+pub mod Usage
 pub mod Works
 pub mod WorkedLines

@@ -17,12 +17,12 @@ use Rattle.jb_rules.specs.States.{is_failed}
 use Rattle.jb_rules.specs.declared.row.Row.{Row}
 use Rattle.jb_rules.specs.declared.row.RowState.TheVariants as state
 use Rattle.jb_saved.specs.GoingOn.{again, fault_if, is_past}
-use Rattle.jb_saved.specs.declared.place.SavedPlace.TheVariants.{Step, Records, Override}
+use Rattle.jb_saved.specs.declared.place.SavedPlace.TheVariants.{Step, Records}
 use Rattle.jb_step.specs.Setup.{IsSetup, Setup, fresh_rows, opening_rows, saved_faults}
 use Rattle.jb_documents.specs.ResumeFields.{Texts, held_at, holds}
 use Rattle.jb_documents.specs.declared.restart.resume.Resume.{Resume}
 use Rattle.jb_program.specs.PartitionRun.{held_by, records_in}
-use Rattle.jb_program.specs.StepRun.{AreHeld, outputs_of, saved_of, setup_with}
+use Rattle.jb_program.specs.StepRun.{AreHeld, gone_on_from, outputs_of, saved_of, setup_with}
 
 -- a row waits or is finished, its records are there, and its writer holds what it committed
 pub record IsOpening (records : ℕ) (outputs : List (List (List ℕ))) (partition : ℕ) (row : Row) : Type 0 where
@@ -83,16 +83,24 @@ again-below records (r ∷ rows) past zero row is =
     subst (λ (one : Row). one.hi ≤ records) same (omega (arith, below, kept))
 again-below records (r ∷ rows) past (suc i) row is = again-below records rows (or-second (nat_lt records r.hi) (is_past records rows) past) i row is
 
-not-past : (step past replace : Bool) → fault_if step Step ++ fault_if past Records ++ fault_if replace Override ≡ [] → past ≡ false
-not-past true past replace is = absurd (cc is)
-not-past false true replace is = absurd (cc is)
-not-past false false replace is = refl
+not-past : (step past : Bool) → fault_if step Step ++ fault_if past Records ≡ [] → past ≡ false
+not-past true past is = absurd (cc is)
+not-past false true is = absurd (cc is)
+not-past false false is = refl
 
-below-by : (step : StepRecord) (records : ℕ) (plan : PartitionPlan) (resume : Option Resume) → IsRunnable records plan → saved_faults step records plan.replace (saved_of resume) ≡ []
-    → (i : ℕ) (row : Row) → slice_get (opening_rows plan.ranges (saved_of resume)) i ≡ Some row → row.hi ≤ records
-below-by step records plan None runnable accepted i row is = (fresh-below records plan.ranges runnable.within i row is).0
-below-by step records plan (Some resume) runnable accepted i row is =
-    again-below records resume.saved.rows (not-past (not (bytes_eq resume.saved.step step.id)) (is_past records resume.saved.rows) plan.replace accepted) i row is
+-- what a step goes on from, if its plan doesn't discard it: none of its rows ends past the last record, and it is held
+abbrev IsKept : (records : ℕ) → Option Resume → Type 0
+IsKept records kept = IfSome kept (λ resume. (is_past records resume.saved.rows ≡ false) × AreHeld resume)
+
+kept-of : (step : StepRecord) (records : ℕ) (replace : Bool) (resume : Option Resume) → saved_faults step records replace (saved_of resume) ≡ [] → IfSome resume AreHeld → IsKept records (gone_on_from replace resume)
+kept-of step records true resume accepted held = tt
+kept-of step records false None accepted held = tt
+kept-of step records false (Some resume) accepted held = (not-past (not (bytes_eq resume.saved.step step.id)) (is_past records resume.saved.rows) accepted, held)
+
+below-by : (records : ℕ) (plan : PartitionPlan) (kept : Option Resume) → IsRunnable records plan → IsKept records kept
+    → (i : ℕ) (row : Row) → slice_get (opening_rows plan.ranges (saved_of kept)) i ≡ Some row → row.hi ≤ records
+below-by records plan None runnable is i row at = (fresh-below records plan.ranges runnable.within i row at).0
+below-by records plan (Some resume) runnable is i row at = again-below records resume.saved.rows is.0 i row at
 
 -- ---- each writer holds what was committed
 
@@ -126,42 +134,44 @@ again-served (texts ∷ outputs) (r ∷ rows) long all zero row is =
 again-served (texts ∷ outputs) (r ∷ rows) long all (suc i) row is =
     again-served outputs rows (omega (arith, long)) (and-second (holds (texts, r)) (list_all holds (zip outputs rows)) all) i row is
 
-served-by : (records : ℕ) (plan : PartitionPlan) (resume : Option Resume) → IsRunnable records plan → IfSome resume AreHeld
-    → (i : ℕ) (row : Row) → slice_get (opening_rows plan.ranges (saved_of resume)) i ≡ Some row → row.written ≤ length (held_by (outputs_of resume) i)
-served-by records plan None runnable held i row is =
-    let none = (fresh-below records plan.ranges runnable.within i row is).1 in
+served-by : (records : ℕ) (plan : PartitionPlan) (kept : Option Resume) → IsRunnable records plan → IsKept records kept
+    → (i : ℕ) (row : Row) → slice_get (opening_rows plan.ranges (saved_of kept)) i ≡ Some row → row.written ≤ length (held_by (outputs_of kept) i)
+served-by records plan None runnable is i row at =
+    let none = (fresh-below records plan.ranges runnable.within i row at).1 in
     omega (arith, none)
-served-by records plan (Some resume) runnable held i row is =
-    let kept = are-held resume held in
+served-by records plan (Some resume) runnable is i row at =
+    let kept = are-held resume is.1 in
     let one = kept.0 in
     let long : length resume.outputs ≡ length resume.saved.rows = grind (arith, nat_tests, one) in
-    again-served resume.outputs resume.saved.rows long kept.1 i row is
+    again-served resume.outputs resume.saved.rows long kept.1 i row at
 
 -- ---- all of it
 
--- what a step was prepared with: its plan can be run, and nothing is wrong with the rows that it goes on from
+-- what a step was prepared with: its plan can be run, and nothing is wrong with the rows that it goes on from or discards
 pub record IsPreparedWith (step : StepRecord) (records : ℕ) (plan : PartitionPlan) (resume : Option Resume) (s : Setup) : Type 0 where
   pub runnable : IsRunnable records plan
   pub accepted : saved_faults step records plan.replace (saved_of resume) ≡ []
-  pub is : s ≡ setup_with step plan (saved_of resume)
+  pub is : s ≡ setup_with step plan (saved_of (gone_on_from plan.replace resume))
   pub setup : IsSetup s
   pub held : IfSome resume AreHeld
 
-pub opening : (step : StepRecord) (records : ℕ) (plan : PartitionPlan) (resume : Option Resume) (s : Setup) → IsPreparedWith step records plan resume s → AreOpening records (outputs_of resume) 0 s.rows
+pub opening : (step : StepRecord) (records : ℕ) (plan : PartitionPlan) (resume : Option Resume) (s : Setup) → IsPreparedWith step records plan resume s → AreOpening records (outputs_of (gone_on_from plan.replace resume)) 0 s.rows
 opening step records plan resume s given =
-    let rows : s.rows ≡ opening_rows plan.ranges (saved_of resume) = ap (λ (t : Setup). t.rows) given.is in
-    from-places records (outputs_of resume) 0 s.rows (λ i row at.
-    let there : slice_get (opening_rows plan.ranges (saved_of resume)) i ≡ Some row = subst (λ (rs : List Row). slice_get rs i ≡ Some row) rows at in
+    let kept : Option Resume = gone_on_from plan.replace resume in
+    let is = kept-of step records plan.replace resume given.accepted given.held in
+    let rows : s.rows ≡ opening_rows plan.ranges (saved_of kept) = ap (λ (t : Setup). t.rows) given.is in
+    from-places records (outputs_of kept) 0 s.rows (λ i row at.
+    let there : slice_get (opening_rows plan.ranges (saved_of kept)) i ≡ Some row = subst (λ (rs : List Row). slice_get rs i ≡ Some row) rows at in
     let sound = (given.setup.openable.idle i row at).0 in
     let from = sound.placed.at_from in
     let to = sound.placed.at_to in
-    let below = below-by step records plan resume given.runnable given.accepted i row there in
+    let below = below-by records plan kept given.runnable is i row there in
     let none : 0 + i ≡ i = omega arith in
-    subst (λ n. IsOpening records (outputs_of resume) n row) (sym none) (record {
+    subst (λ n. IsOpening records (outputs_of kept) n row) (sym none) (record {
       sound = sound;
       begun = given.setup.begun i row at;
       within = (omega (arith, from, to), below);
-      served = served-by records plan resume given.runnable given.held i row there;
+      served = served-by records plan kept given.runnable is i row there;
     }))
 
 within-all : (records : ℕ) (outputs : List (List (List ℕ))) (k : ℕ) (rows : List Row) → AreOpening records outputs k rows → AllByRecursion (IsWithin records) (map range_of rows)

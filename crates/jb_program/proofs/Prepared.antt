@@ -1,5 +1,5 @@
 -- A step whose mapper has a plan, and whose reducer answers each call well.
-use Rattle.std.proofs.Common.{◌≡◌, ℕ, Bool, true, false, Option, Some, None, List, [], ◌∷◌, ◌++◌, Result, Ok, length, map, refl, ap, sym, subst, ◌∙◌}
+use Rattle.std.proofs.Common.{◌≡◌, ℕ, Bool, true, false, Option, Some, None, List, [], ◌∷◌, ◌++◌, Result, Ok, ◌⊎◌, inl, inr, length, map, refl, ap, sym, subst, ◌∙◌}
 use Rattle.jb_job.specs.Records.{SpecRecord, StepRecord}
 use Rattle.jb_job.specs.declared.class.ClassId.{ClassId}
 use Rattle.jb_job.specs.declared.job.Range.{Range}
@@ -9,8 +9,8 @@ use Rattle.jb_mapper.specs.EvenCover.{even_ranges}
 use Rattle.jb_mapper.specs.Mapping.{even, fixed}
 use Rattle.jb_collect.specs.declared.calls.ReducerCall.{ReducerCall}
 use Rattle.jb_collect.specs.declared.calls.ReducerCall.TheVariants.{Begin}
-use Rattle.jb_collect.specs.Taken.{Taken, calls_of, well}
-use Rattle.jb_step.specs.Prepare.{IsRefusal}
+use Rattle.jb_collect.specs.Taken.{Taken, calls_of, faulted, well}
+use Rattle.jb_step.specs.Prepare.{CanDiscard, IsFaultedRollback, IsRefusal}
 use Rattle.jb_step.specs.Reduced.{Grew, has_fault, since}
 use Rattle.jb_saved.specs.SavedRows.{SavedRows}
 use Rattle.jb_saved.specs.declared.place.SavedPlace.{SavedPlace}
@@ -41,19 +41,23 @@ pub other-refusal : (step : StepRecord) (records : ℕ) (mapped : Result Partiti
 other-refusal step records mapped saved plan before new (error.Plan fault) grew maps is plans places memory = plans fault refl
 other-refusal step records mapped saved plan before new (error.Mapper class) grew maps is plans places memory = cc
 other-refusal step records mapped saved plan before new (error.Reducer class) grew maps is plans places memory =
-    let none : false ≡ true = sym (well-faults (length before) new) ∙ ap has_fault is in cc
+    no-fault is
+  where
+    no-fault : (since before (map well new) ≡ faulted Begin class ∷ []) ⊎ CanDiscard step records mapped saved × IsFaultedRollback class (since before (map well new)) → ⊥
+    no-fault (inl at_begin) = let none : false ≡ true = sym (well-faults (length before) new) ∙ ap has_fault at_begin in cc
+    no-fault (inr later) = let none : false ≡ true = sym (well-faults (length before) new) ∙ ap has_fault later.1.calls in cc
 other-refusal step records mapped saved plan before new error.WrongArtifacts grew maps is plans places memory = is
 other-refusal step records mapped saved plan before new (error.Repository p) grew maps is plans places memory = is
 other-refusal step records mapped saved plan before new error.Workers grew maps is plans places memory = is
 other-refusal step records mapped saved plan before new (error.Saved place) grew maps is plans places memory = places place refl
 other-refusal step records mapped saved plan before new error.Memory grew maps is plans places memory = memory refl
 
--- the reducer took one call more
-pub begun : (before after : List (Taken ReducerCall)) (old new : List ReducerCall) → Grew before after → calls_of (since before after) ≡ Begin ∷ []
-    → before ≡ map well old → after ≡ map well new → new ≡ old ++ Begin ∷ []
-begun before after old new grew calls was is =
+-- the reducer took these calls more
+pub begun : (before after : List (Taken ReducerCall)) (old new calls : List ReducerCall) → Grew before after → calls_of (since before after) ≡ calls
+    → before ≡ map well old → after ≡ map well new → new ≡ old ++ calls
+begun before after old new calls grew taken was is =
     let grown = subst (λ (list : List (Taken ReducerCall)). Grew list after) was grew in
     let all = subst (λ (list : List (Taken ReducerCall)). Grew (map well old) list) is grown in
-    let first = subst (λ (list : List (Taken ReducerCall)). calls_of (since list after) ≡ Begin ∷ []) was calls in
-    let next = subst (λ (list : List (Taken ReducerCall)). calls_of (since (map well old) list) ≡ Begin ∷ []) is first in
+    let first = subst (λ (list : List (Taken ReducerCall)). calls_of (since list after) ≡ calls) was taken in
+    let next = subst (λ (list : List (Taken ReducerCall)). calls_of (since (map well old) list) ≡ calls) is first in
     well-grew old new all ∙ ap (λ cs. old ++ cs) next

@@ -1,5 +1,5 @@
 -- A step's report tells of a run of the step.
-use Rattle.std.proofs.Common.{◌≡◌, ℕ, suc, ◌+◌, ◌≤◌, ◌⊎◌, inl, inr, List, [], ◌∷◌, ◌++◌, length, map, Option, Result, Ok, Err, false, refl, ap, sym, ◌∙◌, subst, arith}
+use Rattle.std.proofs.Common.{◌≡◌, ℕ, suc, ◌+◌, ◌≤◌, ◌⊎◌, inl, inr, Bool, true, List, [], ◌∷◌, ◌++◌, length, map, Option, Result, Ok, Err, false, refl, ap, sym, ◌∙◌, subst, arith}
 use Rattle.std.specs.Prelude.{All, IfErr, IfSome, IsErrAnd}
 use Rattle.std.specs.List.{enumerate_from}
 use Rattle.jb_job.specs.Limits.{max_partitions}
@@ -11,16 +11,15 @@ use Rattle.jb_artifacts.specs.Meaning.{Workplace}
 use Rattle.jb_chunk.specs.Standing.{TaskState}
 use Rattle.jb_collect.specs.declared.calls.AnalyzerCall.{AnalyzerCall}
 use Rattle.jb_collect.specs.declared.calls.ReducerCall.{ReducerCall}
-use Rattle.jb_collect.specs.declared.calls.ReducerCall.TheVariants.{Begin}
 use Rattle.jb_collect.specs.declared.calls.Status.{Status}
-use Rattle.jb_collect.specs.Reduced.{calls_after}
+use Rattle.jb_collect.specs.Reduced.{calls_after, calls_before}
 use Rattle.jb_collect.specs.Taken.{calls_of, well}
 use Rattle.jb_repo.specs.declared.snapshot.Snapshot.{Snapshot}
 use Rattle.jb_saved.specs.SavedRows.{SavedRows}
 use Rattle.jb_step.specs.declared.notes.PlanNote.{PlanNote}
 use Rattle.jb_step.specs.Ending.{IsRunOfStep, tasks_left}
 use Rattle.jb_step.specs.Prepare.{DoFit}
-use Rattle.jb_step.specs.Setup.{IsSetup, Setup, first_tasks, row_now, rows_now, saved_faults}
+use Rattle.jb_step.specs.Setup.{IsSetup, Setup, discards, first_tasks, gone_on, row_now, rows_now, saved_faults}
 use Rattle.jb_step.specs.Statuses.{status_of, went_well}
 use Rattle.jb_step.specs.Ways.{AreOnTheWay}
 use Rattle.jb_documents.specs.declared.restart.resume.Resume.{Resume}
@@ -29,9 +28,9 @@ use Rattle.jb_program.specs.declared.run.settings.StepSettings.{StepSettings}
 use Rattle.jb_program.specs.declared.streams.failure.Failure.{Failure}
 use Rattle.jb_program.specs.declared.streams.failure.Failure.TheVariants as failure
 use Rattle.jb_program.specs.inside.Below.{LawsBelow}
-use Rattle.jb_program.specs.JobRun.{IsStepRefused, IsStepRun, plan_for, plan_of_step, settings_of, setup_of, works_of}
+use Rattle.jb_program.specs.JobRun.{IsStepRefused, IsStepRun, kept_of, plan_for, plan_of_step, settings_of, setup_of, works_of}
 use Rattle.jb_program.specs.Refusals.{IsBroken}
-use Rattle.jb_program.specs.StepRun.{AreHeld, IsNotBegun, outputs_of, partitions_left, saved_of, setup_with, works_for}
+use Rattle.jb_program.specs.StepRun.{AreHeld, IsNotBegun, gone_on_from, outputs_of, partitions_left, saved_of, setup_with, works_for}
 use Rattle.jb_program.proofs.Callbacks.{well-calls}
 use Rattle.jb_program.proofs.Opening.{AreOpening, IsPreparedWith, opening, within-rows}
 use Rattle.jb_program.proofs.PartitionRuns.{AreKept, partition-runs}
@@ -39,12 +38,17 @@ use Rattle.jb_program.proofs.Unfinished.{works-fit}
 
 -- ---- what a step begins with
 
+-- the rows that are kept are those of what is kept
+kept-rows : (replace : Bool) (resume : Option Resume) → gone_on replace (saved_of resume) ≡ saved_of (gone_on_from replace resume)
+kept-rows true resume = refl
+kept-rows false resume = refl
+
 pub prepared-with : (step : StepRecord) (count : ℕ) (resume : Option Resume) (saved : Option SavedRows) (prepared : Setup) → saved ≡ saved_of resume → IsRunnable count (plan_for step.spec count)
-    → saved_faults step count step.spec.replace saved ≡ [] → prepared ≡ setup_with step (plan_for step.spec count) saved → IsSetup prepared → IfSome resume AreHeld → IsPreparedWith step count (plan_for step.spec count) resume prepared
+    → saved_faults step count step.spec.replace saved ≡ [] → prepared ≡ setup_with step (plan_for step.spec count) (gone_on step.spec.replace saved) → IsSetup prepared → IfSome resume AreHeld → IsPreparedWith step count (plan_for step.spec count) resume prepared
 prepared-with step count resume saved prepared same runnable accepted is setup held = record {
   runnable = runnable;
   accepted = sym (ap (saved_faults step count step.spec.replace) same) ∙ accepted;
-  is = is ∙ ap (setup_with step (plan_for step.spec count)) same;
+  is = is ∙ ap (setup_with step (plan_for step.spec count)) (ap (gone_on step.spec.replace) same ∙ kept-rows step.spec.replace resume);
   setup = setup;
   held = held;
 }
@@ -53,7 +57,7 @@ prepared-with step count resume saved prepared same runnable accepted is setup h
 pub record AreGiven (step : StepRecord) (resume : Option Resume) (count : ℕ) (prepared : Setup) (records : List (List ℕ)) (outputs : List (List (List ℕ))) : Type 0 where
   pub counted : count ≡ length records
   pub prepares : IsPreparedWith step count (plan_for step.spec count) resume prepared
-  pub outputs_are : outputs ≡ outputs_of resume
+  pub outputs_are : outputs ≡ outputs_of (kept_of step resume)
 
 opens : (step : StepRecord) (resume : Option Resume) (count : ℕ) (prepared : Setup) (records : List (List ℕ)) (outputs : List (List (List ℕ))) → AreGiven step resume count prepared records outputs
     → AreOpening (length records) outputs 0 prepared.rows
@@ -93,12 +97,12 @@ pub step-run : LawsBelow → (step : StepRecord) (supply : StepData) (round_limi
     (works : List Workplace) (snapshot : Snapshot) (left : List (ℕ × Workplace)) (id : List ℕ) (status : Status) (plans : List PlanNote) (heard silent listened : List AnalyzerCall) (reducer begun recorded : List ReducerCall)
     → AreGiven step resume count prepared records outputs → records ≡ supply.records → settings ≡ settings_of step supply → AreKept settings → works ≡ works_for settings records outputs prepared.rows
     → silent ≡ [] → IsRunOfStep prepared works round_limit (map well silent) (map well listened) plans snapshot left → AreOnTheWay (first_tasks prepared works) (tasks_left prepared snapshot left)
-    → status ≡ status_of snapshot.rows.items false → begun ≡ Begin ∷ [] → recorded ≡ begun ++ calls_after (went_well snapshot.rows.items false) false
+    → status ≡ status_of snapshot.rows.items false → begun ≡ calls_before (discards step.spec.replace (saved_of resume)) false → recorded ≡ begun ++ calls_after (went_well snapshot.rows.items false) false
     → id ≡ step.id → heard ≡ calls_of (map well listened) → reducer ≡ calls_of (map well recorded)
     → IsStepRun step supply round_limit resume (record { id = id; status = status; partitions = partitions_left outputs snapshot.rows.items left; heard = heard; plans = plans; reducer = reducer })
 step-run below step supply round_limit resume count prepared records outputs settings works snapshot left id status plans heard silent listened reducer begun recorded given records-are settings-are kept are quiet run way stands begins calls id-is heard-is reducer-is =
     let s = setup_of step supply resume in
-    let theirs = outputs_of resume in
+    let theirs = outputs_of (kept_of step resume) in
     let all : count ≡ length supply.records = given.counted ∙ ap length records-are in
     let prepares : IsPreparedWith step (length supply.records) (plan_of_step step supply) resume prepared = subst (λ n. IsPreparedWith step n (plan_for step.spec n) resume prepared) all given.prepares in
     let setup : prepared ≡ s = prepares.is in

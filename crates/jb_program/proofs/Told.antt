@@ -1,5 +1,5 @@
 -- The report of a step's partitions, put together.
-use Rattle.std.proofs.Common.{◌≡◌, ℕ, suc, ◌+◌, ◌==◌, Bool, true, false, List, [], ◌∷◌, ◌++◌, map, flat_map, find, length, Option, Some, None, option_map, cond, refl, ap, sym, ◌∙◌, append_assoc}
+use Rattle.std.proofs.Common.{◌≡◌, ℕ, zero, suc, ◌+◌, ◌<◌, ◌==◌, Bool, true, false, List, [], ◌∷◌, ◌++◌, map, flat_map, find, get_or, take, length, add-one, append-nil, arith, Option, Some, None, option_map, cond, refl, ap, sym, ◌∙◌, append_assoc}
 use Rattle.std.specs.List.{enumerate_from}
 use Rattle.std.specs.Str.Lossy.{utf8_lossy}
 use Rattle.json.specs.Token.{Token}
@@ -46,6 +46,20 @@ outputs-missing workplace left p before missing =
 -- the outputs of a partition, of all that came back
 abbrev pub outputs_at : (outputs : List (List (List ℕ))) → List (ℕ × Workplace) → ℕ × Row → List Token
 outputs_at outputs left n = tokens_of (texts_tree (outputs_in (committed_of outputs n) (find (λ one. one.0 == n.0) left)))
+
+more-from : (f : ℕ × Row → List Token) (n : ℕ) (rows : List Row) (k : ℕ) (d : Row) → k < length rows → flat_map f (enumerate_from n (take (suc k) rows)) ≡ flat_map f (enumerate_from n (take k rows)) ++ f (n + k, get_or rows k d)
+more-from f n [] k d below = absurd (omega (arith, below))
+more-from f n (row ∷ rows) zero d below = let here : n ≡ n + 0 = omega arith in append-nil (f (n, row)) ∙ ap (λ i. f (i, row)) here
+more-from f n (row ∷ rows) (suc k) d below =
+    let on : n + 1 + k ≡ n + suc k = omega arith in
+    ap (λ ts. f (n, row) ++ ts) (more-from f (n + 1) rows k d (omega (arith, below)) ∙ ap (λ i. flat_map f (enumerate_from (n + 1) (take k rows)) ++ f (i, get_or rows k d)) on)
+    ∙ sym (append_assoc (f (n, row)) (flat_map f (enumerate_from (n + 1) (take k rows))) (f (n + suc k, get_or rows k d)))
+
+-- the outputs of one partition more
+pub outputs-more : (f : ℕ × Row → List Token) (rows : List Row) (k : ℕ) (d : Row) → k < length rows → flat_map f (enumerate_from 0 (take (k + 1) rows)) ≡ flat_map f (enumerate_from 0 (take k rows)) ++ f (k, get_or rows k d)
+outputs-more f rows k d below =
+    let none : 0 + k ≡ k = omega arith in
+    ap (λ n. flat_map f (enumerate_from 0 (take n rows))) (add-one k) ∙ more-from f 0 rows k d below ∙ ap (λ i. flat_map f (enumerate_from 0 (take k rows)) ++ f (i, get_or rows k d)) none
 
 -- the partitions from this number on
 abbrev pub left-from : (outputs : List (List (List ℕ))) → (first : ℕ) → List Row → List (ℕ × Workplace) → List PartitionReport

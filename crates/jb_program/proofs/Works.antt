@@ -1,13 +1,12 @@
 -- The unfinished partitions: their rows, and the records of their ranges.
-use Rattle.std.proofs.Common.{◌≡◌, ℕ, zero, suc, ◌+◌, ◌<◌, true, nat_lt, List, [], ◌∷◌, ◌++◌, drop, length, map, get_or, slice_get, Some, None, refl, ap, sym, subst, ◌∙◌, arith, append_assoc}
-use Rattle.std.specs.Prelude.{All, AllPairs, slice_index_or}
+use Rattle.std.proofs.Common.{◌≡◌, ℕ, zero, suc, ◌+◌, ◌<◌, List, [], ◌∷◌, ◌++◌, drop, length, map, get_or, slice_get, Some, None, refl, ap, sym, subst, ◌∙◌, arith, append_assoc}
+use Rattle.std.specs.Prelude.{All, AllPairs}
 use Rattle.std.specs.List.{AllByRecursion, enumerate_from}
 use Rattle.std.proofs.lemmas.List.{drop_more, get_or-drop, get_or-map, length-drop, length-map, map-append}
 use Rattle.std.proofs.lemmas.List.Elements.{All-filter, recursion_from_All}
 use Rattle.std.proofs.lemmas.List.Kept.{AllPairs-filter}
 use Rattle.std.proofs.lemmas.List.FromFn.{get_or-enumerate_from, length-enumerate_from}
-use Rattle.std.proofs.lemmas.Option.{get_or_from_slice_get, slice_get-get_or, slice_get_read, slice_get_within}
-use Rattle.std.proofs.lemmas.Bool.Decides.{nat_tests}
+use Rattle.std.proofs.lemmas.Option.{get_or_from_slice_get, slice_get-get_or, slice_get_within}
 use Rattle.jb_job.specs.declared.job.Range.{Range}
 use Rattle.jb_artifacts.specs.Meaning.{Workplace}
 use Rattle.jb_plan.specs.Plans.{IsWithin}
@@ -70,10 +69,8 @@ pub record IsNext (rows : List Row) (records k p : ℕ) (row : Row) : Type 0 whe
   pub stands : Stands rows records (p, row)
 
 -- a partition read from the list of the unfinished
-pub listed-at : (ps qs : List ℕ) (k p : ℕ) → (true ≡ nat_lt k (length ps)) × (p ≡ slice_index_or ps k p) → ps ≡ qs → slice_get qs k ≡ Some p
-listed-at ps qs k p read same =
-    let below : k < length ps = grind (arith, nat_tests, read.0) in
-    subst (λ (list : List ℕ). slice_get list k ≡ Some p) same (slice_get_read ps (length ps) k p refl below read.1)
+pub listed-at : (ps qs : List ℕ) (k d : ℕ) → k < length qs → ps ≡ qs → slice_get qs k ≡ Some (get_or ps k d)
+listed-at ps qs k d below same = slice_get-get_or qs k d below ∙ ap (λ list. Some (get_or list k d)) (sym same)
 
 next-one : (rows : List Row) (records k p : ℕ) → All (IsWithin records) (map range_of rows) → slice_get (needs rows) k ≡ Some p → (row : Row) × IsNext rows records k p row
 next-one rows records k p within h =

@@ -2,6 +2,7 @@
 use Rattle.std.specs.Prelude.{◌≡◌, ℕ, ◌⊎◌, List, Option, IfSome, IsSomeAnd}
 use Rattle.std.specs.Io.KnownBytes.{Appends, Keeps}
 use Rattle.clap.specs.Words.{Text}
+use Rattle.jb_texts.specs.Front.{AppendsFront}
 use Rattle.jb_program.specs.declared.words.request.Line.{Line}
 use Rattle.jb_program.specs.declared.words.request.Request.{Request}
 use Rattle.jb_program.specs.declared.words.request.Request.TheVariants.{Work}
@@ -35,6 +36,6 @@ HasFailed words input old new failure.Workers = Keeps old new
 HasFailed words input old new (failure.Repository partition) = Keeps old new
 HasFailed words input old new failure.Stream = (request : Request) × IsAsked words request × IsCutShort request input old new
 
--- The failure is told, and the status is its own; where it can't be written, a stream has failed.
+-- The failure is told, and the status is its own; where a stream fails then, the front of its text may be there, and nothing else.
 abbrev pub IsTold : Failure → (old new : Option (List ℕ)) → (status : ℕ) → Type 0
-IsTold e old new status = (Appends old new (failure_text e) × (status ≡ failure_code e)) ⊎ (status ≡ failure_code failure.Stream)
+IsTold e old new status = (Appends old new (failure_text e) × (status ≡ failure_code e)) ⊎ (AppendsFront old new (failure_text e) × (status ≡ failure_code failure.Stream))

@@ -1,5 +1,5 @@
 -- The run of a step: what it begins with, or goes on from, and what its report tells of it.
-use Rattle.std.specs.Prelude.{ℕ, ◌≡◌, ◌==◌, false, List, [], map, take, find, slice_get, Option, Some, None, Ok, is_none}
+use Rattle.std.specs.Prelude.{ℕ, ◌≡◌, ◌==◌, Bool, true, false, List, [], map, take, find, slice_get, Option, Some, None, Ok, is_none}
 use Rattle.std.specs.List.{enumerate_from}
 use Rattle.std.specs.Str.Lossy.{utf8_lossy}
 use Rattle.jb_job.specs.Records.{StepRecord}
@@ -30,6 +30,11 @@ use Rattle.jb_program.specs.PartitionRun.{held_by, work_for}
 abbrev pub saved_of : Option Resume → Option SavedRows
 saved_of None = None
 saved_of (Some resume) = Some resume.saved
+
+-- what a step goes on from: nothing where its plan discards it
+abbrev pub gone_on_from : (replace : Bool) → Option Resume → Option Resume
+gone_on_from true resume = None
+gone_on_from false resume = resume
 
 -- what its writers held
 abbrev pub outputs_of : Option Resume → List (List (List ℕ))
@@ -80,11 +85,12 @@ partitions_left outputs rows left =
     map (λ n. record { row = n.1; outputs = outputs_in (committed_of outputs n) (find (λ one. one.0 == n.0) left) }) (enumerate_from 0 rows)
 
 -- Some run of the step in no more rounds than the limit: the report has its partitions, its plans and its status, all that
--- its analyzer heard, and all calls of its reducer. Each call of the two was answered well.
-pub record IsToldOf (s : Setup) (works : List Workplace) (outputs : List (List (List ℕ))) (round_limit : Option ℕ) (report : StepReport) : Type 0 where
+-- its analyzer heard, and all calls of its reducer, the rollback of an earlier run's results among them where these are
+-- discarded. Each call of the two was answered well.
+pub record IsToldOf (discards : Bool) (s : Setup) (works : List Workplace) (outputs : List (List (List ℕ))) (round_limit : Option ℕ) (report : StepReport) : Type 0 where
   pub snapshot : Snapshot
   pub left : List (ℕ × Workplace)
   pub run : IsRunOfStep s works round_limit [] (map well report.heard) report.plans snapshot left
   pub partitions : report.partitions ≡ partitions_left outputs snapshot.rows.items left
   pub status : report.status ≡ status_of snapshot.rows.items false
-  pub reducer : report.reducer ≡ reducer_calls false false (went_well snapshot.rows.items false) false
+  pub reducer : report.reducer ≡ reducer_calls discards false (went_well snapshot.rows.items false) false

@@ -1,11 +1,12 @@
 //! The program over any arguments, any reader and any two writers.
 
-ghost use Rattle.std.specs.Prelude.{◌≡◌, ◌<◌, ◌≤◌, map, Some, IfErr, IfOk, OnOk};
+ghost use Rattle.std.specs.Prelude.{◌≡◌, ◌<◌, ◌≤◌, map, Some, IfErr, IfOk, OnErr, OnOk};
 ghost use Rattle.std.specs.Io.KnownBytes.{Keeps};
 ghost use Rattle.jb_program.specs.declared.words.request.Request.{Request};
 ghost use Rattle.jb_program.specs.Answer.{IsAnswer};
 ghost use Rattle.jb_program.specs.Failures.{HasFailed, IsAsked, IsTold};
 ghost use Rattle.jb_program.specs.ProcessWords.{process_words};
+ghost use Rattle.jb_program.specs.Statuses.{failure_code};
 
 use crate::streams::{Failure, write_failure};
 use crate::words::{
@@ -61,6 +62,17 @@ fn answer<T: Threads + Wait + Sync, R: Read, W: Write>(
     answer_words(rt, alloc, &words, reader, writer)
 }
 
+/// The exit status of a failure that was to be told: its own, if its text was written; else a stream has failed.
+fn told(failure: &Failure, written: io::Result<()>) -> u8
+    ensures whole { OnOk written (result ≡ failure_code failure.now) }
+    ensures cut { OnErr written (result ≡ failure_code Failure.Stream) }
+{
+    match written {
+        Ok(()) => failure.status(),
+        Err(_) => Failure::Stream.status(),
+    }
+}
+
 /// The exit status of an answer, or of a failure, which is written to the fault writer.
 fn status_of<F: Write>(answer: Result<u8, Failure>, fault_writer: &mut F) -> u8
     ensures answered { IfOk answer (λ status. result ≡ status) }
@@ -69,10 +81,10 @@ fn status_of<F: Write>(answer: Result<u8, Failure>, fault_writer: &mut F) -> u8
 {
     match answer {
         Ok(status) => status,
-        Err(failure) => match write_failure(&failure, fault_writer) {
-            Ok(()) => failure.status(),
-            Err(_) => Failure::Stream.status(),
-        },
+        Err(failure) => {
+            let written = write_failure(&failure, fault_writer);
+            told(&failure, written)
+        }
     }
 }
 

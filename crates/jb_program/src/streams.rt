@@ -2,6 +2,9 @@
 
 mod failure;
 mod input;
+mod lines;
+mod telling;
 
-pub use failure::{Failure, write_failure};
+pub use failure::Failure;
 pub use input::read_all;
+pub use telling::write_failure;

@@ -1,4 +1,4 @@
--- Which Plans and Commits are accepted, and which are refused for what they say.
+-- Which Plans, Rounds, Stops and Commits are accepted, and which are refused for what they say.
 use Rattle.std.proofs.Common.{◌≡◌, ℕ, ◌+◌, ◌-◌, ◌<◌, ◌≤◌, ◌↔◌, Bool, true, false, not, ◌||◌, nat_eq, nat_le, nat_lt, [], ◌∷◌, length, Some, None, refl, sym, ◌∙◌, arith}
 use Rattle.std.proofs.lemmas.Bool.Decides.{nat_tests}
 use Rattle.jb_rules.specs.declared.counts.Counts.{Counts}
@@ -6,17 +6,17 @@ use Rattle.jb_rules.specs.declared.row.Row.{Row}
 use Rattle.jb_rules.specs.Rows.{row_block}
 use Rattle.jb_cert.specs.declared.certificates.Certificate.{Certificate}
 use Rattle.jb_cert.specs.Laws.{LeastPlanMeans}
-use Rattle.jb_repo.specs.declared.events.Event.TheVariants.{Plan, Commit}
+use Rattle.jb_repo.specs.declared.events.Event.TheVariants.{Plan, Commit, Round}
 use Rattle.jb_job.specs.Limits.{max_events, max_retry_limit}
 use Rattle.jb_repo.specs.declared.refused.Refused.TheVariants.{Stopping, LaneRange, NotRunning, BadDelta, StillRunning, BadPlan, Full}
 use Rattle.jb_repo.specs.History.{owner, is_stopping, is_plan_open}
 use Rattle.jb_repo.specs.Rows.{remaining}
 use Rattle.jb_repo.specs.Table.{Journal, refusal, first_refusal, outcome_conditions, undone_conditions, row_of, rows_of, reserved, is_full, is_good_plan, is_commit_of}
 use Rattle.jb_repo.specs.Openable.{IsReplayable}
-use Rattle.jb_repo.specs.Laws.{MayPlan, IsCertified, GoodPlansAreAccepted, BadPlansAreRefused, IsCommitOfNext, GoodCommitsAreAccepted, BadCommitsAreRefused, RunningLanesMayEnd}
+use Rattle.jb_repo.specs.Laws.{MayPlan, IsCertified, GoodPlansAreAccepted, BadPlansAreRefused, MayEndRound, GoodRoundsAreAccepted, PlacedStopsAreAccepted, IsCommitOfNext, GoodCommitsAreAccepted, BadCommitsAreRefused, RunningLanesMayEnd}
 use Rattle.jb_repo.specs.inside.Below.{LawsBelow}
 use Rattle.jb_repo.proofs.Consistent.{consistent}
-use Rattle.jb_repo.proofs.Passing.{or_false, plan_passes}
+use Rattle.jb_repo.proofs.Passing.{or_false, plan_passes, round_passes, stop_passes}
 use Rattle.jb_repo.proofs.Stepping.{commit_facts}
 
 -- PLANS
@@ -92,6 +92,31 @@ good_plans_are_accepted means j law n k = (is_good means j law n k, becomes_good
 
 pub bad_plans_are_refused : LeastPlanMeans → BadPlansAreRefused
 bad_plans_are_refused means j law n k = (is_bad means j law n k, becomes_bad means j law n k)
+
+-- ROUNDS AND STOPS
+
+has_place : (j : Journal) → length j.past + reserved j < max_events → is_full j 1 ≡ false
+has_place j lt = grind (arith, nat_tests)
+
+round_ends : (j : Journal) → MayEndRound j × (length j.past < max_events) → refusal j Round ≡ None
+round_ends j h =
+    let may = h.0 in
+    let a : nat_lt 0 (reserved j) ≡ false = (let none = may.none_runs in rw none refl) in
+    let b = may.one_open in
+    let c = has_place j (let none = may.none_runs in omega (arith, h.1, none)) in
+    rw (a, b, c) refl
+
+pub good_rounds_are_accepted : GoodRoundsAreAccepted
+good_rounds_are_accepted j = (
+  λ h. let q = round_passes j h in (record { none_runs = q.none_runs; one_open = q.open_plan }, omega (arith, q.room)),
+  round_ends j,
+)
+
+pub placed_stops_are_accepted : PlacedStopsAreAccepted
+placed_stops_are_accepted j = (
+  λ h. let room = stop_passes j h in omega (arith, room),
+  λ lt. let room = has_place j lt in rw room refl,
+)
 
 -- COMMITS
 

@@ -272,6 +272,25 @@ BadPlansAreRefused =
     (j : Journal) → IsReplayable j → (n : ℕ) (certificate : Certificate)
     → (refusal j (Plan n certificate) ≡ Some BadPlan) ↔ (MayPlan j × (IsCertified j n certificate → ⊥))
 
+-- WHICH ROUNDS AND STOPS ARE ACCEPTED
+
+-- no lane runs, and a plan is open
+pub record MayEndRound (j : Journal) : Type 0 where
+  pub none_runs : reserved j ≡ 0
+  pub one_open : is_plan_open j.past ≡ true
+
+-- a Round is accepted exactly where a round may end, and it has a place
+abbrev pub GoodRoundsAreAccepted : Type 0
+GoodRoundsAreAccepted =
+    (j : Journal) → (refusal j Round ≡ None) ↔ (MayEndRound j × (length j.past < max_events))
+
+-- a Stop is accepted exactly where it has a place beside the reserved ones
+abbrev pub PlacedStopsAreAccepted : Type 0
+PlacedStopsAreAccepted =
+    (j : Journal) → (refusal j Stop ≡ None) ↔ (length j.past + reserved j < max_events)
+
+-- WHAT IS LEFT TO PLAN
+
 -- what is left is a load that can be planned
 abbrev pub LoadsFit : Type 0
 LoadsFit = (j : Journal) → IsReplayable j → IsWithinLimits (remaining j.item_count (rows_of j)) j.threads

@@ -12,7 +12,7 @@ use Rattle.jb_repo.specs.Table.{Journal, Accepted}
 abbrev pub AreIdle : List Row → Type 0
 AreIdle rows = (i : ℕ) (r : Row) → slice_get rows i ≡ Some r → IsSoundRow r × (is_running r.state ≡ false)
 
--- 1 to 256 idle rows, none with a record of another, 1 to 64 threads, and an item count of 1 to 1,000,000
+-- 1 to 1,024 idle rows, none with a record of another, 1 to 64 threads, and an item count of 1 to 1,000,000
 pub record IsOpenable (j : Journal) : Type 0 where
   pub some_rows : 1 ≤ length j.opening
   pub few_rows : length j.opening ≤ max_partitions

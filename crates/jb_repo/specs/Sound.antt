@@ -8,7 +8,7 @@ use Rattle.jb_rules.specs.Rows.{range_of}
 use Rattle.jb_rules.specs.Sound.{IsSoundRow}
 use Rattle.jb_repo.specs.Rows.{total_counts}
 
--- 1 to 256 sound rows of disjoint ranges, and the sum of their counts
+-- 1 to 1,024 sound rows of disjoint ranges, and the sum of their counts
 pub record IsTable (rows : List Row) (totals : Counts) : Type 0 where
   pub some_rows : 1 ≤ length rows
   pub few_rows : length rows ≤ max_partitions

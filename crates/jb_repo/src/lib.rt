@@ -28,7 +28,7 @@ pub use events::Event;
 pub use laws::{
     commits_are_consecutive, commits_are_counted, commits_are_judged, commits_take_first_blocks,
     events_add_up, events_are_few, loads_fit, one_lane_each, openings_are_accepted, order_is_free,
-    plans_are_judged, plans_are_least, plans_end, rows_are_sound, rows_live_on,
+    plans_are_judged, plans_are_least, plans_end, rounds_are_judged, rows_are_sound, rows_live_on,
     running_lanes_may_end,
 };
 pub use opening::can_open;

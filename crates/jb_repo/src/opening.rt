@@ -52,7 +52,7 @@ fn is_sized(partitions: usize, threads: u32, item_count: u64) -> bool
         && item_count <= MAX_ITEM_COUNT
 }
 
-/// Whether a repository may be opened with these rows, so many threads and this item count: 1 to 256 rows that are
+/// Whether a repository may be opened with these rows, so many threads and this item count: 1 to 1,024 rows that are
 /// sound, none of them running, of ranges that have no record in common; 1 to 64 threads; an item count of 1 to
 /// 1,000,000.
 pub fn can_open(rows: &[Row], threads: u32, item_count: u64) -> bool

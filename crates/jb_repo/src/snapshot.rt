@@ -6,7 +6,7 @@ use jb_rules::{Counts, Row};
 
 /// A copy of a repository's rows, and what its history says as a whole.
 ///
-/// The rows are 1 to 256, sound and of disjoint ranges, and `totals` is their sum: each snapshot keeps this.
+/// The rows are 1 to 1,024, sound and of disjoint ranges, and `totals` is their sum: each snapshot keeps this.
 #[derive(Debug, Drop)]
 pub struct Snapshot {
     /// The rows of the partitions.

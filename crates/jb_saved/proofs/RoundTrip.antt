@@ -12,7 +12,7 @@ use Rattle.jb_rules.specs.declared.row.RowState.TheVariants.{Waiting, Running, F
 use Rattle.jb_rules.specs.Numbers.{numbers_of, row_of_numbers, state_name, state_named}
 use Rattle.jb_rules.specs.States.{is_running}
 use Rattle.jb_saved.specs.declared.place.SavedPlace.{SavedPlace}
-use Rattle.jb_saved.specs.declared.place.SavedPlace.TheVariants.{NotJson, Shape, Version, Rows, Step, Records, Override}
+use Rattle.jb_saved.specs.declared.place.SavedPlace.TheVariants.{NotJson, Shape, Version, Rows, Step, Records}
 use Rattle.jb_saved.specs.declared.error.StepError.{StepError}
 use Rattle.jb_saved.specs.declared.error.StepError.TheVariants as error
 use Rattle.jb_saved.specs.SavedRows.{SavedRows, IsSaved}
@@ -117,7 +117,6 @@ err-cases tree Version a = inl a
 err-cases tree (Rows i) a = inr (i, a.0, refl, a.1, a.2)
 err-cases tree Step a = inl a
 err-cases tree Records a = inl a
-err-cases tree Override a = inl a
 
 abbrev Answer : Type 0
 Answer = Result SavedRows SavedPlace

@@ -40,4 +40,6 @@ worked = record {
   again = refl;
   faults = refl;
   none = refl;
+  discarded = refl;
+  discarded_well = refl;
 }

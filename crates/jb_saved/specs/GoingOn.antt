@@ -8,7 +8,7 @@ use Rattle.jb_rules.specs.States.{is_failed}
 use Rattle.jb_saved.specs.declared.error.StepError.{StepError}
 use Rattle.jb_saved.specs.declared.error.StepError.TheVariants as error
 use Rattle.jb_saved.specs.declared.place.SavedPlace.{SavedPlace}
-use Rattle.jb_saved.specs.declared.place.SavedPlace.TheVariants.{Step, Records, Override}
+use Rattle.jb_saved.specs.declared.place.SavedPlace.TheVariants.{Step, Records}
 use Rattle.jb_saved.specs.SavedRows.{SavedRows}
 
 -- A failed partition waits again (Jakarta Batch 2.1, "Restart Processing"), at its checkpoint and with its counts; another
@@ -32,12 +32,13 @@ is_past records rows = list_any (λ (r : Row). nat_lt records r.hi) rows
 abbrev pub fault_if : Bool → SavedPlace → List SavedPlace
 fault_if holds fault = if holds then fault ∷ [] else []
 
--- All faults of saved rows for a step of this id, so many records and this override flag, in the order in which they count
-abbrev pub step_faults : (step : List ℕ) → (records : ℕ) → (replace : Bool) → SavedRows → List SavedPlace
-step_faults step records replace s =
-    fault_if (not (bytes_eq s.step step)) Step
-    ++ fault_if (is_past records s.rows) Records
-    ++ fault_if replace Override
+-- the fault of saved rows that are to be discarded by a step of this id: their ranges aren't looked at
+abbrev pub other_step : (step : List ℕ) → SavedRows → List SavedPlace
+other_step step s = fault_if (not (bytes_eq s.step step)) Step
+
+-- all faults of saved rows from which a step of this id and so many records goes on, in the order in which they count
+abbrev pub step_faults : (step : List ℕ) → (records : ℕ) → SavedRows → List SavedPlace
+step_faults step records s = other_step step s ++ fault_if (is_past records s.rows) Records
 
 -- the first of the faults; memory runs out only where there is none
 abbrev pub Refuses : StepError → List SavedPlace → Type 0

@@ -1,7 +1,7 @@
 -- How a place of saved rows is printed.
 use Rattle.std.specs.Prelude.{ℕ, List, ◌++◌, codes, decimal}
 use Rattle.jb_saved.specs.declared.place.SavedPlace.{SavedPlace}
-use Rattle.jb_saved.specs.declared.place.SavedPlace.TheVariants.{NotJson, Shape, Version, Rows, Step, Records, Override}
+use Rattle.jb_saved.specs.declared.place.SavedPlace.TheVariants.{NotJson, Shape, Version, Rows, Step, Records}
 
 -- the name, and the row's number in parentheses
 abbrev pub place_text : SavedPlace → List ℕ
@@ -11,4 +11,3 @@ place_text Version = codes "Version"
 place_text (Rows i) = codes "Rows(" ++ (decimal i ++ codes ")")
 place_text Step = codes "Step"
 place_text Records = codes "Records"
-place_text Override = codes "Override"

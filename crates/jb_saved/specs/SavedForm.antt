@@ -38,7 +38,7 @@ abbrev pub rows_from : (version : ℕ) → List Row → Items → Option (List R
 rows_from n done no_items = Some done
 rows_from n done (item d ds) = row_of n d >>= λ row. rows_from n (done ++ row ∷ []) ds
 
--- 1 to 256 rows
+-- 1 to 1,024 rows
 unfoldable pub rows_of : (version : ℕ) → Data → Option (List Row)
 rows_of n d =
     find.as_array d >>= λ items.

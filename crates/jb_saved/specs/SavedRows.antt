@@ -12,7 +12,7 @@ pub record SavedRows : Type 0 where
   pub step : List ℕ
   pub rows : List Row
 
--- the name of a step, and 1 to 256 sound rows, none of them running, no two of which have a record in common
+-- the name of a step, and 1 to 1,024 sound rows, none of them running, no two of which have a record in common
 pub record IsSaved (s : SavedRows) : Type 0 where
   pub named : IsName s.step
   pub some_rows : 1 ≤ length s.rows

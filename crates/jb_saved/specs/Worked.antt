@@ -1,12 +1,12 @@
 -- Worked rows: what the definitions give, computed apart from the code.
-use Rattle.std.specs.Prelude.{◌≡◌, ℕ, true, false, [], ◌∷◌, codes, Ok, Err}
+use Rattle.std.specs.Prelude.{◌≡◌, ℕ, [], ◌∷◌, codes, Ok, Err}
 use Rattle.serde_json.specs.Data.{Data, string, object, member, no_members}
 use Rattle.serde_json.specs.Written.{compact_text}
 use Rattle.jb_rules.specs.declared.row.Row.{Row}
 use Rattle.jb_rules.specs.declared.row.RowState.{RowState}
 use Rattle.jb_rules.specs.declared.row.RowState.TheVariants.{Waiting, Finished, Failed}
-use Rattle.jb_saved.specs.declared.place.SavedPlace.TheVariants.{Shape, Version, Rows, Step, Records, Override}
-use Rattle.jb_saved.specs.GoingOn.{step_faults, rows_again}
+use Rattle.jb_saved.specs.declared.place.SavedPlace.TheVariants.{Shape, Version, Rows, Step, Records}
+use Rattle.jb_saved.specs.GoingOn.{other_step, step_faults, rows_again}
 use Rattle.jb_saved.specs.Reading.{saved_at}
 use Rattle.jb_saved.specs.SavedRows.{SavedRows}
 use Rattle.jb_saved.specs.SavedTree.{rows_tree, rows_tree_in, number_tree, saved_tree, saved_tree_in}
@@ -87,5 +87,7 @@ pub record WorkedSaved : Type 0 where
       ≡ Err Shape
   -- going on: the failed row waits, and the faults come in their order
   pub again : rows_again failed ≡ record failed_row { state = Waiting } ∷ row 4 6 6 4 2 1 Finished ∷ []
-  pub faults : step_faults (codes "t") 5 true failed ≡ Step ∷ Records ∷ Override ∷ []
-  pub none : step_faults (codes "s") 6 false failed ≡ []
+  pub faults : step_faults (codes "t") 5 failed ≡ Step ∷ Records ∷ []
+  pub none : step_faults (codes "s") 6 failed ≡ []
+  pub discarded : other_step (codes "t") failed ≡ Step ∷ []
+  pub discarded_well : other_step (codes "s") failed ≡ []

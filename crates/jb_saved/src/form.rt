@@ -82,7 +82,7 @@ fn row_of(tree: &Value, version: u64) -> Option<Row>
     }
 }
 
-/// The rows: a list of 1 to 256.
+/// The rows: a list of 1 to 1,024.
 #[tactic(auto, using(crate::proofs::Trees::tree_steps), unfolding(crate::specs::SavedForm::rows_of))]
 fn rows_of(alloc: Global, tree: &Value, version: u64) -> Result<Vec<Row>, StepError>
     ensures form { Finds (λ rows. rows.items) result (rows_of version (view tree.now)) }

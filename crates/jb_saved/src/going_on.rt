@@ -37,43 +37,40 @@ fn is_past(records: u64, rows: &[Row]) -> bool
     rows.iter().any(|row| records < row.hi)
 }
 
-/// The first fault of saved rows for a step of this id, so many records and this override flag.
-fn refusal(step_id: &str, records: u64, replace: bool, saved: &Saved) -> Option<SavedPlace>
-    ensures { result ≡ slice_get (step_faults step_id.now records replace saved.now) 0 }
+/// The first fault of saved rows for a step of this id and so many records.
+fn refusal(step_id: &str, records: u64, saved: &Saved) -> Option<SavedPlace>
+    ensures { result ≡ slice_get (step_faults step_id.now records saved.now) 0 }
 {
     if saved.step_id() != step_id {
         Some(SavedPlace::Step)
     } else if is_past(records, saved.rows()) {
         Some(SavedPlace::Records)
-    } else if replace {
-        Some(SavedPlace::Override)
     } else {
         None
     }
 }
 
-/// The rows with which a step of this id, so many records and this override flag goes on from saved rows: the failed ones
-/// wait again (Jakarta Batch 2.1, "Restart Processing"), the others are as they were.
+/// The rows with which a step of this id and so many records goes on from saved rows: the failed ones wait again (Jakarta
+/// Batch 2.1, "Restart Processing"), the others are as they were.
 ///
 /// # Errors
-/// `Saved` with the first of: `Step`, where the rows are another step's; `Records`, where one ends past the last record;
-/// `Override`, where all partitions are to begin anew. And `Memory`, only where none of these holds.
+/// `Saved` with the first of: `Step`, where the rows are another step's; `Records`, where one ends past the last record.
+/// And `Memory`, only where none of these holds.
 pub fn rows_to_go_on(
     alloc: Global,
     step_id: &str,
     records: u64,
-    replace: bool,
     saved: &Saved,
 ) -> Result<Vec<Row>, StepError>
-    ensures accepted { OnOk result (step_faults step_id.now records replace saved.now ≡ []) }
-    ensures refused { IfErr result (λ e. Refuses e (step_faults step_id.now records replace saved.now)) }
+    ensures accepted { OnOk result (step_faults step_id.now records saved.now ≡ []) }
+    ensures refused { IfErr result (λ e. Refuses e (step_faults step_id.now records saved.now)) }
     ensures rows { IfOk result (λ rows. rows.items ≡ rows_again saved.now) }
     ensures kept { IfOk result (λ rows. IsSaved (record { step = saved.now.step; rows = rows.items })) }
     ensures unfailed { IfOk result (λ rows. AreUnfailed rows.items) }
 {
     rows_stay_sound();
     unfinished_rows_go_on();
-    if let Some(place) = refusal(step_id, records, replace, saved) {
+    if let Some(place) = refusal(step_id, records, saved) {
         return Err(StepError::Saved(place));
     }
     let rows = all_again(alloc, saved.rows())?;

@@ -18,8 +18,6 @@ pub enum SavedPlace {
     Step,
     /// A row ends past the last record.
     Records,
-    /// The plan begins all partitions anew.
-    Override,
 }
 
 /// The name, with the row's number in parentheses.
@@ -37,7 +35,6 @@ impl fmt::Display for SavedPlace {
             SavedPlace::Rows(row) => write!(f, "Rows({row})"),
             SavedPlace::Step => f.write_str("Step"),
             SavedPlace::Records => f.write_str("Records"),
-            SavedPlace::Override => f.write_str("Override"),
         }
     }
 }

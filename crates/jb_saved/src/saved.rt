@@ -19,7 +19,7 @@ use std::marker::Model;
 
 /// The rows of a step's partitions, with the step's id, as a restart needs them.
 ///
-/// An id of 1 to 64 bytes, and 1 to 256 sound rows of disjoint ranges, none of them running: each value keeps this.
+/// An id of 1 to 64 bytes, and 1 to 1,024 sound rows of disjoint ranges, none of them running: each value keeps this.
 #[derive(Debug, Drop)]
 pub struct Saved {
     step: Name,

@@ -1,5 +1,5 @@
--- Partitions that begin anew, and the reducer's calls before them.
-use Rattle.std.proofs.Common.{◌≡◌, ◌≢◌, ℕ, suc, zero, ◌<◌, ◌≤◌, Bool, true, false, cond, List, [], ◌∷◌, ◌++◌, length, map, Some, refl, ap, sym, ◌∙◌, subst, arith, inl, inr, append_assoc}
+-- Partitions that begin anew.
+use Rattle.std.proofs.Common.{◌≡◌, ◌≢◌, ℕ, suc, zero, ◌<◌, ◌≤◌, Bool, true, false, cond, List, [], ◌∷◌, length, map, Some, refl, ap, sym, subst, arith, inl, inr}
 use Rattle.std.specs.Prelude.{slice_get, slice_index_or, All, ◌⊎◌, ◌==◌}
 use Rattle.std.proofs.lemmas.List.{length-map}
 use Rattle.jb_job.specs.declared.job.Range.{Range}
@@ -17,16 +17,9 @@ use Rattle.jb_rules.specs.declared.row.RowState.TheVariants as state
 use Rattle.jb_saved.specs.GoingOn.{AreUnfailed}
 use Rattle.jb_saved.specs.SavedRows.{SavedRows, IsSaved}
 use Rattle.jb_chunk.specs.Standing.{HasItemCount}
-use Rattle.jb_collect.specs.declared.calls.ReducerCall.{ReducerCall}
-use Rattle.jb_collect.specs.declared.calls.ReducerCall.TheVariants.{Begin}
-use Rattle.jb_collect.specs.Reduced.{calls_before, rolled_back}
-use Rattle.jb_collect.specs.Taken.{Taken, calls_of, well}
-use Rattle.jb_step.specs.Reduced.{since}
 use Rattle.jb_step.specs.Setup.{IsSetup, fresh_rows}
 use Rattle.jb_step.specs.inside.Fresh.{setup_with}
 use Rattle.jb_step.specs.inside.Preparing.{MayOpen}
-use Rattle.jb_step.specs.inside.Reducing.{IsReducing}
-use Rattle.jb_step.proofs.Reduced.{since-is}
 
 abbrev IsFreshAt : List Range → ℕ → Row → Type 0
 IsFreshAt ranges i row = (x : Range) × (i < length ranges) × (slice_index_or ranges i x ≡ x) × (row ≡ fresh_row x)
@@ -105,13 +98,3 @@ opened-is rows plan step begun_anew open_ some few retried items = record {
   begun = open_.begun;
   retried = retried;
 }
-
--- THE REDUCER'S CALLS
-
-pub begin-calls : (before after : List (Taken ReducerCall)) → after ≡ before ++ well Begin ∷ [] → calls_of (since before after) ≡ calls_before false false
-begin-calls before after e = ap calls_of (since-is before after (well Begin ∷ []) e)
-
-pub undone-calls : (before mid after : List (Taken ReducerCall)) (failed : Bool) → mid ≡ before ++ well Begin ∷ [] → IsReducing mid rolled_back failed false after → calls_of (since before after) ≡ calls_before false false ++ rolled_back
-undone-calls before mid after failed e one =
-    let grown : after ≡ before ++ (well Begin ∷ one.next) = one.after_is ∙ (ap (λ xs. xs ++ one.next) e ∙ append_assoc before (well Begin ∷ []) one.next) in
-    ap calls_of (since-is before after (well Begin ∷ one.next) grown) ∙ ap (λ cs. Begin ∷ cs) one.calls_are

@@ -8,11 +8,12 @@ use Rattle.jb_rules.specs.declared.row.RowState.{RowState}
 use Rattle.jb_rules.specs.declared.row.RowState.TheVariants as state
 use Rattle.jb_rules.specs.States.{is_finished, has_ended}
 use Rattle.jb_artifacts.specs.Meaning.{Workplace}
+use Rattle.jb_cert.specs.Rising.{RiseFrom}
 use Rattle.jb_chunk.specs.Standing.{TaskState}
 use Rattle.jb_step.specs.StepRuns.{newer, all_newer}
 use Rattle.jb_step.specs.Setup.{row_now}
 use Rattle.jb_step.specs.Ways.{AreOnTheWay, have_ended}
-use Rattle.jb_step.specs.inside.Round.{RiseFrom, partitions_of}
+use Rattle.jb_step.specs.inside.Round.{partitions_of}
 use Rattle.jb_step.proofs.Apart.{both, left-of, right-of}
 use Rattle.jb_step.proofs.Splitting.{rise-lower}
 

@@ -194,11 +194,6 @@ either-sound : (b : Bool) (own other : Row) → IsSoundRow own → IsSoundRow ot
 either-sound true own other one two = one
 either-sound false own other one two = two
 
-now-sound : (s : Setup) (ts : List TaskState) (p : ℕ) (row : Row) → AreTasksOf s ts → IsSoundRow row → IsSoundRow (row_now ts p row)
+pub now-sound : (s : Setup) (ts : List TaskState) (p : ℕ) (row : Row) → AreTasksOf s ts → IsSoundRow row → IsSoundRow (row_now ts p row)
 now-sound s [] p row tasks sound = sound
 now-sound s (t ∷ ts) p row tasks sound = either-sound (nat_eq t.partition p) t.row (row_now ts p row) tasks.0.0.sound (now-sound s ts p row tasks.1 sound)
-
--- they are sound
-pub rows-sound : (s : Setup) (ts : List TaskState) (first : ℕ) (rows : List Row) → AreTasksOf s ts → AreBegun rows → AllByRecursion IsSoundRow (map (λ (n : ℕ × Row). row_now ts n.0 n.1) (enumerate_from first rows))
-rows-sound s ts first [] tasks begun = tt
-rows-sound s ts first (row ∷ rows) tasks begun = (now-sound s ts first row tasks begun.0.sound, rows-sound s ts (first + 1) rows tasks begun.1)

@@ -8,6 +8,7 @@ use Rattle.jb_rules.specs.Rows.{fresh_row}
 use Rattle.jb_rules.specs.States.{is_finished}
 use Rattle.jb_artifacts.specs.Meaning.{Workplace}
 use Rattle.jb_cert.specs.Lawful.{Pair}
+use Rattle.jb_cert.specs.Rising.{RiseFrom}
 use Rattle.jb_chunk.specs.Attempt.{attempt_of}
 use Rattle.jb_chunk.specs.Standing.{TaskState}
 use Rattle.jb_repo.specs.declared.snapshot.Snapshot.{Snapshot}
@@ -16,7 +17,7 @@ use Rattle.jb_step.specs.Going.{IsTable, AreTasksOf}
 use Rattle.jb_step.specs.Rounds.{has_partition, after_round, after_rounds}
 use Rattle.jb_step.specs.Runs.{PlanRun, rounds_of, table_after}
 use Rattle.jb_step.specs.Setup.{Setup, first_tasks, row_now, rows_now, unfinished}
-use Rattle.jb_step.specs.inside.Round.{RiseFrom, partitions_of}
+use Rattle.jb_step.specs.inside.Round.{partitions_of}
 use Rattle.jb_step.proofs.Holding.{first_from, is_open}
 use Rattle.jb_step.proofs.Steady.{same-rules}
 

@@ -12,6 +12,8 @@ mod Leading
 mod Leftover
 mod Listing
 mod Looping
+mod Overriding
+mod Placing
 mod Planning
 mod Reduced
 mod Restarting
@@ -19,5 +21,6 @@ mod Splitting
 mod Starting
 mod Steady
 mod Stepping
+mod Telling
 mod Turning
 mod Whole

@@ -13,6 +13,7 @@ use Rattle.jb_rules.specs.Sound.{IsSoundRow}
 use Rattle.jb_rules.specs.States.{is_finished, is_failed}
 use Rattle.jb_artifacts.specs.Meaning.{Workplace, Fits}
 use Rattle.jb_cert.specs.Lawful.{Pair}
+use Rattle.jb_cert.specs.Rising.{RiseFrom}
 use Rattle.jb_chunk.specs.Laws.{SamePlace, WaysJoin, WaysEnd, OneEnd, TasksStayReady}
 use Rattle.jb_chunk.specs.Standing.{TaskState, started}
 use Rattle.jb_saved.specs.GoingOn.{again, AreUnfailed}
@@ -26,10 +27,10 @@ use Rattle.jb_step.specs.Prepare.{FitRows}
 use Rattle.jb_step.specs.Restarts.{IsPreparedFor, IsRestart, AreRestarts, RestartsFit, RestartsAreOnTheWay, RestartsEndAlone, RestartsEndAsUnstopped}
 use Rattle.jb_step.specs.Rounds.{after_rounds}
 use Rattle.jb_step.specs.Runs.{rounds_of}
-use Rattle.jb_step.specs.Setup.{Setup, IsSetup, first_tasks, needs, row_now, rows_now, unfinished}
+use Rattle.jb_step.specs.Setup.{Setup, IsSetup, first_tasks, gone_on, needs, opening_rows, row_now, rows_now, unfinished}
 use Rattle.jb_step.specs.StepRuns.{StepRun, IsAnswered, tasks_before, tasks_after, works_again, newest, all_newer, artifacts_left, tasks_at_last, StandOnTheWay, StandAtTheEnd}
 use Rattle.jb_step.specs.Ways.{AreAlone, AreOnTheWay, AreReady, have_ended}
-use Rattle.jb_step.specs.inside.Round.{RiseFrom, partitions_of}
+use Rattle.jb_step.specs.inside.Round.{partitions_of}
 use Rattle.jb_step.proofs.Filling.{is_unfinished, open_tasks, works_in, filled, filled-all, fill, row-none}
 use Rattle.jb_step.proofs.Holding.{begins_with_table, is_open, partitions_stay}
 use Rattle.jb_step.proofs.Leading.{steps_are_on_the_way, alone-all, alone_is_one_place}
@@ -344,7 +345,9 @@ takes-up law step r n h =
     let back : good h.saved ≡ good h.read = sym (ap answer_of h.written ∙ law h.saved h.kept) ∙ h.answer in
     let same : h.read ≡ record { step = step.id; rows = r.snapshot.rows.items } = sym (answered-ok h.saved h.read back) ∙ h.saved_is in
     record {
-      rows = h.prepared.prepared.rows ∙ (ap (λ (s : SavedRows). map again s.rows) same ∙ rows-same r.snapshot.rows.items h.unfailed);
+      rows = h.prepared.prepared.rows
+          ∙ (ap (λ (replace : Bool). opening_rows h.prepared.prepared.plan.ranges (gone_on replace (Some h.read))) h.goes_on
+          ∙ (ap (λ (s : SavedRows). map again s.rows) same ∙ rows-same r.snapshot.rows.items h.unfailed));
       tasks = h.tasks;
     }
 

@@ -1,9 +1,10 @@
--- Tasks that are taken out for a round, and put back.
-use Rattle.std.proofs.Common.{◌≡◌, ℕ, suc, zero, ◌+◌, ◌≤◌, ◌<◌, Bool, true, false, cond, List, [], ◌∷◌, length, map, Option, Some, None, refl, ap, ap₂, sym, ◌∙◌, subst, arith}
+-- The works of a round, and what comes of them.
+use Rattle.std.proofs.Common.{◌≡◌, ℕ, suc, zero, ◌+◌, ◌≤◌, ◌<◌, Bool, true, false, cond, List, [], ◌∷◌, length, map, refl, ap, ap₂, sym, ◌∙◌, subst, arith}
 use Rattle.std.specs.Prelude.{slice_index_or}
 use Rattle.std.proofs.lemmas.List.{length-map}
 use Rattle.std.specs.List.{list_all}
 use Rattle.jb_cert.specs.Lawful.{Pair}
+use Rattle.jb_cert.specs.Rising.{RiseFrom}
 use Rattle.jb_chunk.specs.Attempt.{Ending, attempt_of, ending_of, IsAttemptBy}
 use Rattle.jb_chunk.specs.Standing.{TaskState, IsReady}
 use Rattle.jb_chunk.specs.declared.outcome.Done.{Done}
@@ -13,10 +14,10 @@ use Rattle.jb_rules.specs.States.{is_waiting}
 use Rattle.jb_workers.specs.Round.{AreDones}
 use Rattle.jb_workers.specs.Works.{CanBegin, IsAttemptOf, AllCanBegin, Rise}
 use Rattle.jb_workers.specs.declared.worker.lane_work.Work.{Work}
-use Rattle.jb_step.specs.Rounds.{has_partition, tasks_in, after_round, attempts_in, breaks}
+use Rattle.jb_step.specs.Rounds.{has_partition, tasks_in, attempts_in, breaks}
 use Rattle.jb_collect.specs.Heard.{endings_of, heard_in}
 use Rattle.jb_step.specs.inside.Adding.{heard_in_round}
-use Rattle.jb_step.specs.inside.Round.{tasks_of, RiseFrom, partitions_of, AreDonesOf, AreWhole, free_places, had_memory, taken, rest_of, merged, breaks_in}
+use Rattle.jb_step.specs.inside.Round.{tasks_of, partitions_of, AreDonesOf, AreWhole, had_memory, taken, breaks_in}
 use Rattle.jb_step.specs.Ways.{AreReady}
 use Rattle.jb_step.proofs.Apart.{left-of, right-of}
 use Rattle.jb_step.proofs.Steady.{waits}
@@ -28,33 +29,14 @@ attempt_by (Failed class) t e h m = h
 attempt_by NoMemory t e h m = let never : ⊥ = cc in absurd never
 
 module _ {T : Type 0} (standing : T → TaskState) where
-  is_attempt : (t : T) (d : Done T) → IsAttemptOf standing t d → had_memory d.outcome ≡ true → ending_of (standing d.task) d.outcome d.values.items d.again ≡ attempt_of (standing t)
-  is_attempt t d h m = attempt_by d.outcome (standing t) (ending_of (standing d.task) d.outcome d.values.items d.again) h.attempt m
-
-  merged-one : (b : Bool) (t : T) (us : List T) (rest : List (Option T)) (after : List TaskState) (ds : List (Done T)) → ((es : List (Done T)) → AreDonesOf standing us es → AreWhole es → map standing (merged rest es) ≡ after) → AreDonesOf standing (cond b (t ∷ us) us) ds → AreWhole ds → map standing (merged (cond b None (Some t) ∷ rest) ds) ≡ cond b (attempt_of (standing t)).task (standing t) ∷ after
-  merged-one false t us rest after ds more h m = ap (λ xs. standing t ∷ xs) (more ds h m)
-  merged-one true t us rest after [] more h m = absurd h
-  merged-one true t us rest after (d ∷ ds) more h m = ap₂ ◌∷◌ (ap (λ (e : Ending). e.task) (is_attempt t d h.0 m.0)) (more ds h.1 m.1)
-
-  -- the tasks after a round stand in the table after it
-  merged-is : (set : List Pair) (ts : List T) (ds : List (Done T)) → AreDonesOf standing (taken standing set ts) ds → AreWhole ds → map standing (merged (rest_of standing set ts) ds) ≡ after_round set (map standing ts)
-  merged-is set [] ds h m = refl
-  merged-is set (t ∷ ts) ds h m = merged-one (has_partition set (standing t).partition) t (taken standing set ts) (rest_of standing set ts) (after_round set (map standing ts)) ds (merged-is set ts) h m
-
-  ready-one : (b : Bool) (t : T) (us : List T) (rest : List (Option T)) (ds : List (Done T)) → IsReady (standing t) → ((es : List (Done T)) → AreDonesOf standing us es → AreReady (map standing (merged rest es))) → AreDonesOf standing (cond b (t ∷ us) us) ds → AreReady (map standing (merged (cond b None (Some t) ∷ rest) ds))
-  ready-one false t us rest ds r more h = (r, more ds h)
-  ready-one true t us rest [] r more h = absurd h
-  ready-one true t us rest (d ∷ ds) r more h = (h.0.ready, more ds h.1)
-
-  ready-is : (set : List Pair) (ts : List T) (ds : List (Done T)) → AreReady (map standing ts) → AreDonesOf standing (taken standing set ts) ds → AreReady (map standing (merged (rest_of standing set ts) ds))
-  ready-is set [] ds r h = tt
-  ready-is set (t ∷ ts) ds r h = ready-one (has_partition set (standing t).partition) t (taken standing set ts) (rest_of standing set ts) ds r.0 (λ es k. ready-is set ts es r.1 k) h
+  pub attempted : (t : T) (d : Done T) → IsAttemptOf standing t d → had_memory d.outcome ≡ true → ending_of (standing d.task) d.outcome d.values.items d.again ≡ attempt_of (standing t)
+  attempted t d h m = attempt_by d.outcome (standing t) (ending_of (standing d.task) d.outcome d.values.items d.again) h.attempt m
 
   endings-are : (us : List T) (ds : List (Done T)) → AreDonesOf standing us ds → AreWhole ds → endings_of standing ds ≡ map attempt_of (map standing us)
   endings-are [] [] h m = refl
   endings-are [] (d ∷ ds) h m = absurd h
   endings-are (u ∷ us) [] h m = absurd h
-  endings-are (u ∷ us) (d ∷ ds) h m = ap₂ ◌∷◌ (is_attempt u d h.0 m.0) (endings-are us ds h.1 m.1)
+  endings-are (u ∷ us) (d ∷ ds) h m = ap₂ ◌∷◌ (attempted u d h.0 m.0) (endings-are us ds h.1 m.1)
 
   taken-one : (b : Bool) (t : T) (us : List T) (ss : List TaskState) → map standing us ≡ ss → map standing (cond b (t ∷ us) us) ≡ cond b (standing t ∷ ss) ss
   taken-one false t us ss e = e
@@ -66,12 +48,6 @@ module _ {T : Type 0} (standing : T → TaskState) where
 
   round-endings : (set : List Pair) (ts : List T) (ds : List (Done T)) → AreDonesOf standing (taken standing set ts) ds → AreWhole ds → endings_of standing ds ≡ attempts_in set (map standing ts)
   round-endings set ts ds h m = endings-are (taken standing set ts) ds h m ∙ ap (map attempt_of) (taken-is set ts)
-
-pub merged-table : {T : Type 0} (standing : T → TaskState) (set : List Pair) (ts : List T) (ds : List (Done T)) → AreDonesOf standing (taken standing set ts) ds → AreWhole ds → map standing (merged (rest_of standing set ts) ds) ≡ after_round set (map standing ts)
-merged-table standing set ts ds h m = merged-is standing set ts ds h m
-
-pub merged-ready : {T : Type 0} (standing : T → TaskState) (set : List Pair) (ts : List T) (ds : List (Done T)) → AreReady (map standing ts) → AreDonesOf standing (taken standing set ts) ds → AreReady (map standing (merged (rest_of standing set ts) ds))
-merged-ready standing set ts ds r h = ready-is standing set ts ds r h
 
 pub breaks-are : {T : Type 0} (standing : T → TaskState) (set : List Pair) (ts : List T) (ds : List (Done T)) → AreDonesOf standing (taken standing set ts) ds → AreWhole ds → breaks_in (endings_of standing ds) ≡ breaks set (map standing ts)
 breaks-are standing set ts ds h m = ap breaks_in (round-endings standing set ts ds h m)
@@ -104,8 +80,8 @@ ready-in : (set : List Pair) (ts : List TaskState) → AreReady ts → AreReady 
 ready-in set [] h = tt
 ready-in set (t ∷ ts) h = are-ready-one (has_partition set t.partition) t (tasks_in set ts) h.0 (ready-in set ts h.1)
 
-pub works-rise : {T : Type 0} (standing : T → TaskState) (set : List Pair) (ts : List T) → RiseFrom 0 (partitions_of (map standing ts)) → RiseFrom 0 (partitions_of (map standing (taken standing set ts)))
-works-rise standing set ts h = subst (λ (us : List TaskState). RiseFrom 0 (partitions_of us)) (sym (taken-is standing set ts)) (rise-in set 0 (map standing ts) h)
+pub works-rise : {T : Type 0} (standing : T → TaskState) (set : List Pair) (k : ℕ) (ts : List T) → RiseFrom k (partitions_of (map standing ts)) → RiseFrom k (partitions_of (map standing (taken standing set ts)))
+works-rise standing set k ts h = subst (λ (us : List TaskState). RiseFrom k (partitions_of us)) (sym (taken-is standing set ts)) (rise-in set k (map standing ts) h)
 
 pub works-ready : {T : Type 0} (standing : T → TaskState) (set : List Pair) (ts : List T) → AreReady (map standing ts) → AreReady (map standing (taken standing set ts))
 works-ready standing set ts h = subst AreReady (sym (taken-is standing set ts)) (ready-in set (map standing ts) h)
@@ -156,28 +132,9 @@ taken-can standing set ts ws e ready waiting =
 -- they come by rising partition
 pub taken-rise : {T : Type 0} (standing : T → TaskState) (set : List Pair) (ts : List T) (ws : List (Work T)) → tasks_of ws ≡ taken standing set ts → RiseFrom 0 (partitions_of (map standing ts)) → Rise standing ws
 taken-rise standing set ts ws e h =
-    let r = subst (λ (us : List _). RiseFrom 0 (partitions_of (map standing us))) (sym e) (works-rise standing set ts h) in
+    let r = subst (λ (us : List _). RiseFrom 0 (partitions_of (map standing us))) (sym e) (works-rise standing set 0 ts h) in
     λ i j d le lt. rises standing 0 ws r i j d le lt
 
 -- and what comes of them are the attempts of these tasks
 pub taken-done : {T : Type 0} (standing : T → TaskState) (set : List Pair) (ts : List T) (ws : List (Work T)) (ds : List (Done T)) → tasks_of ws ≡ taken standing set ts → AreDones standing ws ds → AreDonesOf standing (taken standing set ts) ds
 taken-done standing set ts ws ds e h = subst (λ (us : List _). AreDonesOf standing us ds) e (done-by standing ws ds h)
-
--- THE FREE PLACES
-
-free-one : {T : Type 0} (b : Bool) (t : T) (rest : List (Option T)) (us : List T) → free_places rest ≡ length us → free_places (cond b None (Some t) ∷ rest) ≡ length (cond b (t ∷ us) us)
-free-one true t rest us e = omega (arith, e)
-free-one false t rest us e = e
-
-free-taken : {T : Type 0} (standing : T → TaskState) (set : List Pair) (ts : List T) → free_places (rest_of standing set ts) ≡ length (taken standing set ts)
-free-taken standing set [] = refl
-free-taken standing set (t ∷ ts) = free-one (has_partition set (standing t).partition) t (rest_of standing set ts) (taken standing set ts) (free-taken standing set ts)
-
-dones-number : {T : Type 0} (standing : T → TaskState) (ts : List T) (ds : List (Done T)) → AreDonesOf standing ts ds → length ts ≡ length ds
-dones-number standing [] [] h = refl
-dones-number standing [] (d ∷ ds) h = absurd h
-dones-number standing (t ∷ ts) [] h = absurd h
-dones-number standing (t ∷ ts) (d ∷ ds) h = let rest = dones-number standing ts ds h.1 in omega (arith, rest)
-
-pub free-done : {T : Type 0} (standing : T → TaskState) (set : List Pair) (ts : List T) (ds : List (Done T)) → AreDonesOf standing (taken standing set ts) ds → free_places (rest_of standing set ts) ≡ length ds
-free-done standing set ts ds h = free-taken standing set ts ∙ dones-number standing (taken standing set ts) ds h

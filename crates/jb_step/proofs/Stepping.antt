@@ -4,6 +4,7 @@ use Rattle.std.specs.Prelude.{MatchOption, is_some}
 use Rattle.std.proofs.lemmas.List.{length-map, length-reverse}
 use Rattle.jb_job.specs.declared.class.ClassId.{ClassId}
 use Rattle.jb_artifacts.specs.Meaning.{Workplace}
+use Rattle.jb_cert.specs.Rising.{RiseFrom}
 use Rattle.jb_chunk.specs.Standing.{TaskState}
 use Rattle.jb_collect.specs.declared.calls.AnalyzerCall.{AnalyzerCall}
 use Rattle.jb_collect.specs.declared.calls.ReducerCall.{ReducerCall}
@@ -21,7 +22,7 @@ use Rattle.jb_step.specs.Statuses.{status_of, went_well}
 use Rattle.jb_step.specs.Ways.{AreAlone, AreOnTheWay, have_ended}
 use Rattle.jb_step.specs.inside.Finish.{AreToldToEnd, works_of}
 use Rattle.jb_step.specs.inside.Reducing.{IsEnding}
-use Rattle.jb_step.specs.inside.Round.{RiseFrom, partitions_of}
+use Rattle.jb_step.specs.inside.Round.{partitions_of}
 use Rattle.jb_step.specs.inside.Telling.{moment}
 use Rattle.jb_step.proofs.Leftover.{left-again}
 use Rattle.jb_step.proofs.Reduced.{since-is}

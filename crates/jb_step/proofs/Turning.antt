@@ -1,6 +1,6 @@
 -- The turns of the loop, at its head.
 use Rattle.std.proofs.Common.{◌≡◌, ℕ, suc, zero, ◌+◌, ◌<◌, ◌≤◌, ◌⊎◌, inl, inr, Bool, true, false, cond, Option, Some, None, List, [], ◌∷◌, ◌++◌, length, map, filter, not, reverse, refl, ap, ap₂, sym, ◌∙◌, subst, arith, append-nil}
-use Rattle.std.specs.Prelude.{MatchOption}
+use Rattle.std.specs.Prelude.{MatchOption, IsSome}
 use Rattle.std.specs.List.{range_with_len, enumerate_from}
 use Rattle.std.proofs.lemmas.List.{reverse-append, length-reverse, length-append}
 use Rattle.std.proofs.lemmas.List.FromFn.{length-map-range_with_len}
@@ -8,6 +8,7 @@ use Rattle.jb_cert.specs.declared.certificates.Certificate.{Certificate}
 use Rattle.jb_cert.specs.Certificates.{Holds}
 use Rattle.jb_cert.specs.Lawful.{Pair, IsLeast}
 use Rattle.jb_cert.specs.Load.{Load, mcnaughton}
+use Rattle.jb_cert.specs.Rising.{RiseFrom}
 use Rattle.jb_chunk.specs.Attempt.{Ending, attempt_of}
 use Rattle.jb_chunk.specs.Standing.{TaskState}
 use Rattle.jb_rules.specs.States.{is_finished}
@@ -20,7 +21,7 @@ use Rattle.jb_collect.specs.Taken.{Taken}
 use Rattle.jb_step.specs.inside.Adding.{heard_in_round, heard_so_far, with_round, opened}
 use Rattle.jb_step.specs.inside.Below.{LawsBelow}
 use Rattle.jb_step.specs.Rounds.{CanRun, after_round, attempts_in, breaks, has_partition, last_breaks}
-use Rattle.jb_step.specs.Runs.{PlanRun, all_attempts, note_of, notes_of, rounds_of, sets_of, table_after}
+use Rattle.jb_step.specs.Runs.{PlanRun, IsOver, all_attempts, note_of, notes_of, rounds_of, sets_of, table_after}
 use Rattle.jb_step.specs.Setup.{Setup, counts_now}
 use Rattle.jb_step.specs.Ways.{AreReady, have_ended}
 use Rattle.jb_step.proofs.Adding.{sets-more, after_rounds-append}
@@ -31,7 +32,7 @@ use Rattle.jb_step.proofs.Looping.{loop_goes_on, loop_plans}
 use Rattle.jb_step.proofs.Whole.{open_plan_goes_on, new_plan_begins, last_plan_is_over}
 use Rattle.jb_step.specs.declared.plan.Open.{Open}
 use Rattle.jb_step.specs.inside.Head.{set_of_round, planned_sets, planned_certificate, one_round_more, IsRunSoFar, IsClosed, IsOpen, IsBetween, IsNextPlan, IsAfterRound, IsFinished, AreRounds, note_at}
-use Rattle.jb_step.specs.inside.Round.{RiseFrom, partitions_of}
+use Rattle.jb_step.specs.inside.Round.{partitions_of}
 use Rattle.jb_step.specs.inside.Telling.{Moment, IsHeard, HearsMore}
 use Rattle.jb_step.proofs.Adding.{round_goes_on, round_opens}
 use Rattle.jb_step.proofs.Hearing.{heard-more}
@@ -279,6 +280,24 @@ can-run below s start base m table ran notes None next b h =
     subst (λ (n : ℕ). CanRun (next_set next.cursor n) table) (sym h.0) (new-can-run below s table next.cursor b.so_far.holds (load-of s table next h))
 can-run below s start base m table ran notes (Some before) next b h =
     subst (λ (o : Open). CanRun (next_set o.cursor o.ran) table) (sym h) (open-can-run below s start base m table ran notes before.cursor before.ran b)
+
+-- while a plan is open, some partition hasn't ended
+pub unended : LawsBelow → (s : Setup) (start : List TaskState) (base : List (Taken AnalyzerCall)) (m : Moment) (table : List TaskState) (ran : ℕ × ℕ) (notes : List PlanNote) (plan : Option Open) → IsBetween s start base m table ran notes plan → IsSome plan → have_ended table ≡ false
+unended below s start base m table ran notes None b some = let never : ⊥ = cc in absurd never
+unended below s start base m table ran notes (Some plan) b some = by-test (have_ended table) refl
+  where
+    never : IsOver (table_after b.older start) b.plan → ⊥
+    never (inl none) =
+        let left = left-of b.plan plan.cursor plan.ran b.sets b.rounds_are b.more in
+        let both : [] ≡ next_set plan.cursor plan.ran ∷ left.0 = sym none ∙ left.1 in
+        cc
+    never (inr broke) = let both : false ≡ true = sym b.quiet ∙ broke in cc
+
+    by-test : (e : Bool) → have_ended table ≡ e → have_ended table ≡ false
+    by-test false e = e
+    by-test true e =
+        let way = b.so_far.under_way in
+        absurd (never (last_plan_is_over below.chunks s start b.plan b.older way.run way.tables.1 (subst (λ (ts : List TaskState). have_ended ts ≡ true) (sym b.so_far.table_is) e)))
 
 pub table-of : (s : Setup) (start : List TaskState) (base : List (Taken AnalyzerCall)) (m : Moment) (table : List TaskState) (ran : ℕ × ℕ) (notes : List PlanNote) (plan : Option Open) → IsBetween s start base m table ran notes plan → IsTable s table
 table-of s start base m table ran notes None b = b.so_far.holds

@@ -1,19 +1,20 @@
 -- What `run_step` answers.
-use Rattle.std.specs.Prelude.{◌≡◌, ℕ, ◌≤◌, true, false, ◌||◌, MatchOption, Option, List, map, length, slice_index_or}
+use Rattle.std.specs.Prelude.{◌≡◌, ℕ, ◌≤◌, true, false, ◌||◌, MatchOption, Option, List, [], ◌∷◌, map, length, slice_index_or}
 use Rattle.jb_rules.specs.Rows.{fresh_row}
 use Rattle.jb_artifacts.specs.Meaning.{Workplace}
 use Rattle.jb_chunk.specs.Standing.{TaskState}
 use Rattle.jb_repo.specs.declared.snapshot.Snapshot.{Snapshot}
 use Rattle.jb_collect.specs.declared.calls.AnalyzerCall.{AnalyzerCall}
 use Rattle.jb_collect.specs.declared.calls.ReducerCall.{ReducerCall}
+use Rattle.jb_collect.specs.declared.calls.ReducerCall.TheVariants.{Before}
 use Rattle.jb_collect.specs.declared.calls.Status.{Status}
 use Rattle.jb_saved.specs.declared.error.StepError.{StepError}
 use Rattle.jb_saved.specs.declared.error.StepError.TheVariants.{WrongArtifacts, Repository, Workers, Memory}
 use Rattle.jb_step.specs.declared.notes.PlanNote.{PlanNote}
 use Rattle.jb_collect.specs.Reduced.{calls_after, rolled_back}
-use Rattle.jb_collect.specs.Taken.{Taken, calls_of}
+use Rattle.jb_collect.specs.Taken.{Taken, calls_of, well}
 use Rattle.jb_step.specs.Heard.{heard, HasHeard}
-use Rattle.jb_step.specs.Reduced.{has_fault, before_failed}
+use Rattle.jb_step.specs.Reduced.{AreSome, has_fault, before_failed}
 use Rattle.jb_step.specs.Runs.{PlanRun, ArePlanRuns, IsLastOver, notes_of, rounds_of, table_after, events_of}
 use Rattle.jb_step.specs.Setup.{Setup, first_tasks, rows_now}
 use Rattle.jb_step.specs.Statuses.{status_of, went_well}
@@ -64,9 +65,15 @@ abbrev pub AreCallsAfter : Snapshot → List (Taken AnalyzerCall) → List (Take
 AreCallsAfter snapshot told reduced =
     calls_of reduced ≡ calls_after (went_well snapshot.rows.items (has_fault told)) (before_failed reduced)
 
--- the reducer's calls after an error; where memory lacked, that is left open
+-- The reducer's calls where memory lacked: some of these, in their order. Where `before_completion` was answered well, it is
+-- the only one: `after(Commit)`, which is called then, found no memory.
+pub record AreCallsInPart (reduced : List (Taken ReducerCall)) : Type 0 where
+  pub some : AreSome (calls_of reduced) (Before ∷ rolled_back)
+  pub alone : (more : List (Taken ReducerCall)) → reduced ≡ well Before ∷ more → more ≡ []
+
+-- the reducer's calls after an error: the step was rolled back, whatever that was answered
 abbrev pub AreCallsUndone : StepError → List (Taken ReducerCall) → Type 0
-AreCallsUndone Memory reduced = Unit {0}
+AreCallsUndone Memory reduced = AreCallsInPart reduced
 AreCallsUndone _ reduced = calls_of reduced ≡ rolled_back
 
 -- the errors of a run: the artifacts don't fit the step, the desk isn't its own or refused an event, a worker could not be

@@ -1,5 +1,5 @@
 -- What the callbacks of a step answered (this project's choice).
-use Rattle.std.specs.Prelude.{◌≡◌, Bool, true, false, ◌&&◌, List, ◌++◌, drop, length, is_some}
+use Rattle.std.specs.Prelude.{◌≡◌, ◌⊎◌, Bool, true, false, ◌&&◌, List, [], ◌∷◌, ◌++◌, drop, length, is_some}
 use Rattle.std.specs.List.{list_any}
 use Rattle.jb_collect.specs.declared.calls.ReducerCall.{ReducerCall}
 use Rattle.jb_collect.specs.declared.calls.ReducerCall.TheVariants.{Before}
@@ -23,3 +23,8 @@ since before after = drop (length before) after
 
 abbrev pub Grew : {C : Type 0} → (before after : List (Taken C)) → Type 0
 Grew before after = after ≡ before ++ since before after
+
+-- some of these, in their order
+abbrev pub AreSome : {A : Type 0} → (some all : List A) → Type 0
+AreSome some [] = some ≡ []
+AreSome some (x ∷ xs) = AreSome some xs ⊎ (rest : List _) × (some ≡ x ∷ rest) × AreSome rest xs

@@ -1,5 +1,5 @@
 -- A step that is stopped, and restarted through its saved text, any number of times: what each call of it says.
-use Rattle.std.specs.Prelude.{◌≡◌, ℕ, false, Result, Ok, Option, Some, List, [], ◌∷◌}
+use Rattle.std.specs.Prelude.{◌≡◌, ℕ, true, false, Result, Ok, Option, Some, None, List, [], ◌∷◌}
 use Rattle.jb_job.specs.Reading.{tree_of}
 use Rattle.jb_job.specs.Records.{StepRecord}
 use Rattle.jb_job.specs.declared.class.ClassId.{ClassId}
@@ -34,8 +34,9 @@ pub record IsRestart (step : StepRecord) (before next : StepRun) : Type 0 where
   -- `read_saved`
   pub read : SavedRows
   pub answer : answer_of (tree_of text) ≡ Ok read
-  -- `prepare`, whose plan may have another number of threads
+  -- `prepare`, whose plan may have another number of threads; a plan that replaces the partitions begins a chain of its own
   pub prepared : IsPreparedFor step (Some read) next
+  pub goes_on : prepared.prepared.plan.replace ≡ false
   -- what `run_step` takes
   pub tasks : tasks_before next ≡ first_tasks next.setup (works_again before.snapshot.rows.items before.left)
 
@@ -44,7 +45,7 @@ abbrev pub AreRestarts : StepRecord → StepRun → List StepRun → Type 0
 AreRestarts step first [] = Unit {0}
 AreRestarts step first (run ∷ earlier) = AreRestarts step first earlier × IsRestart step (newest first earlier) run × IsAnswered run
 
--- a first run of the step, and its restarts
+-- a first run of the step, or one that begins anew, and its restarts
 pub record IsChain (step : StepRecord) (first : StepRun) (later : List StepRun) : Type 0 where
   pub saved : Option SavedRows
   pub prepared : IsPreparedFor step saved first
@@ -84,3 +85,9 @@ RestartsEndAsUnstopped =
     → IsChain step first later → (newest first later).snapshot.stopping ≡ false
     → IsChain step unstopped [] → BeginAlike first unstopped → unstopped.snapshot.stopping ≡ false
     → ((newest first later).snapshot.rows.items ≡ unstopped.snapshot.rows.items) × (artifacts_left first later ≡ unstopped.left)
+
+-- a restart whose plan discards what was saved is prepared as where nothing was saved: so it is the first run of a chain
+abbrev pub OverridesBeginAnew : Type 0
+OverridesBeginAnew =
+    (step : StepRecord) (records : ℕ) (mapped : Result PartitionPlan ClassId) (saved : Option SavedRows) (s : Setup) (plan : PartitionPlan)
+    → mapped ≡ Ok plan → plan.replace ≡ true → IsPreparation step records mapped saved s → IsPreparation step records mapped None s

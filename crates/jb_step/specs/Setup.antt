@@ -1,5 +1,5 @@
 -- What a step begins with: the rows of all its partitions, and tasks for those that aren't finished.
-use Rattle.std.specs.Prelude.{ℕ, ◌≡◌, ◌≤◌, ◌⊎◌, nat_eq, Bool, not, if◌then◌else◌, List, [], ◌∷◌, map, filter, slice_get, Option, Some, None}
+use Rattle.std.specs.Prelude.{ℕ, ◌≡◌, ◌≤◌, ◌⊎◌, nat_eq, Bool, true, false, not, ◌&&◌, is_some, if◌then◌else◌, List, [], ◌∷◌, map, filter, slice_get, Option, Some, None}
 use Rattle.std.specs.List.{enumerate_from, zip}
 use Rattle.jb_job.specs.declared.job.Range.{Range}
 use Rattle.jb_job.specs.Limits.{max_retry_limit}
@@ -12,7 +12,7 @@ use Rattle.jb_chunk.specs.Standing.{TaskState, started}
 use Rattle.jb_repo.specs.Openable.{IsOpenable, opened_journal}
 use Rattle.jb_repo.specs.Rows.{remaining}
 use Rattle.jb_rules.specs.States.{is_finished}
-use Rattle.jb_saved.specs.GoingOn.{rows_again, step_faults}
+use Rattle.jb_saved.specs.GoingOn.{other_step, rows_again, step_faults}
 use Rattle.jb_saved.specs.SavedRows.{SavedRows}
 use Rattle.jb_saved.specs.declared.place.SavedPlace.{SavedPlace}
 
@@ -33,10 +33,21 @@ abbrev pub opening_rows : List Range → Option SavedRows → List Row
 opening_rows ranges None = fresh_rows ranges
 opening_rows ranges (Some saved) = rows_again saved
 
--- what is wrong with an earlier run's rows for a step of so many records; `replace` where a plan is to take their place
+-- the earlier run's rows from which a run goes on: none where the plan begins all partitions anew
+abbrev pub gone_on : (replace : Bool) → Option SavedRows → Option SavedRows
+gone_on true saved = None
+gone_on false saved = saved
+
+-- an earlier run's results are discarded
+abbrev pub discards : (replace : Bool) → Option SavedRows → Bool
+discards replace saved = replace && is_some saved
+
+-- what is wrong with an earlier run's rows for a step of so many records; where they are discarded, whose they are is all
+-- that counts
 abbrev pub saved_faults : StepRecord → (records : ℕ) → (replace : Bool) → Option SavedRows → List SavedPlace
 saved_faults step records replace None = []
-saved_faults step records replace (Some saved) = step_faults step.id records replace saved
+saved_faults step records false (Some saved) = step_faults step.id records saved
+saved_faults step records true (Some saved) = other_step step.id saved
 
 -- what a step may begin with: a repository may be opened with its rows, each partition waits or is finished, and the retry
 -- limit is one of a job's

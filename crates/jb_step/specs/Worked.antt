@@ -1,6 +1,6 @@
 -- Worked rows: what the definitions give for whole steps, computed apart from any code. Records are the letters a, b, c,
 -- .., the processor puts an x before each, and faults are of the class E.
-use Rattle.std.specs.Prelude.{◌≡◌, ℕ, true, false, List, [], ◌∷◌, Some, codes, length, map}
+use Rattle.std.specs.Prelude.{◌≡◌, ℕ, true, false, Ok, List, [], ◌∷◌, Some, None, codes, length, map}
 use Rattle.jb_job.specs.declared.job.Range.{Range}
 use Rattle.jb_job.specs.Records.{RulesRecord}
 use Rattle.jb_artifacts.specs.declared.faults.FaultPlan.TheVariants.{Bad, Shaky}
@@ -18,11 +18,16 @@ use Rattle.jb_collect.specs.declared.calls.AnalyzerCall.TheVariants as call
 use Rattle.jb_collect.specs.declared.calls.ReducerCall.{ReducerCall}
 use Rattle.jb_collect.specs.declared.calls.ReducerCall.TheVariants.{Begin, Before, Rollback, After}
 use Rattle.jb_collect.specs.declared.calls.PartitionStatus.TheVariants as end
+use Rattle.jb_collect.specs.Reduced.{reducer_calls, rolled_back}
+use Rattle.jb_collect.specs.Taken.{Taken, well, faulted}
+use Rattle.jb_saved.specs.SavedRows.{SavedRows}
+use Rattle.jb_saved.specs.declared.error.StepError.TheVariants as step_error
 use Rattle.jb_step.specs.declared.notes.PlanNote.{PlanNote}
+use Rattle.jb_step.specs.Ending.{AreCallsInPart}
 use Rattle.jb_step.specs.Heard.{heard}
-use Rattle.jb_collect.specs.Reduced.{reducer_calls}
+use Rattle.jb_step.specs.Prepare.{AreCallsAtRefusal, AreCallsBefore}
 use Rattle.jb_step.specs.Runs.{PlanRun, IsPlanRun, sets_of, notes_of, table_after, events_of, ArePlanRuns, IsLastOver}
-use Rattle.jb_step.specs.Setup.{Setup, needs, first_tasks, fresh_rows, opening_rows, rows_now}
+use Rattle.jb_step.specs.Setup.{Setup, discards, needs, first_tasks, fresh_rows, gone_on, opening_rows, rows_now}
 use Rattle.jb_step.specs.Statuses.{status_of, went_well}
 use Rattle.jb_step.specs.StepRuns.{all_newer, works_again}
 
@@ -328,5 +333,73 @@ pub record Refused : Type 0 where
   -- a plan that was left with a round to run, and another after it
   pub dropped : ArePlanRuns (seven 2) (seven_tasks 2) (plan_run FullLoad [] [] ∷ stopped_seven) → ⊥
 
+-- THE REDUCER'S CALLS WHERE THERE IS NO ANSWER
+
+-- the step is rolled back; the first of its calls is answered with a fault, or both are answered well
+abbrev pub faulted_rollback : List (Taken ReducerCall)
+faulted_rollback = faulted Rollback class_e ∷ well (After end.Rollback) ∷ []
+
+abbrev pub well_rollback : List (Taken ReducerCall)
+well_rollback = map well rolled_back
+
+-- of `prepare`, which was refused a plan of the mapper's, or found no memory
+abbrev pub AfterMapper : List (Taken ReducerCall) → Type 0
+AfterMapper taken = AreCallsAtRefusal (step_error.Mapper class_e) taken
+
+abbrev pub WithoutMemory : List (Taken ReducerCall) → Type 0
+WithoutMemory taken = AreCallsAtRefusal step_error.Memory taken
+
+pub record CallsOfPrepare : Type 0 where
+  pub rolled_back : AfterMapper (well Begin ∷ faulted_rollback)
+  pub not_after_a_fault : AfterMapper (faulted Begin class_e ∷ well_rollback) → ⊥
+  pub not_left_so : AfterMapper (well Begin ∷ []) → ⊥
+  pub nothing : WithoutMemory []
+  pub begin_alone : WithoutMemory (well Begin ∷ [])
+  pub one_more : WithoutMemory (well Begin ∷ well (After end.Rollback) ∷ [])
+  pub not_unbegun : WithoutMemory well_rollback → ⊥
+  pub not_exchanged : WithoutMemory (well Begin ∷ well (After end.Rollback) ∷ well Rollback ∷ []) → ⊥
+
+-- of `prepare`, whose reducer answered a fault
+abbrev pub AfterReducer : List (Taken ReducerCall) → Type 0
+AfterReducer taken = AreCallsAtRefusal (step_error.Reducer class_e) taken
+
+-- and which refused nothing, and discarded what was saved
+abbrev pub AfterOverride : List (Taken ReducerCall) → Type 0
+AfterOverride taken = AreCallsBefore {A = Unit {0}} true (Ok tt) taken
+
+pub record CallsOfOverride : Type 0 where
+  pub begin_failed : AfterReducer (faulted Begin class_e ∷ [])
+  pub rollback_failed : AfterReducer (well Begin ∷ faulted_rollback)
+  pub not_twice : AfterReducer (well Begin ∷ faulted Rollback class_e ∷ well_rollback) → ⊥
+  pub not_well : AfterReducer (well Begin ∷ well_rollback) → ⊥
+  pub discarded : AfterOverride (well Begin ∷ well Rollback ∷ [])
+  pub not_begun_alone : AfterOverride (well Begin ∷ []) → ⊥
+  pub not_rolled_back_first : AfterOverride (well Rollback ∷ well Begin ∷ []) → ⊥
+
+-- seven records in three partitions after a round, restarted in two partitions: the saved rows go on, or are discarded
+abbrev pub saved_seven : SavedRows
+saved_seven = record { step = codes "s"; rows = rows_now (seven 2).rows (table_after stopped_seven (seven_tasks 2)) }
+
+abbrev pub two_ranges : List Range
+two_ranges = range 0 4 ∷ range 4 7 ∷ []
+
+pub record Overridden : Type 0 where
+  pub goes_on : opening_rows two_ranges (gone_on false (Some saved_seven)) ≡ rest_of_seven.rows
+  pub anew : opening_rows two_ranges (gone_on true (Some saved_seven)) ≡ fresh_rows two_ranges
+  pub discarded : discards true (Some saved_seven) ≡ true
+  pub no_override : discards false (Some saved_seven) ≡ false
+  pub first_run : discards true None ≡ false
+
+-- of `run_step` without memory
+pub record CallsWithoutMemory : Type 0 where
+  pub rolled_back : AreCallsInPart faulted_rollback
+  pub before_failed : AreCallsInPart (faulted Before class_e ∷ well (After end.Rollback) ∷ [])
+  pub before_alone : AreCallsInPart (well Before ∷ [])
+  pub not_after_it : AreCallsInPart (well Before ∷ well_rollback) → ⊥
+  pub not_committed : AreCallsInPart (well Before ∷ well (After end.Commit) ∷ []) → ⊥
+  pub not_exchanged : AreCallsInPart (well (After end.Rollback) ∷ well Rollback ∷ []) → ⊥
+
 abbrev pub WorkedRows : Type 0
-WorkedRows = SevenRecords × SevenOnOneThread × StoppedAndRestarted × OneRoundEach × OneFailed × NoRecord × Retried × Skipped × Refused
+WorkedRows =
+    SevenRecords × SevenOnOneThread × StoppedAndRestarted × OneRoundEach × OneFailed × NoRecord × Retried × Skipped × Refused
+    × CallsOfPrepare × CallsOfOverride × Overridden × CallsWithoutMemory

@@ -4,6 +4,7 @@ pub mod Finish
 pub mod Fresh
 pub mod Head
 pub mod Loop
+pub mod Places
 pub mod Preparing
 pub mod Reducing
 pub mod Round

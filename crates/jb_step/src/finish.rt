@@ -1,12 +1,12 @@
 //! The end of a step's rounds: what is left unfinished is told, and the rows are compared with the repository's.
 
-ghost use Rattle.std.specs.Prelude.{◌≡◌, ◌+◌, ◌≤◌, None, IfOk, map, length};
-ghost use Rattle.std.specs.List.{enumerate_from};
+ghost use Rattle.std.specs.Prelude.{◌≡◌, ◌≤◌, None, IfOk, map, length};
 ghost use Rattle.jb_job.specs.Limits.{max_partitions};
 ghost use Rattle.jb_step.specs.Going.{IsTable};
 ghost use Rattle.jb_step.specs.Reduced.{Grew};
-ghost use Rattle.jb_step.specs.Setup.{row_now, rows_now};
+ghost use Rattle.jb_step.specs.Setup.{rows_now};
 ghost use Rattle.jb_step.specs.inside.Finish.{AreToldToEnd};
+ghost use Rattle.jb_step.specs.inside.Places.{ArePlaced, held_in};
 ghost use Rattle.jb_step.specs.inside.Telling.{moment};
 
 use crate::error::RunError;
@@ -28,25 +28,25 @@ use std::sync::Wait;
 use std::sync::ledger::Ledger;
 use std::thread::Threads;
 
-// The first partition whose row now isn't the one that is shown, among some of the rows, the first of which has this number.
-fn first_other<T: PartitionTask>(first: u32, rows: &[Row], held: &[T], shown: &[Row]) -> Option<u32>
-    requires { first + length rows.now ≤ max_partitions }
-    ensures { result ≡ None → shown.now ≡ map (λ n. row_now (map T.standing held.now) n.0 n.1) (enumerate_from first rows.now) }
+// The first partition whose row now isn't the one that is shown.
+fn first_other<T: PartitionTask>(rows: &[Row], held: &[Option<T>], shown: &[Row]) -> Option<u32>
+    requires placed { ArePlaced T.standing 0 held.now }
+    requires few { length rows.now ≤ max_partitions }
+    ensures { result ≡ None → shown.now ≡ rows_now rows.now (map T.standing (held_in held.now)) }
 {
-    let Some((row, rest)) = rows.split_first() else {
-        if shown.is_empty() {
-            return None;
+    for (index, row) in rows.iter().enumerate() {
+        let partition = index as u32;
+        let Some(one) = shown.get(index) else {
+            return Some(partition);
+        };
+        if row_of(held, partition, *row) != *one {
+            return Some(partition);
         }
-        return Some(first);
-    };
-    let Some((one, others)) = shown.split_first() else {
-        return Some(first);
-    };
-    let now = row_of(held, first, *row);
-    if now != *one {
-        return Some(first);
     }
-    first_other(first + 1, rest, held, others)
+    if rows.len() < shown.len() {
+        return Some(rows.len() as u32);
+    }
+    None
 }
 
 /// The repository's rows, which are the tasks' own and the prepared ones.
@@ -55,14 +55,15 @@ pub(crate) fn rows_shown<
     L: Ledger + Send + Sync + 'static,
     G: Gate + Sync,
     R: Threads + Wait + Sync,
->(lanes: &Lanes<L, G, R>, prepared: &Prepared, held: &[T]) -> Result<Snapshot, RunError>
-    ensures { IfOk result (λ snapshot. snapshot.rows.items ≡ rows_now prepared.now.rows (map T.standing held.now)) }
+>(lanes: &Lanes<L, G, R>, prepared: &Prepared, held: &[Option<T>]) -> Result<Snapshot, RunError>
+    requires { ArePlaced T.standing 0 held.now }
+    ensures { IfOk result (λ snapshot. snapshot.rows.items ≡ rows_now prepared.now.rows (map T.standing (held_in held.now))) }
 {
     let Ok(snapshot) = lanes.snapshot() else {
         return Err(RunError::Memory);
     };
     let rows = prepared.begun_rows();
-    if let Some(partition) = first_other(0, rows, held, snapshot.rows.as_slice()) {
+    if let Some(partition) = first_other(rows, held, snapshot.rows.as_slice()) {
         return Err(RunError::Repository(partition));
     }
     Ok(snapshot)
@@ -71,8 +72,8 @@ pub(crate) fn rows_shown<
 /// What a step's rounds left.
 #[derive(Drop)]
 pub(crate) struct Ended<T> {
-    /// The tasks.
-    pub held: Vec<T>,
+    /// The tasks, each in the place of its partition.
+    pub held: Vec<Option<T>>,
     /// The plans, the first one first.
     pub notes: Vec<PlanNote>,
     /// The fault that the analyzer answered, if it did.
@@ -97,13 +98,14 @@ pub(crate) fn run_to_end<
     lanes: &Lanes<L, G, R>,
     alloc: Global,
     prepared: &Prepared,
-    tasks: Vec<T>,
+    tasks: Vec<Option<T>>,
     analyzer: &mut dyn Analyzer,
     round_limit: Option<u64>,
 ) -> Result<Ended<T>, RunError>
-    requires { IsTable prepared.now (map T.standing tasks.items) }
-    ensures told { IfOk result (λ end. AreToldToEnd prepared.now (map T.standing tasks.items) round_limit (analyzed analyzer.old) (moment (analyzed analyzer.new) end.fault) end.notes.items (map T.standing end.held.items) (end.rounds, end.attempts) end.stopped) }
-    ensures rows { IfOk result (λ end. end.snapshot.rows.items ≡ rows_now prepared.now.rows (map T.standing end.held.items)) }
+    requires table { IsTable prepared.now (map T.standing (held_in tasks.items)) }
+    requires placed { ArePlaced T.standing 0 tasks.items }
+    ensures told { IfOk result (λ end. AreToldToEnd prepared.now (map T.standing (held_in tasks.items)) round_limit (analyzed analyzer.old) (moment (analyzed analyzer.new) end.fault) end.notes.items (map T.standing (held_in end.held.items)) (end.rounds, end.attempts) end.stopped) }
+    ensures rows { IfOk result (λ end. end.snapshot.rows.items ≡ rows_now prepared.now.rows (map T.standing (held_in end.held.items))) }
     ensures grew { Grew (analyzed analyzer.old) (analyzed analyzer.new) }
 {
     laws_below();

@@ -1,15 +1,15 @@
 //! The desk, as what runs the rounds of a step.
 
-ghost use Rattle.std.specs.Prelude.{IfOk};
+ghost use Rattle.std.specs.Prelude.{◌≡◌, true, IfOk};
+ghost use Rattle.jb_step.specs.inside.Round.{AreWhole, had_memory};
 ghost use Rattle.jb_workers.specs.Round.{AreDones};
 ghost use Rattle.jb_workers.specs.Works.{AllCanBegin, Rise};
 
-use crate::error::RunError;
-use crate::round::refusal;
+use crate::error::{RunError, refusal, round_refusal};
 use jb_cert::Certificate;
-use jb_chunk::{Done, PartitionTask};
+use jb_chunk::{Done, Outcome, PartitionTask};
 use jb_repo::{Event, Refused, Snapshot};
-use jb_workers::{Desk, Gate, RoundError, Work};
+use jb_workers::{Desk, Gate, Work};
 use std::alloc::{AllocError, Global};
 use std::sync::Wait;
 use std::sync::ledger::Ledger;
@@ -42,17 +42,27 @@ impl<'a, L: Ledger + Send + Sync + 'static, G: Gate + Sync, R: Threads + Wait + 
         }
     }
 
-    /// Attempts the works' next chunks, each once, and closes the round. The attempts come in the order of the works.
+    /// Attempts the works' next chunks, each once and with memory, and closes the round. The attempts come in the order of the
+    /// works. The step has so many rows.
     pub(crate) fn run_round<T: PartitionTask + Send + 'static>(
         &self,
         alloc: Global,
         works: Vec<Work<T>>,
-    ) -> Result<Vec<Done<T>>, RoundError>
+        rows: u32,
+    ) -> Result<Vec<Done<T>>, RunError>
         requires can { AllCanBegin T.standing works.items }
         requires rise { Rise T.standing works.items }
         ensures dones { IfOk result (λ dones. AreDones T.standing works.items dones.items) }
+        ensures whole { IfOk result (λ dones. AreWhole dones.items) }
     {
-        self.desk.run_round(self.rt, alloc, self.gate, works)
+        let dones = match self.desk.run_round(self.rt, alloc, self.gate, works) {
+            Ok(dones) => dones,
+            Err(error) => return Err(round_refusal(error, rows)),
+        };
+        if !are_whole(dones.as_slice()) {
+            return Err(RunError::Memory);
+        }
+        Ok(dones)
     }
 
     /// Whether a stop was asked for.
@@ -63,5 +73,26 @@ impl<'a, L: Ledger + Send + Sync + 'static, G: Gate + Sync, R: Threads + Wait + 
     /// The rows now, and what the history says as a whole.
     pub(crate) fn snapshot(&self) -> Result<Snapshot, AllocError> {
         self.desk.status(self.rt)
+    }
+}
+
+// True where each attempt had memory.
+fn are_whole<T: PartitionTask>(dones: &[Done<T>]) -> bool
+    ensures { result ≡ true → AreWhole dones.now }
+{
+    for done in dones {
+        if !is_whole(done) {
+            return false;
+        }
+    }
+    true
+}
+
+fn is_whole<T: PartitionTask>(done: &Done<T>) -> bool
+    ensures { result ≡ had_memory done.now.outcome }
+{
+    match done.outcome {
+        Outcome::NoMemory => false,
+        Outcome::Committed(_) | Outcome::Rolled(_) | Outcome::Failed(_) => true,
     }
 }

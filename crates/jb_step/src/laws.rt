@@ -4,7 +4,7 @@ ghost use Rattle.jb_step.specs.Going.{BeginsWithRows, BeginsWithTable, ChunksAre
 ghost use Rattle.jb_step.specs.Laws.{StepsAreOnTheWay, StepsEndAlone, AloneIsOnePlace, CalmStepsArePlain};
 ghost use Rattle.jb_step.specs.inside.Below.{LawsBelow};
 ghost use Rattle.jb_step.specs.Parts.{AttemptsAreAlone, HeardOfPartition, OthersDontCount};
-ghost use Rattle.jb_step.specs.Restarts.{RestartsAreOnTheWay, RestartsEndAlone, RestartsEndAsUnstopped, RestartsFit};
+ghost use Rattle.jb_step.specs.Restarts.{OverridesBeginAnew, RestartsAreOnTheWay, RestartsEndAlone, RestartsEndAsUnstopped, RestartsFit};
 
 use jb_cert::{bound_is_least, wrap_around_is_least};
 use jb_chunk::{
@@ -65,6 +65,12 @@ pub fn restarts_go_on()
     runs_lead_to_an_end();
     runs_end_alike();
 }
+
+/// A restart whose plan discards what was saved is prepared as where nothing was saved, but for the reducer's `rollback`: it
+/// begins a chain of restarts of its own.
+pub fn overrides_begin_anew()
+    ensures { OverridesBeginAnew }
+{}
 
 /// What the crates below say of chunks, of plans, and of calls that may be answered with a fault.
 pub(crate) fn laws_below()

@@ -1,21 +1,19 @@
 //! The plan whose rounds are run.
 
-ghost use Rattle.std.specs.Prelude.{◌≡◌, ◌+◌, ◌++◌, ◌∷◌, ◌≤◌, [], None, IfOk, OnOk, map, length};
-ghost use Rattle.std.specs.List.{AllByRecursion, enumerate_from};
-ghost use Rattle.jb_job.specs.Limits.{max_partitions};
+ghost use Rattle.std.specs.Prelude.{◌≡◌, ◌+◌, ◌++◌, ◌∷◌, ◌≤◌, [], None, IfOk, OnOk, map};
 ghost use Rattle.jb_cert.specs.Load.{mcnaughton};
 ghost use Rattle.jb_rules.specs.Sound.{IsSoundRow};
 ghost use Rattle.jb_chunk.specs.Standing.{HasItemCount};
-ghost use Rattle.jb_repo.specs.Rows.{remaining, remaining_of};
+ghost use Rattle.jb_repo.specs.Rows.{remaining_of};
 ghost use Rattle.jb_step.specs.Going.{IsTable};
 ghost use Rattle.jb_step.specs.Setup.{row_now, counts_now};
 ghost use Rattle.jb_step.specs.inside.Head.{IsNextPlan, IsAfterRound, note_at};
+ghost use Rattle.jb_step.specs.inside.Places.{ArePlaced, held_in};
 
-use crate::error::RunError;
+use crate::error::{RunError, refusal};
 use crate::lanes::Lanes;
 use crate::notes::PlanNote;
 use crate::prepared::Prepared;
-use crate::round::refusal;
 use jb_cert::fits;
 use jb_chunk::PartitionTask;
 use jb_plan::chunks_left;
@@ -37,16 +35,17 @@ pub(crate) struct Open {
 }
 
 // The row of a partition now.
-pub(crate) fn row_of<T: PartitionTask>(held: &[T], partition: u32, row: Row) -> Row
-    ensures { result ≡ row_now (map T.standing held.now) partition row }
+pub(crate) fn row_of<T: PartitionTask>(held: &[Option<T>], partition: u32, row: Row) -> Row
+    requires { ArePlaced T.standing 0 held.now }
+    ensures { result ≡ row_now (map T.standing (held_in held.now)) partition row }
 {
-    if let Some((first, rest)) = held.split_first() {
-        if first.partition() == partition {
-            return *first.row();
-        }
-        return row_of(rest, partition, row);
+    match held.get(partition as usize) {
+        Some(place) => match place {
+            Some(task) => *task.row(),
+            None => row,
+        },
+        None => row,
     }
-    row
 }
 
 // How many chunks the row has left.
@@ -61,41 +60,25 @@ fn count_of(row: &Row, item_count: u64) -> u64
     }
 }
 
-// Adds the counts of these partitions.
-fn add_counts<T: PartitionTask>(
-    counts: &mut Vec<u64>,
-    first: u32,
-    rows: &[Row],
-    held: &[T],
-    item_count: u64,
-) -> Result<(), RunError>
-    requires few { first + length rows.now ≤ max_partitions }
-    requires sound { AllByRecursion IsSoundRow (map (λ n. row_now (map T.standing held.now) n.0 n.1) (enumerate_from first rows.now)) }
-    requires count { HasItemCount item_count }
-    ensures { OnOk result (counts.new.items ≡ counts.old.items ++ remaining item_count (map (λ n. row_now (map T.standing held.now) n.0 n.1) (enumerate_from first rows.now))) }
-{
-    if let Some((row, rest)) = rows.split_first() {
-        let now = row_of(held, first, *row);
-        if counts.push(count_of(&now, item_count)).is_err() {
-            return Err(RunError::Memory);
-        }
-        return add_counts(counts, first + 1, rest, held, item_count);
-    }
-    Ok(())
-}
-
 // How many chunks each partition has left.
 fn counts_of<T: PartitionTask>(
     alloc: Global,
     prepared: &Prepared,
-    held: &[T],
+    held: &[Option<T>],
 ) -> Result<Vec<u64>, RunError>
-    requires { IsTable prepared.now (map T.standing held.now) }
-    ensures { IfOk result (λ counts. counts.items ≡ counts_now prepared.now (map T.standing held.now)) }
+    requires table { IsTable prepared.now (map T.standing (held_in held.now)) }
+    requires placed { ArePlaced T.standing 0 held.now }
+    ensures { IfOk result (λ counts. counts.items ≡ counts_now prepared.now (map T.standing (held_in held.now))) }
 {
     let mut counts = Vec::new(alloc);
     let rows = prepared.begun_rows();
-    add_counts(&mut counts, 0, rows, held, prepared.item_count())?;
+    let item_count = prepared.item_count();
+    for (partition, row) in rows.iter().enumerate() {
+        let now = row_of(held, partition as u32, *row);
+        if counts.push(count_of(&now, item_count)).is_err() {
+            return Err(RunError::Memory);
+        }
+    }
     Ok(counts)
 }
 
@@ -105,9 +88,15 @@ fn new_plan<
     L: Ledger + Send + Sync + 'static,
     G: Gate + Sync,
     R: Threads + Wait + Sync,
->(lanes: &Lanes<L, G, R>, alloc: Global, prepared: &Prepared, held: &[T]) -> Result<Open, RunError>
-    requires table { IsTable prepared.now (map T.standing held.now) }
-    ensures { IfOk result (λ plan. IsNextPlan prepared.now (map T.standing held.now) None plan) }
+>(
+    lanes: &Lanes<L, G, R>,
+    alloc: Global,
+    prepared: &Prepared,
+    held: &[Option<T>],
+) -> Result<Open, RunError>
+    requires table { IsTable prepared.now (map T.standing (held_in held.now)) }
+    requires placed { ArePlaced T.standing 0 held.now }
+    ensures { IfOk result (λ plan. IsNextPlan prepared.now (map T.standing (held_in held.now)) None plan) }
 {
     let counts = counts_of(alloc, prepared, held)?;
     let threads = prepared.threads();
@@ -137,11 +126,12 @@ pub(crate) fn next_plan<
     lanes: &Lanes<L, G, R>,
     alloc: Global,
     prepared: &Prepared,
-    held: &[T],
+    held: &[Option<T>],
     plan: Option<Open>,
 ) -> Result<Open, RunError>
-    requires table { IsTable prepared.now (map T.standing held.now) }
-    ensures { IfOk result (λ next. IsNextPlan prepared.now (map T.standing held.now) plan next) }
+    requires table { IsTable prepared.now (map T.standing (held_in held.now)) }
+    requires placed { ArePlaced T.standing 0 held.now }
+    ensures { IfOk result (λ next. IsNextPlan prepared.now (map T.standing (held_in held.now)) plan next) }
 {
     match plan {
         Some(plan) => Ok(plan),

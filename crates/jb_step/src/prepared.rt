@@ -1,13 +1,13 @@
 //! What a step begins with.
 
-ghost use Rattle.std.specs.Prelude.{◌≡◌, ◌↔◌, ◌+◌, ◌++◌, ◌≤◌, [], Some, None, length, map, slice_get, option_copied, IfOk, IfErr, IsTrue, OnOk};
+ghost use Rattle.std.specs.Prelude.{◌≡◌, ◌↔◌, ◌≤◌, [], true, false, length, slice_get, option_copied, IfOk, IfErr, IsTrue, OnOk};
 ghost use Rattle.jb_job.specs.Limits.{max_partitions, max_parts};
 ghost use Rattle.jb_chunk.specs.Standing.{HasItemCount};
 ghost use Rattle.jb_step.specs.Setup.{IsSetup, fresh_rows, needs};
-ghost use Rattle.jb_saved.specs.GoingOn.{Refuses, step_faults};
-ghost use Rattle.jb_step.specs.inside.Fresh.{opened_setup, setup_with};
+ghost use Rattle.jb_saved.specs.GoingOn.{Refuses, rows_again, step_faults};
+ghost use Rattle.jb_step.specs.inside.Fresh.{setup_with};
 ghost use Rattle.jb_step.specs.inside.Preparing.{MayOpen};
-ghost use Rattle.jb_step.specs.inside.Starting.{AreBegun, unfinished_from};
+ghost use Rattle.jb_step.specs.inside.Starting.{AreBegun};
 
 use jb_job::{Range, Rules, Step};
 use jb_plan::Checked;
@@ -45,16 +45,15 @@ impl Model for Prepared {
 impl Prepared {
     /// The rows of partitions that begin anew on the ranges of a checked plan. The only error is want of memory.
     pub(crate) fn fresh(alloc: Global, plan: &Checked, step: &Step) -> Result<Prepared, AllocError>
-        ensures value { IfOk result (λ prepared. prepared ≡ opened_setup plan.now step.now None) }
+        ensures value { IfOk result (λ prepared. prepared ≡ setup_with (fresh_rows plan.now.ranges) plan.now step.now true) }
         ensures setup { IfOk result (λ prepared. IsSetup prepared) }
     {
         rows_stay_sound();
-        let mut rows = Vec::new(alloc);
-        add_rows(&mut rows, plan.ranges())?;
+        let rows = fresh_rows(alloc, plan.ranges())?;
         Prepared::with_rows(alloc, rows, plan, step, true)
     }
 
-    /// The rows of an earlier run, the failed ones of which wait again, on the threads of a checked plan.
+    /// The rows of an earlier run that the plan doesn't discard; the failed ones wait again. Of the plan only the threads count.
     ///
     /// # Errors
     /// `Saved` with the first fault of the rows for this step (`rows_to_go_on`), and `Memory`.
@@ -65,12 +64,12 @@ impl Prepared {
         records: u64,
         saved: &Saved,
     ) -> Result<Prepared, StepError>
-        ensures accepted { OnOk result (step_faults step.now.id records plan.now.replace saved.now ≡ []) }
-        ensures refused { IfErr result (λ error. Refuses error (step_faults step.now.id records plan.now.replace saved.now)) }
-        ensures value { IfOk result (λ prepared. prepared ≡ opened_setup plan.now step.now (Some saved.now)) }
+        ensures accepted { OnOk result (step_faults step.now.id records saved.now ≡ []) }
+        ensures refused { IfErr result (λ error. Refuses error (step_faults step.now.id records saved.now)) }
+        ensures value { IfOk result (λ prepared. prepared ≡ setup_with (rows_again saved.now) plan.now step.now false) }
         ensures setup { IfOk result (λ prepared. IsSetup prepared) }
     {
-        let rows = rows_to_go_on(alloc, step.id(), records, plan.replace(), saved)?;
+        let rows = rows_to_go_on(alloc, step.id(), records, saved)?;
         match Prepared::with_rows(alloc, rows, plan, step, false) {
             Ok(prepared) => Ok(prepared),
             Err(_) => Err(StepError::Memory),
@@ -92,8 +91,7 @@ impl Prepared {
         let rules = step.rules();
         // Reading the limit tells the proof how high it may be.
         let _limit = rules.retry_limit;
-        let mut needs = Vec::new(alloc);
-        add_needs(&mut needs, 0, rows.as_slice())?;
+        let needs = needs_of(alloc, rows.as_slice())?;
         Ok(Prepared {
             rows,
             needs,
@@ -138,7 +136,7 @@ impl Prepared {
         self.rows.as_slice()
     }
 
-    /// The same rows: each is sound, and its partition waits or is finished; there are at most 256.
+    /// The same rows: each is sound, and its partition waits or is finished; there are at most 1,024.
     pub(crate) fn begun_rows(&self) -> &[Row]
         ensures value { result.now ≡ self.now.rows }
         ensures begun { AreBegun result.now }
@@ -178,27 +176,23 @@ impl Prepared {
     }
 }
 
-// Adds the rows of these ranges.
-fn add_rows(rows: &mut Vec<Row>, ranges: &[Range]) -> Result<(), AllocError>
-    ensures { OnOk result (rows.new.items ≡ rows.old.items ++ fresh_rows ranges.now) }
+// New rows of the ranges.
+fn fresh_rows(alloc: Global, ranges: &[Range]) -> Result<Vec<Row>, AllocError>
+    ensures { IfOk result (λ rows. rows.items ≡ fresh_rows ranges.now) }
 {
-    if let Some((first, rest)) = ranges.split_first() {
-        rows.push(Row::fresh(*first))?;
-        return add_rows(rows, rest);
-    }
-    Ok(())
+    ranges.iter().map(|range| Row::fresh(*range)).collect(alloc)
 }
 
-// Adds the partitions of some of the rows that aren't finished; the first row has this number.
-fn add_needs(needs: &mut Vec<u32>, first: u32, rows: &[Row]) -> Result<(), AllocError>
-    requires { first + length rows.now ≤ max_partitions }
-    ensures { OnOk result (needs.new.items ≡ needs.old.items ++ map (λ n. n.0) (unfinished_from first rows.now)) }
+// The partitions that aren't finished, rising.
+fn needs_of(alloc: Global, rows: &[Row]) -> Result<Vec<u32>, AllocError>
+    requires { length rows.now ≤ max_partitions }
+    ensures { IfOk result (λ list. list.items ≡ needs rows.now) }
 {
-    if let Some((row, rest)) = rows.split_first() {
+    let mut needs = Vec::new(alloc);
+    for (partition, row) in rows.iter().enumerate() {
         if !row.state.is_finished() {
-            needs.push(first)?;
+            needs.push(partition as u32)?;
         }
-        return add_needs(needs, first + 1, rest);
     }
-    Ok(())
+    Ok(needs)
 }

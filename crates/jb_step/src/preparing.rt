@@ -1,31 +1,36 @@
 //! What a step begins with: its reducer, its mapper, its plan of partitions, and the saved rows of a stopped run.
 
-ghost use Rattle.std.specs.Prelude.{◌≡◌, ◌≤◌, [], IfOk, IfErr, OnOk};
+ghost use Rattle.std.specs.Prelude.{◌≡◌, ◌≤◌, ◌++◌, ◌∷◌, [], true, IfOk, IfErr, OnOk};
 ghost use Rattle.jb_job.specs.Limits.{max_records};
-ghost use Rattle.jb_step.specs.Prepare.{AreCallsBefore, IsPreparation, IsRefusal};
+ghost use Rattle.jb_collect.specs.declared.calls.ReducerCall.TheVariants as act;
+ghost use Rattle.jb_collect.specs.Taken.{well};
+ghost use Rattle.jb_saved.specs.declared.error.StepError.TheVariants.{Memory};
+ghost use Rattle.jb_step.specs.Prepare.{AreCallsBefore, IsAnew, IsPreparation, IsRefusal, discards_by};
 ghost use Rattle.jb_step.specs.Reduced.{Grew, since};
-ghost use Rattle.jb_step.specs.Setup.{IsSetup, saved_faults};
-ghost use Rattle.jb_step.specs.inside.Fresh.{IsUnopened, IsUnplanned, opened_setup};
+ghost use Rattle.jb_step.specs.Setup.{IsSetup, fresh_rows, saved_faults};
+ghost use Rattle.jb_step.specs.inside.Fresh.{IsDiscardRefused, IsUnopened, IsUnplanned, opened_setup, setup_with};
 
 use crate::prepared::Prepared;
 use crate::reduce::undo;
-use jb_collect::Reducer;
+use jb_collect::{PartitionStatus, Reducer};
 use jb_job::{ArtifactError, Step};
 use jb_mapper::PartitionMapper;
 use jb_plan::{Checked, checked};
-use jb_saved::{Saved, StepError};
+use jb_saved::{Saved, SavedPlace, StepError};
 use std::alloc::Global;
 
 /// The reducer's `begin`, the mapper, its plan, and the rows that a stopped run of the step saved, in this order.
 ///
 /// Without saved rows the partitions begin anew on the plan's ranges. With saved rows the step goes on from them: of the plan
-/// only the thread number counts; a finished partition isn't needed any more, and a failed one goes on at its checkpoint.
+/// only the thread number counts; a finished partition isn't needed any more, and a failed one goes on at its checkpoint. Where
+/// the plan replaces the partitions (`override`), the saved rows are discarded: they are tested for their step alone, the
+/// partitions begin anew on the plan's ranges, and the reducer's `rollback` is called, the last of all.
 ///
 /// # Errors
 /// `Reducer` and `Mapper` with the class of their fault, `Plan` with the first fault of the mapper's plan, `Saved` with the
-/// first of `Step`, where the rows are another step's, `Records`, where one ends past the last record, and `Override`, where
-/// the plan is to replace the saved partitions; and `Memory`. Where `begin` succeeded, the reducer is rolled back first; where
-/// it finds no memory for that, the error is `Memory`.
+/// first of `Step`, where the rows are another step's, and `Records`, where one from which the step would go on ends past the
+/// last record; and `Memory`. Where `begin` succeeded, the reducer is rolled back first, but not for a second time where the
+/// rollback of discarded results failed; where it finds no memory for that, the error is `Memory`.
 pub fn prepare(
     alloc: Global,
     step: &Step,
@@ -38,7 +43,8 @@ pub fn prepare(
     ensures prepared { IfOk result (λ prepared. IsPreparation step.now records (mapping mapper.old records) saved prepared) }
     ensures setup { IfOk result (λ prepared. IsSetup prepared) }
     ensures refused { IfErr result (λ error. IsRefusal step.now records (mapping mapper.old records) saved (since (reduced reducer.old) (reduced reducer.new)) error) }
-    ensures calls { AreCallsBefore result (since (reduced reducer.old) (reduced reducer.new)) }
+    ensures calls { AreCallsBefore (discards_by (mapping mapper.old records) saved) result (since (reduced reducer.old) (reduced reducer.new)) }
+    ensures anew { IfOk result (λ prepared. IsAnew (mapping mapper.old records) saved (since (reduced reducer.old) (reduced reducer.new)) prepared) }
     ensures grew { Grew (reduced reducer.old) (reduced reducer.new) }
     ensures mapper { mapping mapper.new ≡ mapping mapper.old }
 {
@@ -46,7 +52,13 @@ pub fn prepare(
         Err(ArtifactError::Fault(class)) => Err(StepError::Reducer(class)),
         Err(ArtifactError::Memory) => Err(StepError::Memory),
         Ok(()) => match planned(alloc, step, records, mapper, saved) {
-            Ok(prepared) => Ok(prepared),
+            Ok((prepared, discards)) => {
+                if discards {
+                    discard(prepared, reducer)
+                } else {
+                    Ok(prepared)
+                }
+            }
             Err(error) => match undo(reducer) {
                 Ok(_) => Err(error),
                 Err(_) => Err(StepError::Memory),
@@ -55,17 +67,36 @@ pub fn prepare(
     }
 }
 
-// What the mapper's plan and the saved rows give.
+// Rolls the reducer back for what is discarded. Where that fails, the step ends: `after` is called, and no second `rollback`.
+fn discard(prepared: Prepared, reducer: &mut dyn Reducer) -> Result<Prepared, StepError>
+    ensures same { IfOk result (λ p. p ≡ prepared) }
+    ensures discarded { OnOk result (reduced reducer.new ≡ reduced reducer.old ++ well act.Rollback ∷ []) }
+    ensures refused { IfErr result (λ error. IsDiscardRefused error (reduced reducer.old) (reduced reducer.new)) }
+    ensures grew { Grew (reduced reducer.old) (reduced reducer.new) }
+{
+    let error = match reducer.rollback() {
+        Ok(()) => return Ok(prepared),
+        Err(ArtifactError::Fault(class)) => StepError::Reducer(class),
+        Err(ArtifactError::Memory) => StepError::Memory,
+    };
+    match reducer.after(PartitionStatus::Rollback) {
+        Ok(()) | Err(ArtifactError::Fault(_)) => Err(error),
+        Err(ArtifactError::Memory) => Err(StepError::Memory),
+    }
+}
+
+// What the mapper's plan and the saved rows give, and whether the plan discards these.
 fn planned(
     alloc: Global,
     step: &Step,
     records: u64,
     mapper: &mut dyn PartitionMapper,
     saved: Option<Saved>,
-) -> Result<Prepared, StepError>
+) -> Result<(Prepared, bool), StepError>
     requires { records ≤ max_records }
-    ensures prepared { IfOk result (λ prepared. IsPreparation step.now records (mapping mapper.old records) saved prepared) }
-    ensures setup { IfOk result (λ prepared. IsSetup prepared) }
+    ensures prepared { IfOk result (λ r. IsPreparation step.now records (mapping mapper.old records) saved r.0) }
+    ensures discards { IfOk result (λ r. r.1 ≡ discards_by (mapping mapper.old records) saved) }
+    ensures setup { IfOk result (λ r. IsSetup r.0) }
     ensures refused { IfErr result (λ error. IsUnplanned step.now records (mapping mapper.old records) saved error) }
     ensures mapper { mapping mapper.new ≡ mapping mapper.old }
 {
@@ -75,7 +106,11 @@ fn planned(
         Err(ArtifactError::Memory) => return Err(StepError::Memory),
     };
     match checked(plan, records) {
-        Ok(plan_checked) => opened(alloc, &plan_checked, step, records, saved),
+        Ok(plan_checked) => {
+            let discards = plan_checked.replace() && saved.is_some();
+            let prepared = opened(alloc, &plan_checked, step, records, saved)?;
+            Ok((prepared, discards))
+        }
         Err(fault) => Err(StepError::Plan(fault)),
     }
 }
@@ -94,10 +129,27 @@ fn opened(
     ensures refused { IfErr result (λ error. IsUnopened step.now records plan.now.replace saved error) }
 {
     match saved {
-        None => match Prepared::fresh(alloc, plan, step) {
-            Ok(prepared) => Ok(prepared),
-            Err(_) => Err(StepError::Memory),
-        },
-        Some(saved) => Prepared::resumed(alloc, plan, step, records, &saved),
+        None => anew(alloc, plan, step),
+        Some(saved) => {
+            if !plan.replace() {
+                return Prepared::resumed(alloc, plan, step, records, &saved);
+            }
+            if saved.step_id() != step.id() {
+                return Err(StepError::Saved(SavedPlace::Step));
+            }
+            anew(alloc, plan, step)
+        }
+    }
+}
+
+// All partitions begin anew on the plan's ranges. The only error is want of memory.
+fn anew(alloc: Global, plan: &Checked, step: &Step) -> Result<Prepared, StepError>
+    ensures value { IfOk result (λ prepared. prepared ≡ setup_with (fresh_rows plan.now.ranges) plan.now step.now true) }
+    ensures setup { IfOk result (λ prepared. IsSetup prepared) }
+    ensures err { IfErr result (λ error. error ≡ Memory) }
+{
+    match Prepared::fresh(alloc, plan, step) {
+        Ok(prepared) => Ok(prepared),
+        Err(_) => Err(StepError::Memory),
     }
 }

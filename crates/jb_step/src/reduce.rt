@@ -1,15 +1,15 @@
 //! The reducer's calls at a step's end, and the step's status.
 
-ghost use Rattle.std.specs.Prelude.{◌≡◌, ◌||◌, true, false, not, IfOk, [], ◌∷◌};
+ghost use Rattle.std.specs.Prelude.{◌≡◌, ◌||◌, ◌⊎◌, true, false, not, IfOk, OnErr, [], ◌∷◌};
 ghost use Rattle.std.specs.List.{list_any};
 ghost use Rattle.jb_rules.specs.States.{is_finished, is_failed};
 ghost use Rattle.jb_collect.specs.declared.calls.ReducerCall.TheVariants as act;
 ghost use Rattle.jb_collect.specs.Reduced.{rolled_back};
-ghost use Rattle.jb_step.specs.Ending.{AreCallsUndone, IsRunError};
+ghost use Rattle.jb_step.specs.Ending.{AreCallsUndone};
 ghost use Rattle.jb_step.specs.Reduced.{Grew, since};
 ghost use Rattle.jb_step.specs.Statuses.{status_of, is_completed, went_well};
-ghost use Rattle.jb_saved.specs.declared.error.StepError.TheVariants.{WrongArtifacts};
-ghost use Rattle.jb_step.specs.inside.Reducing.{IsReducing, IsEnding};
+ghost use Rattle.jb_saved.specs.declared.error.StepError.TheVariants.{Memory};
+ghost use Rattle.jb_step.specs.inside.Reducing.{IsEnding, IsEndingInPart, IsReducing, IsReducingSome, fault_in};
 
 use crate::error::RunError;
 use jb_collect::{PartitionStatus, Reducer, Status};
@@ -21,20 +21,14 @@ use jb_saved::StepError;
 fn some_failed(rows: &[Row]) -> bool
     ensures { result ≡ list_any (λ row. is_failed row.state) rows.now }
 {
-    if let Some((first, rest)) = rows.split_first() {
-        return first.state.is_failed() || some_failed(rest);
-    }
-    false
+    rows.iter().any(|row| row.state.is_failed())
 }
 
 // Whether some partition is unfinished.
 fn some_unfinished(rows: &[Row]) -> bool
     ensures { result ≡ list_any (λ row. not (is_finished row.state)) rows.now }
 {
-    if let Some((first, rest)) = rows.split_first() {
-        return !first.state.is_finished() || some_unfinished(rest);
-    }
-    false
+    rows.iter().any(|row| !row.state.is_finished())
 }
 
 /// How the step stands.
@@ -56,57 +50,33 @@ fn is_completed(status: Status) -> bool
     matches!(status, Status::Completed)
 }
 
-// Calls `before_completion`.
-fn call_before(reducer: &mut dyn Reducer) -> Result<bool, RunError>
-    ensures calls { IfOk result (λ faulted. IsReducing (reduced reducer.old) (act.Before ∷ []) faulted faulted (reduced reducer.new)) }
-    ensures grew { Grew (reduced reducer.old) (reduced reducer.new) }
-{
-    match reducer.before_completion() {
-        Ok(()) => Ok(false),
-        Err(ArtifactError::Fault(_)) => Ok(true),
-        Err(ArtifactError::Memory) => Err(RunError::Memory),
-    }
-}
-
-// Calls `rollback`.
-fn call_rollback(reducer: &mut dyn Reducer) -> Result<bool, RunError>
-    ensures calls { IfOk result (λ faulted. IsReducing (reduced reducer.old) (act.Rollback ∷ []) faulted false (reduced reducer.new)) }
-    ensures grew { Grew (reduced reducer.old) (reduced reducer.new) }
-{
-    match reducer.rollback() {
-        Ok(()) => Ok(false),
-        Err(ArtifactError::Fault(_)) => Ok(true),
-        Err(ArtifactError::Memory) => Err(RunError::Memory),
-    }
-}
-
-// Calls `after`.
-fn call_after(status: PartitionStatus, reducer: &mut dyn Reducer) -> Result<bool, RunError>
-    ensures calls { IfOk result (λ faulted. IsReducing (reduced reducer.old) (act.After status ∷ []) faulted false (reduced reducer.new)) }
-    ensures grew { Grew (reduced reducer.old) (reduced reducer.new) }
-{
-    match reducer.after(status) {
-        Ok(()) => Ok(false),
-        Err(ArtifactError::Fault(_)) => Ok(true),
-        Err(ArtifactError::Memory) => Err(RunError::Memory),
-    }
-}
-
 fn either(one: bool, other: bool) -> bool
     ensures { result ≡ (one || other) }
 {
     one || other
 }
 
+// Whether a call was answered with a fault. The only error is want of memory.
+fn fault_in(answer: Result<(), ArtifactError>) -> Result<bool, RunError>
+    ensures { result ≡ fault_in answer }
+{
+    match answer {
+        Ok(()) => Ok(false),
+        Err(ArtifactError::Fault(_)) => Ok(true),
+        Err(ArtifactError::Memory) => Err(RunError::Memory),
+    }
+}
+
 /// Rolls the step back: both calls are made, whatever the first one answers.
 pub(crate) fn undo(reducer: &mut dyn Reducer) -> Result<bool, RunError>
     ensures calls { IfOk result (λ faulted. IsReducing (reduced reducer.old) rolled_back faulted false (reduced reducer.new)) }
+    ensures some { IsReducingSome (reduced reducer.old) rolled_back (reduced reducer.new) }
     ensures grew { Grew (reduced reducer.old) (reduced reducer.new) }
 {
-    let rolled = call_rollback(reducer);
-    let ended = call_after(PartitionStatus::Rollback, reducer);
-    let first = rolled?;
-    let second = ended?;
+    let rolled = reducer.rollback();
+    let ended = reducer.after(PartitionStatus::Rollback);
+    let first = fault_in(rolled)?;
+    let second = fault_in(ended)?;
     let both = either(first, second);
     Ok(both)
 }
@@ -114,9 +84,8 @@ pub(crate) fn undo(reducer: &mut dyn Reducer) -> Result<bool, RunError>
 /// Rolls the step back for this error. Where the reducer finds no memory for it, that is the error.
 pub(crate) fn undone(error: StepError, reducer: &mut dyn Reducer) -> StepError
     ensures calls { AreCallsUndone result (since (reduced reducer.old) (reduced reducer.new)) }
-    ensures wrong { result ≡ WrongArtifacts → error ≡ WrongArtifacts }
+    ensures same { (result ≡ error) ⊎ (result ≡ Memory) }
     ensures grew { Grew (reduced reducer.old) (reduced reducer.new) }
-    ensures causes { IsRunError error → IsRunError result }
 {
     match undo(reducer) {
         Ok(_) => error,
@@ -127,9 +96,11 @@ pub(crate) fn undone(error: StepError, reducer: &mut dyn Reducer) -> StepError
 // Calls `before_completion`; where it finds no memory, the step is rolled back.
 fn begin_completion(reducer: &mut dyn Reducer) -> Result<bool, RunError>
     ensures calls { IfOk result (λ faulted. IsReducing (reduced reducer.old) (act.Before ∷ []) faulted faulted (reduced reducer.new)) }
+    ensures memory { OnErr result (IsReducingSome (reduced reducer.old) rolled_back (reduced reducer.new)) }
     ensures grew { Grew (reduced reducer.old) (reduced reducer.new) }
 {
-    match call_before(reducer) {
+    let answer = reducer.before_completion();
+    match fault_in(answer) {
         Ok(failed) => Ok(failed),
         Err(error) => {
             let _ = undo(reducer);
@@ -142,6 +113,7 @@ fn begin_completion(reducer: &mut dyn Reducer) -> Result<bool, RunError>
 fn complete(rows: &[Row], reducer: &mut dyn Reducer) -> Result<Status, RunError>
     requires { went_well rows.now false ≡ true }
     ensures ending { IfOk result (λ status. IsEnding rows.now false (reduced reducer.old) status (reduced reducer.new)) }
+    ensures memory { OnErr result (IsEndingInPart (reduced reducer.old) (reduced reducer.new)) }
     ensures grew { Grew (reduced reducer.old) (reduced reducer.new) }
 {
     let before = begin_completion(reducer)?;
@@ -151,7 +123,8 @@ fn complete(rows: &[Row], reducer: &mut dyn Reducer) -> Result<Status, RunError>
         let status = status_now(rows, failed);
         return Ok(status);
     }
-    let failed = call_after(PartitionStatus::Commit, reducer)?;
+    let ended = reducer.after(PartitionStatus::Commit);
+    let failed = fault_in(ended)?;
     let status = status_now(rows, failed);
     Ok(status)
 }
@@ -164,6 +137,7 @@ pub(crate) fn end_step(
     reducer: &mut dyn Reducer,
 ) -> Result<Status, RunError>
     ensures ending { IfOk result (λ status. IsEnding rows.now faulted (reduced reducer.old) status (reduced reducer.new)) }
+    ensures memory { OnErr result (IsEndingInPart (reduced reducer.old) (reduced reducer.new)) }
     ensures grew { Grew (reduced reducer.old) (reduced reducer.new) }
 {
     let well = is_completed(status_now(rows, faulted));

@@ -1,10 +1,11 @@
 //! All rounds of a step.
 
-ghost use Rattle.std.specs.Prelude.{◌≡◌, ◌+◌, ◌≤◌, ◌==◌, true, false, IfOk, OnOk, List, [], ◌∷◌, map, filter, length, MatchOption};
+ghost use Rattle.std.specs.Prelude.{◌≡◌, ◌+◌, ◌≤◌, ◌==◌, true, false, IfOk, OnOk, List, [], ◌∷◌, IsSome, map, filter, length, MatchOption};
 ghost use Rattle.jb_step.specs.Going.{IsTable};
 ghost use Rattle.jb_step.specs.Reduced.{Grew};
 ghost use Rattle.jb_step.specs.Ways.{have_ended};
 ghost use Rattle.jb_step.specs.inside.Head.{AreRounds, IsFinished};
+ghost use Rattle.jb_step.specs.inside.Places.{ArePlaced, held_in};
 ghost use Rattle.jb_step.specs.inside.Telling.{moment};
 
 use crate::error::RunError;
@@ -27,8 +28,8 @@ use std::thread::Threads;
 /// The tasks after all rounds.
 #[derive(Drop)]
 pub(crate) struct Ran<T> {
-    /// The tasks.
-    pub held: Vec<T>,
+    /// The tasks, each in the place of its partition.
+    pub held: Vec<Option<T>>,
     /// The plans, the first one first.
     pub notes: Vec<PlanNote>,
     /// The fault that the analyzer answered, if it did.
@@ -42,13 +43,35 @@ pub(crate) struct Ran<T> {
 }
 
 // True where each task has ended.
-fn all_ended<T: PartitionTask>(held: &[T]) -> bool
-    ensures { result ≡ have_ended (map T.standing held.now) }
+fn all_ended<T: PartitionTask>(held: &[Option<T>]) -> bool
+    ensures { result ≡ have_ended (map T.standing (held_in held.now)) }
 {
-    if let Some((first, rest)) = held.split_first() {
-        return first.row().state.has_ended() && all_ended(rest);
+    for place in held {
+        if !has_ended(place) {
+            return false;
+        }
     }
     true
+}
+
+fn has_ended<T: PartitionTask>(place: &Option<T>) -> bool
+    ensures { result ≡ have_ended (map T.standing (held_in (place.now ∷ []))) }
+{
+    match place {
+        Some(task) => task.row().state.has_ended(),
+        None => true,
+    }
+}
+
+// True where each task has ended. While a plan is open, one hasn't, so only between plans they are looked at.
+fn is_over<T: PartitionTask>(plan: &Option<Open>, held: &[Option<T>]) -> bool
+    requires unended { IsSome plan.now → have_ended (map T.standing (held_in held.now)) ≡ false }
+    ensures { result ≡ have_ended (map T.standing (held_in held.now)) }
+{
+    match plan {
+        Some(_) => false,
+        None => all_ended(held),
+    }
 }
 
 // True where no round more may be run.
@@ -110,12 +133,14 @@ pub(crate) fn run_rounds<
     lanes: &Lanes<L, G, R>,
     alloc: Global,
     prepared: &Prepared,
-    tasks: Vec<T>,
+    tasks: Vec<Option<T>>,
     analyzer: &mut dyn Analyzer,
     round_limit: Option<u64>,
 ) -> Result<Ran<T>, RunError>
-    requires { IsTable prepared.now (map T.standing tasks.items) }
-    ensures rounds { IfOk result (λ ran. AreRounds prepared.now (map T.standing tasks.items) round_limit (analyzed analyzer.old) (moment (analyzed analyzer.new) ran.fault) ran.notes.items (map T.standing ran.held.items) (ran.rounds, ran.attempts) ran.stopped) }
+    requires table { IsTable prepared.now (map T.standing (held_in tasks.items)) }
+    requires placed { ArePlaced T.standing 0 tasks.items }
+    ensures rounds { IfOk result (λ ran. AreRounds prepared.now (map T.standing (held_in tasks.items)) round_limit (analyzed analyzer.old) (moment (analyzed analyzer.new) ran.fault) ran.notes.items (map T.standing (held_in ran.held.items)) (ran.rounds, ran.attempts) ran.stopped) }
+    ensures placed { IfOk result (λ ran. ArePlaced T.standing 0 ran.held.items) }
     ensures grew { Grew (analyzed analyzer.old) (analyzed analyzer.new) }
 {
     laws_below();
@@ -127,7 +152,7 @@ pub(crate) fn run_rounds<
     let mut tried: u64 = 0;
     let mut fault = tell_first(prepared, analyzer)?;
     for _ in lanes.rt.forever() {
-        let stopped = !all_ended(held.as_slice());
+        let stopped = !is_over(&plan, held.as_slice());
         if !stopped || lanes.is_stopping() || at_limit(round_limit, ran) {
             end_rounds(lanes, stopped, rows, &plan, &mut notes)?;
             return Ok(Ran {

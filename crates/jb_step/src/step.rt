@@ -1,13 +1,14 @@
 //! A step, from its artifacts to its end.
 
-ghost use Rattle.std.specs.Prelude.{◌≡◌, ◌+◌, ◌*◌, true, false, IfOk, IfErr, OnOk, is_some, map};
+ghost use Rattle.std.specs.Prelude.{◌≡◌, ◌⊎◌, ◌+◌, ◌*◌, ◌++◌, ◌∷◌, [], true, false, IfOk, IfErr, OnOk, is_some, map};
 ghost use Rattle.jb_step.specs.inside.Finish.{works_of};
+ghost use Rattle.jb_step.specs.inside.Places.{held_in};
 ghost use Rattle.jb_step.specs.Ending.{given_back, AreCallsAfter, AreCallsUndone, IsRunError, IsRunOfStep, IsStatus, tasks_left};
 ghost use Rattle.jb_step.specs.Prepare.{DoFit};
 ghost use Rattle.jb_step.specs.Reduced.{Grew, has_fault, since};
 ghost use Rattle.jb_step.specs.Setup.{first_tasks};
 ghost use Rattle.jb_step.specs.Ways.{AreAlone, AreOnTheWay};
-ghost use Rattle.jb_saved.specs.declared.error.StepError.TheVariants.{WrongArtifacts};
+ghost use Rattle.jb_saved.specs.declared.error.StepError.TheVariants.{WrongArtifacts, Memory};
 
 use crate::error::{RunError, step_error};
 use crate::finish::{Ended, rows_shown, run_to_end};
@@ -53,18 +54,31 @@ pub(crate) struct Left<A> {
 // The artifacts of the tasks, each with its partition.
 fn give_back<T: PartitionTask>(
     alloc: Global,
-    held: Vec<T>,
+    held: Vec<Option<T>>,
 ) -> Result<Vec<(u32, T::Artifacts)>, RunError>
-    ensures { IfOk result (λ left. given_back T.Artifacts.workplace left.items ≡ works_of (map T.standing held.items)) }
+    ensures { IfOk result (λ left. given_back T.Artifacts.workplace left.items ≡ works_of (map T.standing (held_in held.items))) }
 {
     let mut left = Vec::new(alloc);
-    for task in held {
+    for place in held {
+        give_one(&mut left, place)?;
+    }
+    Ok(left)
+}
+
+// Adds the artifacts of the task that stands in the place, if one does.
+fn give_one<T: PartitionTask>(
+    left: &mut Vec<(u32, T::Artifacts)>,
+    place: Option<T>,
+) -> Result<(), RunError>
+    ensures { OnOk result (given_back T.Artifacts.workplace left.new.items ≡ given_back T.Artifacts.workplace left.old.items ++ works_of (map T.standing (held_in (place ∷ [])))) }
+{
+    if let Some(task) = place {
         let partition = task.partition();
         if left.push((partition, task.into_artifacts())).is_err() {
             return Err(RunError::Memory);
         }
     }
-    Ok(left)
+    Ok(())
 }
 
 // Whether the history's numbers are those of the run, unless it was stopped.
@@ -85,7 +99,7 @@ fn is_new<
     G: Gate + Sync,
     R: Threads + Wait + Sync,
 >(lanes: &Lanes<L, G, R>, alloc: Global, prepared: &Prepared) -> Result<(), RunError> {
-    let none: Vec<T> = Vec::new(alloc);
+    let none: Vec<Option<T>> = Vec::new(alloc);
     let snapshot = rows_shown(lanes, prepared, none.as_slice())?;
     if snapshot.events != 0 {
         return Err(RunError::Repository(prepared.rows().len() as u32));
@@ -169,6 +183,7 @@ pub(crate) fn run_over<
     ensures undone { IfErr result (λ e. AreCallsUndone e (since (reduced reducer.old) (reduced reducer.new))) }
     ensures fit { OnOk result (DoFit prepared.now (map T.Artifacts.workplace artifacts.items)) }
     ensures wrong { IfErr result (λ e. e ≡ WrongArtifacts → DoFit prepared.now (map T.Artifacts.workplace artifacts.items) → ⊥) }
+    ensures fit_first { IfErr result (λ e. (DoFit prepared.now (map T.Artifacts.workplace artifacts.items) → ⊥) → (e ≡ WrongArtifacts) ⊎ (e ≡ Memory)) }
     ensures causes { IfErr result IsRunError }
     ensures analyzer_grew { Grew (analyzed analyzer.old) (analyzed analyzer.new) }
     ensures reducer_grew { Grew (reduced reducer.old) (reduced reducer.new) }
@@ -209,10 +224,10 @@ pub(crate) fn run_over<
 /// the step's own and new. `round_limit` is the greatest number of rounds.
 ///
 /// # Errors
-/// `WrongArtifacts` where `Prepared::fits` is false. `Repository(p)` where the desk's row `p` isn't the step's own, at the start
-/// or after the last round, or, with the number of rows, where the desk was used by another or refused an event. `Workers`,
-/// where a worker could not be started. `Memory`. The reducer was rolled back then, unless it found no memory for it, and the
-/// artifacts are dropped.
+/// `WrongArtifacts` where `Prepared::fits` is false, which is looked at first. `Repository(p)` where the desk's row `p` isn't
+/// the step's own, at the start or after the last round, or, with the number of rows, where the desk was used by another or
+/// refused an event. `Workers`, where a worker could not be started. `Memory`. The reducer was rolled back then, as far as it
+/// found memory for it, unless `after(Commit)` was the call that found none; and the artifacts are dropped.
 pub fn run_step<
     T: PartitionTask + Send + 'static,
     L: Ledger + Send + Sync + 'static,
@@ -244,6 +259,7 @@ pub fn run_step<
     ensures undone { IfErr result (λ e. AreCallsUndone e (since (reduced reducer.old) (reduced reducer.new))) }
     ensures fit { OnOk result (DoFit prepared (map T.Artifacts.workplace artifacts.items)) }
     ensures wrong { IfErr result (λ e. e ≡ WrongArtifacts → DoFit prepared (map T.Artifacts.workplace artifacts.items) → ⊥) }
+    ensures fit_first { IfErr result (λ e. (DoFit prepared (map T.Artifacts.workplace artifacts.items) → ⊥) → (e ≡ WrongArtifacts) ⊎ (e ≡ Memory)) }
     ensures causes { IfErr result IsRunError }
 
     // The calls that were taken before stay.

@@ -1,11 +1,12 @@
 //! What the analyzer is told, and the fault that it answers.
 
-ghost use Rattle.std.specs.Prelude.{◌≡◌, ◌+◌, ◌≤◌, IfOk, [], ◌∷◌, length, map};
+ghost use Rattle.std.specs.Prelude.{◌≡◌, ◌≤◌, IfOk, [], ◌∷◌, length, map};
 ghost use Rattle.jb_job.specs.Limits.{max_partitions};
 ghost use Rattle.jb_collect.specs.declared.calls.AnalyzerCall.TheVariants as call;
 ghost use Rattle.jb_collect.specs.Heard.{endings_of, heard_first, heard_in, heard_last};
 ghost use Rattle.jb_collect.specs.Taken.{HasTaken};
 ghost use Rattle.jb_step.specs.Reduced.{Grew};
+ghost use Rattle.jb_step.specs.inside.Places.{held_in};
 ghost use Rattle.jb_step.specs.inside.Telling.{IsAnswer, IsHearing, empties, moment};
 
 use crate::error::RunError;
@@ -67,40 +68,47 @@ pub(crate) fn tell_first(
         return Ok(None);
     }
     let rows = prepared.begun_rows();
-    tell_empties(0, rows, analyzer)
+    tell_empties(rows, analyzer)
 }
 
-// Tells of the empty ranges of some of the rows, the first of which has this number.
-fn tell_empties(
-    first: u32,
-    rows: &[Row],
-    analyzer: &mut dyn Analyzer,
-) -> Result<Option<ClassId>, RunError>
-    requires { first + length rows.now ≤ max_partitions }
-    ensures told { IfOk result (λ fault. HasTaken (analyzed analyzer.old) (empties first rows.now) fault (analyzed analyzer.new)) }
+// Tells of the empty ranges.
+fn tell_empties(rows: &[Row], analyzer: &mut dyn Analyzer) -> Result<Option<ClassId>, RunError>
+    requires { length rows.now ≤ max_partitions }
+    ensures told { IfOk result (λ fault. HasTaken (analyzed analyzer.old) (empties 0 rows.now) fault (analyzed analyzer.new)) }
     ensures grew { Grew (analyzed analyzer.old) (analyzed analyzer.new) }
 {
     calls_end_at_a_fault();
-    let Some((row, rest)) = rows.split_first() else {
-        return Ok(None);
-    };
+    for (partition, row) in rows.iter().enumerate() {
+        let fault = tell_empty(partition as u32, row, analyzer)?;
+        if fault.is_some() {
+            return Ok(fault);
+        }
+    }
+    Ok(None)
+}
+
+// Tells of a partition, where its range is empty.
+fn tell_empty(
+    partition: u32,
+    row: &Row,
+    analyzer: &mut dyn Analyzer,
+) -> Result<Option<ClassId>, RunError>
+    ensures told { IfOk result (λ fault. HasTaken (analyzed analyzer.old) (empties partition (row.now ∷ [])) fault (analyzed analyzer.new)) }
+    ensures grew { Grew (analyzed analyzer.old) (analyzed analyzer.new) }
+{
     if row.lo != row.hi {
-        return tell_empties(first + 1, rest, analyzer);
+        return Ok(None);
     }
-    let fault = tell_status(first, Status::Completed, analyzer)?;
-    if fault.is_some() {
-        return Ok(fault);
-    }
-    tell_empties(first + 1, rest, analyzer)
+    tell_status(partition, Status::Completed, analyzer)
 }
 
 /// Tells of the partitions that are left unfinished, unless the analyzer answered a fault before.
 pub(crate) fn tell_last<T: PartitionTask>(
-    held: &[T],
+    held: &[Option<T>],
     fault: Option<ClassId>,
     analyzer: &mut dyn Analyzer,
 ) -> Result<Option<ClassId>, RunError>
-    ensures told { IfOk result (λ now. IsHearing fault (analyzed analyzer.old) (heard_last (map T.standing held.now)) (moment (analyzed analyzer.new) now)) }
+    ensures told { IfOk result (λ now. IsHearing fault (analyzed analyzer.old) (heard_last (map T.standing (held_in held.now))) (moment (analyzed analyzer.new) now)) }
     ensures grew { Grew (analyzed analyzer.old) (analyzed analyzer.new) }
 {
     if fault.is_some() {
@@ -111,22 +119,35 @@ pub(crate) fn tell_last<T: PartitionTask>(
 
 // Tells of the partitions that are left unfinished.
 fn tell_stopped<T: PartitionTask>(
-    held: &[T],
+    held: &[Option<T>],
     analyzer: &mut dyn Analyzer,
 ) -> Result<Option<ClassId>, RunError>
-    ensures told { IfOk result (λ fault. HasTaken (analyzed analyzer.old) (heard_last (map T.standing held.now)) fault (analyzed analyzer.new)) }
+    ensures told { IfOk result (λ fault. HasTaken (analyzed analyzer.old) (heard_last (map T.standing (held_in held.now))) fault (analyzed analyzer.new)) }
     ensures grew { Grew (analyzed analyzer.old) (analyzed analyzer.new) }
 {
     calls_end_at_a_fault();
-    let Some((first, rest)) = held.split_first() else {
+    for place in held {
+        let fault = tell_unfinished(place, analyzer)?;
+        if fault.is_some() {
+            return Ok(fault);
+        }
+    }
+    Ok(None)
+}
+
+// Tells of the partition whose task stands in the place, where it is left unfinished.
+fn tell_unfinished<T: PartitionTask>(
+    place: &Option<T>,
+    analyzer: &mut dyn Analyzer,
+) -> Result<Option<ClassId>, RunError>
+    ensures told { IfOk result (λ fault. HasTaken (analyzed analyzer.old) (heard_last (map T.standing (held_in (place.now ∷ [])))) fault (analyzed analyzer.new)) }
+    ensures grew { Grew (analyzed analyzer.old) (analyzed analyzer.new) }
+{
+    let Some(task) = place else {
         return Ok(None);
     };
-    if !first.row().state.is_waiting() {
-        return tell_stopped(rest, analyzer);
+    if !task.row().state.is_waiting() {
+        return Ok(None);
     }
-    let fault = tell_status(first.partition(), Status::Stopped, analyzer)?;
-    if fault.is_some() {
-        return Ok(fault);
-    }
-    tell_stopped(rest, analyzer)
+    tell_status(task.partition(), Status::Stopped, analyzer)
 }

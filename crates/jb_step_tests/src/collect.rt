@@ -91,13 +91,13 @@ fn a_round_is_delivered(rt: HostRuntime) -> Result<(), Fail> {
 
 /// A round of as many partitions as a step has.
 #[test]
-fn a_round_of_256_partitions_is_delivered(rt: HostRuntime) -> Result<(), Fail> {
-    let dones = round(rt.alloc(), 256).ok_or("a round")?;
+fn a_round_of_most_partitions_is_delivered(rt: HostRuntime) -> Result<(), Fail> {
+    let dones = round(rt.alloc(), 1_024).ok_or("a round")?;
     let mut analyzer = ListAnalyzer::new(rt.alloc(), None);
     let is_told = deliver(&dones, &mut analyzer).is_ok();
     let calls = analyzer.calls();
-    let is_last = matches!(calls.last(), Some(AnalyzerCall::Status(255, _)));
-    assert!(rt; is_told && calls.len() == 768 && is_last);
+    let is_last = matches!(calls.last(), Some(AnalyzerCall::Status(1_023, _)));
+    assert!(rt; is_told && calls.len() == 3_072 && is_last);
     Ok(())
 }
 

@@ -1,9 +1,12 @@
 //! Steps over threads.
 
+mod anew;
+mod callbacks;
 mod four;
 mod given;
 mod meeting;
 mod memory;
+mod most;
 mod other_desks;
 mod refusals;
 mod restarts;

@@ -102,10 +102,10 @@ fn threads_of(said: Result<Checked, PlanError>) -> Result<u32, PlanError> {
 
 #[test]
 fn an_even_plan_is_checked(rt: HostRuntime) -> Result<(), Fail> {
-    let most = EvenMapper::new(rt.alloc(), 256, 0, false).map(1_000);
+    let most = EvenMapper::new(rt.alloc(), 1_024, 0, false).map(1_000);
     let said = checked(most.ok().ok_or("a plan")?, 1_000);
     assert!(rt; threads_of(said) == Ok(64));
-    let more = EvenMapper::new(rt.alloc(), 257, 0, false).map(1_000);
+    let more = EvenMapper::new(rt.alloc(), 1_025, 0, false).map(1_000);
     let said = checked(more.ok().ok_or("a plan")?, 1_000);
     assert!(rt; threads_of(said) == Err(PlanError::TooMany));
     Ok(())

@@ -118,10 +118,10 @@ fn threads_of(alloc: Global, count: usize, asked: u32) -> Result<Option<u32>, Al
 
 #[test]
 fn numbers_of_ranges_and_threads(rt: HostRuntime) -> Result<(), AllocError> {
-    let many = checked(empty_ranges(rt.alloc(), 257, 0)?, 0);
+    let many = checked(empty_ranges(rt.alloc(), 1_025, 0)?, 0);
     assert!(rt; matches!(many, Err(PlanError::TooMany)));
     for (count, asked, want) in [
-        (256, 0, 64),
+        (1_024, 0, 64),
         (3, 0, 3),
         (3, 64, 64),
         (1, 4_096, 64),

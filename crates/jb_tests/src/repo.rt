@@ -69,7 +69,7 @@ pub(crate) fn rows_of(alloc: Global, ranges: &[(u64, u64)]) -> Result<Vec<Row>, 
 /// As many fresh rows as a repository has, of one record each.
 pub(crate) fn most_rows(alloc: Global) -> Result<Vec<Row>, AllocError> {
     let mut rows = Vec::new(alloc);
-    for lo in 0..256 {
+    for lo in 0..1_024 {
         rows.push(Row::fresh(Range { lo, hi: lo + 1 }))?;
     }
     Ok(rows)
@@ -443,7 +443,7 @@ fn run_round(rt: &impl Abort, repo: &mut Repo, first: u32) {
         assert!(rt; repo.apply(Event::Begin(lane, partition)).is_ok());
     }
     assert!(rt; repo.apply(Event::Begin(64, 0)) == Err(Refused::LaneRange));
-    assert!(rt; repo.apply(Event::Begin(0, 256)) == Err(Refused::NoPartition));
+    assert!(rt; repo.apply(Event::Begin(0, 1_024)) == Err(Refused::NoPartition));
     for lane in 0..64 {
         assert!(rt; repo.apply(Event::Commit(lane, ONE_RECORD, 1, 0)).is_ok());
     }
@@ -453,12 +453,12 @@ fn run_round(rt: &impl Abort, repo: &mut Repo, first: u32) {
 #[test]
 fn many_partitions_and_threads(rt: HostRuntime) -> Result<(), AllocError> {
     let mut repo = opened(&rt, most_rows(rt.alloc())?, 64, 1);
-    assert!(rt; repo.apply(Event::Plan(3, Certificate::FullLoad)) == Err(Refused::BadPlan));
-    assert!(rt; repo.apply(Event::Plan(4, Certificate::FullLoad)).is_ok());
-    for first in [0, 64, 128, 192] {
-        run_round(&rt, &mut repo, first);
+    assert!(rt; repo.apply(Event::Plan(15, Certificate::FullLoad)) == Err(Refused::BadPlan));
+    assert!(rt; repo.apply(Event::Plan(16, Certificate::FullLoad)).is_ok());
+    for round in 0..16u32 {
+        run_round(&rt, &mut repo, round.saturating_mul(64));
     }
-    assert!(rt; repo.totals().commit == 256);
+    assert!(rt; repo.totals().commit == 1_024);
     assert!(rt; repo.apply(Event::Plan(0, Certificate::Nothing)).is_ok());
     Ok(())
 }
@@ -483,9 +483,9 @@ fn accepts(repo: &mut Repo, events: &[Event], count: usize) -> Result<bool, Allo
 /// The first round of as many partitions as a repository has.
 fn first_round(alloc: Global) -> Result<Vec<Event>, AllocError> {
     let mut events = Vec::new(alloc);
-    events.push(Event::Plan(4, Certificate::FullLoad))?;
+    events.push(Event::Plan(16, Certificate::FullLoad))?;
     for lane in 0..64 {
-        events.push(Event::Begin(lane, 255 - lane))?;
+        events.push(Event::Begin(lane, 1_023 - lane))?;
     }
     for lane in 0..64 {
         events.push(Event::Commit(lane, ONE_RECORD, 1, 0))?;
@@ -507,7 +507,7 @@ fn count_finished(rows: &[Row]) -> usize {
 
 /// Whether this is what a repository shows after that round.
 fn is_after_the_first_round(shown: &Snapshot) -> bool {
-    shown.rows.len() == 256
+    shown.rows.len() == 1_024
         && shown.events == 130
         && shown.totals.commit == 64
         && count_finished(&shown.rows) == 64
@@ -515,7 +515,7 @@ fn is_after_the_first_round(shown: &Snapshot) -> bool {
 
 /// The first round of as many partitions as a repository has, as one list of events.
 #[test]
-fn a_list_of_events_on_256_rows(rt: HostRuntime) -> Result<(), AllocError> {
+fn a_list_of_events_on_most_rows(rt: HostRuntime) -> Result<(), AllocError> {
     let mut repo = opened(&rt, most_rows(rt.alloc())?, 64, 1);
     let events = first_round(rt.alloc())?;
     assert!(rt; accepts(&mut repo, &events, 130)?);
@@ -627,7 +627,7 @@ fn what_a_repository_is_opened_with(rt: HostRuntime) -> Result<(), AllocError> {
 
 #[test]
 fn how_many_rows_a_repository_is_opened_with(rt: HostRuntime) -> Result<(), AllocError> {
-    let many = vec![in rt.alloc(); Row::fresh(Range { lo: 0, hi: 0 }); 257]?;
+    let many = vec![in rt.alloc(); Row::fresh(Range { lo: 0, hi: 0 }); 1_025]?;
     assert!(rt; !can_open(many.as_slice(), 1, 1) && can_open(&many.as_slice()[1..], 1, 1));
     Ok(())
 }

@@ -197,15 +197,8 @@ fn refused_texts(rt: HostRuntime) -> Result<(), Fail> {
 }
 
 /// Whether this is said of going on from these rows.
-fn goes_on(
-    alloc: Global,
-    saved: &Saved,
-    id: &str,
-    records: u64,
-    replace: bool,
-    want: &str,
-) -> Result<bool, Fail> {
-    let answer = said(alloc, rows_to_go_on(alloc, id, records, replace, saved))?;
+fn goes_on(alloc: Global, saved: &Saved, id: &str, records: u64, want: &str) -> Result<bool, Fail> {
+    let answer = said(alloc, rows_to_go_on(alloc, id, records, saved))?;
     Ok(answer.as_str() == want)
 }
 
@@ -213,22 +206,21 @@ fn goes_on(
 const SEVEN_RECORDS: &str =
     r#"[0,3,2,0,0,2,2,2,1,0,0,0,0,0,0,"waiting"],[3,5,5,3,0,2,2,2,1,0,0,0,0,0,0,"done"],[5,7,5,5,0,0,0,0,0,0,0,0,0,0,0,"waiting"]"#;
 
-/// Ids, numbers of records and whether a plan replaces the one before, and what is said of going on with them from those rows.
-fn restarts() -> [(&'static str, u64, bool, &'static str); 5] {
+/// Ids and numbers of records, and what is said of going on with them from those rows.
+fn restarts() -> [(&'static str, u64, &'static str); 4] {
     [
-        ("t", 5, true, "Step"),
-        ("ss", 5, true, "Step"),
-        ("s", 6, true, "Records"),
-        ("s", 7, true, "Override"),
-        ("s", 7, false, "accepted"),
+        ("t", 5, "Step"),
+        ("ss", 5, "Step"),
+        ("s", 6, "Records"),
+        ("s", 7, "accepted"),
     ]
 }
 
 #[test]
 fn going_on(rt: HostRuntime) -> Result<(), Fail> {
     let saved = read_rows(rt.alloc(), SEVEN_RECORDS)?;
-    for (id, records, replace, want) in restarts() {
-        assert!(rt; goes_on(rt.alloc(), &saved, id, records, replace, want)?);
+    for (id, records, want) in restarts() {
+        assert!(rt; goes_on(rt.alloc(), &saved, id, records, want)?);
     }
     Ok(())
 }
@@ -260,7 +252,7 @@ fn wait_again(rows: &[Row], before: &[Row]) -> bool {
 fn failed_rows_go_on(rt: HostRuntime) -> Result<(), Fail> {
     for line in ROWS.lines() {
         let saved = read_rows(rt.alloc(), line)?;
-        let rows = rows_to_go_on(rt.alloc(), "s", 7, false, &saved);
+        let rows = rows_to_go_on(rt.alloc(), "s", 7, &saved);
         assert!(rt;
             wait_again(&rows.ok().ok_or("refused")?, saved.rows()),
             "{line}"
@@ -297,7 +289,7 @@ fn snapshots_are_saved(rt: HostRuntime) -> Result<(), Fail> {
 /// The text of as many fresh rows as a table has, of one record each.
 fn most_text(alloc: Global) -> Result<String, AllocError> {
     let mut rows = String::new(alloc);
-    for lo in 0..256u64 {
+    for lo in 0..1_024u64 {
         let comma = if lo == 0 { "" } else { "," };
         let hi = lo + 1;
         let row = format!(in alloc;
@@ -312,7 +304,7 @@ fn most_text(alloc: Global) -> Result<String, AllocError> {
 fn most_saved(rt: &impl Abort, alloc: Global) -> Result<Saved, Fail> {
     let snapshot = opened(rt, most_rows(alloc)?, 64, 1).snapshot()?;
     let saved = Saved::of(alloc, "s", &snapshot).ok().ok_or("refused")?;
-    assert!(rt; saved.rows() == snapshot.rows.as_slice() && saved.rows().len() == 256);
+    assert!(rt; saved.rows() == snapshot.rows.as_slice() && saved.rows().len() == 1_024);
     Ok(saved)
 }
 
@@ -324,7 +316,7 @@ fn are_in_their_text(alloc: Global, saved: &Saved) -> Result<bool, AllocError> {
 
 /// A table of as many rows as there may be is saved, written and read.
 #[test]
-fn a_table_of_256_rows(rt: HostRuntime) -> Result<(), Fail> {
+fn a_table_of_most_rows(rt: HostRuntime) -> Result<(), Fail> {
     let saved = most_saved(&rt, rt.alloc())?;
     assert!(rt; is_written(rt.alloc(), &saved, most_text(rt.alloc())?.as_str())?);
     assert!(rt; are_in_their_text(rt.alloc(), &saved)?);
@@ -338,7 +330,7 @@ const TWO_ROWS: &str =
 
 /// Whether the fresh rows are those to go on from, or there is no memory for them.
 fn gives_rows(alloc: Global, saved: &Saved) -> bool {
-    match rows_to_go_on(alloc, "s", 4, false, saved) {
+    match rows_to_go_on(alloc, "s", 4, saved) {
         Ok(rows) => rows.as_slice() == saved.rows(),
         Err(fault) => fault == StepError::Memory,
     }

@@ -1,4 +1,6 @@
 pub mod Fronts
+pub mod Heard
+pub mod Joined
 pub mod Lanes
 pub mod Tokens
 pub mod Utf8

@@ -1,7 +1,5 @@
 -- The tokens of a report's parts, put together.
-use Rattle.std.proofs.Common.{◌≡◌, ℕ, zero, suc, ◌+◌, Bool, true, false, List, [], ◌∷◌, ◌++◌, map, flat_map, take, length, ◌≤◌, arith, codes, refl, ap, sym, ◌∙◌, append_assoc, append-nil}
-use Rattle.std.specs.Prelude.{nat_eq, if◌then◌else◌}
-use Rattle.std.specs.List.{range_with_len}
+use Rattle.std.proofs.Common.{◌≡◌, ℕ, List, [], ◌∷◌, ◌++◌, map, flat_map, take, length, ◌≤◌, arith, codes, refl, ap, sym, ◌∙◌, append_assoc}
 use Rattle.std.proofs.lemmas.List.{take_all}
 use Rattle.std.proofs.lemmas.List.Concat.{flat_map_single}
 use Rattle.std.proofs.lemmas.Simd.{map-map}
@@ -13,16 +11,12 @@ use Rattle.serde_json.proofs.Texts.{print-outline}
 use Rattle.json.specs.Token.{Token, begin_object, end_object, begin_array, end_array, key, string}
 use Rattle.json.specs.Tree.{items_tokens}
 use Rattle.json.specs.Print.{print, print_from, escape_byte}
-use Rattle.jb_collect.specs.declared.calls.AnalyzerCall.{AnalyzerCall}
 use Rattle.jb_collect.specs.declared.calls.Status.{Status}
-use Rattle.jb_collect.specs.Laws.{partition_of}
 use Rattle.jb_saved.specs.SavedTree.{list_tree, saved_tree, tokens_of}
-use Rattle.jb_step.specs.Parts.{calls_about}
 use Rattle.jb_texts.specs.Statuses.{status_name}
-use Rattle.jb_texts.specs.Report.{StepReport, heard_text, heard_tree, plans_tree, reducer_tree, texts_tree, step_tree, steps_tree, report_text}
+use Rattle.jb_texts.specs.Report.{StepReport, heard_tree, plans_tree, reducer_tree, texts_tree, step_tree, steps_tree, report_text}
 use Rattle.jb_texts.specs.ReportTokens.{outputs_tokens, step_tokens, steps_tokens}
 use Rattle.jb_texts.specs.inside.Head.{head_text}
-use Rattle.jb_texts.specs.inside.Heard.{call_tokens}
 
 members : {X : Type 0} (tree : X → Data) (xs : List X) → items_tokens (items_outline (items_of (map tree xs))) ≡ flat_map (λ x. tokens_of (tree x)) xs ++ end_array ∷ []
 members tree [] = refl
@@ -52,35 +46,6 @@ texts-written written count place old begun passed new begins passes counted all
     let same : map (λ bytes. string (utf8_lossy bytes)) (take place written) ≡ flat_map (λ text. string text ∷ []) texts =
     ap (map (λ bytes. string (utf8_lossy bytes))) (take_all place written (omega (arith, counted, all))) ∙ sym (map-map string utf8_lossy written) ∙ sym (flat_map_single string texts) in
     list-written Data.string texts old begun passed new begins (passes ∙ ap (λ ts. begun ++ ts) same) ends
-
--- ---- what was heard
-
-abbrev heard-texts : List AnalyzerCall → List Token
-heard-texts calls = flat_map (λ text. tokens_of (Data.string text)) (map heard_text calls)
-
-about-more : (is_about : Bool) (call : AnalyzerCall) (about : List AnalyzerCall) (tokens : List Token) → tokens ≡ heard-texts about
-    → (if is_about then string (heard_text call) ∷ [] else []) ++ tokens ≡ heard-texts (if is_about then call ∷ about else about)
-about-more true call about tokens is = ap (λ ts. string (heard_text call) ∷ ts) is
-about-more false call about tokens is = is
-
--- the calls about a partition, looked for among all
-pub about-tokens : (p : ℕ) (calls : List AnalyzerCall) → flat_map (call_tokens p) calls ≡ flat_map (λ text. tokens_of (Data.string text)) (map heard_text (calls_about p calls))
-about-tokens p [] = refl
-about-tokens p (call ∷ calls) = about-more (nat_eq (partition_of call) p) call (calls_about p calls) (flat_map (call_tokens p) calls) (about-tokens p calls)
-
--- one more of what is written for each number
-lists-from : (f : ℕ → List Token) (a n : ℕ) → flat_map f (range_with_len a (suc n)) ≡ flat_map f (range_with_len a n) ++ f (a + n)
-lists-from f a zero = let none : a + 0 ≡ a = omega arith in rw none (append-nil (f a))
-lists-from f a (suc n) =
-    let next : a + 1 + n ≡ a + suc n = omega arith in
-    let rest = flat_map f (range_with_len (a + 1) n) in
-    ap (λ ts. f a ++ ts) (lists-from f (a + 1) n) ∙ sym (append_assoc (f a) rest (f (a + 1 + n))) ∙ ap (λ m. (f a ++ rest) ++ f m) next
-
-pub lists-more : (f : ℕ → List Token) (n : ℕ) → flat_map f (range_with_len 0 (n + 1)) ≡ flat_map f (range_with_len 0 n) ++ f n
-lists-more f n =
-    let up : n + 1 ≡ suc n = omega arith in
-    let here : 0 + n ≡ n = omega arith in
-    rw up (lists-from f 0 n ∙ ap (λ m. flat_map f (range_with_len 0 n) ++ f m) here)
 
 -- ---- a step
 

@@ -17,4 +17,4 @@ pub use judgement::Judgement;
 pub use plan::{BLOCK_ROOM, write_plan};
 pub use report::{ReportText, StepsText};
 pub use status::{status_code, status_name};
-pub use whole::write_whole;
+pub use whole::{write_joined, write_whole};

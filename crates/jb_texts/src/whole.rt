@@ -1,6 +1,7 @@
 //! Writing a text whole.
 
-ghost use Rattle.std.specs.Prelude.{◌≤◌, length, IfOk, OnErr, OnOk};
+ghost use Rattle.std.specs.Prelude.{◌≤◌, length, map, IfOk, OnErr, OnOk};
+ghost use Rattle.std.specs.List.{concat};
 ghost use Rattle.std.specs.Io.KnownBytes.{Appends, WriteAppends};
 ghost use Rattle.jb_texts.specs.Front.{AppendsFront};
 
@@ -41,5 +42,16 @@ pub fn write_whole<W: Write>(bytes: &[u8], writer: &mut W) -> io::Result<()>
     ensures front { OnErr result (AppendsFront (W.contents writer.old) (W.contents writer.new) bytes.now) }
 {
     write_bytes(bytes, writer)?;
+    writer.flush()
+}
+
+/// Writes the texts, one behind another, and flushes the writer. Where it fails, it holds what it had taken: the front of them.
+pub fn write_joined<W: Write>(texts: &[&[u8]], writer: &mut W) -> io::Result<()>
+    ensures whole { OnOk result (Appends (W.contents writer.old) (W.contents writer.new) (concat (map (λ t. t.now) texts.now))) }
+    ensures front { OnErr result (AppendsFront (W.contents writer.old) (W.contents writer.new) (concat (map (λ t. t.now) texts.now))) }
+{
+    for text in texts {
+        write_bytes(text, writer)?;
+    }
     writer.flush()
 }

@@ -13,9 +13,13 @@ use Rattle.jb_workers.specs.Events.{event_of}
 use Rattle.jb_workers.specs.Lock.{IsAccepted, IsRefused}
 use Rattle.jb_workers.specs.Works.{IsAttemptOf}
 
+-- the table accepted the work's Begin
+abbrev pub IsBegun : {T : Type 0} → (T → TaskState) → Work T → Type 0
+IsBegun standing work = IsAccepted (Begin work.lane (standing work.task).partition)
+
 -- the table accepted the work's Begin, and the event of what came of it
 pub record IsEntered {T : Type 0} (standing : T → TaskState) (work : Work T) (done : Done T) : Type 0 where
-  pub begun : IsAccepted (Begin work.lane (standing work.task).partition)
+  pub begun : IsBegun standing work
   pub ended : IsAccepted (event_of work.lane done.outcome (standing done.task).row.written done.again)
 
 -- the work was done: its task was attempted, and what came of it was entered
@@ -33,11 +37,16 @@ pub record IsEndRefused {T : Type 0} (standing : T → TaskState) (work : Work T
 abbrev pub IsAtLimit : TaskState → Type 0
 IsAtLimit task = (max_rollbacks ≤ task.row.counts.rollback) ⊎ (max_in_place - max_retry_limit < task.row.in_place)
 
--- why a work has no attempt in the history: its Begin was refused, or its task was at its limit, or its outcome was refused
+-- the work was begun, and has no attempt in the history: its task was at its limit, or its outcome was refused
+pub record IsGivenUp {T : Type 0} (standing : T → TaskState) (work : Work T) (refused : Refused) : Type 0 where
+  pub begun : IsBegun standing work
+  pub cause : (IsAtLimit (standing work.task) × (refused ≡ Full)) ⊎ IsEndRefused standing work refused
+
+-- why a work has no attempt in the history: its Begin was refused, or it was begun and given up
 pub record IsKeptOut {T : Type 0} (standing : T → TaskState) (work : Work T) (why : RoundError) : Type 0 where
   pub refused : Refused
   pub is : why ≡ error.Refused refused
-  pub cause : IsRefused (Begin work.lane (standing work.task).partition) refused ⊎ ((IsAtLimit (standing work.task) × (refused ≡ Full)) ⊎ IsEndRefused standing work refused)
+  pub cause : IsRefused (Begin work.lane (standing work.task).partition) refused ⊎ IsGivenUp standing work refused
 
 -- what came of a work
 abbrev pub MeetsWork : {T : Type 0} → (T → TaskState) → Work T → Result (Done T) RoundError → Type 0

@@ -1,6 +1,7 @@
 //! A repository under one lock.
 
 ghost use Rattle.std.specs.Prelude.{◌≡◌, ◌+◌, ◌<◌, ◌||◌, [], true, false, OnOk, OnErr, IfOk, IfErr, IfSome};
+ghost use Rattle.std.specs.Option.{IfNone};
 ghost use Rattle.jb_job.specs.Limits.{max_parts};
 ghost use Rattle.jb_repo.specs.declared.events.Event.TheVariants.{Begin, Round};
 ghost use Rattle.jb_repo.specs.History.{is_plan, is_stop, is_round};
@@ -71,9 +72,25 @@ impl<L: Ledger> Desk<L> {
         self.kept.lock(rt).apply(event)
     }
 
-    /// So many of the parts that no worker holds, where there are as many.
+    /// A part of the book for a worker of the caller's own, who does a `work` with it; `None` where no part is left.
+    pub fn take_share<R: Wait>(&self, rt: &R) -> Option<Share<L>>
+        ensures { IfSome result (λ share. share.parts ≡ 1) }
+    {
+        let mut part = self.take_parts(rt, 1)?;
+        Some(part.take_one())
+    }
+
+    /// Takes a worker's part back.
+    pub fn give_back<R: Wait>(&self, rt: &R, share: Share<L>)
+        requires { share.parts ≡ 1 }
+    {
+        self.put_back(rt, Parts::new(share, 1));
+    }
+
+    /// So many of the parts that no worker holds; `None` where there are fewer.
     pub(crate) fn take_parts<R: Wait>(&self, rt: &R, number: u64) -> Option<Parts<L>>
-        ensures { IfSome result (λ parts. parts.number ≡ number) }
+        ensures taken { IfSome result (λ parts. parts.number ≡ number) }
+        ensures few { IfNone result (0 < number) }
     {
         self.kept.lock(rt).spare.take(number)
     }

@@ -16,7 +16,7 @@ use crate::gate::Gate;
 pub use crate::round::error::RoundError;
 use crate::round::order::in_order;
 use crate::round::report::all_done;
-use crate::round::threads::in_threads;
+use crate::round::threads::do_works;
 use crate::worker::lane_work::Work;
 use jb_chunk::{Done, PartitionTask};
 use std::alloc::Global;
@@ -25,8 +25,8 @@ use std::sync::ledger::Ledger;
 use std::thread::Threads;
 
 impl<L: Ledger + Send + Sync + 'static> Desk<L> {
-    /// Does each work in a thread of its own, but one in the caller's, and then applies Round. The attempts come by
-    /// rising partition; those of works that come so, place by place.
+    /// Does each work in a thread of its own, but one in the caller's, and then applies Round; a round of one work starts no
+    /// thread. The attempts come by rising partition; those of works that come so, place by place.
     pub fn run_round<T: PartitionTask + Send + 'static, G: Gate + Sync, R: Threads + Wait + Sync>(
         &self,
         rt: &R,
@@ -44,7 +44,7 @@ impl<L: Ledger + Send + Sync + 'static> Desk<L> {
         let Some(mut parts) = self.take_parts(rt, works.len() as u64) else {
             return Err(RoundError::WorkerNotStarted);
         };
-        let reports = in_threads(self, rt, alloc, gate, works, &mut parts);
+        let reports = do_works(self, rt, alloc, gate, works, &mut parts);
         self.put_back(rt, parts);
         let reports = reports?;
         let dones = all_done(alloc, reports)?;

@@ -26,9 +26,9 @@ use std::sync::ledger::{Ledger, Share};
 /// enters what came of it, and comes by the gate again. Its share of the book is one higher exactly where the Done is
 /// Committed. The desk's lock is held while an event is applied, and not during the attempt.
 ///
-/// Where Begin is refused, nothing else is done. Where the task is at its limit of rollbacks or of repeats, Drop is entered in place
-/// of an attempt, and the refusal is Full. Where the desk refuses what came of the attempt, or the attempt found no memory,
-/// Drop is entered.
+/// The share is a part of the desk's book, as `Desk::take_share` gives it. Where Begin is refused, nothing else is done. Where
+/// the task is at its limit of rollbacks or of repeats, Drop is entered in place of an attempt, and the refusal is Full. Where
+/// the desk refuses what came of the attempt, or the attempt found no memory, Drop is entered.
 pub fn work<L: Ledger, T: PartitionTask, G: Gate, R: Wait>(
     desk: &Desk<L>,
     rt: &R,

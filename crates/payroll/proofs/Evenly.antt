@@ -1,7 +1,7 @@
 -- Even ranges follow one another.
 use Rattle.std.proofs.Common.{◌≡◌, ℕ, zero, suc, ◌+◌, ◌*◌, ◌/◌, ◌%◌, ◌<◌, ◌≤◌, refl, ap, sym, subst, ◌∙◌, arith}
 use Rattle.std.proofs.Math.Nat.{div-add-mod, mod-lt, mul-le-mul_right, zero-mul}
-use Rattle.std.specs.Prelude.{Err, List, [], Ok, Result, false, map}
+use Rattle.std.specs.Prelude.{Bool, Err, List, [], Ok, Result, false, map}
 use Rattle.std.specs.List.{range_with_len}
 use Rattle.jb_job.specs.declared.class.ClassId.{ClassId}
 use Rattle.jb_job.specs.declared.job.Range.{Range}
@@ -26,6 +26,10 @@ abbrev ranges-or : List Range → Result PartitionPlan ClassId → List Range
 ranges-or ranges (Ok plan) = plan.ranges
 ranges-or ranges (Err class) = ranges
 
+abbrev replace-or : Bool → Result PartitionPlan ClassId → Bool
+replace-or replace (Ok plan) = plan.replace
+replace-or replace (Err class) = replace
+
 -- from 0 to the number of records
 pub evenly : (records parts : ℕ) → 1 ≤ parts → AreRangesOf 0 records (even_ranges records parts)
 unfolding even_ranges
@@ -42,3 +46,7 @@ pub ranges-in-order : (mapped : Result PartitionPlan ClassId) (records threads :
 ranges-in-order mapped records threads plan even-is is =
     let same : even_ranges records 8 ≡ plan.ranges = ap (ranges-or []) (sym even-is ∙ is) in
     subst (AreRangesOf 0 records) same (evenly records 8 (omega arith))
+
+-- it has no override
+pub none-replaced : (mapped : Result PartitionPlan ClassId) (records threads : ℕ) (plan : PartitionPlan) → mapped ≡ even 8 threads false records → mapped ≡ Ok plan → plan.replace ≡ false
+none-replaced mapped records threads plan even-is is = sym (ap (replace-or false) (sym even-is ∙ is))

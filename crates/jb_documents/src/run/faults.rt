@@ -1,6 +1,7 @@
 //! The faults that a document plans for the artifacts of a step.
 
 ghost use Rattle.std.specs.Prelude.{◌≡◌, []};
+ghost use Rattle.jb_documents.specs.FaultOrder.{AreInOrder};
 
 use jb_job::ClassId;
 use std::alloc::Global;
@@ -52,7 +53,7 @@ pub struct PlannedFault {
     pub kind: FaultKind,
 }
 
-/// The faults of an artifact, by rising number of their records.
+/// The faults of an artifact, by rising number of their records. Contracts see the list; `as_slice` says that the numbers rise.
 #[derive(Drop)]
 pub struct PlannedFaults {
     faults: Vec<PlannedFault>,
@@ -61,21 +62,26 @@ pub struct PlannedFaults {
 impl Model for PlannedFaults {
     ghost use Rattle.std.specs.Prelude.{List};
     ghost use Rattle.jb_documents.specs.declared.run.faults.PlannedFault.{PlannedFault};
+    ghost use Rattle.jb_documents.specs.FaultOrder.{AreInOrder};
 
     ghost Value = { List PlannedFault };
 
     ghost view = { λ r. r.faults.items };
+
+    ghost invariant = { λ r. AreInOrder r.faults.items };
 }
 
 impl PlannedFaults {
-    pub fn new(faults: Vec<PlannedFault>) -> PlannedFaults
+    pub(crate) fn new(faults: Vec<PlannedFault>) -> PlannedFaults
+        requires { AreInOrder faults.items }
         ensures { result ≡ faults.items }
     {
         PlannedFaults { faults }
     }
 
     pub fn as_slice(&self) -> &[PlannedFault]
-        ensures { result.now ≡ self.now }
+        ensures faults { result.now ≡ self.now }
+        ensures order { AreInOrder result.now }
     {
         self.faults.as_slice()
     }

@@ -1,12 +1,12 @@
 //! What the partitions of a step work with.
 
-ghost use Rattle.std.specs.Prelude.{◌≡◌, ◌≤◌, ◌-◌, ◌++◌, All, drop, length, map, IfOk, OnOk};
+ghost use Rattle.std.specs.Prelude.{◌≡◌, ◌≤◌, ◌<◌, ◌-◌, ◌+◌, ◌++◌, All, drop, length, map, IfOk, OnOk};
 ghost use Rattle.jb_artifacts.specs.Prefix.{prefixed};
 ghost use Rattle.jb_job.specs.declared.job.Range.{Range};
 ghost use Rattle.jb_plan.specs.Plans.{IsWithin};
 ghost use Rattle.jb_plan.specs.Ranges.{AreDisjoint, HaveNoneInCommon};
 ghost use Rattle.jb_rules.specs.Rows.{range_of};
-ghost use Rattle.jb_step.specs.Setup.{unfinished};
+ghost use Rattle.jb_step.specs.Setup.{needs, unfinished};
 ghost use Rattle.jb_program.specs.PartitionRun.{plans_in, records_in, work_for, workplace_of};
 ghost use Rattle.jb_program.specs.StepRun.{works_for};
 
@@ -129,8 +129,8 @@ fn artifacts_of_row(
     artifacts_for(alloc, step, own, held, range)
 }
 
-/// Adds what the unfinished partitions work with, from this one of them on.
-fn add_artifacts_from(
+/// Adds what the unfinished partition at this place of their list works with: those behind it still have their records.
+fn add_artifacts(
     alloc: Global,
     step: &StepSettings,
     records: &mut [Text],
@@ -141,18 +141,18 @@ fn add_artifacts_from(
 ) -> Result<(), AllocError>
     requires within { All (IsWithin (length records.old)) (map range_of prepared.now.rows) }
     requires disjoint { AreDisjoint (map range_of prepared.now.rows) }
-    ensures { OnOk result (map ⟦<OwnArtifacts as Meaning>⟧.workplace all.new.items ≡ map ⟦<OwnArtifacts as Meaning>⟧.workplace all.old.items
-        ++ map (work_for step.now records.old outputs.now) (drop place (unfinished prepared.now.rows))) }
+    requires place { place < length (needs prepared.now.rows) }
+    ensures added { OnOk result (map ⟦<OwnArtifacts as Meaning>⟧.workplace all.new.items ++ map (work_for step.now records.new outputs.now) (drop (place + 1) (unfinished prepared.now.rows))
+        ≡ map ⟦<OwnArtifacts as Meaning>⟧.workplace all.old.items ++ map (work_for step.now records.old outputs.now) (drop place (unfinished prepared.now.rows))) }
+    ensures length { length records.new ≡ length records.old }
 {
-    let Some(partition) = prepared.needs().get(place) else {
-        return Ok(());
-    };
-    let Some(row) = prepared.row(*partition) else {
+    let partition = prepared.needs()[place];
+    let Some(row) = prepared.row(partition) else {
         unreachable!();
     };
-    let held = held_items(alloc, outputs, *partition)?;
+    let held = held_items(alloc, outputs, partition)?;
     all.push(artifacts_of_row(alloc, step, records, held, row)?)?;
-    add_artifacts_from(alloc, step, records, outputs, prepared, place + 1, all)
+    Ok(())
 }
 
 /// What the unfinished partitions work with, in their order. The records of their ranges leave the list: none is copied. Each
@@ -169,6 +169,8 @@ pub fn all_artifacts(
     ensures { IfOk result (λ all. map ⟦<OwnArtifacts as Meaning>⟧.workplace all.items ≡ works_for step.now records.old outputs.now prepared.now.rows) }
 {
     let mut all = Vec::new(alloc);
-    add_artifacts_from(alloc, step, records, outputs, prepared, 0, &mut all)?;
+    for place in 0..prepared.needs().len() {
+        add_artifacts(alloc, step, records, outputs, prepared, place, &mut all)?;
+    }
     Ok(all)
 }

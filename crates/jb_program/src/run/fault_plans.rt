@@ -2,8 +2,8 @@
 
 ghost use Rattle.std.specs.Prelude.{◌≡◌, filter, IfOk, OnOk};
 ghost use Rattle.jb_artifacts.specs.Faults.{plans_of, with_plan};
+ghost use Rattle.jb_documents.specs.FaultOrder.{AreInOrder};
 ghost use Rattle.jb_program.specs.PartitionRun.{fault_plan_of, is_of_range, plans_in};
-ghost use Rattle.jb_program.specs.inside.FaultPlans.{plans_with};
 
 use jb_artifacts::{FaultList, FaultPlan, FaultPlans};
 use jb_documents::{ClassIds, FaultKind, PlannedFault, PlannedFaults};
@@ -29,29 +29,26 @@ fn fault_plan(alloc: Global, kind: &FaultKind) -> Result<FaultPlan, AllocError>
     }
 }
 
-fn is_in_range(range: Range, fault: &PlannedFault) -> bool
-    ensures { result ≡ is_of_range range fault.now }
+/// The faults for records of the range: they stand together.
+fn faults_in(faults: &[PlannedFault], range: Range) -> &[PlannedFault]
+    requires { AreInOrder faults.now }
+    ensures { result.now ≡ filter (is_of_range range) faults.now }
 {
-    range.lo <= fault.number && fault.number < range.hi
+    let first = faults.partition_point(|fault| fault.number < range.lo);
+    let later = &faults[first..];
+    let count = later.partition_point(|fault| fault.number < range.hi);
+    &later[..count]
 }
 
-/// Puts the plan for a record of the range among the others; a plan for another record changes nothing.
-fn put_plan(
-    alloc: Global,
-    range: Range,
-    fault: &PlannedFault,
-    plans: &mut FaultPlans,
-) -> Result<(), AllocError>
-    ensures { OnOk result (plans_of plans.new ≡ plans_with range (plans_of plans.old) fault.now) }
+/// Puts the plan for the fault's record among the others.
+fn put_plan(alloc: Global, fault: &PlannedFault, plans: &mut FaultPlans) -> Result<(), AllocError>
+    ensures { OnOk result (plans_of plans.new ≡ with_plan (plans_of plans.old) fault.now.number (fault_plan_of fault.now.kind)) }
 {
-    if is_in_range(range, fault) {
-        let plan = fault_plan(alloc, &fault.kind)?;
-        plans.insert(fault.number, plan)?;
-    }
-    Ok(())
+    let plan = fault_plan(alloc, &fault.kind)?;
+    plans.insert(fault.number, plan)
 }
 
-/// The fault plans of the range's records.
+/// The fault plans of the range's records. Its faults alone are looked at, but for the search of where they begin and end.
 #[tactic(auto, unfolding(crate::specs::PartitionRun::plans_in))]
 pub fn plans_for(
     alloc: Global,
@@ -61,9 +58,8 @@ pub fn plans_for(
     ensures { IfOk result (λ plans. plans_of plans ≡ plans_in faults.now range) }
 {
     let mut plans = FaultPlans::new(alloc);
-    let faults = faults.as_slice();
-    for fault in faults {
-        put_plan(alloc, range, fault, &mut plans)?;
+    for fault in faults_in(faults.as_slice(), range) {
+        put_plan(alloc, fault, &mut plans)?;
     }
     Ok(plans)
 }

@@ -2,7 +2,7 @@
 
 ghost use Rattle.std.specs.Prelude.{◌≡◌, ◌++◌, ◌≤◌, [], drop, length, take, IfOk, OnOk};
 ghost use Rattle.jb_program.specs.PartitionRun.{held_by};
-ghost use Rattle.jb_program.specs.StepRun.{outputs_of, saved_of};
+ghost use Rattle.jb_program.specs.StepRun.{gone_on_from, outputs_of, saved_of};
 
 use jb_artifacts::{FaultPlans, Item, ItemWriter, ListWriter};
 use jb_documents::{Outputs, Resume, WriterTexts};
@@ -10,15 +10,18 @@ use jb_job::Text;
 use jb_saved::Saved;
 use std::alloc::{AllocError, Global};
 
-/// The rows and the outputs of the run before, if there was one.
-pub fn taken(alloc: Global, resume: Option<Resume>) -> (Option<Saved>, Outputs)
+/// The rows of the run before, if there was one, and its outputs, unless the step's plan discards them.
+pub fn taken(alloc: Global, resume: Option<Resume>, replace: bool) -> (Option<Saved>, Outputs)
     ensures saved { result.0 ≡ saved_of resume }
-    ensures outputs { result.1 ≡ outputs_of resume }
+    ensures outputs { result.1 ≡ outputs_of (gone_on_from replace resume) }
 {
     match resume {
         None => (None, Outputs::new(Vec::new(alloc))),
         Some(resume) => {
             let Resume { outputs, saved } = resume;
+            if replace {
+                return (Some(saved), Outputs::new(Vec::new(alloc)));
+            }
             (Some(saved), outputs)
         }
     }

@@ -1,10 +1,10 @@
 //! What a step begins with, by the partition plan that it asks for.
 
-ghost use Rattle.std.specs.Prelude.{◌≡◌, ◌≤◌, ◌⊎◌, ◌++◌, ◌∷◌, [], Ok, IfErr, IfOk, OnOk};
-ghost use Rattle.jb_collect.specs.declared.calls.ReducerCall.TheVariants.{Begin};
+ghost use Rattle.std.specs.Prelude.{◌≡◌, ◌≤◌, ◌⊎◌, ◌++◌, [], Ok, false, IfErr, IfOk, OnOk};
+ghost use Rattle.jb_collect.specs.Reduced.{calls_before};
 ghost use Rattle.jb_job.specs.Limits.{max_records};
 ghost use Rattle.jb_plan.specs.Plans.{IsRunnable};
-ghost use Rattle.jb_step.specs.Setup.{IsSetup, saved_faults};
+ghost use Rattle.jb_step.specs.Setup.{IsSetup, discards, gone_on, saved_faults};
 ghost use Rattle.jb_program.specs.JobRun.{plan_for};
 ghost use Rattle.jb_program.specs.StepRun.{IsNotBegun, setup_with};
 
@@ -36,9 +36,9 @@ fn prepared_by(
     requires mapped { mapping mapper.old records ≡ Ok (plan_for step.now.spec records) }
     ensures runnable { OnOk result (IsRunnable records (plan_for step.now.spec records)) }
     ensures accepted { OnOk result (saved_faults step.now records step.now.spec.replace saved ≡ []) }
-    ensures prepared { IfOk result (λ prepared. prepared ≡ setup_with step.now (plan_for step.now.spec records) saved) }
+    ensures prepared { IfOk result (λ prepared. prepared ≡ setup_with step.now (plan_for step.now.spec records) (gone_on step.now.spec.replace saved)) }
     ensures setup { IfOk result (λ prepared. IsSetup prepared) }
-    ensures begun { OnOk result (reducer.new ≡ reducer.old ++ Begin ∷ []) }
+    ensures begun { OnOk result (reducer.new ≡ reducer.old ++ calls_before (discards step.now.spec.replace saved) false) }
     ensures why { IfErr result (λ e. (e ≡ Failure.Memory) ⊎ IsNotBegun step.now records (plan_for step.now.spec records) saved e) }
 {
     match prepare(alloc, step, records, mapper, reducer, saved) {
@@ -52,7 +52,8 @@ fn prepared_by(
     }
 }
 
-/// Prepares a step with so many records: with its own ranges, or with even ones, or with the rows of an earlier run.
+/// Prepares a step with so many records: with its own ranges, or with even ones, or with the rows of an earlier run, unless
+/// its plan discards them.
 pub fn prepared_step(
     alloc: Global,
     step: &Step,
@@ -63,9 +64,9 @@ pub fn prepared_step(
     requires few { records ≤ max_records }
     ensures runnable { OnOk result (IsRunnable records (plan_for step.now.spec records)) }
     ensures accepted { OnOk result (saved_faults step.now records step.now.spec.replace saved ≡ []) }
-    ensures prepared { IfOk result (λ prepared. prepared ≡ setup_with step.now (plan_for step.now.spec records) saved) }
+    ensures prepared { IfOk result (λ prepared. prepared ≡ setup_with step.now (plan_for step.now.spec records) (gone_on step.now.spec.replace saved)) }
     ensures setup { IfOk result (λ prepared. IsSetup prepared) }
-    ensures begun { OnOk result (reducer.new ≡ reducer.old ++ Begin ∷ []) }
+    ensures begun { OnOk result (reducer.new ≡ reducer.old ++ calls_before (discards step.now.spec.replace saved) false) }
     ensures why { IfErr result (λ e. (e ≡ Failure.Memory) ⊎ IsNotBegun step.now records (plan_for step.now.spec records) saved e) }
 {
     let spec = step.spec();

@@ -26,8 +26,8 @@ use std::sync::Wait;
 use std::sync::ledger::Blank;
 use std::thread::Threads;
 
-/// Runs a step: prepares it by its partition plan, or by what the run before left, runs its partitions over its threads in no
-/// more rounds than the limit, and writes the step's report. What it works on is used up.
+/// Runs a step: prepares it by its partition plan, or by what the run before left, if the plan doesn't discard that, runs its
+/// partitions over its threads in no more rounds than the limit, and writes the step's report. What it works on is used up.
 pub fn run_step<T: Threads + Wait + Sync>(
     rt: &T,
     alloc: Global,
@@ -48,7 +48,7 @@ pub fn run_step<T: Threads + Wait + Sync>(
         faults,
     } = supply;
     laws_below();
-    let (saved, outputs) = taken(alloc, resume);
+    let (saved, outputs) = taken(alloc, resume, step.spec().replace());
     let mut recorder = Recorder::new(alloc);
     let count = records.as_slice().len() as u64;
     let prepared = prepared_step(alloc, step, count, saved, &mut recorder)?;

@@ -1,6 +1,6 @@
 //! The report of a step that was run.
 
-ghost use Rattle.std.specs.Prelude.{◌≡◌, ◌+◌, ◌≤◌, ◌++◌, ◌==◌, find, flat_map, length, OnOk};
+ghost use Rattle.std.specs.Prelude.{◌≡◌, ◌≤◌, ◌++◌, ◌==◌, find, flat_map, length, OnOk};
 ghost use Rattle.std.specs.List.{enumerate_from};
 ghost use Rattle.jb_job.specs.Limits.{max_partitions};
 ghost use Rattle.jb_saved.specs.SavedTree.{tokens_of};
@@ -40,24 +40,25 @@ fn write_outputs_of(
     }
 }
 
-/// Writes the outputs of the partitions from this one on, which have these rows, one list after another.
-fn write_outputs_from(
+/// Writes the outputs of all partitions, which have these rows, one list after another.
+fn write_all_outputs(
     alloc: Global,
     left: &[(u32, OwnArtifacts)],
     outputs: &[WriterTexts],
-    first: u32,
     rows: &[Row],
     text: &mut StepsText,
 ) -> Result<(), AllocError>
-    requires { first + length rows.now ≤ max_partitions }
+    requires { length rows.now ≤ max_partitions }
     ensures { OnOk result (text.new ≡ text.old
-        ++ flat_map (λ n. tokens_of (texts_tree (outputs_in (committed_of outputs.now n) (find (λ one. one.0 == n.0) (given_back ⟦<OwnArtifacts as Meaning>⟧.workplace left.now))))) (enumerate_from first rows.now)) }
+        ++ flat_map (λ n. tokens_of (texts_tree (outputs_in (committed_of outputs.now n) (find (λ one. one.0 == n.0) (given_back ⟦<OwnArtifacts as Meaning>⟧.workplace left.now))))) (enumerate_from 0 rows.now)) }
 {
-    let Some((row, rest)) = rows.split_first() else {
-        return Ok(());
-    };
-    write_outputs_of(alloc, left, outputs, first, row, text)?;
-    write_outputs_from(alloc, left, outputs, first + 1, rest, text)
+    for place in 0..rows.len() {
+        let Some(row) = rows.get(place) else {
+            unreachable!();
+        };
+        write_outputs_of(alloc, left, outputs, place as u32, row, text)?;
+    }
+    Ok(())
 }
 
 /// Writes the report of a step that ended so, whose writers held these outputs before, and whose analyzer and reducer took
@@ -84,6 +85,6 @@ pub fn write_step(
     let rows = end.snapshot.rows.as_slice();
     let partitions = rows.len() as u32;
     text.begin_step(alloc, partitions, heard)?;
-    write_outputs_from(alloc, end.artifacts.as_slice(), outputs, 0, rows, text)?;
+    write_all_outputs(alloc, end.artifacts.as_slice(), outputs, rows, text)?;
     text.end_step(alloc, rows, end.plans.as_slice(), reducer, end.status, id)
 }

@@ -1,8 +1,6 @@
 //! Why the program gives no report.
 
-ghost use Rattle.std.specs.Prelude.{◌≡◌, ◌≤◌, OnOk};
-ghost use Rattle.std.specs.Io.KnownBytes.{Appends};
-ghost use Rattle.jb_program.specs.FailureText.{failure_text};
+ghost use Rattle.std.specs.Prelude.{◌≡◌, ◌≤◌};
 ghost use Rattle.jb_program.specs.Statuses.{failure_code};
 
 use crate::words::{LineFault, UsageFault};
@@ -11,7 +9,6 @@ use jb_job::JobError;
 use jb_plan::PlanError;
 use jb_saved::SavedPlace;
 use std::alloc::{AllocError, AllocFailed};
-use std::io::Write;
 use std::{fmt, io};
 
 /// Why the program gives no report.
@@ -159,12 +156,4 @@ impl From<PlanError> for Failure {
             fault => Failure::Plan(fault),
         }
     }
-}
-
-/// Writes one line on why there is no answer, and one more where the words are wrong.
-pub fn write_failure<W: Write>(failure: &Failure, writer: &mut W) -> io::Result<()>
-    ensures { OnOk result (Appends (W.contents writer.old) (W.contents writer.new) (failure_text failure.now)) }
-{
-    write!(writer, "{failure}")?;
-    writer.flush()
 }

@@ -1,6 +1,7 @@
 //! The whole input, as bytes.
 
 ghost use Rattle.std.specs.Prelude.{◌≡◌, ◌⊎◌, IfErr, IfOk, IfSome};
+ghost use Rattle.std.specs.IoError.{error_kind};
 
 use super::failure::Failure;
 use std::alloc::Global;
@@ -18,9 +19,10 @@ pub fn read_all<R: Read>(alloc: Global, reader: &mut R) -> Result<Vec<u8>, Failu
     }
 }
 
-/// Why the input couldn't be read.
+/// Why the input couldn't be read: there was no memory for its bytes, or the stream failed.
 fn unread(error: &Error) -> Failure
-    ensures { (result ≡ Failure.Memory) ⊎ (result ≡ Failure.Stream) }
+    ensures memory { error_kind error.now ≡ ErrorKind.OutOfMemory → result ≡ Failure.Memory }
+    ensures stream { (error_kind error.now ≡ ErrorKind.OutOfMemory → ⊥) → result ≡ Failure.Stream }
 {
     if error.kind() == ErrorKind::OutOfMemory {
         Failure::Memory

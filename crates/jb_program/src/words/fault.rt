@@ -16,6 +16,9 @@ pub enum UsageFault {
     Wrong(String),
 }
 
+/// Where to find which words are right.
+pub const ADVICE: &str = "batchrun --help says which words there are\n";
+
 /// Two lines: what is wrong, and where to find what is right.
 impl fmt::Display for UsageFault {
     ghost use Rattle.std.specs.Prelude.{Some};
@@ -30,7 +33,7 @@ impl fmt::Display for UsageFault {
             UsageFault::NoText => f.write_str("a word is no text\n")?,
             UsageFault::Wrong(word) => write!(f, "wrong word: `{word}`\n")?,
         }
-        f.write_str("batchrun --help says which words there are\n")
+        f.write_str(ADVICE)
     }
 }
 

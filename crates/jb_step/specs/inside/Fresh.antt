@@ -1,15 +1,21 @@
 -- What a checked plan and saved rows give.
-use Rattle.std.specs.Prelude.{◌≡◌, Bool, Result, Ok, Err, ℕ, List, Option, Some, is_none, slice_get}
+use Rattle.std.specs.Prelude.{◌≡◌, Bool, Result, Ok, Err, ℕ, List, [], ◌∷◌, ◌++◌, Option, Some, is_none, slice_get}
 use Rattle.jb_job.specs.declared.class.ClassId.{ClassId}
 use Rattle.jb_job.specs.Records.{StepRecord}
 use Rattle.jb_plan.specs.Faults.{IsFirst, plan_errors}
 use Rattle.jb_plan.specs.Plans.{CheckedPlan, IsRunnable}
 use Rattle.jb_plan.specs.declared.plan.PartitionPlan.{PartitionPlan}
 use Rattle.jb_rules.specs.declared.row.Row.{Row}
+use Rattle.jb_collect.specs.declared.calls.ReducerCall.{ReducerCall}
+use Rattle.jb_collect.specs.declared.calls.ReducerCall.TheVariants.{Rollback, After}
+use Rattle.jb_collect.specs.declared.calls.PartitionStatus.TheVariants as status
+use Rattle.jb_collect.specs.Reduced.{rolled_back}
+use Rattle.jb_collect.specs.Taken.{Taken, faulted}
 use Rattle.jb_saved.specs.SavedRows.{SavedRows}
 use Rattle.jb_saved.specs.declared.error.StepError.{StepError}
-use Rattle.jb_saved.specs.declared.error.StepError.TheVariants.{Plan, Mapper, Saved, Memory}
-use Rattle.jb_step.specs.Setup.{Setup, opening_rows, saved_faults}
+use Rattle.jb_saved.specs.declared.error.StepError.TheVariants.{Plan, Mapper, Reducer, Saved, Memory}
+use Rattle.jb_step.specs.inside.Reducing.{IsReducingSome}
+use Rattle.jb_step.specs.Setup.{Setup, gone_on, opening_rows, saved_faults}
 
 -- the step with these rows, on the plan's threads
 abbrev pub setup_with : List Row → CheckedPlan → StepRecord → (begun_anew : Bool) → Setup
@@ -22,7 +28,8 @@ setup_with rows plan step begun_anew = record {
 }
 
 abbrev pub opened_setup : CheckedPlan → StepRecord → Option SavedRows → Setup
-opened_setup plan step saved = setup_with (opening_rows plan.ranges saved) plan step (is_none saved)
+opened_setup plan step saved =
+    let from = gone_on plan.replace saved in setup_with (opening_rows plan.ranges from) plan step (is_none from)
 
 -- the saved rows are refused; where memory lacked, nothing is said
 abbrev pub IsUnopened : StepRecord → (records : ℕ) → (replace : Bool) → Option SavedRows → StepError → Type 0
@@ -39,3 +46,10 @@ IsUnplanned step records mapped saved (Saved place) =
     (plan : PartitionPlan) × (mapped ≡ Ok plan) × IsRunnable records plan × (slice_get (saved_faults step records plan.replace saved) 0 ≡ Some place)
 IsUnplanned step records mapped saved Memory = Unit {0}
 IsUnplanned step records mapped saved _ = ⊥
+
+-- the rollback of discarded results failed: `after` was called, and nothing more; where memory lacked, some of the two were
+-- taken
+abbrev pub IsDiscardRefused : StepError → (before after : List (Taken ReducerCall)) → Type 0
+IsDiscardRefused (Reducer class) before after = (fault : Option ClassId) × (after ≡ before ++ faulted Rollback class ∷ record { call = After status.Rollback; fault = fault } ∷ [])
+IsDiscardRefused Memory before after = IsReducingSome before rolled_back after
+IsDiscardRefused _ before after = ⊥

@@ -17,7 +17,7 @@ pub record IsPrepared (a : Inside) : Type 0 where
   pub setup : IsSetup (setup_of a)
   pub needed : a.needs.items ≡ needs a.rows.items
 
--- 1 to 256 rows with which a step may begin: sound ones of disjoint ranges, each of which waits or is finished
+-- 1 to 1,024 rows with which a step may begin: sound ones of disjoint ranges, each of which waits or is finished
 pub record MayOpen (rows : List Row) : Type 0 where
   pub some_rows : 1 ≤ length rows
   pub few_rows : length rows ≤ max_partitions

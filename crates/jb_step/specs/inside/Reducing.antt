@@ -1,11 +1,16 @@
 -- What a reducer was called with between two moments.
-use Rattle.std.specs.Prelude.{◌≡◌, Bool, ◌||◌, List, ◌++◌}
+use Rattle.std.specs.Prelude.{◌≡◌, Bool, true, false, ◌||◌, Result, Ok, Err, List, ◌++◌}
+use Rattle.jb_job.specs.declared.artifact_error.ArtifactError.{ArtifactError}
+use Rattle.jb_job.specs.declared.artifact_error.ArtifactError.TheVariants as artifact
 use Rattle.jb_rules.specs.declared.row.Row.{Row}
 use Rattle.jb_collect.specs.declared.calls.ReducerCall.{ReducerCall}
 use Rattle.jb_collect.specs.declared.calls.Status.{Status}
 use Rattle.jb_collect.specs.Reduced.{calls_after}
 use Rattle.jb_collect.specs.Taken.{Taken, calls_of}
-use Rattle.jb_step.specs.Reduced.{has_fault, before_failed}
+use Rattle.jb_step.specs.declared.error.RunError.{RunError}
+use Rattle.jb_step.specs.declared.error.RunError.TheVariants as error
+use Rattle.jb_step.specs.Ending.{AreCallsInPart}
+use Rattle.jb_step.specs.Reduced.{AreSome, has_fault, before_failed}
 use Rattle.jb_step.specs.Statuses.{status_of, went_well}
 
 -- these calls were made; whether one was answered with a fault, and whether `before_completion` was
@@ -15,6 +20,24 @@ pub record IsReducing (before : List (Taken ReducerCall)) (calls : List ReducerC
   pub calls_are : calls_of next ≡ calls
   pub faulted_is : has_fault next ≡ faulted
   pub before_is : before_failed next ≡ at_before
+
+-- some of these calls were taken, in their order, whatever they were answered
+pub record IsReducingSome (before : List (Taken ReducerCall)) (calls : List ReducerCall) (after : List (Taken ReducerCall)) : Type 0 where
+  pub next : List (Taken ReducerCall)
+  pub after_is : after ≡ before ++ next
+  pub some : AreSome (calls_of next) calls
+
+-- whether a call was answered with a fault; where it found no memory, that is the error
+abbrev pub fault_in : Result (Unit {0}) ArtifactError → Result Bool RunError
+fault_in (Ok done) = Ok false
+fault_in (Err (artifact.Fault class)) = Ok true
+fault_in (Err artifact.Memory) = Err error.Memory
+
+-- the calls at a step's end where memory lacked
+pub record IsEndingInPart (before after : List (Taken ReducerCall)) : Type 0 where
+  pub next : List (Taken ReducerCall)
+  pub after_is : after ≡ before ++ next
+  pub in_part : AreCallsInPart next
 
 -- the calls at a step's end, by whether all went well before them and what `before_completion` answered, and the status
 -- by the rows and all callbacks

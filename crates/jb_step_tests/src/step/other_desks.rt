@@ -55,8 +55,9 @@ const SECOND_AT_LIMIT: &str =
 const SIX: &str = "abcd/ef/";
 
 /// Why a step of two records a chunk has no answer on the desk of the same with three, how many events and plans stand in the
-/// history, and the reducer's calls: the desk refused the Commit of partition 0, and Round isn't there.
+/// history, and the calls of the analyzer and of the reducer: the desk refused the Commit of partition 0, and Round isn't there.
 const REFUSED: &str = "Repository(2) 5 1
+.
 Begin Rollback After(Rollback) .
 ";
 

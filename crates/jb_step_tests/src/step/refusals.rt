@@ -4,11 +4,13 @@ ghost use Rattle.std.specs.Prelude.{◌≡◌, Err};
 ghost use Rattle.jb_mapper.specs.Mapping.{Mapping};
 ghost use Rattle.jb_job.specs.Limits.{max_parts};
 
+use crate::step::callbacks::Lacking;
 use crate::step::given::{Given, Letters, begun, works};
+use crate::step::rows::{add_reduced, assert_text};
 use crate::step::runs::ended_with;
 use crate::workers::tasks::{RULES, task_of, with_work};
 use jb_cert::Certificate;
-use jb_collect::{ListAnalyzer, ListReducer, Reducer};
+use jb_collect::{ListAnalyzer, PartitionStatus, ReducerCall};
 use jb_job::{ArtifactError, ClassId, MAX_PARTS, Range};
 use jb_mapper::{FixedMapper, PartitionMapper};
 use jb_plan::{PartitionPlan, PlanError};
@@ -16,8 +18,9 @@ use jb_repo::Event;
 use jb_rules::Row;
 use jb_step::{Prepared, StepError};
 use jb_workers::{Desk, NoGate};
-use std::alloc::Global;
+use std::alloc::{AllocError, Global};
 use std::marker::Brand;
+use std::process::Abort;
 use std::sync::Wait;
 use std::sync::ledger::{Blank, Ledger};
 use std::test::*;
@@ -28,28 +31,34 @@ use std::thread::Threads;
 enum Wrong {
     /// The mapper answers a fault.
     Mapper,
-    /// The reducer's `begin` answers one.
-    Reducer,
+    /// The mapper finds no memory.
+    MapperMemory,
     /// The mapper asks for 5,000 threads.
     Threads,
     /// There are artifacts for one partition alone.
     OneShort,
     /// The caller ran a round of its own on the desk.
     OwnRound,
+    /// The last two at once.
+    OneShortOwnRound,
 }
 
 const RECORDS: &str = "ab/c/";
 
-/// A mapper that answers a fault of this class.
+/// A mapper that answers a fault of this class, or finds no memory.
 #[derive(Drop)]
 struct Failing {
     class: ClassId,
+    lacking: bool,
 }
 
 impl PartitionMapper for Failing {
     ghost mapping = { λ m _. Err m.class };
 
     fn map(&mut self, _records: u64) -> Result<PartitionPlan, ArtifactError> {
+        if self.lacking {
+            return Err(ArtifactError::Memory);
+        }
         Err(ArtifactError::Fault(self.class))
     }
 }
@@ -72,11 +81,12 @@ fn run_own<L: Ledger + Send + Sync + 'static, R: Threads + Wait + Sync>(
 fn start(
     alloc: Global,
     wrong: Wrong,
-    reducer: &mut ListReducer,
+    reducer: &mut Lacking,
 ) -> Result<Result<Prepared, StepError>, Fail> {
-    if wrong == Wrong::Mapper {
+    if matches!(wrong, Wrong::Mapper | Wrong::MapperMemory) {
         let mut failing = Failing {
             class: ClassId::new(3),
+            lacking: wrong == Wrong::MapperMemory,
         };
         return begun(alloc, 2, RULES, 3, &mut failing, reducer);
     }
@@ -92,18 +102,18 @@ fn refusal_of<L: Ledger + Send + Sync + 'static, R: Threads + Wait + Sync>(
     blank: Blank,
     wrong: Wrong,
     prepared: Prepared,
-    reducer: &mut ListReducer,
+    reducer: &mut Lacking,
 ) -> Result<StepError, Fail>
     requires name { blank.name ≡ L.name }
     requires parts { blank.parts ≡ L.parts }
     requires all { blank.parts ≡ max_parts }
 {
     let desk = prepared.desk::<L>(alloc, blank)?;
-    if wrong == Wrong::OwnRound {
+    if wrong != Wrong::OneShort {
         run_own(rt, alloc, &desk).ok_or("a round")?;
     }
     let mut analyzer = ListAnalyzer::new(alloc, None);
-    let partitions = if wrong == Wrong::OneShort { 1 } else { 2 };
+    let partitions = if wrong == Wrong::OwnRound { 2 } else { 1 };
     let end = ended_with::<L, NoGate, R>(
         rt,
         alloc,
@@ -118,44 +128,70 @@ fn refusal_of<L: Ledger + Send + Sync + 'static, R: Threads + Wait + Sync>(
     Ok(end.err().ok_or("no answer")?)
 }
 
-/// Why the step has no answer, and how many calls its reducer took.
+/// Why the step has no answer.
 fn refusal<L: Ledger + Send + Sync + 'static, R: Threads + Wait + Sync>(
     rt: &R,
     alloc: Global,
     blank: Blank,
     wrong: Wrong,
-) -> Result<(StepError, usize), Fail>
+    reducer: &mut Lacking,
+) -> Result<StepError, Fail>
     requires name { blank.name ≡ L.name }
     requires parts { blank.parts ≡ L.parts }
     requires all { blank.parts ≡ max_parts }
 {
-    let fault = if wrong == Wrong::Reducer {
-        Some((0, ClassId::new(3)))
-    } else {
-        None
-    };
-    let mut reducer = ListReducer::new(alloc, fault);
-    let error = match start(alloc, wrong, &mut reducer)? {
-        Ok(prepared) => refusal_of::<L, R>(rt, alloc, blank, wrong, prepared, &mut reducer)?,
-        Err(error) => error,
-    };
-    Ok((error, reducer.calls().len()))
+    match start(alloc, wrong, reducer)? {
+        Ok(prepared) => refusal_of::<L, R>(rt, alloc, blank, wrong, prepared, reducer),
+        Err(error) => Ok(error),
+    }
 }
 
+/// Asserts what a reducer was called with.
+fn assert_calls(
+    rt: &impl Abort,
+    alloc: Global,
+    reducer: &Lacking,
+    wanted: &str,
+) -> Result<(), AllocError> {
+    let mut calls = String::new(alloc);
+    add_reduced(&mut calls, alloc, reducer)?;
+    assert_text(rt, calls.as_str(), wanted);
+    Ok(())
+}
+
+/// The first refusal in the order is answered. Where `begin` was answered well, the reducer is rolled back then, as far as it finds
+/// memory; each row has the number of its call that is answered with a fault, and the one that finds no memory.
 #[test]
 fn refusals(rt: HostRuntime) -> Result<(), Fail> {
     let class = ClassId::new(3);
+    let fault = StepError::Reducer(class);
+    let unfit = StepError::WrongArtifacts;
+    let memory = StepError::Memory;
+    let begin = Some(ReducerCall::Begin);
+    let rollback = Some(ReducerCall::Rollback);
+    let after = Some(ReducerCall::After(PartitionStatus::Rollback));
+    let all = "Begin Rollback After(Rollback) .\n";
+    let no_rollback = "Begin After(Rollback) .\n";
+    let plan = StepError::Plan(PlanError::Threads);
     let cases = [
-        (Wrong::Mapper, StepError::Mapper(class), 3),
-        (Wrong::Reducer, StepError::Reducer(class), 1),
-        (Wrong::Threads, StepError::Plan(PlanError::Threads), 3),
-        (Wrong::OneShort, StepError::WrongArtifacts, 3),
-        (Wrong::OwnRound, StepError::Repository(0), 3),
+        (Wrong::Mapper, None, None, StepError::Mapper(class), all),
+        (Wrong::Mapper, Some(0), None, fault, "Begin .\n"),
+        (Wrong::Mapper, None, begin, memory, ".\n"),
+        (Wrong::Mapper, None, rollback, memory, no_rollback),
+        (Wrong::MapperMemory, None, None, memory, all),
+        (Wrong::Threads, None, None, plan, all),
+        (Wrong::Threads, None, after, memory, "Begin Rollback .\n"),
+        (Wrong::OneShort, None, None, unfit, all),
+        (Wrong::OneShort, None, rollback, memory, no_rollback),
+        (Wrong::OwnRound, None, None, StepError::Repository(0), all),
+        (Wrong::OneShortOwnRound, None, None, unfit, all),
     ];
-    for (wrong, error, calls) in cases {
+    for (wrong, fault, lacking, error, calls) in cases {
+        let mut reducer = Lacking::new(rt.alloc(), fault, lacking);
         let blank = Blank::new(MAX_PARTS);
-        let answer = refusal::<Brand, _>(&rt, rt.alloc(), blank, wrong)?;
-        assert_eq!(rt; answer, (error, calls));
+        let answer = refusal::<Brand, _>(&rt, rt.alloc(), blank, wrong, &mut reducer)?;
+        assert_eq!(rt; answer, error);
+        assert_calls(&rt, rt.alloc(), &reducer, calls)?;
     }
     Ok(())
 }

@@ -8,8 +8,8 @@ use crate::step::given::{
     Given, Letters, Works, all_works, saved_again, stopped_after, works, works_from,
 };
 use crate::step::rows::{
-    Asked, Case, FIRST_REPEATED, ONE_SKIP, PLAIN, SEVEN, add_course, add_partition, add_reduced,
-    assert_text, case_at, left_of,
+    Asked, Case, FIRST_REPEATED, ONE_SKIP, PLAIN, SEVEN, add_course, add_heard, add_partition,
+    add_reduced, assert_text, case_at, left_of,
 };
 use crate::step::runs::started_or_not;
 use jb_artifacts::ArtifactsOf;
@@ -172,6 +172,7 @@ Completed 10
             earlier: None,
             courses: "[0, 1]
 Memory 6 1
+.
 Begin Rollback After(Rollback) .
 0 2 2 0 0 2 2 2 1 0 0 0 0 0 0 done xa xb
 2 4 2 2 0 0 0 0 0 0 0 0 0 0 0 waiting
@@ -335,7 +336,7 @@ impl Between {
     fn renew(&mut self, alloc: Global, records: &str, snapshot: &Snapshot) -> Result<(), Fail> {
         self.hold(alloc, snapshot)?;
         self.finished = Vec::new(alloc);
-        for (partition, row) in (0..256).zip(snapshot.rows.iter()) {
+        for (partition, row) in (0..1_024).zip(snapshot.rows.iter()) {
             self.put(partition, works_from(alloc, records, row)?)?;
         }
         Ok(())
@@ -490,8 +491,8 @@ fn run_at<L: Ledger + Send + Sync + 'static, R: Threads + Wait + Sync>(
     Ok((status, course))
 }
 
-/// Adds the course of a run; where it has no answer, why, the numbers of events and of plans of its history, and the reducer's
-/// calls.
+/// Adds the course of a run; where it has no answer, why, the numbers of events and of plans of its history, and the calls of the
+/// analyzer and of the reducer.
 pub(crate) fn add_answer(
     course: &mut String,
     alloc: Global,
@@ -505,6 +506,7 @@ pub(crate) fn add_answer(
         Err(error) => {
             let line = format!(in alloc; "{error:?} {} {}\n", snapshot.events, snapshot.plans)?;
             course.push_str(line.as_str())?;
+            add_heard(course, alloc, analyzer)?;
             add_reduced(course, alloc, reducer)
         }
     }

@@ -1,17 +1,14 @@
-//! Saved rows that are refused, in the order of their faults, and a stop that is asked for in the middle of a round.
+//! A stop that is asked for in the middle of a round.
 
 ghost use Rattle.std.specs.Prelude.{◌≡◌};
 ghost use Rattle.jb_job.specs.Limits.{max_parts};
 
-use crate::step::given::{Given, begun_from};
 use crate::step::restarts::{Between, gone_on};
-use crate::step::rows::{PLAIN, SEVEN, STRICT, assert_text, course_of};
+use crate::step::rows::{PLAIN, SEVEN, assert_text, course_of};
 use crate::step::runs::{ended_with, started};
-use jb_collect::{ListAnalyzer, ListReducer, Reducer, Status};
+use jb_collect::{ListAnalyzer, ListReducer, Status};
 use jb_job::MAX_PARTS;
-use jb_mapper::FixedMapper;
-use jb_plan::PlanError;
-use jb_step::{Prepared, SavedPlace, StepError, read_saved};
+use jb_step::Prepared;
 use jb_workers::{Desk, Gate};
 use std::alloc::Global;
 use std::marker::Brand;
@@ -20,14 +17,6 @@ use std::sync::ledger::{Blank, Ledger};
 use std::sync::{Arc, Wait};
 use std::test::*;
 use std::thread::Threads;
-
-/// Three records in two partitions, none of them read.
-const SAVED: &str =
-    "{\"rows\":[[0,2,0,0,0,0,0,0,0,0,0,0,0,0,0,\"waiting\"],[2,3,2,2,0,0,0,0,0,0,0,0,0,0,0,\"waiting\"]],\"step\":\"step\",\"version\":2}";
-
-/// The same of another step.
-const OTHER: &str =
-    "{\"rows\":[[0,2,0,0,0,0,0,0,0,0,0,0,0,0,0,\"waiting\"],[2,3,2,2,0,0,0,0,0,0,0,0,0,0,0,\"waiting\"]],\"step\":\"other\",\"version\":2}";
 
 /// The records of the step that is stopped, and its course up to then.
 const RECORDS: &str = "abc/de/fg/";
@@ -50,51 +39,6 @@ const WHOLE: &str = "Longest(0) 2 of 2
 Begin Before After(Commit) .
 Completed 11
 ";
-
-/// What the step begins with, where a plan of these records takes the place of the saved rows.
-fn begun_anew(
-    alloc: Global,
-    text: &str,
-    records: &str,
-    threads: u32,
-    reducer: &mut ListReducer,
-) -> Result<Result<Prepared, StepError>, Fail> {
-    let saved = read_saved(alloc, text.as_bytes())?;
-    let given = Given::read(alloc, records)?;
-    let count = given.count();
-    let mut plan = given.plan(threads);
-    plan.replace = true;
-    let mut mapper = FixedMapper::new(plan);
-    begun_from(alloc, 2, STRICT, count, &mut mapper, reducer, Some(saved))
-}
-
-/// Why the step has no answer, and how many calls its reducer took.
-fn refusal(
-    alloc: Global,
-    text: &str,
-    records: &str,
-    threads: u32,
-) -> Result<(StepError, usize), Fail> {
-    let mut reducer = ListReducer::new(alloc, None);
-    let answer = begun_anew(alloc, text, records, threads, &mut reducer)?;
-    let error = answer.err().ok_or("no answer")?;
-    Ok((error, reducer.calls().len()))
-}
-
-#[test]
-fn saved_rows_are_refused(rt: HostRuntime) -> Result<(), Fail> {
-    let cases = [
-        (OTHER, "ab/", 5_000, StepError::Plan(PlanError::Threads)),
-        (OTHER, "ab/", 2, StepError::Saved(SavedPlace::Step)),
-        (SAVED, "ab/", 2, StepError::Saved(SavedPlace::Records)),
-        (SAVED, "ab/c/", 2, StepError::Saved(SavedPlace::Override)),
-    ];
-    for (text, records, threads, error) in cases {
-        let answer = refusal(rt.alloc(), text, records, threads)?;
-        assert_eq!(rt; answer, (error, 3));
-    }
-    Ok(())
-}
 
 /// Where a lane comes by.
 #[derive(Clone, Copy, PartialEq, Eq)]

@@ -552,7 +552,11 @@ fn add_plans(text: &mut String, alloc: Global, plans: &[PlanNote]) -> Result<(),
 }
 
 /// Adds a line of what the analyzer heard.
-fn add_heard(text: &mut String, alloc: Global, analyzer: &dyn Analyzer) -> Result<(), AllocError> {
+pub(crate) fn add_heard(
+    text: &mut String,
+    alloc: Global,
+    analyzer: &dyn Analyzer,
+) -> Result<(), AllocError> {
     let heard = line_of(alloc, analyzer.calls())?;
     let heard = String::from_utf8_lossy(alloc, heard.as_slice())?;
     text.push_str(heard.as_str())?;

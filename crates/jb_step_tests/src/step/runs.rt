@@ -2,7 +2,7 @@
 
 use crate::step::given::{Given, Letters, Works, all_works, begun_from, ended};
 use crate::step::rows::Asked;
-use jb_collect::{Analyzer, ListReducer, Reducer};
+use jb_collect::{Analyzer, Reducer};
 use jb_mapper::FixedMapper;
 use jb_step::{Prepared, Saved, StepEnd, StepError};
 use jb_workers::{Desk, Gate};
@@ -17,7 +17,7 @@ pub(crate) fn started(
     alloc: Global,
     asked: Asked,
     records: &str,
-    reducer: &mut ListReducer,
+    reducer: &mut dyn Reducer,
     saved: Option<Saved>,
 ) -> Result<Prepared, Fail> {
     Ok(started_or_not(alloc, asked, records, reducer, saved)??)
@@ -28,7 +28,7 @@ pub(crate) fn started_or_not(
     alloc: Global,
     asked: Asked,
     records: &str,
-    reducer: &mut ListReducer,
+    reducer: &mut dyn Reducer,
     saved: Option<Saved>,
 ) -> Result<Result<Prepared, StepError>, Fail> {
     let given = Given::read(alloc, records)?;

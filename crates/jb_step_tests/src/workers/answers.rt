@@ -1,21 +1,29 @@
 //! What a round answers, and what is left of it in the table.
 
 ghost use Rattle.std.specs.Prelude.{◌≡◌, IfSome};
+ghost use Rattle.jb_chunk.specs.Standing.{IsReady};
 ghost use Rattle.jb_workers.specs.Works.{AllCanBegin};
 ghost use Rattle.jb_job.specs.Limits.{max_parts};
 
-use crate::workers::tasks::{RULES, boxes, fresh_rows, repository, task_of, with_work};
-use jb_artifacts::{Artifacts, FaultPlan, FaultPlans};
+use crate::workers::tasks::{
+    Processor, RULES, boxes_of, fresh_rows, letters, prefixing, repository, task_of, with_work,
+    writer,
+};
+use jb_artifacts::{
+    Artifacts, ArtifactsOf, CountCollector, FaultPlan, FaultPlans, Item, ItemProcessor, ListWriter,
+    TableReader,
+};
 use jb_cert::Certificate;
 use jb_chunk::{Done, Outcome, PartitionTask, Task};
-use jb_job::{ClassId, MAX_PARTS, MAX_ROLLBACKS, Rules};
+use jb_job::{ArtifactError, ClassId, MAX_PARTS, MAX_ROLLBACKS, Rules};
 use jb_repo::{Event, Refused, Snapshot};
 use jb_rules::{Counts, Row};
-use jb_workers::{Desk, NoGate, RoundError, Work};
+use jb_workers::{Desk, NoGate, RoundError, Work, work};
 use std::alloc::{AllocError, Global};
 use std::marker::Brand;
-use std::sync::Wait;
+use std::sync::atomic::{AtomicU64, Ordering};
 use std::sync::ledger::{Blank, Ledger};
+use std::sync::{Arc, Wait};
 use std::test::*;
 use std::thread::Threads;
 
@@ -52,6 +60,32 @@ const SOUND: First = First {
     memory: true,
 };
 
+/// The events of a history, the oldest first.
+type History = [Option<Event>; 6];
+
+const PLAN: Event = Event::Plan(1, Certificate::FullLoad);
+
+/// The end of partition 0 on lane 0 where both its letters are written.
+const WRITTEN: Event = Event::Commit(0, TWO_WRITTEN, 2, 0);
+
+/// A round of both partitions, of which the first ends so.
+fn both(end: Event) -> History {
+    [
+        Some(PLAN),
+        Some(Event::Begin(0, 0)),
+        Some(Event::Begin(1, 1)),
+        Some(end),
+        Some(Event::Commit(1, TWO_WRITTEN, 2, 0)),
+        Some(Event::Round),
+    ]
+}
+
+/// A chunk of one partition on this lane that ends so, and the Round behind it, if there is one.
+fn one(lane: u32, partition: u32, end: Event, round: Option<Event>) -> History {
+    let begin = Event::Begin(lane, partition);
+    [Some(PLAN), Some(begin), Some(end), round, None, None]
+}
+
 /// A round, and what comes of it.
 #[derive(Clone, Copy)]
 struct Case {
@@ -59,11 +93,14 @@ struct Case {
     lane: u32,
     /// The lane of partition 1, whose task is sound, where it takes part.
     other: Option<u32>,
-    planned: bool,
     /// The outcome of partition 0.
     answer: Result<Outcome, RoundError>,
-    events: u64,
-    commits: u64,
+    /// How often a processor is called.
+    calls: u64,
+    /// The history after it, from its Plan on, if it was planned.
+    history: History,
+    /// The same where the other partition came first to a lane that both want.
+    or: Option<History>,
 }
 
 fn cases() -> [Case; 12] {
@@ -72,18 +109,25 @@ fn cases() -> [Case; 12] {
         first: SOUND,
         lane: 0,
         other: Some(1),
-        planned: true,
         answer: Ok(Outcome::Committed(TWO_WRITTEN)),
-        events: 6,
-        commits: 2,
+        calls: 4,
+        history: both(WRITTEN),
+        or: None,
     };
     let bad = First { bad: true, ..SOUND };
+    let given_up = Case {
+        other: None,
+        answer: Err(RoundError::Refused(Refused::Full)),
+        calls: 0,
+        history: one(0, 0, Event::Drop(0), None),
+        ..sound
+    };
     [
         sound,
         Case {
             other: None,
-            events: 4,
-            commits: 1,
+            calls: 2,
+            history: one(0, 0, WRITTEN, Some(Event::Round)),
             ..sound
         },
         Case {
@@ -92,13 +136,13 @@ fn cases() -> [Case; 12] {
                 ..bad
             },
             answer: Ok(Outcome::Rolled(class)),
-            commits: 1,
+            history: both(Event::Roll(0, class, 0)),
             ..sound
         },
         Case {
             first: bad,
             answer: Ok(Outcome::Failed(class)),
-            commits: 1,
+            history: both(Event::Fail(0, class, 0)),
             ..sound
         },
         Case {
@@ -108,7 +152,8 @@ fn cases() -> [Case; 12] {
                 ..bad
             },
             answer: Ok(Outcome::Failed(class)),
-            commits: 1,
+            calls: 5,
+            history: both(Event::Fail(0, class, 1)),
             ..sound
         },
         Case {
@@ -117,7 +162,8 @@ fn cases() -> [Case; 12] {
                 ..SOUND
             },
             answer: Ok(Outcome::NoMemory),
-            commits: 1,
+            calls: 3,
+            history: both(Event::Drop(0)),
             ..sound
         },
         Case {
@@ -125,56 +171,83 @@ fn cases() -> [Case; 12] {
                 item_count: 1,
                 ..SOUND
             },
-            other: None,
             answer: Err(RoundError::Refused(Refused::BadDelta)),
-            events: 3,
-            commits: 0,
-            ..sound
+            calls: 1,
+            ..given_up
         },
         Case {
             first: First {
                 rollbacks: MAX_ROLLBACKS,
                 ..SOUND
             },
-            other: None,
-            answer: Err(RoundError::Refused(Refused::Full)),
-            events: 3,
-            commits: 0,
-            ..sound
+            ..given_up
         },
         Case {
             first: First {
                 repeats: 999_999_900_001,
                 ..SOUND
             },
-            other: None,
-            answer: Err(RoundError::Refused(Refused::Full)),
-            events: 3,
-            commits: 0,
-            ..sound
+            ..given_up
         },
         Case {
             other: Some(0),
             answer: Err(RoundError::Refused(Refused::LaneBusy)),
-            events: 3,
-            commits: 1,
+            calls: 2,
+            history: one(0, 0, WRITTEN, None),
+            or: Some(one(0, 1, WRITTEN, None)),
             ..sound
         },
         Case {
             lane: 2,
             answer: Err(RoundError::Refused(Refused::LaneRange)),
-            events: 3,
-            commits: 1,
+            calls: 2,
+            history: one(1, 1, Event::Commit(1, TWO_WRITTEN, 2, 0), None),
             ..sound
         },
         Case {
-            planned: false,
             answer: Err(RoundError::Refused(Refused::PastPlan)),
-            events: 0,
-            commits: 0,
+            calls: 0,
+            history: [None; 6],
             ..sound
         },
     ]
+}
+
+/// A processor that counts its calls.
+#[derive(Drop)]
+struct Counted {
+    processor: Processor,
+    calls: Arc<AtomicU64, Global>,
+}
+
+impl ItemProcessor for Counted {
+    ghost processor = { λ c. ⟦<Processor as ItemProcessor>⟧.processor c.processor };
+
+    fn process_item(&mut self, number: u64, item: &[u8]) -> Result<Option<Item>, ArtifactError> {
+        self.calls.fetch_add(1, Ordering::SeqCst);
+        self.processor.process_item(number, item)
+    }
+}
+
+/// The processor of partition 0.
+fn counting(alloc: Global, first: &First, calls: &Arc<AtomicU64, Global>) -> Result<Counted, Fail> {
+    Ok(Counted {
+        processor: prefixing(alloc, faults(alloc, first)?, first.memory)?,
+        calls: Arc::try_clone(calls)?,
+    })
+}
+
+/// The task of partition 0, where it is ready.
+fn first_task<T: PartitionTask>(first: &First, artifacts: T::Artifacts) -> Option<T>
+    ensures ready { IfSome result (λ task. IsReady (T.standing task)) }
+{
+    let rules = Rules {
+        retryable: first.retryable,
+        no_rollback: first.no_rollback,
+        retry_limit: 1,
+        ..RULES
+    };
+    task_of::<T>(0, first_row(first), rules, first.item_count, artifacts)
 }
 
 /// The works of the case's round, where each task is ready.
@@ -186,21 +259,9 @@ fn works_of<T: PartitionTask>(
 ) -> Option<Vec<Work<T>>>
     ensures { IfSome result (λ works. AllCanBegin T.standing works.items) }
 {
-    let rules = Rules {
-        retryable: case.first.retryable,
-        no_rollback: case.first.no_rollback,
-        retry_limit: 1,
-        ..RULES
-    };
     let [_, row] = fresh_rows();
-    let first = task_of::<T>(
-        0,
-        first_row(&case.first),
-        rules,
-        case.first.item_count,
-        first,
-    )?;
-    let other = task_of::<T>(1, row, rules, 2, other)?;
+    let first = first_task::<T>(&case.first, first)?;
+    let other = task_of::<T>(1, row, RULES, 2, other)?;
     let works = with_work(Vec::new(alloc), case.lane, first)?;
     match case.other {
         Some(lane) => with_work(works, lane, other),
@@ -215,8 +276,8 @@ fn desk_of<L: Ledger>(alloc: Global, rt: &impl Wait, blank: Blank, case: &Case) 
     requires all { blank.parts ≡ max_parts }
 {
     let desk = Desk::<L>::new(repository(alloc, &fresh_rows())?, blank);
-    if case.planned {
-        desk.apply(rt, Event::Plan(1, Certificate::FullLoad)).ok()?;
+    if case.history[0] == Some(PLAN) {
+        desk.apply(rt, PLAN).ok()?;
     }
     Some(desk)
 }
@@ -242,32 +303,69 @@ fn judge<
     let desk = desk_of::<L>(alloc, rt, blank, case)?;
     let round = desk.run_round(rt, alloc, &NoGate, works);
     let after = desk.status(rt).ok()?;
-    Some(is_answered(case, &round, &after) && is_left(case, &after))
+    let left = is_left(alloc, &case.history, &after)?;
+    let left_so = match &case.or {
+        Some(history) => left || is_left(alloc, history, &after)?,
+        None => left,
+    };
+    Some(is_answered(case, &round, &after) && left_so)
 }
 
-/// Whether the round's answer is the case's. The table has the row of the first Done, or, where nothing was committed, the row of
-/// before.
+/// The same of the work of partition 0 alone, with no round about it.
+fn judge_work<L: Ledger, T: PartitionTask, R: Wait>(
+    rt: &R,
+    alloc: Global,
+    blank: Blank,
+    case: &Case,
+    first: T::Artifacts,
+) -> Option<bool>
+    requires name { blank.name ≡ L.name }
+    requires parts { blank.parts ≡ L.parts }
+    requires all { blank.parts ≡ max_parts }
+{
+    let task = first_task::<T>(&case.first, first)?;
+    if !task.row().state.is_waiting() {
+        return None;
+    }
+    let lane = case.lane;
+    let desk = desk_of::<L>(alloc, rt, blank, case)?;
+    let share = desk.take_share(rt)?;
+    let (done, share) = work(&desk, rt, alloc, &NoGate, Work { lane, task }, share);
+    desk.give_back(rt, share);
+    let after = desk.status(rt).ok()?;
+    let [plan, begin, end, ..] = case.history;
+    let left = is_left(alloc, &[plan, begin, end, None, None, None], &after)?;
+    Some(left && case.answer == done.map(|done| done.outcome))
+}
+
+/// Whether the round's answer is the case's. The table has the row of the first Done.
 fn is_answered<T: PartitionTask>(
     case: &Case,
     round: &Result<Vec<Done<T>>, RoundError>,
     after: &Snapshot,
 ) -> bool {
-    let row = after.rows.first();
     match round {
         Ok(dones) => dones.first().is_some_and(|done| {
-            case.answer == Ok(done.outcome) && row == Some(done.task.row())
+            case.answer == Ok(done.outcome) && after.rows.first() == Some(done.task.row())
         }),
-        Err(error) => {
-            case.answer == Err(*error) && (case.commits > 0 || row == Some(&fresh_rows()[0]))
-        }
+        Err(error) => case.answer == Err(*error),
     }
 }
 
-/// Whether the table has the case's events and Commits, and no row runs.
-fn is_left(case: &Case, after: &Snapshot) -> bool {
-    after.events == case.events
-        && after.totals.commit == case.commits
-        && after.rows.iter().all(|row| !row.state.is_running())
+/// Whether the table is that of the two partitions after these events.
+fn is_left(alloc: Global, history: &History, after: &Snapshot) -> Option<bool> {
+    let mut repo = repository(alloc, &fresh_rows())?;
+    for event in history.iter().flatten() {
+        repo.apply(*event).ok()?;
+    }
+    let wanted = repo.snapshot().ok()?;
+    Some(
+        after.rows.as_slice() == wanted.rows.as_slice()
+            && after.totals == wanted.totals
+            && after.events == wanted.events
+            && after.plans == wanted.plans
+            && after.stopping == wanted.stopping,
+    )
 }
 
 /// The row that the task of partition 0 has: the desk's, but for its rollbacks and repeats in place.
@@ -296,15 +394,16 @@ fn faults(alloc: Global, first: &First) -> Result<FaultPlans, AllocError> {
 #[test]
 fn rounds(rt: HostRuntime) -> Result<(), Fail> {
     let alloc = rt.alloc();
+    let calls = Arc::new(alloc, AtomicU64::new(0))?;
     for case in cases() {
-        let boxed = boxes(alloc, faults(alloc, &case.first)?, case.first.memory)?;
+        let boxed = boxes_of(alloc, counting(alloc, &case.first, &calls)?)?;
         let first = Artifacts {
             reader: boxed.reader,
             processor: boxed.processor,
             writer: boxed.writer,
             collector: boxed.collector,
         };
-        let boxed = boxes(alloc, FaultPlans::new(alloc), true)?;
+        let boxed = boxes_of(alloc, counting(alloc, &SOUND, &calls)?)?;
         let other = Artifacts {
             reader: boxed.reader,
             processor: boxed.processor,
@@ -314,6 +413,42 @@ fn rounds(rt: HostRuntime) -> Result<(), Fail> {
         let blank = Blank::new(MAX_PARTS);
         let judged = judge::<Brand, Task, _>(&rt, alloc, blank, &case, first, other);
         assert_eq!(rt; judged, Some(true), "{:?}", case.answer);
+        assert_eq!(rt;
+            calls.swap(0, Ordering::SeqCst),
+            case.calls,
+            "{:?}",
+            case.answer
+        );
+    }
+    Ok(())
+}
+
+type Letters = ArtifactsOf<TableReader, Counted, ListWriter, CountCollector>;
+
+/// The cases of partition 0 alone.
+#[test]
+fn works_alone(rt: HostRuntime) -> Result<(), Fail> {
+    let alloc = rt.alloc();
+    let calls = Arc::new(alloc, AtomicU64::new(0))?;
+    for case in cases() {
+        if case.other.is_some() {
+            continue;
+        }
+        let first: Letters = ArtifactsOf {
+            reader: letters(alloc)?,
+            processor: counting(alloc, &case.first, &calls)?,
+            writer: writer(alloc),
+            collector: CountCollector::new(alloc),
+        };
+        let blank = Blank::new(MAX_PARTS);
+        let judged = judge_work::<Brand, Task<Letters>, _>(&rt, alloc, blank, &case, first);
+        assert_eq!(rt; judged, Some(true), "{:?}", case.answer);
+        assert_eq!(rt;
+            calls.swap(0, Ordering::SeqCst),
+            case.calls,
+            "{:?}",
+            case.answer
+        );
     }
     Ok(())
 }

@@ -100,8 +100,8 @@ fn run<
     requires all { blank.parts ≡ max_parts }
     requires ready { AllCanBegin T.standing works.items }
 {
-    let desk = Desk::<L>::new(repository(alloc, 256)?, blank);
-    desk.apply(rt, Event::Plan(4, Certificate::FullLoad)).ok()?;
+    let desk = Desk::<L>::new(repository(alloc, 1_024)?, blank);
+    desk.apply(rt, Event::Plan(16, Certificate::FullLoad)).ok()?;
     let commits = commits(desk.run_round(rt, alloc, &NoGate, works).ok()?.as_slice());
     let after = desk.status(rt).ok()?;
     Some((commits, after.events, after.rows.len(), after.totals.commit))
@@ -123,6 +123,6 @@ fn a_round_on_64_lanes(rt: HostRuntime) -> Result<(), Fail> {
     let alloc = rt.alloc();
     let works = works(alloc, 64, |lane| own_task(alloc, lane)).ok_or("works")?;
     let came = run::<Brand, _, _>(&rt, alloc, Blank::new(MAX_PARTS), works);
-    assert!(rt; came == Some(((64, 64), 130, 256, 64)));
+    assert!(rt; came == Some(((64, 64), 130, 1_024, 64)));
     Ok(())
 }

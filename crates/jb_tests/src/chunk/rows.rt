@@ -144,13 +144,20 @@ fn many_records(alloc: Global) -> Result<Vec<Item>, AllocError> {
     Ok(records)
 }
 
-/// One chunk of many records, each of which has a result.
-#[test]
-fn a_chunk_of_100_000_records(rt: HostRuntime) -> Result<(), Fail> {
-    let alloc = rt.alloc();
+/// 100,000 records in chunks of so many, each of which has a result.
+fn run_many(alloc: Global, item_count: u64) -> Result<Ran, Fail> {
+    let records = many_records(alloc)?;
     let (processes, writes) = (FaultPlans::new(alloc), FaultPlans::new(alloc));
-    let ran = run(alloc, many_records(alloc)?, 1_000_000, 0, processes, writes)?;
-    assert!(rt; ran.end == AloneEnd::Finished && ran.last.as_slice() == b"xr".as_slice());
-    assert!(rt; ran.row.written == 100_000 && ran.row.counts.commit == 1);
+    run(alloc, records, item_count, 0, processes, writes)
+}
+
+/// One chunk of many records, and many chunks of few.
+#[test]
+fn a_hundred_thousand_records(rt: HostRuntime) -> Result<(), Fail> {
+    for (item_count, commits) in [(1_000_000, 1), (10, 10_000)] {
+        let ran = run_many(rt.alloc(), item_count)?;
+        assert!(rt; ran.end == AloneEnd::Finished && ran.last.as_slice() == b"xr".as_slice());
+        assert!(rt; ran.row.written == 100_000 && ran.row.counts.commit == commits);
+    }
     Ok(())
 }

@@ -1,6 +1,6 @@
 //! The definitions, computed on worked rows apart from the code.
 
-ghost use Rattle.jb_chunk.specs.Worked.{FirstRun, EverythingFiltered, NoRecord, RetryToSingles, SkipInRedo, OneFailed, TornWrite, WriteRetried, WriteFailed, ShakyWrite, RetryLimit, ReadSkip, RolledBackSkip, Repeat, RepeatLimit, RepeatedWrite, RepeatedAndRolled, RepeatedThenSkipped, SkippedAndRepeated, SkippedInRedo, RepeatedReads, PlainRuns};
+ghost use Rattle.jb_chunk.specs.Worked.{FirstRun, EverythingFiltered, NoRecord, RetryToSingles, SkipInRedo, OneFailed, TornWrite, WriteRetried, WriteFailed, ShakyWrite, RetryLimit, ReadSkip, SkippedBeforeWrite, RolledBackSkip, Repeat, RepeatLimit, RepeatedWrite, RepeatedAndRolled, RepeatedThenSkipped, SkippedAndRepeated, SkippedInRedo, RepeatedReads, AllSeen, PlainRuns};
 
 use std::test::*;
 
@@ -17,6 +17,7 @@ fn worked_rows()
     ensures shaky_write { ShakyWrite }
     ensures retry_limit { RetryLimit }
     ensures read_skip { ReadSkip }
+    ensures skipped_before_write { SkippedBeforeWrite }
     ensures rolled_back_skip { RolledBackSkip }
     ensures repeat { Repeat }
     ensures repeat_limit { RepeatLimit }
@@ -26,6 +27,7 @@ fn worked_rows()
     ensures skipped_and_repeated { SkippedAndRepeated }
     ensures skipped_in_redo { SkippedInRedo }
     ensures repeated_reads { RepeatedReads }
+    ensures all_seen { AllSeen }
     ensures plain_runs { PlainRuns }
 {}
 

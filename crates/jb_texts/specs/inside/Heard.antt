@@ -1,10 +1,8 @@
--- What is written of a call, for one partition.
-use Rattle.std.specs.Prelude.{ℕ, nat_eq, List, [], ◌∷◌, if◌then◌else◌}
-use Rattle.json.specs.Token.{Token, string}
+-- The calls about each partition, put into their lists one after another.
+use Rattle.std.specs.Prelude.{List, [], ◌∷◌, ◌++◌, slice_index_or, slice_set}
 use Rattle.jb_collect.specs.declared.calls.AnalyzerCall.{AnalyzerCall}
 use Rattle.jb_collect.specs.Laws.{partition_of}
-use Rattle.jb_texts.specs.Report.{heard_text}
 
--- its text, where it is about the partition
-abbrev pub call_tokens : (partition : ℕ) → AnalyzerCall → List Token
-call_tokens partition call = if nat_eq (partition_of call) partition then string (heard_text call) ∷ [] else []
+-- the call stands behind the others in the list of its partition, if there is one
+abbrev pub placed : AnalyzerCall → (lists : List (List AnalyzerCall)) → List (List AnalyzerCall)
+placed call lists = slice_set lists (partition_of call) (slice_index_or lists (partition_of call) [] ++ call ∷ [])

@@ -41,7 +41,7 @@ pub(crate) fn all_done<T: PartitionTask>(
     ensures all { OnOk result (AllAreDone reports.items) }
     ensures refused { IfErr result (λ error. (error ≡ Memory) ⊎ IsLowestRefusal reports.items error) }
 {
-    let mut dones = Vec::new(alloc);
+    let mut dones = with_room(alloc, reports.len())?;
     let mut refused = None;
     for Report { lane, done } in reports {
         match done {
@@ -56,6 +56,17 @@ pub(crate) fn all_done<T: PartitionTask>(
     match refused {
         Some((_, error)) => Err(error),
         None => Ok(dones),
+    }
+}
+
+/// An empty list with room for so many attempts.
+fn with_room<T: PartitionTask>(alloc: Global, number: usize) -> Result<Vec<Done<T>>, RoundError>
+    ensures none { IfOk result (λ dones. dones.items ≡ []) }
+    ensures err { IfErr result (λ error. error ≡ Memory) }
+{
+    match Vec::with_capacity(alloc, number) {
+        Ok(dones) => Ok(dones),
+        Err(_) => Err(RoundError::Memory),
     }
 }
 

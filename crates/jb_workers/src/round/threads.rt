@@ -1,10 +1,12 @@
-//! Works done at once: each in a thread of its own, but the first, which the caller's thread does.
+//! Works done at once: each in a thread of its own, but the first, which the caller's thread does. A single work is done there
+//! alone, with no thread and no scope for threads.
 
-ghost use Rattle.std.specs.Prelude.{◌≡◌, ◌≤◌, false, IfOk, IfErr, IfSome, vec_len};
+ghost use Rattle.std.specs.Prelude.{◌≡◌, ◌≤◌, ◌<◌, ◌∷◌, [], false, IfOk, IfErr, IfSome, vec_len};
 ghost use denote.Param.Send.{IsSync, IsSend};
 ghost use Rattle.jb_workers.specs.Works.{CanBegin, AllCanBegin};
 ghost use Rattle.jb_workers.specs.Turns.{MeetsWork};
 ghost use Rattle.jb_workers.specs.Round.{AreReports, is_refusal};
+ghost use Rattle.jb_workers.specs.declared.round.error.RoundError.TheVariants.{Memory};
 
 use crate::desk::Desk;
 use crate::desk::parts::Parts;
@@ -64,6 +66,30 @@ fn start<
     scope.spawn_with(promise, job).ok()
 }
 
+/// Does a work in the caller's thread, and reports on it.
+fn do_here<L: Ledger, T: PartitionTask, G: Gate, R: Wait>(
+    desk: &Desk<L>,
+    rt: &R,
+    alloc: Global,
+    gate: &G,
+    only: Work<T>,
+    parts: &mut Parts<L>,
+) -> Result<Vec<Report<T>>, RoundError>
+    requires can { CanBegin (T.standing only.task) }
+    requires part { 0 < parts.old.number }
+    ensures reports { IfOk result (λ reports. AreReports T.standing (only ∷ []) reports.items) }
+    ensures err { IfErr result (λ error. error ≡ Memory) }
+{
+    let lane = only.lane;
+    let Ok(none) = Vec::with_capacity(alloc, 1) else {
+        return Err(RoundError::Memory);
+    };
+    let share = parts.take_one();
+    let (done, share) = work(desk, rt, alloc, gate, only, share);
+    parts.put_back(share);
+    with_report(none, lane, done)
+}
+
 /// Starts a worker for each work but the first, the last work's first; does the first work itself; and joins the workers.
 fn run_all<
     's,
@@ -89,14 +115,11 @@ fn run_all<
     let Some(next) = works.pop() else {
         return Ok(Vec::new(alloc));
     };
+    if works.is_empty() {
+        return do_here(&*desk, &*rt, alloc, &*gate, next, parts);
+    }
     let lane = next.lane;
     let share = parts.take_one();
-    if works.is_empty() {
-        let (done, share) = work(&*desk, &*rt, alloc, &*gate, next, share);
-        parts.put_back(share);
-        let reports = with_report(Vec::new(alloc), lane, done)?;
-        return Ok(reports);
-    }
     let Some(worker) = start(&*scope, &*desk, &*rt, alloc, &*gate, next, share) else {
         return Err(RoundError::WorkerNotStarted);
     };
@@ -108,8 +131,8 @@ fn run_all<
     Ok(reports)
 }
 
-/// Does the works in a scope of their own: none of them is left running.
-pub(crate) fn in_threads<
+/// Does two works or more in a scope of their own: none of them is left running.
+fn in_scope<
     L: Ledger + Send + Sync + 'static,
     T: PartitionTask + Send + 'static,
     G: Gate + Sync,
@@ -135,4 +158,33 @@ pub(crate) fn in_threads<
             ensures { IfOk result (λ reports. AreReports T.standing works.items reports.items) × IfErr result (λ error. is_refusal error ≡ false) }
         { run_all(scope, desk, rt, alloc, gate, works, parts) },
     )
+}
+
+/// Does the works: a single one in the caller's thread alone.
+pub(crate) fn do_works<
+    L: Ledger + Send + Sync + 'static,
+    T: PartitionTask + Send + 'static,
+    G: Gate + Sync,
+    R: Threads + Wait + Sync,
+>(
+    desk: &Desk<L>,
+    rt: &R,
+    alloc: Global,
+    gate: &G,
+    works: Vec<Work<T>>,
+    parts: &mut Parts<L>,
+) -> Result<Vec<Report<T>>, RoundError>
+    requires can { AllCanBegin T.standing works.items }
+    requires parts { vec_len works ≤ parts.old.number }
+    ensures reports { IfOk result (λ reports. AreReports T.standing works.items reports.items) }
+    ensures err { IfErr result (λ error. is_refusal error ≡ false) }
+{
+    if works.len() > 1 {
+        return in_scope(desk, rt, alloc, gate, works, parts);
+    }
+    let mut works = works;
+    match works.pop() {
+        Some(only) => do_here(desk, rt, alloc, gate, only, parts),
+        None => Ok(Vec::new(alloc)),
+    }
 }

@@ -9,12 +9,12 @@ loop-number-init g c =
     let old = g.A.Meaning.workplace c.args.artifacts.now in
     let t : Trial = record { rules = c.args.rules.now; row = c.args.row.now; hi = c.args.hi; work = old } in
     record {
-      gathering = gathering-none t _ c.requires.place c.requires.order (tally-none old _ _ c.new-tally.ensures.found c.new-tally.ensures.read_skips c.new-tally.ensures.process_skips c.new-tally.ensures.filtered);
+      gathering = gathering-none t _ c.requires.place c.requires.order (tally-none old _ _ c.in_ok-tally.ensures.found c.in_ok-tally.ensures.read_skips c.in_ok-tally.ensures.process_skips c.in_ok-tally.ensures.filtered);
       sound = c.requires.sound;
       room = c.requires.room;
-      read_skips = omega arith;
-      process_skips = omega arith;
-      filtered = omega arith;
+      read_skips = let none = c.in_ok-tally.ensures.read_skips in omega (arith, none);
+      process_skips = let none = c.in_ok-tally.ensures.process_skips in omega (arith, none);
+      filtered = let none = c.in_ok-tally.ensures.filtered in omega (arith, none);
     }
 
 pub settle_record-requires-clause-place : goal.settle_record-requires-clause-place

@@ -1,7 +1,9 @@
 use Rattle.std.proofs.Common.{map}
-use Rattle.jb_step.proofs.Holding.{rows-sound}
+use Rattle.jb_step.specs.inside.Places.{held_in}
+use Rattle.jb_step.proofs.Placing.{now-sound-at}
 use Rattle.jb_step.proofs.plan.counts_of.Goals as goal
 
-pub add_counts-requires-clause-sound : goal.add_counts-requires-clause-sound
-add_counts-requires-clause-sound g c κs bounds =
-    rows-sound c.args.prepared.now (map g.T.PartitionTask.standing c.args.held.now) 0 c.begun_rows-rows.result.now c.requires.tasks c.begun_rows-rows.ensures.begun
+pub count_of-requires-clause-sound : goal.count_of-requires-clause-sound
+count_of-requires-clause-sound g c =
+    now-sound-at c.args.prepared.now (map g.T.PartitionTask.standing (held_in c.args.held.now)) c.begun_rows-rows.result.now c.loop-partition.partition _ c.row_of-now.result
+    c.loop-partition-test.true c.begun_rows-rows.ensures.begun c.requires.table.tasks c.row_of-now.ensures

@@ -2,5 +2,5 @@ use Rattle.std.proofs.Common.{arith}
 use Rattle.std.proofs.lemmas.Grind.{common_steps}
 use Rattle.jb_step.proofs.step.give_back.Goals as goal
 
-pub loop-task-preserved : goal.loop-task-preserved
-loop-task-preserved g c = grind (arith, common_steps)
+pub loop-place-preserved : goal.loop-place-preserved
+loop-place-preserved g c = grind (arith, common_steps)

@@ -1,5 +1,6 @@
 use Rattle.std.proofs.Common.{rules, ◌≡◌, true, length, map, ap}
 use Rattle.jb_step.specs.Ending.{given_back}
+use Rattle.jb_step.specs.inside.Places.{held_in}
 use Rattle.jb_step.proofs.Stepping.{IsLeft, left-by, run-is, alone-is, way-is, heard-fault}
 use Rattle.jb_step.proofs.step.run_tasks.Goals as goal
 
@@ -10,9 +11,9 @@ left : (g : _) (c : goal.In_ok-artifacts g)
     c.in_ok-ended.ended.fault c.in_ok-ended.ended.notes.items c.in_ok-ended.ended.snapshot (given_back g.T.Artifacts.Meaning.workplace c.in_ok-artifacts.artifacts.items)
 left g c =
     let yes : c.are_numbers-agree.result ≡ true = search rules in
-    left-by c.args.prepared.now (map g.T.Artifacts.Meaning.workplace c.args.artifacts.items) (map g.T.PartitionTask.standing c.in_ok-tasks.tasks.items) c.args.round_limit _ _
+    left-by c.args.prepared.now (map g.T.Artifacts.Meaning.workplace c.args.artifacts.items) (map g.T.PartitionTask.standing (held_in c.in_ok-tasks.tasks.items)) c.args.round_limit _ _
     c.in_ok-ended.ended.fault c.in_ok-ended.ended.notes.items c.in_ok-ended.ended.snapshot (given_back g.T.Artifacts.Meaning.workplace c.in_ok-artifacts.artifacts.items)
-    (map g.T.PartitionTask.standing c.in_ok-ended.ended.held.items) (c.in_ok-ended.ended.rounds, c.in_ok-ended.ended.attempts) (length c.as_slice.result.now) c.in_ok-ended.ended.stopped
+    (map g.T.PartitionTask.standing (held_in c.in_ok-ended.ended.held.items)) (c.in_ok-ended.ended.rounds, c.in_ok-ended.ended.attempts) (length c.as_slice.result.now) c.in_ok-ended.ended.stopped
     c.in_ok-tasks.ensures.tasks c.in_ok-ended.ensures.told c.in_ok-ended.ensures.rows c.in_ok-artifacts.ensures (ap length c.as_slice.ensures.value) (c.are_numbers-agree.ensures yes)
 
 pub returns-clause-run : goal.returns-clause-run

@@ -5,5 +5,5 @@ pub returns-in-Err-ended-clause-kept_out : goal.returns-in-Err-ended-clause-kept
 returns-in-Err-ended-clause-kept_out g c = record {
   refused = c.in-Err-ended.refused;
   is = refl;
-  cause = inr (inr (record { done = c.attempt-done.result; attempted = record { attempt = c.attempt-done.ensures.attempt; ready = c.attempt-done.ensures.ready }; refuses = search rules }));
+  cause = inr (record { begun = search rules; cause = inr (record { done = c.attempt-done.result; attempted = record { attempt = c.attempt-done.ensures.attempt; ready = c.attempt-done.ensures.ready }; refuses = search rules }) });
 }

@@ -1,4 +1,4 @@
-use Rattle.std.proofs.Common.{◌≡◌, ℕ, List, ap, sym, subst, rules, None, refl, ◌∙◌}
+use Rattle.std.proofs.Common.{◌≡◌, ℕ, List, length, ap, sym, subst, rules, None, refl, ◌∙◌}
 use Rattle.std.specs.Prelude.{IsSome}
 use Rattle.std.specs.Ordering.{nat_cmp}
 use Rattle.std.specs.BTreeMap.{is_at}
@@ -7,7 +7,7 @@ use Rattle.std.specs.Option.{option_copied_mut}
 use Rattle.jb_artifacts.specs.declared.faults.FaultPlan.{FaultPlan}
 use Rattle.jb_artifacts.specs.declared.fault_plans.FaultPlans.TheInside.{Inside}
 use Rattle.jb_artifacts.specs.Faults.{live, used_at, plans_of}
-use Rattle.jb_artifacts.proofs.Plans.{idle, struck, used_at-sound}
+use Rattle.jb_artifacts.proofs.Plans.{idle, none-planned, struck, used_at-sound}
 use Rattle.jb_artifacts.proofs.fault_plans.FaultPlans.strike.Goals as goal
 use Rattle.jb_artifacts.proofs.fault_plans.FaultPlans.strike.Goals.{in-Some, in-None}
 
@@ -34,3 +34,9 @@ returns-clause-sound c none = returns-clause-plans c ∙ used_at-sound (plans_of
   where
     idle : live (plans_of c.args.self.now c.args.number) ≡ None
     idle = search rules
+
+pub returns-then-is_empty-clause-plans : goal.returns-then-is_empty-clause-plans
+returns-then-is_empty-clause-plans c = sym (used_at-sound (plans_of c.args.self.now) c.args.number (none-planned c.args.self.now c.args.number none))
+  where
+    none : length c.args.self.now ≡ 0
+    none = ap length (sym c.self.view_is) ∙ search rules

@@ -1,5 +1,7 @@
-use Rattle.std.proofs.Common.{rules, ◌≡◌, ◌++◌, ◌⊎◌, [], ◌∷◌, length, refl, ap, ◌∙◌}
-use Rattle.jb_collect.specs.declared.calls.ReducerCall.TheVariants.{Begin}
+use Rattle.std.proofs.Common.{rules, ◌≡◌, ◌++◌, ◌⊎◌, false, Option, length, refl, ap, ◌∙◌}
+use Rattle.jb_collect.specs.Reduced.{calls_before}
+use Rattle.jb_saved.specs.SavedRows.{SavedRows}
+use Rattle.jb_step.specs.Setup.{discards}
 use Rattle.jb_program.specs.JobRun.{IsStepRefused}
 use Rattle.jb_program.specs.Refusals.{IsBroken}
 use Rattle.jb_program.proofs.StepRuns.{handed-on, prepared-with, refused, step-run, within-prepared, works-serve}
@@ -34,7 +36,8 @@ returns g c =
     let counted : length c.as_slice.result.now ≡ length c.deref_mut.result.now = search rules in
     let taken : c.deref_mut.result.now ≡ c.args.supply.records = search rules in
     let prepared = c.in_ok-prepared.ensures in
-    let begins = c.in_ok-prepared.ensures.begun ∙ ap (λ cs. cs ++ Begin ∷ []) c.new-recorder.ensures in
+    let calls = λ (rows : Option SavedRows). calls_before (discards c.args.step.now.spec.replace rows) false in
+    let begins = c.in_ok-prepared.ensures.begun ∙ ap (λ cs. cs ++ calls c.taken-saved.result.0) c.new-recorder.ensures ∙ ap calls c.taken-saved.ensures.saved in
     let run = step-run c.laws_below.ensures c.args.step.now c.args.supply c.args.round_limit c.args.resume (length c.as_slice.result.now) c.in_ok-prepared.prepared c.deref_mut.result.now _ c.settings_for-settings.result _
     c.in_ok-end.end.snapshot _ c.id.result.now c.in_ok-end.end.status c.in_ok-end.end.plans.items c.calls.result.now _ _ c.calls-2.result.now _ _
     (record { counted = counted; prepares = prepared-with _ _ c.args.resume _ _ c.taken-saved.ensures.saved prepared.runnable prepared.accepted prepared.prepared prepared.setup c.requires.held; outputs_are = search rules })

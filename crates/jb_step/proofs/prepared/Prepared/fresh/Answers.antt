@@ -6,5 +6,5 @@ use Rattle.jb_step.proofs.prepared.Prepared.fresh.Goals as goal
 
 pub with_rows-requires : goal.with_rows-requires
 with_rows-requires c =
-    let rows_are : c.add_rows.new.rows.items ≡ fresh_rows c.args.plan.now.ranges = search rules in
+    let rows_are : c.in_ok-rows.rows.items ≡ fresh_rows c.args.plan.now.ranges = search rules in
     subst MayOpen (sym rows_are) (fresh-may-open c.rows_stay_sound.ensures c.args.plan.now c.ranges-2.ensures.checked)

@@ -1,4 +1,4 @@
-use Rattle.jb_chunk.proofs.Worked.{first_run, everything_filtered, no_record, retry_to_singles, skip_in_redo, one_failed, torn_write, write_retried, write_failed, shaky_write, retry_limit, read_skip, rolled_back_skip, repeat, repeat_limit, repeated_write, repeated_and_rolled, repeated_then_skipped, skipped_and_repeated, skipped_in_redo, repeated_reads, plain_runs}
+use Rattle.jb_chunk.proofs.Worked.{first_run, everything_filtered, no_record, retry_to_singles, skip_in_redo, one_failed, torn_write, write_retried, write_failed, shaky_write, retry_limit, read_skip, skipped_before_write, rolled_back_skip, repeat, repeat_limit, repeated_write, repeated_and_rolled, repeated_then_skipped, skipped_and_repeated, skipped_in_redo, repeated_reads, all_seen, plain_runs}
 use Rattle.jb_tests.proofs.chunk.worked.worked_rows.Goals as goal
 
 pub returns-clause-first_run : goal.returns-clause-first_run
@@ -66,3 +66,9 @@ returns-clause-repeated_reads c = repeated_reads
 
 pub returns-clause-plain_runs : goal.returns-clause-plain_runs
 returns-clause-plain_runs c = plain_runs
+
+pub returns-clause-skipped_before_write : goal.returns-clause-skipped_before_write
+returns-clause-skipped_before_write c = skipped_before_write
+
+pub returns-clause-all_seen : goal.returns-clause-all_seen
+returns-clause-all_seen c = all_seen

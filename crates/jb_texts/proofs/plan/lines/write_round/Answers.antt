@@ -17,7 +17,7 @@ returns-clause-line g c =
     let few : busy ≤ load.threads = c.busy_lanes-busy.ensures.few in
     let whole : busy + idle ≡ load.threads = omega (arith, few, c.threads.ensures.value) in
     let is_idle : (l : ℕ) → busy ≤ l → l < busy + idle → lane_text round l ≡ 32 ∷ 45 ∷ [] =
-    λ l from to. idle-lane c.lanes_are_found.ensures load.counts load.threads c.args.round l (omega (arith, whole, to)) (c.busy_lanes-busy.ensures.idle l from) in
+    λ l from to. idle-lane c.lanes_are_found.ensures.found load.counts load.threads c.args.round l (omega (arith, whole, to)) (c.busy_lanes-busy.ensures.idle l from) in
     let lanes : lanes_text busy round ++ idle_text idle ≡ lanes_text load.threads round =
     lanes-split (lane_text round) busy idle is_idle ∙ ap (λ n. lanes_text n round) whole in
     on_ok_weaker c.write_all.result (λ ended.

@@ -12,6 +12,6 @@ run_all-reports-requires-clause-can g t c κs within = (All-pop (λ w. CanBegin 
 pub returns-clause-reports : goal.returns-clause-reports
 returns-clause-reports g t c =
     let report : Report _ = record { lane = c.in-Some.next.lane; done = c.join-done.result.0 } in
-    let pushed : c.in_ok-reports-2.reports.items ≡ c.in_ok-before.before.items ++ report ∷ [] = search rules in
+    let pushed : c.in_ok-reports.reports.items ≡ c.in_ok-before.before.items ++ report ∷ [] = search rules in
     let kept : MeetsWork g.T.PartitionTask.standing c.in-Some.next c.join-done.result.0 = search rules in
     rw (c.in-Some.ensures.items, pushed) (reports-snoc g.T.PartitionTask.standing _ _ c.in-Some.next report c.in_ok-before.ensures.reports (record { lane = refl; meets = kept }))

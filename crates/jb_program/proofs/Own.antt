@@ -1,0 +1,19 @@
+-- What the program's own artifacts mean.
+use Rattle.jb_artifacts.specs.Meaning.{Workplace}
+use Rattle.jb_artifacts.specs.declared.artifacts_of.ArtifactsOf.{ArtifactsOf}
+use Rattle.jb_artifacts.specs.declared.table_reader.TableReader.{TableReader}
+use Rattle.jb_artifacts.specs.declared.prefix_processor.PrefixProcessor.{PrefixProcessor}
+use Rattle.jb_artifacts.specs.declared.list_writer.ListWriter.{ListWriter}
+use Rattle.jb_artifacts.specs.declared.count_collector.CountCollector.{CountCollector}
+use Rattle.jb_artifacts.specs.contracts.table_reader.TableReaderItemReader.TheImpl as reader_of
+use Rattle.jb_artifacts.specs.contracts.prefix_processor.PrefixProcessorItemProcessor.TheImpl as processor_of
+use Rattle.jb_artifacts.specs.contracts.list_writer.ListWriterItemWriter.TheImpl as writer_of
+use Rattle.jb_artifacts.specs.contracts.count_collector.CountCollectorCollector.TheImpl as collector_of
+
+abbrev pub own_work : ArtifactsOf TableReader PrefixProcessor ListWriter CountCollector → Workplace
+own_work own = record {
+  reader = (reader_of.ghosts).reader own.reader;
+  processor = (processor_of.ghosts).processor own.processor;
+  writer = (writer_of.ghosts).writer own.writer;
+  collector = (collector_of.ghosts).collected own.collector;
+}

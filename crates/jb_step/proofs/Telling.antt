@@ -1,0 +1,50 @@
+-- What is told row after row, or place after place.
+use Rattle.std.proofs.Common.{◌≡◌, ℕ, ◌+◌, ◌<◌, Bool, true, false, cond, List, [], ◌∷◌, ◌++◌, length, get_or, drop, map, Option, Some, None, refl, ap, sym, ◌∙◌, subst}
+use Rattle.std.proofs.lemmas.List.{drop_more}
+use Rattle.std.specs.Prelude.{◌==◌, filter, is_some}
+use Rattle.std.specs.List.{enumerate_from}
+use Rattle.jb_job.specs.declared.class.ClassId.{ClassId}
+use Rattle.jb_rules.specs.declared.row.Row.{Row}
+use Rattle.jb_rules.specs.States.{is_waiting}
+use Rattle.jb_chunk.specs.Standing.{TaskState}
+use Rattle.jb_collect.specs.declared.calls.AnalyzerCall.{AnalyzerCall}
+use Rattle.jb_collect.specs.Heard.{heard_last}
+use Rattle.jb_collect.specs.Laws.{TakenOneAfterAnother, NoneAfterAFault}
+use Rattle.jb_collect.specs.Taken.{Taken, HasTaken}
+use Rattle.jb_step.specs.inside.Places.{held_in}
+use Rattle.jb_step.specs.inside.Telling.{empties}
+
+by-test : {X Y : Type 0} (b : Bool) (f : X → Y) (x : X) (xs : List X) → map f (cond b (x ∷ xs) xs) ≡ map f (cond b (x ∷ []) []) ++ map f xs
+by-test true f x xs = refl
+by-test false f x xs = refl
+
+-- what is told of the first row, and then of the others
+pub empties-one : (k : ℕ) (row : Row) (rows : List Row) → empties k (row ∷ rows) ≡ empties k (row ∷ []) ++ empties (k + 1) rows
+empties-one k row rows = by-test (row.lo == row.hi) _ (k, row) (filter (λ (n : ℕ × Row). n.1.lo == n.1.hi) (enumerate_from (k + 1) rows))
+
+-- what is told of the first place, and then of the others
+pub last-one : {T : Type 0} (standing : T → TaskState) (place : Option T) (places : List (Option T))
+    → heard_last (map standing (held_in (place ∷ places))) ≡ heard_last (map standing (held_in (place ∷ []))) ++ heard_last (map standing (held_in places))
+last-one standing None places = refl
+last-one standing (Some t) places = by-test (is_waiting (standing t).row.state) _ (standing t) (filter (λ (u : TaskState). is_waiting u.row.state) (map standing (held_in places)))
+
+-- the calls of one place, where the places from the i-th on are told of
+at-place : {T : Type 0} (standing : T → TaskState) (places : List (Option T)) (i : ℕ) (place : Option T) → i < length places → place ≡ get_or places i place
+    → heard_last (map standing (held_in (drop i places))) ≡ heard_last (map standing (held_in (place ∷ []))) ++ heard_last (map standing (held_in (drop (i + 1) places)))
+at-place standing places i place lt is =
+    ap (λ (os : List (Option _)). heard_last (map standing (held_in os))) (drop_more places i place lt ∙ ap (λ (o : Option _). o ∷ drop (i + 1) places) (sym is))
+    ∙ last-one standing place (drop (i + 1) places)
+
+pub place-told : {T : Type 0} → TakenOneAfterAnother → (standing : T → TaskState) (places : List (Option T)) (i : ℕ) (place : Option T) (now next later : List (Taken AnalyzerCall)) (found fault : Option ClassId)
+    → i < length places → place ≡ get_or places i place → is_some found ≡ false → HasTaken now (heard_last (map standing (held_in (place ∷ [])))) found next
+    → HasTaken next (heard_last (map standing (held_in (drop (i + 1) places)))) fault later → HasTaken now (heard_last (map standing (held_in (drop i places)))) fault later
+place-told law standing places i place now next later None fault lt is none told rest =
+    subst (λ (calls : List AnalyzerCall). HasTaken now calls fault later) (sym (at-place standing places i place lt is)) (law now next later _ _ fault told rest)
+place-told law standing places i place now next later (Some class) fault lt is none told rest = let never : ⊥ = cc in absurd never
+
+pub place-faulted : {T : Type 0} → NoneAfterAFault → (standing : T → TaskState) (places : List (Option T)) (i : ℕ) (place : Option T) (now next : List (Taken AnalyzerCall)) (fault : Option ClassId)
+    → i < length places → place ≡ get_or places i place → is_some fault ≡ true → HasTaken now (heard_last (map standing (held_in (place ∷ [])))) fault next
+    → HasTaken now (heard_last (map standing (held_in (drop i places)))) fault next
+place-faulted law standing places i place now next None lt is some told = let never : ⊥ = cc in absurd never
+place-faulted law standing places i place now next (Some class) lt is some told =
+    subst (λ (calls : List AnalyzerCall). HasTaken now calls (Some class) next) (sym (at-place standing places i place lt is)) (law now next _ _ class told)

@@ -1,0 +1,5 @@
+use Rattle.jb_step.proofs.Overriding.{overrides-begin-anew}
+use Rattle.jb_step.proofs.laws.overrides_begin_anew.Goals as goal
+
+pub returns : goal.returns
+returns c = overrides-begin-anew

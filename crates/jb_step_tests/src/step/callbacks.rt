@@ -1,0 +1,226 @@
+//! Callbacks that fail at the end of a step, or find no memory there.
+
+ghost use Rattle.std.specs.Prelude.{◌≡◌};
+ghost use Rattle.jb_job.specs.Limits.{max_parts};
+
+use crate::step::given::{Letters, all_works, stopped_after};
+use crate::step::restarts::add_answer;
+use crate::step::rows::{PLAIN, assert_text};
+use crate::step::runs::started;
+use jb_collect::{ListAnalyzer, ListReducer, PartitionStatus, Reducer, ReducerCall};
+use jb_job::{ArtifactError, ClassId, MAX_PARTS};
+use std::alloc::Global;
+use std::marker::Brand;
+use std::sync::Wait;
+use std::sync::ledger::{Blank, Ledger};
+use std::test::*;
+use std::thread::Threads;
+
+/// A reducer that finds no memory for one of its calls, if one is named.
+#[derive(Drop)]
+pub(crate) struct Lacking {
+    list: ListReducer,
+    call: Option<ReducerCall>,
+}
+
+impl Lacking {
+    /// With `fault`, the call of this number, the first being 0, is answered with a fault of class 3; `call` finds no memory.
+    pub(crate) fn new(alloc: Global, fault: Option<u64>, call: Option<ReducerCall>) -> Lacking {
+        let fault = fault.map(|number| (number, ClassId::new(3)));
+        Lacking {
+            list: ListReducer::new(alloc, fault),
+            call,
+        }
+    }
+}
+
+impl Reducer for Lacking {
+    ghost reduced = { λ r. ⟦<ListReducer as Reducer>⟧.reduced r.list };
+
+    fn begin(&mut self) -> Result<(), ArtifactError> {
+        if self.call == Some(ReducerCall::Begin) {
+            return Err(ArtifactError::Memory);
+        }
+        self.list.begin()
+    }
+
+    fn before_completion(&mut self) -> Result<(), ArtifactError> {
+        if self.call == Some(ReducerCall::Before) {
+            return Err(ArtifactError::Memory);
+        }
+        self.list.before_completion()
+    }
+
+    fn rollback(&mut self) -> Result<(), ArtifactError> {
+        if self.call == Some(ReducerCall::Rollback) {
+            return Err(ArtifactError::Memory);
+        }
+        self.list.rollback()
+    }
+
+    fn after(&mut self, status: PartitionStatus) -> Result<(), ArtifactError> {
+        if self.call == Some(ReducerCall::After(status)) {
+            return Err(ArtifactError::Memory);
+        }
+        self.list.after(status)
+    }
+
+    fn calls(&self) -> &[ReducerCall] {
+        self.list.calls()
+    }
+}
+
+/// The one record of the step.
+const RECORDS: &str = "a/";
+
+/// What is wrong with the reducer, and what comes of the step.
+struct Case {
+    /// The greatest number of rounds: 0 where the step is stopped.
+    rounds: Option<u64>,
+    /// The number of the reducer's call that is answered with a fault, `begin` being 0.
+    fault: Option<u64>,
+    /// The call that finds no memory.
+    lacking: Option<ReducerCall>,
+    /// The step's plans, the analyzer's calls, the reducer's, and the status and the number of events; where there is no answer,
+    /// why, the numbers of events and of plans, and the calls of both.
+    course: &'static str,
+}
+
+const CASES: [Case; 10] = [
+    Case {
+        rounds: None,
+        fault: Some(1),
+        lacking: None,
+        course: "Longest(0) 1 of 1
+0:1:1 0:1:1:end 0 Completed .
+Begin Before Rollback After(Rollback) .
+Failed 4
+",
+    },
+    Case {
+        rounds: None,
+        fault: Some(2),
+        lacking: None,
+        course: "Longest(0) 1 of 1
+0:1:1 0:1:1:end 0 Completed .
+Begin Before After(Commit) .
+Failed 4
+",
+    },
+    Case {
+        rounds: None,
+        fault: None,
+        lacking: Some(ReducerCall::Before),
+        course: "Memory 4 1
+0:1:1 0:1:1:end 0 Completed .
+Begin Rollback After(Rollback) .
+",
+    },
+    Case {
+        rounds: None,
+        fault: None,
+        lacking: Some(ReducerCall::After(PartitionStatus::Commit)),
+        course: "Memory 4 1
+0:1:1 0:1:1:end 0 Completed .
+Begin Before .
+",
+    },
+    Case {
+        rounds: None,
+        fault: Some(1),
+        lacking: Some(ReducerCall::Rollback),
+        course: "Memory 4 1
+0:1:1 0:1:1:end 0 Completed .
+Begin Before After(Rollback) .
+",
+    },
+    Case {
+        rounds: None,
+        fault: Some(1),
+        lacking: Some(ReducerCall::After(PartitionStatus::Rollback)),
+        course: "Memory 4 1
+0:1:1 0:1:1:end 0 Completed .
+Begin Before Rollback .
+",
+    },
+    Case {
+        rounds: Some(0),
+        fault: Some(1),
+        lacking: None,
+        course: "0 Stopped .
+Begin Rollback After(Rollback) .
+Failed 1
+",
+    },
+    Case {
+        rounds: Some(0),
+        fault: Some(2),
+        lacking: None,
+        course: "0 Stopped .
+Begin Rollback After(Rollback) .
+Failed 1
+",
+    },
+    Case {
+        rounds: Some(0),
+        fault: None,
+        lacking: Some(ReducerCall::Rollback),
+        course: "Memory 1 0
+0 Stopped .
+Begin After(Rollback) .
+",
+    },
+    Case {
+        rounds: Some(0),
+        fault: None,
+        lacking: Some(ReducerCall::After(PartitionStatus::Rollback)),
+        course: "Memory 1 0
+0 Stopped .
+Begin Rollback .
+",
+    },
+];
+
+/// The course of the step with such a reducer.
+fn course_with<L: Ledger + Send + Sync + 'static, R: Threads + Wait + Sync>(
+    rt: &R,
+    alloc: Global,
+    blank: Blank,
+    case: &Case,
+) -> Result<String, Fail>
+    requires name { blank.name ≡ L.name }
+    requires parts { blank.parts ≡ L.parts }
+    requires all { blank.parts ≡ max_parts }
+{
+    let mut analyzer = ListAnalyzer::new(alloc, None);
+    let mut reducer = Lacking::new(alloc, case.fault, case.lacking);
+    let prepared = started(alloc, PLAIN, RECORDS, &mut reducer, None)?;
+    let desk = prepared.desk::<L>(alloc, blank)?;
+    let artifacts = all_works(alloc, RECORDS, 1)?;
+    let end = stopped_after::<Letters, L, R>(
+        rt,
+        alloc,
+        &desk,
+        prepared,
+        artifacts,
+        &mut analyzer,
+        &mut reducer,
+        case.rounds,
+    );
+    let snapshot = desk.status(rt)?;
+    let mut course = String::new(alloc);
+    add_answer(&mut course, alloc, &snapshot, &end, &analyzer, &reducer)?;
+    Ok(course)
+}
+
+/// A callback's fault makes the step failed; where one finds no memory, the step has no answer. Both change no call after it, but
+/// that `before_completion` is followed by a rollback.
+#[test]
+fn callbacks_fail_at_the_end(rt: HostRuntime) -> Result<(), Fail> {
+    for case in &CASES {
+        let blank = Blank::new(MAX_PARTS);
+        let course = course_with::<Brand, _>(&rt, rt.alloc(), blank, case)?;
+        assert_text(&rt, course.as_str(), case.course);
+    }
+    Ok(())
+}
