@@ -1,5 +1,5 @@
 #!/usr/bin/env python3
-"""What 10,000 to 1,000,000 events of a repository take, on 256 partitions and 64 lanes.
+"""What 10,000 to 1,000,000 events of a repository take, on 1,024 partitions and 64 lanes.
 
 `events/src/main.rt.in` applies them by the library `jb_repo` and asks for a snapshot after each round. The program is no part of
 the gate (programs.py). Each row has ten times the events of the one before it and should take about ten times as long, since an event costs

@@ -1,9 +1,9 @@
 #!/usr/bin/env python3
-"""What reading and writing a saved text takes, of 16 and of 256 rows.
+"""What reading and writing a saved text takes, of 16 and of 1,024 rows.
 
 The rows are those of partitions that were stopped at a checkpoint, with counts of several digits. A program over the library
 `jb_saved` reads the text 1,000 times, or reads it once and writes its rows 1,000 times: `us` is the processor time of one time, in
-microseconds, the least of five runs, less that of a run that reads the text once. 256 rows should take about 16 times what 16
+microseconds, the least of five runs, less that of a run that reads the text once. 1,024 rows should take about 64 times what 16
 take. `python3` is the same by Python's module `json`, which knows no rows and checks none. The program `saved` is no part of the
 gate (programs.py), and no number here decides it.
 """
@@ -17,7 +17,7 @@ from measure import measure
 from programs import build
 
 STANDS_ON = ("jb_saved",)
-ROWS = (16, 256)
+ROWS = (16, 1_024)
 TIMES = 1_000
 RUNS = 5
 

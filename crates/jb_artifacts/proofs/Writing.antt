@@ -4,13 +4,14 @@ use Rattle.std.specs.Prelude.{is_some}
 use Rattle.std.specs.List.{find, prefix_len}
 use Rattle.std.specs.Option.{option_or}
 use Rattle.std.proofs.Math.Seq.{take-suc}
-use Rattle.std.proofs.lemmas.List.{map-append, take_all, length-take-le}
+use Rattle.std.proofs.lemmas.List.{get_or_default, map-append, take_all, length-take-le}
 use Rattle.std.proofs.lemmas.List.Folds.{find-append}
 use Rattle.jb_job.specs.declared.artifact_error.ArtifactError.{ArtifactError}
 use Rattle.jb_job.specs.declared.artifact_error.ArtifactError.TheVariants.{Fault, Memory}
+use Rattle.jb_artifacts.specs.declared.faults.FaultPlan.TheVariants.{Sound}
 use Rattle.jb_artifacts.specs.Answers.{IfFault, IfNoMemory}
-use Rattle.jb_artifacts.specs.Faults.{live, is_live, used_at}
-use Rattle.jb_artifacts.specs.Writer.{Numbered, Writer, texts_of, failing, write_fault, after_write, fault_of, used_for, torn_write, Appends}
+use Rattle.jb_artifacts.specs.Faults.{Plans, live, is_live, used_at}
+use Rattle.jb_artifacts.specs.Writer.{Texts, Numbered, Writer, texts_of, failing, write_fault, after_write, fault_of, used_for, torn_write, Appends}
 
 -- the first `count` results are appended, none of their records has a live fault, and the plans are unchanged
 pub record IsWrittenTo (old : Writer) (results : Numbered) (count : ℕ) (now : Writer) : Type 0 where
@@ -111,6 +112,21 @@ module _ (old : Writer) (results : Numbered) (n : ℕ) (now : Writer) (h : IsWri
         is = left.1 ∙ ap (λ (w : Writer). record w { written = w.written ++ r.1 ∷ [] }) h.is ∙ (λ i. record old { written = texts i });
       }
 
+  -- the same two, of the number and the text that a call was given
+  pub stopped-at : (number : ℕ) (text : List ℕ) (error : ArtifactError) (result : Result (Unit {0}) ArtifactError) (new : Writer) → result ≡ Err error
+      → n < length results → number ≡ (get_or results n (0, [])).0 → text ≡ (get_or results n (0, [])).1 → Appends (Err error) number text now new
+      → IsStopped result old results new
+  stopped-at number text error result new told below number_is text_is left =
+      let r : ℕ × List ℕ = get_or results n (0, []) in
+      stopped r error result new told below (get_or_default results n (0, []) r below)
+      (subst (λ (x : ℕ × List ℕ). Appends (Err error) x.0 x.1 now new) (λ i. (number_is i, text_is i)) left)
+
+  pub written-at : (number : ℕ) (text : List ℕ) (done : Unit {0}) (new : Writer) → n < length results → number ≡ (get_or results n (0, [])).0
+      → text ≡ (get_or results n (0, [])).1 → Appends (Ok done) number text now new → IsWrittenTo old results (n + 1) new
+  written-at number text done new below number_is text_is left =
+      let r : ℕ × List ℕ = get_or results n (0, []) in
+      written-more r done new below (get_or_default results n (0, []) r below) (subst (λ (x : ℕ × List ℕ). Appends (Ok done) x.0 x.1 now new) (λ i. (number_is i, text_is i)) left)
+
   -- all are appended
   pub all-written : length results ≤ n → n ≤ length results → (write_fault old results ≡ None) × (now ≡ after_write old results)
   all-written ended within =
@@ -121,3 +137,21 @@ module _ (old : Writer) (results : Numbered) (n : ℕ) (now : Writer) (h : IsWri
         ap (fault_of old.faults) none,
         h.is ∙ (λ i. record { written = old.written ++ texts_of (take (count i) results); faults = used_for old.faults (sym none i) }),
       )
+
+all-sound : (results : Numbered) → failing (λ _. Sound) results ≡ None
+all-sound [] = refl
+all-sound (r ∷ results) = all-sound results
+
+-- where no record has a plan, all are appended at once
+pub at-once : (written now : Texts) (plans : Plans) (results : Numbered) → plans ≡ (λ _. Sound) → now ≡ written ++ texts_of results
+    → (write_fault (record { written = written; faults = plans }) results ≡ None)
+    × (record { written = now; faults = plans } ≡ after_write (record { written = written; faults = plans }) results)
+at-once written now plans results sound is =
+    let count : ℕ = length results in
+    let whole : take count results ≡ results = take_all count results (omega arith) in
+    all-written (record { written = written; faults = plans }) results count (record { written = now; faults = plans })
+    (record {
+      sound = ap (failing plans) whole ∙ ap (λ plans. failing plans results) sound ∙ all-sound results;
+      is = λ i. record { written = (is ∙ ap (λ rs. written ++ texts_of rs) (sym whole)) i; faults = plans };
+    })
+    (omega arith) (omega arith)

@@ -17,6 +17,11 @@ Numbered = List (ℕ × List ℕ)
 abbrev pub texts_of : Numbered → Texts
 texts_of results = map (λ r. r.1) results
 
+-- a record's result with its number, if it has one
+abbrev pub numbered : (k : ℕ) → Option (List ℕ) → Option (ℕ × List ℕ)
+numbered k None = None
+numbered k (Some text) = Some (k, text)
+
 -- the list written, and a fault plan per record
 pub record Writer : Type 0 where
   pub written : Texts

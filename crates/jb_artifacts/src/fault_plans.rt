@@ -1,6 +1,6 @@
 //! The fault plans of an artifact's records.
 
-ghost use Rattle.std.specs.Prelude.{◌≡◌, None, OnOk, OnErr};
+ghost use Rattle.std.specs.Prelude.{◌≡◌, IsTrue, None, OnOk, OnErr};
 ghost use Rattle.jb_artifacts.specs.Faults.{live, plans_of, used_at, with_plan};
 
 use crate::faults::FaultPlan;
@@ -46,6 +46,13 @@ impl FaultPlans {
             Ok(_) => Ok(()),
             Err(_) => Err(AllocError),
         }
+    }
+
+    /// Whether no plan was put in: each record is sound.
+    pub fn is_empty(&self) -> bool
+        ensures { IsTrue result → plans_of self.now ≡ λ _. Sound }
+    {
+        self.table.is_empty()
     }
 
     /// The class with which the next call for the record fails, if it does.

@@ -7,6 +7,8 @@ ghost use Rattle.jb_artifacts.specs.Prefix.{begins_with, prefixed};
 use crate::fault_plans::FaultPlans;
 use crate::interfaces::ItemProcessor;
 use crate::item::Item;
+use crate::packed_results::PackedResults;
+use crate::packing_processor::PackingProcessor;
 use jb_job::ArtifactError;
 use std::alloc::{AllocError, Global};
 
@@ -52,6 +54,24 @@ impl ItemProcessor for PrefixProcessor {
         }
         let result = joined(self.alloc, self.prefix.as_slice(), item)?;
         Ok(Some(result))
+    }
+}
+
+impl PackingProcessor for PrefixProcessor {
+    fn pack_item(
+        &mut self,
+        number: u64,
+        item: &[u8],
+        results: &mut PackedResults,
+    ) -> Result<bool, ArtifactError> {
+        if let Some(class) = self.faults.strike(number) {
+            return Err(ArtifactError::Fault(class));
+        }
+        if is_dropped(&self.dropped, item) {
+            return Ok(false);
+        }
+        results.push_joined(number, self.prefix.as_slice(), item)?;
+        Ok(true)
     }
 }
 

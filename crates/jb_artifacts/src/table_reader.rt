@@ -1,11 +1,13 @@
 //! A reader over a table of records.
 
-ghost use Rattle.std.specs.Prelude.{◌≡◌, ◌≤◌, ◌+◌, ◌<◌, ◌^◌, vec_len};
+ghost use Rattle.std.specs.Prelude.{◌≡◌, ◌≤◌, ◌+◌, ◌<◌, ◌^◌, length};
 ghost use Rattle.jb_artifacts.specs.Faults.{plans_of};
 
 use crate::fault_plans::FaultPlans;
 use crate::interfaces::ItemReader;
 use crate::item::Item;
+use crate::lending_reader::LendingReader;
+use jb_base::PackedList;
 use jb_job::ArtifactError;
 use std::alloc::Global;
 
@@ -14,24 +16,27 @@ use std::alloc::Global;
 pub struct TableReader {
     alloc: Global,
     first: u64,
-    records: Vec<Item>,
+    end: u64,
+    records: PackedList,
     place: u64,
     faults: FaultPlans,
-    ghost numbered: { first + vec_len records < 2 ^ 64 },
+    ghost numbered: { end ≡ first + length records },
     ghost from: { first ≤ place },
-    ghost to: { place ≤ first + vec_len records },
+    ghost to: { place ≤ end },
 }
 
 impl TableReader {
-    /// A reader of these records, the first of which has the number `first`. It stands at the first. Takes no memory.
-    pub fn new(alloc: Global, first: u64, records: Vec<Item>, faults: FaultPlans) -> TableReader
-        requires numbered { first + vec_len records < 2 ^ 64 }
+    /// A reader of these records, the first of which has the number `first`. It stands at the first. Their numbers are to fit,
+    /// as they do from 0 on. Takes no memory.
+    pub fn new(alloc: Global, first: u64, records: PackedList, faults: FaultPlans) -> TableReader
+        requires numbered { 0 < first → first + length records < 2 ^ 64 }
         ensures { ⟦<TableReader as ItemReader>⟧.reader result
-            ≡ record { first = first; records = records.items; place = first; faults = plans_of faults } }
+            ≡ record { first = first; records = records; place = first; faults = plans_of faults } }
     {
         TableReader {
             alloc,
             first,
+            end: first + records.len() as u64,
             records,
             place: first,
             faults,
@@ -40,14 +45,14 @@ impl TableReader {
 }
 
 impl ItemReader for TableReader {
-    ghost reader = { λ t. record { first = t.first; records = t.records.items; place = t.place; faults = plans_of t.faults } };
+    ghost reader = { λ t. record { first = t.first; records = t.records; place = t.place; faults = plans_of t.faults } };
 
     fn first(&self) -> u64 {
         self.first
     }
 
     fn end(&self) -> u64 {
-        self.first + self.records.len() as u64
+        self.end
     }
 
     fn place(&self) -> u64 {
@@ -59,16 +64,30 @@ impl ItemReader for TableReader {
     }
 
     fn read_item(&mut self) -> Result<Option<Item>, ArtifactError> {
-        let index = (self.place - self.first) as usize;
-        if index >= self.records.len() {
+        if self.place == self.end {
             return Ok(None);
         }
         if let Some(class) = self.faults.strike(self.place) {
             self.place += 1;
             return Err(ArtifactError::Fault(class));
         }
-        let record = Item::copy_of(self.alloc, self.records[index].as_slice())?;
+        let record = Item::copy_of(self.alloc, self.record(self.place))?;
         self.place += 1;
         Ok(Some(record))
+    }
+}
+
+impl LendingReader for TableReader {
+    fn pass_item(&mut self) -> Result<(), ArtifactError> {
+        let number = self.place;
+        self.place += 1;
+        match self.faults.strike(number) {
+            Some(class) => Err(ArtifactError::Fault(class)),
+            None => Ok(()),
+        }
+    }
+
+    fn record(&self, number: u64) -> &[u8] {
+        self.records.at((number - self.first) as usize)
     }
 }

@@ -1,5 +1,5 @@
 -- A call that is repeated in place.
-use Rattle.std.proofs.Common.{◌≡◌, ℕ, suc, ◌+◌, ◌-◌, ◌≤◌, ◌<◌, ◌⊎◌, inl, inr, Bool, true, false, not, List, ◌++◌, length, length-append, take, Option, Some, None, Result, Ok, Err, IfOk, OnOk, refl, ap, sym, ◌∙◌, subst, arith, eqb}
+use Rattle.std.proofs.Common.{◌≡◌, ℕ, suc, ◌+◌, ◌-◌, ◌≤◌, ◌<◌, ◌⊎◌, inl, inr, Bool, true, false, not, List, ◌++◌, length, length-append, take, option_to_list, is_some, Option, Some, None, Result, Ok, Err, IfOk, OnOk, refl, ap, sym, ◌∙◌, subst, arith, eqb}
 use Rattle.std.specs.List.{take_while}
 use Rattle.std.proofs.lemmas.Bool.Decides.{nat_tests}
 use Rattle.std.proofs.lemmas.Grind.{common_steps}
@@ -17,8 +17,9 @@ use Rattle.jb_artifacts.specs.Processor.{process_fault, after_process}
 use Rattle.jb_artifacts.specs.Writer.{Numbered, Texts, texts_of, cut, write_fault, after_write, torn_write}
 use Rattle.jb_artifacts.specs.Meaning.{Workplace}
 use Rattle.jb_chunk.specs.Block.{repeats}
+use Rattle.jb_chunk.specs.Entries.{numbered}
 use Rattle.jb_chunk.specs.Standing.{HasRepeats}
-use Rattle.jb_chunk.specs.inside.Repeats.{Call, called_times, called, next_fault, fault_answered, read_call, process_call, write_call, IsCalling, IsCalled, IsRead, IsProcessed, IsPut, rewritten, written_times}
+use Rattle.jb_chunk.specs.inside.Repeats.{Call, called_times, called, next_fault, seen_as, fault_answered, results_behind, read_call, process_call, write_call, IsCalling, IsCalled, IsRead, IsProcessed, IsPut, rewritten, written_times}
 use Rattle.jb_chunk.proofs.Repeating.{repeats-below}
 use Rattle.jb_chunk.proofs.Recalling.{row-suc, row-none}
 
@@ -78,19 +79,23 @@ calling-more rules skips row now next call left back class c fault asked grows p
       passes = passes;
     }
 
--- the last call, by what it answered
-calling-last : {A : Type 0} {P : A → Type 0} {Q : ClassId → Type 0} {R : Type 0} (rules : RulesRecord) (skips : ℕ) (row now : Row) (call : Call) (value : A) (left new : Workplace) (answer : Result A ArtifactError) (c : IsCalling rules skips row call now left)
+-- the last call, by what its answer stands for
+calling-last : {A B : Type 0} {P : A → Type 0} {Q : ClassId → Type 0} {R : Type 0} (seen : A → B) (rules : RulesRecord) (skips : ℕ) (row now : Row) (call : Call) (value : B) (left new : Workplace) (answer : Result A ArtifactError) (c : IsCalling rules skips row call now left)
     → IfOk answer P → IfFault answer Q → IfNoMemory answer R
-    → ((x : A) → P x → (call.fault c.again ≡ None) × (x ≡ value) × (new ≡ call.behind c.again))
+    → ((x : A) → P x → (call.fault c.again ≡ None) × (seen x ≡ value) × (new ≡ call.behind c.again))
     → ((class : ClassId) → Q class → (call.fault c.again ≡ Some class) × (new ≡ call.behind c.again))
     → (R → new ≡ call.without_memory c.again new)
-    → repeats rules now (fault_answered answer) skips ≡ false → IsCalled rules skips row call value answer now new
-calling-last rules skips row now call value left new (Ok x) c ok fault none made failed broke last =
+    → repeats rules now (fault_answered answer) skips ≡ false → IsCalled rules skips row call value (seen_as seen answer) now new
+calling-last seen rules skips row now call value left new (Ok x) c ok fault none made failed broke last =
     record { again = c.again; grown = c.grown; asked = c.asked; last = last; answered = made x ok; faulted = tt; no_memory = tt }
-calling-last rules skips row now call value left new (Err (Fault class)) c ok fault none made failed broke last =
+calling-last seen rules skips row now call value left new (Err (Fault class)) c ok fault none made failed broke last =
     record { again = c.again; grown = c.grown; asked = c.asked; last = last; answered = tt; faulted = failed class fault; no_memory = tt }
-calling-last rules skips row now call value left new (Err Memory) c ok fault none made failed broke last =
+calling-last seen rules skips row now call value left new (Err Memory) c ok fault none made failed broke last =
     record { again = c.again; grown = c.grown; asked = c.asked; last = last; answered = tt; faulted = tt; no_memory = broke none }
+
+seen-same : {A : Type 0} (answer : Result A ArtifactError) → seen_as (λ x. x) answer ≡ answer
+seen-same (Ok x) = refl
+seen-same (Err e) = refl
 
 -- READS
 
@@ -110,14 +115,14 @@ read-back w left failed back k m place at fails opens =
 abbrev pub IsFailedRead : (left failed : Workplace) → ClassId → Type 0
 IsFailedRead left failed class = (read_fault left.reader ≡ Some class) × (failed ≡ record left { reader = after_read left.reader })
 
-pub reading-more : (rules : RulesRecord) (skips : ℕ) (row now next : Row) (w left failed back : Workplace) (k : ℕ) (answer : Result (List ℕ) ArtifactError) → w.reader.place ≡ k → IsCalling rules skips row (read_call w k) now left → IfFault answer (IsFailedRead left failed)
+pub reading-more : {A : Type 0} (rules : RulesRecord) (skips : ℕ) (row now next : Row) (w left failed back : Workplace) (k : ℕ) (answer : Result A ArtifactError) → w.reader.place ≡ k → IsCalling rules skips row (read_call w k) now left → IfFault answer (IsFailedRead left failed)
     → repeats rules now (fault_answered answer) skips ≡ true → next ≡ repeated_row now 1 → back ≡ record failed { reader = opened failed.reader k } → IsCalling rules skips row (read_call w k) next back
 reading-more rules skips row now next w left failed back k answer place c faulted asked grows opens =
     let call = faulted-call rules now skips answer faulted asked in
     calling-more rules skips row now next (read_call w k) left back call.0 c (read-at w left k c.again _ place c.passes call.1.0) call.2 grows (read-back w left failed back k c.again place c.passes call.1.1 opens)
 
 -- the records are there as before
-pub read-bounds : (rules : RulesRecord) (skips : ℕ) (row now : Row) (w left failed : Workplace) (k : ℕ) (answer : Result (List ℕ) ArtifactError) → IsCalling rules skips row (read_call w k) now left → IfFault answer (IsFailedRead left failed)
+pub read-bounds : {A : Type 0} (rules : RulesRecord) (skips : ℕ) (row now : Row) (w left failed : Workplace) (k : ℕ) (answer : Result A ArtifactError) → IsCalling rules skips row (read_call w k) now left → IfFault answer (IsFailedRead left failed)
     → repeats rules now (fault_answered answer) skips ≡ true → (failed.reader.first ≡ w.reader.first) × (reader_end failed.reader ≡ reader_end w.reader)
 read-bounds rules skips row now w left failed k answer c faulted asked =
     let call = faulted-call rules now skips answer faulted asked in
@@ -127,15 +132,18 @@ read-bounds rules skips row now w left failed k answer c faulted asked =
 read-past : (w left new : Workplace) (k m : ℕ) → left ≡ called w k m 0 → new ≡ record left { reader = after_read left.reader } → new ≡ (read_call w k).behind m
 read-past w left new k m at e = e ∙ ap (λ (v : Workplace). record v { reader = after_read v.reader }) at
 
-pub reading-last : (rules : RulesRecord) (skips : ℕ) (row now : Row) (w left new : Workplace) (k : ℕ) (answer : Result (List ℕ) ArtifactError) → w.reader.place ≡ k → IsCalling rules skips row (read_call w k) now left
-    → IfOk answer (λ item. (read_fault left.reader ≡ None) × (item ≡ record_at left.reader left.reader.place) × (new ≡ record left { reader = after_read left.reader }))
+read-own : (w left : Workplace) (k m : ℕ) → w.reader.place ≡ k → left ≡ called w k m 0 → record_at left.reader left.reader.place ≡ record_at w.reader k
+read-own w left k m place at = ap (λ (v : Workplace). record_at v.reader v.reader.place) at ∙ ap (record_at w.reader) place
+
+pub reading-last : {A : Type 0} (bytes : A → List ℕ → List ℕ) (rules : RulesRecord) (skips : ℕ) (row now : Row) (w left new : Workplace) (k : ℕ) (answer : Result A ArtifactError) → w.reader.place ≡ k → IsCalling rules skips row (read_call w k) now left
+    → IfOk answer (λ item. (read_fault left.reader ≡ None) × (bytes item (record_at left.reader left.reader.place) ≡ record_at left.reader left.reader.place) × (new ≡ record left { reader = after_read left.reader }))
     → IfFault answer (IsFailedRead left new) → IfNoMemory answer (new ≡ left)
-    → repeats rules now (fault_answered answer) skips ≡ false → IsRead rules skips row w k answer now new
-reading-last rules skips row now w left new k answer place c ok fault none last =
-    calling-last rules skips row now (read_call w k) (record_at w.reader k) left new answer c ok fault none
+    → repeats rules now (fault_answered answer) skips ≡ false → IsRead rules skips row w k (seen_as (λ item. bytes item (record_at w.reader k)) answer) now new
+reading-last bytes rules skips row now w left new k answer place c ok fault none last =
+    calling-last (λ item. bytes item (record_at w.reader k)) rules skips row now (read_call w k) (record_at w.reader k) left new answer c ok fault none
     (λ item is. (
       read-at w left k c.again _ place c.passes is.0,
-      is.1 ∙ ap (λ (v : Workplace). record_at v.reader v.reader.place) c.passes ∙ ap (record_at w.reader) place,
+      (λ i. bytes item (sym (read-own w left k c.again place c.passes) i)) ∙ is.1 ∙ read-own w left k c.again place c.passes,
       read-past w left new k c.again c.passes is.2,
     ))
     (λ class is. (read-at w left k c.again _ place c.passes is.0, read-past w left new k c.again c.passes is.1))
@@ -150,29 +158,54 @@ process-at w left k m o at e = ap (λ (v : Workplace). process_fault v.processor
 process-past : (w left new : Workplace) (k m : ℕ) → left ≡ called w k 0 m → new ≡ record left { processor = after_process left.processor k } → new ≡ (process_call w k).behind m
 process-past w left new k m at e = e ∙ ap (λ (v : Workplace). record v { processor = after_process v.processor k }) at
 
-abbrev pub IsFailedCall : (k : ℕ) → (left failed : Workplace) → ClassId → Type 0
-IsFailedCall k left failed class = (process_fault left.processor k ≡ Some class) × (failed ≡ record left { processor = after_process left.processor k })
+abbrev pub IsFailedCall : (k : ℕ) → (left failed : Workplace) → (before after : Numbered) → ClassId → Type 0
+IsFailedCall k left failed before after class = (process_fault left.processor k ≡ Some class) × (failed ≡ record left { processor = after_process left.processor k }) × (after ≡ before)
 
-pub processing-more : (rules : RulesRecord) (skips : ℕ) (row now next : Row) (w left failed : Workplace) (k : ℕ) (answer : Result (Option (List ℕ)) ArtifactError) → IsCalling rules skips row (process_call w k) now left → IfFault answer (IsFailedCall k left failed)
+pub processing-more : {A : Type 0} (rules : RulesRecord) (skips : ℕ) (row now next : Row) (w left failed : Workplace) (k : ℕ) (before after : Numbered) (answer : Result A ArtifactError) → IsCalling rules skips row (process_call w k) now left → IfFault answer (IsFailedCall k left failed before after)
     → repeats rules now (fault_answered answer) skips ≡ true → next ≡ repeated_row now 1 → IsCalling rules skips row (process_call w k) next failed
-processing-more rules skips row now next w left failed k answer c faulted asked grows =
+processing-more rules skips row now next w left failed k before after answer c faulted asked grows =
     let call = faulted-call rules now skips answer faulted asked in
     calling-more rules skips row now next (process_call w k) left failed call.0 c (process-at w left k c.again _ c.passes call.1.0) call.2 grows (process-past w left failed k c.again c.passes call.1.1)
 
-pub processing-last : (rules : RulesRecord) (skips : ℕ) (row now : Row) (w left new : Workplace) (k : ℕ) (item : List ℕ) (answer : Result (Option (List ℕ)) ArtifactError) → IsCalling rules skips row (process_call w k) now left
-    → IfOk answer (λ result. (process_fault left.processor k ≡ None) × (result ≡ left.processor.answer k item) × (new ≡ record left { processor = after_process left.processor k }))
-    → IfFault answer (IsFailedCall k left new) → IfNoMemory answer (new ≡ left)
-    → repeats rules now (fault_answered answer) skips ≡ false → IsProcessed rules skips row w k item answer now new
-processing-last rules skips row now w left new k item answer c ok fault none last =
-    calling-last rules skips row now (process_call w k) (w.processor.answer k item) left new answer c ok fault none
-    (λ result is. (
+-- and left the results as they were
+pub results-kept : {A : Type 0} (rules : RulesRecord) (skips : ℕ) (now : Row) (left failed : Workplace) (k : ℕ) (before after : Numbered) (answer : Result A ArtifactError) → IfFault answer (IsFailedCall k left failed before after) → repeats rules now (fault_answered answer) skips ≡ true → after ≡ before
+results-kept rules skips now left failed k before after answer faulted asked = (faulted-call rules now skips answer faulted asked).1.2
+
+-- what a process call answers that found its memory: this is an item's bytes where its reader has those
+abbrev pub IsAnsweredCall : (k : ℕ) → (bytes : List ℕ → List ℕ) → (left new : Workplace) → (before after : Numbered) → (found : Bool) → Type 0
+IsAnsweredCall k bytes left new before after found =
+    let answer = left.processor.answer k (bytes (record_at left.reader k)) in
+    (process_fault left.processor k ≡ None) × (found ≡ is_some answer)
+    × (new ≡ record left { processor = after_process left.processor k })
+    × (after ≡ before ++ option_to_list (numbered k answer))
+
+pub processing-last : (rules : RulesRecord) (skips : ℕ) (row now : Row) (w left new : Workplace) (k : ℕ) (bytes : List ℕ → List ℕ) (before after : Numbered) (answer : Result Bool ArtifactError) → IsCalling rules skips row (process_call w k) now left
+    → IfOk answer (IsAnsweredCall k bytes left new before after)
+    → IfFault answer (IsFailedCall k left new before after) → IfNoMemory answer ((new ≡ left) × (after ≡ before))
+    → repeats rules now (fault_answered answer) skips ≡ false → IsProcessed rules skips row w k (bytes (record_at w.reader k)) answer now new
+processing-last rules skips row now w left new k bytes before after answer c ok fault none last =
+    subst (λ a. IsProcessed rules skips row w k (bytes (record_at w.reader k)) a now new) (seen-same answer)
+    (calling-last (λ found. found) rules skips row now (process_call w k) (is_some (w.processor.answer k (bytes (record_at w.reader k)))) left new answer c ok fault none
+    (λ found is. (
       process-at w left k c.again _ c.passes is.0,
-      is.1 ∙ ap (λ (v : Workplace). v.processor.answer k item) c.passes,
+      is.1 ∙ ap (λ (v : Workplace). is_some (v.processor.answer k (bytes (record_at v.reader k)))) c.passes,
       process-past w left new k c.again c.passes is.2,
     ))
     (λ class is. (process-at w left k c.again _ c.passes is.0, process-past w left new k c.again c.passes is.1))
-    (λ is. is ∙ c.passes)
-    last
+    (λ is. is.0 ∙ c.passes)
+    last)
+
+pub results-last : (rules : RulesRecord) (skips : ℕ) (row now : Row) (w left new : Workplace) (k : ℕ) (bytes : List ℕ → List ℕ) (before after : Numbered) (answer : Result Bool ArtifactError) → IsCalling rules skips row (process_call w k) now left
+    → IfOk answer (IsAnsweredCall k bytes left new before after)
+    → IfFault answer (IsFailedCall k left new before after) → IfNoMemory answer ((new ≡ left) × (after ≡ before))
+    → after ≡ results_behind answer k (w.processor.answer k (bytes (record_at w.reader k))) before
+results-last rules skips row now w left new k bytes before after (Ok found) c ok fault none = ok.3 ∙ ap (λ (v : Workplace). before ++ option_to_list (numbered k (v.processor.answer k (bytes (record_at v.reader k))))) c.passes
+results-last rules skips row now w left new k bytes before after (Err (Fault class)) c ok fault none = fault.2
+results-last rules skips row now w left new k bytes before after (Err Memory) c ok fault none = none.1
+
+-- the records are there as before
+pub process-bounds : (rules : RulesRecord) (skips : ℕ) (row now : Row) (w left : Workplace) (k : ℕ) → IsCalling rules skips row (process_call w k) now left → (left.reader.first ≡ w.reader.first) × (reader_end left.reader ≡ reader_end w.reader)
+process-bounds rules skips row now w left k c = (ap (λ (v : Workplace). v.reader.first) c.passes, ap (λ (v : Workplace). reader_end v.reader) c.passes)
 
 -- WRITES
 
@@ -216,8 +249,9 @@ pub putting-last : (rules : RulesRecord) (skips : ℕ) (row now : Row) (w left n
     → IfNoMemory answer (new ≡ record left { writer = torn_write left.writer found (length new.writer.written) })
     → repeats rules now (fault_answered answer) skips ≡ false → IsPut rules skips row w found answer now new
 putting-last rules skips row now w left new found answer c ok fault none last =
-    calling-last rules skips row now (write_call w found) tt left new answer c (on_ok-if _ answer ok) fault none
+    subst (λ a. IsPut rules skips row w found a now new) (seen-same answer)
+    (calling-last (λ done. done) rules skips row now (write_call w found) tt left new answer c (on_ok-if _ answer ok) fault none
     (λ done is. (put-at w left found c.again _ c.passes is.0, refl, put-past w left new found c.again c.passes is.1))
     (λ class is. (put-at w left found c.again _ c.passes is.0, put-past w left new found c.again c.passes is.1))
     (λ is. is ∙ ap (λ (v : Workplace). record v { writer = torn_write v.writer found (length new.writer.written) }) c.passes)
-    last
+    last)

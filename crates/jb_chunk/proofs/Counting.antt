@@ -5,12 +5,9 @@ use Rattle.std.specs.Prelude.{option_to_list}
 use Rattle.std.proofs.lemmas.List.Elements.{filter_map-append}
 use Rattle.std.proofs.lemmas.List.Sums.{sum_by-append}
 use Rattle.jb_artifacts.specs.Meaning.{Workplace}
-use Rattle.jb_chunk.specs.declared.entry.Entry.{Entry}
-use Rattle.jb_chunk.specs.declared.entry.Entry.TheVariants.{ReadFault, ProcessFault, Filtered, Found}
-use Rattle.jb_chunk.specs.declared.tally.Tally.{Tally}
 use Rattle.jb_chunk.specs.Block.{entry, results, count_of, passed}
-use Rattle.jb_chunk.specs.Entries.{text_in, numbered, one_if, is_read_fault, is_process_fault, is_filtered}
-use Rattle.jb_chunk.specs.inside.Gathering.{IsTally, IsCountedUp}
+use Rattle.jb_chunk.specs.Entries.{Entry, ReadFault, ProcessFault, Filtered, Found, text_in, numbered, one_if, is_read_fault, is_process_fault, is_filtered}
+use Rattle.jb_chunk.specs.inside.Gathering.{Yield, IsTally, IsCountedUp}
 use Rattle.jb_chunk.proofs.Passing.{entry-passed}
 
 -- the numbers from a on, and one more
@@ -59,7 +56,7 @@ count-more p w lo n le =
     ∙ sum_by-append one (range_with_len lo (n - lo)) (n ∷ [])
     ∙ ap (λ m. count_by (λ k. p (entry w k)) (range_with_len lo (n - lo)) + m) (one-cond (p (entry w n)))
 
-pub tally-more : (w now : Workplace) (lo n : ℕ) (t new : Tally) → lo ≤ n → now ≡ passed w lo n → IsTally w lo n t → IsCountedUp n (entry now n) t new → IsTally w lo (n + 1) new
+pub tally-more : (w now : Workplace) (lo n : ℕ) (t new : Yield) → lo ≤ n → now ≡ passed w lo n → IsTally w lo n t → IsCountedUp n (entry now n) t new → IsTally w lo (n + 1) new
 tally-more w now lo n t new le at tally up =
     let same : entry now n ≡ entry w n = ap (λ v. entry v n) at ∙ entry-passed w lo n in
     let counts : (p : Entry → Bool) (old next : ℕ) → old ≡ count_of p w lo n → next ≡ old + one_if (p (entry now n)) → next ≡ count_of p w lo (n + 1) =
@@ -75,7 +72,7 @@ tally-more w now lo n t new le at tally up =
       filtered = counts is_filtered _ _ tally.filtered up.filtered;
     }
 
-pub tally-none : (w : Workplace) (lo : ℕ) (t : Tally) → t.found.items ≡ [] → t.read_skips ≡ 0 → t.process_skips ≡ 0 → t.filtered ≡ 0 → IsTally w lo lo t
+pub tally-none : (w : Workplace) (lo : ℕ) (t : Yield) → t.found ≡ [] → t.read_skips ≡ 0 → t.process_skips ≡ 0 → t.filtered ≡ 0 → IsTally w lo lo t
 tally-none w lo t found reads processes filtered = record {
   found = found ∙ sym (results-none w lo);
   read_skips = reads ∙ sym (count-none is_read_fault w lo);

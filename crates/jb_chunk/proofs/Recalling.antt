@@ -12,13 +12,10 @@ use Rattle.jb_artifacts.specs.declared.faults.FaultPlan.{FaultPlan}
 use Rattle.jb_artifacts.specs.Faults.{Plans, used, used_at, live, is_live}
 use Rattle.jb_artifacts.specs.Reader.{record_at}
 use Rattle.jb_artifacts.specs.Meaning.{Workplace}
-use Rattle.jb_chunk.specs.declared.entry.Entry.{Entry}
-use Rattle.jb_chunk.specs.declared.entry.Entry.TheVariants.{ReadFault, ProcessFault, Filtered, Found}
-use Rattle.jb_chunk.specs.declared.tally.Tally.{Tally}
 use Rattle.jb_chunk.specs.Attempt.{Trial, settled_at, fault_at, skips_at, called_again, repeated_work, asks_repeat}
 use Rattle.jb_chunk.specs.Block.{entry, entry_by, settles, settling, stops, repeats, skips_before, count_of, results, used_between, passed}
-use Rattle.jb_chunk.specs.Entries.{fault_in, is_read_fault, is_process_fault, is_filtered, text_in, numbered}
-use Rattle.jb_chunk.specs.inside.Gathering.{IsTally, passed_one}
+use Rattle.jb_chunk.specs.Entries.{Entry, ReadFault, ProcessFault, Filtered, Found, fault_in, is_read_fault, is_process_fault, is_filtered, text_in, numbered}
+use Rattle.jb_chunk.specs.inside.Gathering.{Yield, IsTally, passed_one}
 use Rattle.jb_chunk.specs.inside.Repeats.{IsRepeated, AreRepeats, next_fault, called_times, called, IsDone}
 use Rattle.jb_chunk.proofs.Passing.{fun_ext, between-outside, entry-passed, passed-more}
 use Rattle.jb_chunk.proofs.Repeating.{repeats-stops, stops-kept, repeated-more}
@@ -103,7 +100,7 @@ settling-alike rules row w v n le same none =
     find-idle (settles rules (repeated_row row 1) v) (n - row.at) row.at
     (λ k from to. settles-alike rules row w v n k from (omega (arith, le, to)) same (unfound (settles rules row w) (n - row.at) row.at none k from to))
 
-pub tally-alike : (w v : Workplace) (lo n : ℕ) (t : Tally) → lo ≤ n → Alike lo (n - lo) w v → IsTally w lo n t → IsTally v lo n t
+pub tally-alike : (w v : Workplace) (lo n : ℕ) (t : Yield) → lo ≤ n → Alike lo (n - lo) w v → IsTally w lo n t → IsTally v lo n t
 unfolding results
 tally-alike w v lo n t le same tally = record {
   found = tally.found ∙ sym (results-alike w v (n - lo) lo same);
@@ -129,7 +126,7 @@ alike-call : (w : Workplace) (lo n : ℕ) (e : Entry) → lo ≤ n → Alike lo 
 alike-call w lo n e le k from to = entry-other w n k e (omega (arith, le, to))
 
 -- where a block is between two records, after some of its repeats
-pub record IsBetween (t u : Trial) (n : ℕ) (skips : ℕ) (tally : Tally) : Type 0 where
+pub record IsBetween (t u : Trial) (n : ℕ) (skips : ℕ) (tally : Yield) : Type 0 where
   pub repeated : IsRepeated t u
   pub from : u.row.at ≤ n
   pub to : n < u.hi
@@ -149,7 +146,7 @@ asks-here : (u : Trial) (n : ℕ) → settled_at u ≡ Some n → repeats u.rule
 unfolding asks_repeat
 asks-here u n at e = ap (λ s. repeats u.rules u.row (fault_at u s) (skips_at u s)) at ∙ e
 
-pub called-more : (t u : Trial) (n skips : ℕ) (tally : Tally) → IsBetween t u n skips tally → repeats u.rules u.row (fault_in (entry u.work n)) skips ≡ true → IsBetween t (recalled u n) n skips tally
+pub called-more : (t u : Trial) (n skips : ℕ) (tally : Yield) → IsBetween t u n skips tally → repeats u.rules u.row (fault_in (entry u.work n)) skips ≡ true → IsBetween t (recalled u n) n skips tally
 called-more t u n skips tally b asked =
     let asks : repeats u.rules u.row (fault_in (entry u.work n)) (skips_before u.row u.work n) ≡ true = ap (repeats u.rules u.row (fault_in (entry u.work n))) b.skipped ∙ asked in
     let at = settled-here u n b.from b.to b.none (repeats-stops u.rules u.row _ _ asks) in
@@ -200,7 +197,7 @@ after_reads u n reads = record u { row = repeated_row u.row reads; work = called
 fewer : (rules : RulesRecord) (skips : ℕ) (row : Row) (plans : Plans) (k m : ℕ) → AreRepeats rules skips row (next_fault plans k) (suc m) → AreRepeats rules skips row (next_fault plans k) m
 fewer rules skips row plans k m asked j lt = asked j (omega (arith, lt))
 
-reads-between : (t u : Trial) (n skips : ℕ) (tally : Tally) (reads : ℕ) → IsBetween t u n skips tally → AreRepeats u.rules skips u.row (next_fault u.work.reader.faults n) reads → IsBetween t (after_reads u n reads) n skips tally
+reads-between : (t u : Trial) (n skips : ℕ) (tally : Yield) (reads : ℕ) → IsBetween t u n skips tally → AreRepeats u.rules skips u.row (next_fault u.work.reader.faults n) reads → IsBetween t (after_reads u n reads) n skips tally
 reads-between t u n skips tally zero b asked = subst (λ (row : Row). IsBetween t (record u { row = row }) n skips tally) (row-none u.row) b
 reads-between t u n skips tally (suc reads) b asked =
     let v = after_reads u n reads in
@@ -210,7 +207,7 @@ reads-between t u n skips tally (suc reads) b asked =
     let same : recalled v n ≡ after_reads u n (suc reads) = λ i. record u { row = row-suc u.row reads i; work = called_again v.work n (call.1 i) } in
     subst (λ x. IsBetween t x n skips tally) same more
 
-processes-between : (t u : Trial) (n skips : ℕ) (tally : Tally) (reads processes : ℕ) → IsBetween t (after_reads u n reads) n skips tally → AreRepeats u.rules skips (repeated_row u.row reads) (next_fault u.work.processor.faults n) processes → (processes ≡ 0) ⊎ (live (called_times reads u.work.reader.faults n n) ≡ None) → IsBetween t (after_calls u n reads processes) n skips tally
+processes-between : (t u : Trial) (n skips : ℕ) (tally : Yield) (reads processes : ℕ) → IsBetween t (after_reads u n reads) n skips tally → AreRepeats u.rules skips (repeated_row u.row reads) (next_fault u.work.processor.faults n) processes → (processes ≡ 0) ⊎ (live (called_times reads u.work.reader.faults n n) ≡ None) → IsBetween t (after_calls u n reads processes) n skips tally
 processes-between t u n skips tally reads zero b asked read = subst (λ (row : Row). IsBetween t (record (after_reads u n reads) { row = row }) n skips tally) (row-none (repeated_row u.row reads)) b
 processes-between t u n skips tally reads (suc processes) b asked (inl none) = absurd (omega (arith, none))
 processes-between t u n skips tally reads (suc processes) b asked (inr read) =
@@ -279,14 +276,14 @@ asked-passed rules skips row c plans lo n m asked j lt =
     ap (λ (p : FaultPlan). repeats rules (repeated_row row j) (live p) skips) (sym (times-alike j _ _ n (between-outside c plans lo n n (omega arith)))) ∙ asked j lt
 
 -- where a record's calls and their repeats left the block
-pub record IsAfter (t v : Trial) (n skips : ℕ) (tally : Tally) (e : Entry) (now : Row) (left : Workplace) : Type 0 where
+pub record IsAfter (t v : Trial) (n skips : ℕ) (tally : Yield) (e : Entry) (now : Row) (left : Workplace) : Type 0 where
   pub between : IsBetween t v n skips tally
   pub row : now ≡ v.row
   pub becomes : e ≡ entry v.work n
   pub last : repeats v.rules v.row (fault_in (entry v.work n)) skips ≡ false
   pub passes : left ≡ passed v.work v.row.at (n + 1)
 
-pub done-after : (t u : Trial) (n skips : ℕ) (tally : Tally) (e : Entry) (now : Row) (left : Workplace) → IsBetween t u n skips tally → IsDone u.rules skips u.row (passed u.work u.row.at n) n e now left → (v : Trial) × IsAfter t v n skips tally e now left
+pub done-after : (t u : Trial) (n skips : ℕ) (tally : Yield) (e : Entry) (now : Row) (left : Workplace) → IsBetween t u n skips tally → IsDone u.rules skips u.row (passed u.work u.row.at n) n e now left → (v : Trial) × IsAfter t v n skips tally e now left
 done-after t u n skips tally e now left b done =
     let lo = u.row.at in
     let reads = done.reads in

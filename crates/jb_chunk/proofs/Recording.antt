@@ -1,5 +1,5 @@
 -- A record that was read and processed, with repeats; and a block whose records are done one after another.
-use Rattle.std.proofs.Common.{◌≡◌, ℕ, zero, suc, ◌+◌, ◌≤◌, ◌<◌, inl, inr, false, List, length, take, Option, Some, None, Ok, Err, refl, ap, sym, ◌∙◌, subst, arith}
+use Rattle.std.proofs.Common.{◌≡◌, ℕ, zero, suc, ◌+◌, ◌≤◌, ◌<◌, inl, inr, true, false, List, [], ◌++◌, length, take, option_to_list, is_some, Option, Some, None, Ok, Err, refl, ap, sym, ◌∙◌, subst, arith}
 use Rattle.std.proofs.lemmas.Grind.{common_steps}
 use Rattle.jb_job.specs.declared.class.ClassId.{ClassId}
 use Rattle.jb_job.specs.declared.artifact_error.ArtifactError.TheVariants.{Fault, Memory}
@@ -9,17 +9,15 @@ use Rattle.jb_rules.specs.declared.choice.Choice.{Choice}
 use Rattle.jb_rules.specs.Rows.{repeated_row, skips_of}
 use Rattle.jb_artifacts.specs.Faults.{Plans, live, used_at}
 use Rattle.jb_artifacts.specs.Reader.{Reader, reader_end, record_at, after_read}
-use Rattle.jb_artifacts.specs.Writer.{Writer}
+use Rattle.jb_artifacts.specs.Writer.{Writer, Numbered}
 use Rattle.jb_artifacts.specs.Meaning.{Workplace}
-use Rattle.jb_chunk.specs.declared.entry.Entry.{Entry}
-use Rattle.jb_chunk.specs.declared.entry.Entry.TheVariants.{ReadFault, ProcessFault, Filtered, Found}
-use Rattle.jb_chunk.specs.declared.tally.Tally.{Tally}
-use Rattle.jb_chunk.specs.declared.gather.Gathered.TheVariants.{Settled, Whole}
+use Rattle.jb_chunk.specs.declared.entry.EntryKind.TheVariants as kind
+use Rattle.jb_chunk.specs.declared.gather.Gathered.TheVariants.{Settled}
 use Rattle.jb_chunk.specs.Attempt.{Trial, IsRestored}
 use Rattle.jb_chunk.specs.Block.{entry, entry_by, process_entry, repeats, is_again, choice_at, settling, passed, MayBeUsed}
-use Rattle.jb_chunk.specs.Entries.{fault_in}
-use Rattle.jb_chunk.specs.inside.Gathering.{IsTally, IsStep, IsWornTo, passed_one, processed_at}
-use Rattle.jb_chunk.specs.inside.Repeats.{AreRepeats, next_fault, called_times, called, IsRead, IsProcessed, IsDone, IsGathering, IsGathered}
+use Rattle.jb_chunk.specs.Entries.{Entry, ReadFault, ProcessFault, Filtered, Found, fault_in, numbered}
+use Rattle.jb_chunk.specs.inside.Gathering.{Yield, IsTally, IsStep, IsWornTo, passed_one, processed_at}
+use Rattle.jb_chunk.specs.inside.Repeats.{AreRepeats, next_fault, called_times, called, IsRead, IsProcessed, IsDone, IsEntered, IsGathering, IsWhole, IsGathered}
 use Rattle.jb_chunk.specs.inside.Tried.{IsTorn}
 use Rattle.jb_chunk.proofs.Counting.{tally-more}
 use Rattle.jb_chunk.proofs.Passing.{entry-passed, passed-none}
@@ -45,7 +43,7 @@ read-one w left k m class place fault e =
       processor = record w.processor { faults = processed_at (sym fault i) w.processor.faults k };
     })
 
-pub read-fault-done : (rules : RulesRecord) (skips : ℕ) (row : Row) (w : Workplace) (k : ℕ) (class : ClassId) (now : Row) (left : Workplace) → w.reader.place ≡ k → IsRead rules skips row w k (Err (Fault class)) now left → IsDone rules skips row w k (ReadFault class) now left
+read-fault-done : (rules : RulesRecord) (skips : ℕ) (row : Row) (w : Workplace) (k : ℕ) (class : ClassId) (now : Row) (left : Workplace) → w.reader.place ≡ k → IsRead rules skips row w k (Err (Fault class)) now left → IsDone rules skips row w k (ReadFault class) now left
 read-fault-done rules skips row w k class now left place r = record {
   reads = r.again;
   processes = 0;
@@ -90,19 +88,73 @@ process-done rules skips row between now w v left k item processes o e place r g
 answer-same : (w v : Workplace) (k m : ℕ) (item : List ℕ) → v ≡ record w { reader = after_read (called w k m 0).reader } → item ≡ record_at w.reader k → v.processor.answer k item ≡ w.processor.answer k (record_at w.reader k)
 answer-same w v k m item at is = ap (λ (x : Workplace). x.processor.answer k item) at ∙ ap (w.processor.answer k) is
 
-pub process-fault-done : (rules : RulesRecord) (skips : ℕ) (row between now : Row) (w v left : Workplace) (k : ℕ) (item text : List ℕ) (class : ClassId) → w.reader.place ≡ k → IsRead rules skips row w k (Ok item) between v → text ≡ item → IsProcessed rules skips between v k text (Err (Fault class)) now left → IsDone rules skips row w k (ProcessFault class) now left
+process-fault-done : (rules : RulesRecord) (skips : ℕ) (row between now : Row) (w v left : Workplace) (k : ℕ) (item text : List ℕ) (class : ClassId) → w.reader.place ≡ k → IsRead rules skips row w k (Ok item) between v → text ≡ item → IsProcessed rules skips between v k text (Err (Fault class)) now left → IsDone rules skips row w k (ProcessFault class) now left
 process-fault-done rules skips row between now w v left k item text class place r same p =
     process-done rules skips row between now w v left k item p.again (Some class) (ProcessFault class) place r p.grown p.asked p.faulted.0 refl p.faulted.1 p.last
 
-pub found-done : (rules : RulesRecord) (skips : ℕ) (row between now : Row) (w v left : Workplace) (k : ℕ) (item text result : List ℕ) → w.reader.place ≡ k → IsRead rules skips row w k (Ok item) between v → text ≡ item → IsProcessed rules skips between v k text (Ok (Some result)) now left → IsDone rules skips row w k (Found result) now left
-found-done rules skips row between now w v left k item text result place r same p =
-    let is = p.answered.1 ∙ ap (v.processor.answer k) same ∙ answer-same w v k r.again item r.answered.2 r.answered.1 in
+found-done : (rules : RulesRecord) (skips : ℕ) (row between now : Row) (w v left : Workplace) (k : ℕ) (item text result : List ℕ) → w.reader.place ≡ k → IsRead rules skips row w k (Ok item) between v → text ≡ item → IsProcessed rules skips between v k text (Ok true) now left → v.processor.answer k text ≡ Some result → IsDone rules skips row w k (Found result) now left
+found-done rules skips row between now w v left k item text result place r same p answer =
+    let is = sym answer ∙ ap (v.processor.answer k) same ∙ answer-same w v k r.again item r.answered.2 r.answered.1 in
     process-done rules skips row between now w v left k item p.again None (Found result) place r p.grown p.asked p.answered.0 (ap (process_entry None) is) p.answered.2 refl
 
-pub filtered-done : (rules : RulesRecord) (skips : ℕ) (row between now : Row) (w v left : Workplace) (k : ℕ) (item text : List ℕ) → w.reader.place ≡ k → IsRead rules skips row w k (Ok item) between v → text ≡ item → IsProcessed rules skips between v k text (Ok None) now left → IsDone rules skips row w k Filtered now left
-filtered-done rules skips row between now w v left k item text place r same p =
-    let is = p.answered.1 ∙ ap (v.processor.answer k) same ∙ answer-same w v k r.again item r.answered.2 r.answered.1 in
+filtered-done : (rules : RulesRecord) (skips : ℕ) (row between now : Row) (w v left : Workplace) (k : ℕ) (item text : List ℕ) → w.reader.place ≡ k → IsRead rules skips row w k (Ok item) between v → text ≡ item → IsProcessed rules skips between v k text (Ok false) now left → v.processor.answer k text ≡ None → IsDone rules skips row w k Filtered now left
+filtered-done rules skips row between now w v left k item text place r same p answer =
+    let is = sym answer ∙ ap (v.processor.answer k) same ∙ answer-same w v k r.again item r.answered.2 r.answered.1 in
     process-done rules skips row between now w v left k item p.again None Filtered place r p.grown p.asked p.answered.0 (ap (process_entry None) is) p.answered.2 refl
+
+-- ITS KIND OF ENTRY
+
+added-none : (before after : Numbered) → after ≡ before → after ≡ before ++ []
+added-none before after e = e ∙ grind (arith, common_steps)
+
+pub read-fault-entered : (rules : RulesRecord) (skips : ℕ) (row : Row) (w : Workplace) (k : ℕ) (class : ClassId) (now : Row) (left : Workplace) (results : Numbered) → w.reader.place ≡ k → IsRead rules skips row w k (Err (Fault class)) now left → IsEntered rules skips row w k results (kind.ReadFault class) now left results
+read-fault-entered rules skips row w k class now left results place r = record {
+  text = [];
+  done = read-fault-done rules skips row w k class now left place r;
+  added = added-none results results refl;
+}
+
+-- a record that was read is what its bytes are
+pub read-same : (rules : RulesRecord) (skips : ℕ) (row between : Row) (w v : Workplace) (k : ℕ) (item : List ℕ) (bytes : List ℕ → List ℕ) → IsRead rules skips row w k (Ok item) between v → bytes (record_at v.reader k) ≡ bytes (record_at w.reader k)
+read-same rules skips row between w v k item bytes r = ap (λ (x : Workplace). bytes (record_at x.reader k)) r.answered.2
+
+pub read-there : (rules : RulesRecord) (skips : ℕ) (row between : Row) (w v : Workplace) (k : ℕ) (item : List ℕ) → IsRead rules skips row w k (Ok item) between v → (v.reader.first ≡ w.reader.first) × (reader_end v.reader ≡ reader_end w.reader)
+read-there rules skips row between w v k item r = (ap (λ (x : Workplace). x.reader.first) r.answered.2, ap (λ (x : Workplace). reader_end x.reader) r.answered.2)
+
+pub process-fault-entered : (rules : RulesRecord) (skips : ℕ) (row between now : Row) (w v left : Workplace) (k : ℕ) (item text : List ℕ) (class : ClassId) (before after : Numbered) → w.reader.place ≡ k → IsRead rules skips row w k (Ok item) between v → text ≡ item → IsProcessed rules skips between v k text (Err (Fault class)) now left → after ≡ before → IsEntered rules skips row w k before (kind.ProcessFault class) now left after
+process-fault-entered rules skips row between now w v left k item text class before after place r same p kept = record {
+  text = [];
+  done = process-fault-done rules skips row between now w v left k item text class place r same p;
+  added = added-none before after kept;
+}
+
+answer-found : (answer : Option (List ℕ)) → true ≡ is_some answer → (text : List ℕ) × (answer ≡ Some text)
+answer-found None e = absurd cc
+answer-found (Some text) e = (text, refl)
+
+answer-none : (answer : Option (List ℕ)) → false ≡ is_some answer → answer ≡ None
+answer-none None e = refl
+answer-none (Some text) e = absurd cc
+
+pub found-entered : (rules : RulesRecord) (skips : ℕ) (row between now : Row) (w v left : Workplace) (k : ℕ) (item text : List ℕ) (before after : Numbered) → w.reader.place ≡ k → IsRead rules skips row w k (Ok item) between v → text ≡ item → IsProcessed rules skips between v k text (Ok true) now left → after ≡ before ++ option_to_list (numbered k (v.processor.answer k text)) → IsEntered rules skips row w k before kind.Found now left after
+found-entered rules skips row between now w v left k item text before after place r same p added =
+    let found = answer-found (v.processor.answer k text) p.answered.1 in
+    record {
+      text = found.0;
+      done = found-done rules skips row between now w v left k item text found.0 place r same p found.1;
+      added = added ∙ ap (λ answer. before ++ option_to_list (numbered k answer)) found.1;
+    }
+
+pub filtered-entered : (rules : RulesRecord) (skips : ℕ) (row between now : Row) (w v left : Workplace) (k : ℕ) (item text : List ℕ) (before after : Numbered) → w.reader.place ≡ k → IsRead rules skips row w k (Ok item) between v → text ≡ item → IsProcessed rules skips between v k text (Ok false) now left → after ≡ before ++ option_to_list (numbered k (v.processor.answer k text)) → IsEntered rules skips row w k before kind.Filtered now left after
+filtered-entered rules skips row between now w v left k item text before after place r same p added =
+    let none = answer-none (v.processor.answer k text) p.answered.1 in
+    record {
+      text = [];
+      done = filtered-done rules skips row between now w v left k item text place r same p none;
+      added = added ∙ ap (λ answer. before ++ option_to_list (numbered k answer)) none;
+    }
+
+-- WITHOUT MEMORY FOR ONE
 
 may-times : (lo hi k m : ℕ) (plans : Plans) → lo ≤ k → k < hi → MayBeUsed lo hi plans (called_times m plans k)
 may-times lo hi k zero plans from to = may-same lo hi plans
@@ -159,7 +211,7 @@ done-worn rules skips row w k e now left place done =
 
 -- RECORD BY RECORD
 
-pub gathering-none : (t : Trial) (tally : Tally) → t.work.reader.place ≡ t.row.at → t.row.at ≤ t.hi → IsTally t.work t.row.at t.row.at tally → IsGathering t t.row.at tally t.row t.work
+pub gathering-none : (t : Trial) (tally : Yield) → t.work.reader.place ≡ t.row.at → t.row.at ≤ t.hi → IsTally t.work t.row.at t.row.at tally → IsGathering t t.row.at tally t.row t.work
 gathering-none t tally place le counted = record {
   last = t;
   repeated = repeated-none t;
@@ -169,10 +221,10 @@ gathering-none t tally place le counted = record {
   none = settling-none t.rules t.row t.work;
 }
 
-abbrev skips_now : Row → Tally → ℕ
+abbrev skips_now : Row → Yield → ℕ
 skips_now row tally = skips_of row + tally.read_skips + tally.process_skips
 
-done-at : (t : Trial) (n : ℕ) (tally : Tally) (now next : Row) (w left : Workplace) (e : Entry) → IsGathering t n tally now w → t.row.at ≤ n → n < t.hi → IsDone t.rules (skips_now now tally) now w n e next left → (v : Trial) × IsAfter t v n (skips_now now tally) tally e next left
+done-at : (t : Trial) (n : ℕ) (tally : Yield) (now next : Row) (w left : Workplace) (e : Entry) → IsGathering t n tally now w → t.row.at ≤ n → n < t.hi → IsDone t.rules (skips_now now tally) now w n e next left → (v : Trial) × IsAfter t v n (skips_now now tally) tally e next left
 done-at t n tally now next w left e g from to done =
     let u = g.last in
     let at : u.row.at ≡ t.row.at = ap (λ (x : Row). x.at) g.repeated.row in
@@ -191,7 +243,7 @@ done-at t n tally now next w left e g from to done =
     let c = subst (λ x. IsDone u.rules skips u.row x n e next left) g.passes b in
     done-after t u n skips tally e next left between c
 
-pub gathering-more : (t : Trial) (n : ℕ) (tally new : Tally) (now next : Row) (w left : Workplace) (e : Entry) → IsGathering t n tally now w → t.row.at ≤ n → n < t.hi → IsDone t.rules (skips_now now tally) now w n e next left → IsStep t.rules next e n tally None new → IsGathering t (n + 1) new next left
+pub gathering-more : (t : Trial) (n : ℕ) (tally new : Yield) (now next : Row) (w left : Workplace) (e : Entry) → IsGathering t n tally now w → t.row.at ≤ n → n < t.hi → IsDone t.rules (skips_now now tally) now w n e next left → IsStep t.rules next e n tally None new → IsGathering t (n + 1) new next left
 gathering-more t n tally new now next w left e g from to done step =
     let after = done-at t n tally now next w left e g from to done in
     let v = after.0 in
@@ -213,8 +265,8 @@ gathering-more t n tally new now next w left e g from to done step =
 not-again : (rules : RulesRecord) (row : Row) (class : ClassId) (skips : ℕ) (fault : Option ClassId) → fault ≡ Some class → repeats rules row fault skips ≡ false → is_again (choice_at rules row class skips) ≡ false
 not-again rules row class skips fault e last = ap (λ f. repeats rules row f skips) (sym e) ∙ last
 
-pub gathering-settled : (t : Trial) (n : ℕ) (tally new : Tally) (now next : Row) (w left : Workplace) (e : Entry) (class : ClassId) (choice : Choice) → IsGathering t n tally now w → t.row.at ≤ n → n < t.hi → IsDone t.rules (skips_now now tally) now w n e next left → IsStep t.rules next e n tally (Some (class, choice)) new → IsGathered t (Settled n class choice) next left
-gathering-settled t n tally new now next w left e class choice g from to done step =
+pub gathering-settled : (t : Trial) (n : ℕ) (tally new : Yield) (now next : Row) (w left : Workplace) (e : Entry) (class : ClassId) (choice : Choice) (found : Numbered) → IsGathering t n tally now w → t.row.at ≤ n → n < t.hi → IsDone t.rules (skips_now now tally) now w n e next left → IsStep t.rules next e n tally (Some (class, choice)) new → IsGathered t (Settled n class choice) found next left
+gathering-settled t n tally new now next w left e class choice found g from to done step =
     let after = done-at t n tally now next w left e g from to done in
     let v = after.0 in
     let a = after.1 in
@@ -223,20 +275,20 @@ gathering-settled t n tally new now next w left e class choice g from to done st
     let s1 = subst (λ x. IsStep x next e n tally (Some (class, choice)) new) (sym b.repeated.rules) step in
     let s2 = subst (λ x. IsStep v.rules x e n tally (Some (class, choice)) new) a.row s1 in
     let s3 = subst (λ x. IsStep v.rules v.row x n tally (Some (class, choice)) new) place s2 in
-    let found = step-some v.rules v.row v.work (passed v.work v.row.at n) n v.hi tally new class choice b.from b.to refl b.counted b.none s3 in
-    let last = not-again v.rules v.row class (skips_now now tally) (fault_in (entry v.work n)) found.1 a.last in (
+    let settled = step-some v.rules v.row v.work (passed v.work v.row.at n) n v.hi tally new class choice b.from b.to refl b.counted b.none s3 in
+    let last = not-again v.rules v.row class (skips_now now tally) (fault_in (entry v.work n)) settled.1 a.last in (
       v,
       b.repeated,
       a.row,
-      found.0,
-      found.1,
-      found.2,
-      found.3,
-      ap is_again (found.2 ∙ ap (choice_at v.rules v.row class) b.skipped) ∙ last,
+      settled.0,
+      settled.1,
+      settled.2,
+      settled.3,
+      ap is_again (settled.2 ∙ ap (choice_at v.rules v.row class) b.skipped) ∙ last,
       a.passes,
     )
 
-pub gathering-whole : (t : Trial) (n : ℕ) (tally : Tally) (now : Row) (left : Workplace) → n ≡ t.hi → IsGathering t n tally now left → IsGathered t (Whole tally) now left
+pub gathering-whole : (t : Trial) (n : ℕ) (tally : Yield) (now : Row) (left : Workplace) → n ≡ t.hi → IsGathering t n tally now left → IsWhole t tally now left
 gathering-whole t n tally now left end g =
     let u = g.last in
     let hi : n ≡ u.hi = end ∙ sym g.repeated.hi in (
@@ -254,7 +306,7 @@ pub record IsStanding (t : Trial) (n : ℕ) (now : Row) (left : Workplace) : Typ
   pub first : left.reader.first ≡ t.work.reader.first
   pub end : reader_end left.reader ≡ reader_end t.work.reader
 
-pub gathering-stands : (t : Trial) (n : ℕ) (tally : Tally) (now : Row) (left : Workplace) → IsGathering t n tally now left → IsStanding t n now left
+pub gathering-stands : (t : Trial) (n : ℕ) (tally : Yield) (now : Row) (left : Workplace) → IsGathering t n tally now left → IsStanding t n now left
 gathering-stands t n tally now left g = record {
   place = ap (λ (x : Workplace). x.reader.place) g.passes;
   first = ap (λ (x : Workplace). x.reader.first) g.passes ∙ ap (λ (x : Reader). x.first) g.repeated.work.reader;
@@ -283,7 +335,7 @@ restored-worn lo hi a b c one two =
       longer = same-longer a.writer.written c.writer.written written;
     }
 
-pub gathering-torn : (t : Trial) (n : ℕ) (tally : Tally) (now : Row) (w left : Workplace) → IsGathering t n tally now w → t.row.at ≤ n → n < t.hi → IsWornTo n (n + 1) w left → IsTorn t.row.at t.hi t.work left
+pub gathering-torn : (t : Trial) (n : ℕ) (tally : Yield) (now : Row) (w left : Workplace) → IsGathering t n tally now w → t.row.at ≤ n → n < t.hi → IsWornTo n (n + 1) w left → IsTorn t.row.at t.hi t.work left
 gathering-torn t n tally now w left g from to worn =
     let u = g.last in
     let at : u.row.at ≡ t.row.at = ap (λ (x : Row). x.at) g.repeated.row in

@@ -12,11 +12,10 @@ use Rattle.jb_artifacts.specs.declared.faults.FaultPlan.{FaultPlan}
 use Rattle.jb_artifacts.specs.Faults.{Plans, used, used_at}
 use Rattle.jb_artifacts.specs.Writer.{failing, used_for}
 use Rattle.jb_artifacts.specs.Meaning.{Workplace}
-use Rattle.jb_chunk.specs.declared.entry.Entry.{Entry}
-use Rattle.jb_chunk.specs.declared.entry.Entry.TheVariants.{ReadFault, ProcessFault, Filtered, Found}
 use Rattle.jb_chunk.specs.Attempt.{Trial, settled_at, found_in, fault_at, skips_at, called_again, repeated_work, repeated, asks_repeat, repeated_up_to, after_repeats, IsRestored}
 use Rattle.jb_chunk.specs.Block.{entry, settles, settling, stops, repeats, choice_at, is_skip, is_again, used_times, MayBeUsed}
 use Rattle.jb_chunk.specs.inside.Repeats.{IsRepeated}
+use Rattle.jb_chunk.specs.Entries.{Entry, ReadFault, ProcessFault, Filtered, Found}
 use Rattle.jb_chunk.proofs.Within.{found-of, failing-in}
 
 -- A REPEAT TAKES A RETRY

@@ -14,15 +14,14 @@ use Rattle.jb_artifacts.specs.Writer.{Writer, Numbered, texts_of, cut, write_fau
 use Rattle.jb_artifacts.specs.Meaning.{Workplace}
 use Rattle.jb_chunk.specs.declared.end.End.{End}
 use Rattle.jb_chunk.specs.declared.end.End.TheVariants.{Written}
-use Rattle.jb_chunk.specs.declared.gather.Gathered.TheVariants.{Settled, Whole}
-use Rattle.jb_chunk.specs.declared.tally.Tally.{Tally}
+use Rattle.jb_chunk.specs.declared.gather.Gathered.TheVariants.{Settled}
 use Rattle.jb_chunk.specs.declared.tried.Tried.{Tried}
 use Rattle.jb_chunk.specs.Attempt.{Trial, settled_at, found_in, fault_at, skips_at, repeated, repeated_work, asks_repeat, after_repeats, end_at}
 use Rattle.jb_chunk.specs.Block.{entry, results, repeats, is_skip, is_again, choice_at, passed, skips_before, MayBeUsed}
 use Rattle.jb_chunk.specs.Entries.{fault_in}
 use Rattle.jb_chunk.specs.inside.Ends.{counts_by, place_by}
-use Rattle.jb_chunk.specs.inside.Gathering.{IsTally, IsWornTo, block_tally}
-use Rattle.jb_chunk.specs.inside.Repeats.{IsRepeated, IsGathered, IsPut, IsWriteEndAfter, IsFinishAfter, IsTornWrite, rewritten, written_times}
+use Rattle.jb_chunk.specs.inside.Gathering.{Yield, IsTally, IsWornTo, block_tally}
+use Rattle.jb_chunk.specs.inside.Repeats.{IsRepeated, IsWhole, IsGathered, IsPut, IsWriteEndAfter, IsFinishAfter, IsTornWrite, rewritten, written_times}
 use Rattle.jb_chunk.specs.inside.Tried.{IsTried, IsFinish, IsTorn, writer_by}
 use Rattle.jb_chunk.proofs.Recalling.{row-none, row-suc, settling-alike, tally-alike, skips-alike}
 use Rattle.jb_chunk.proofs.Repeating.{repeated-more, repeated-last, may-same, may-trans, may-used_for}
@@ -89,13 +88,13 @@ writing-times t u found skips (suc m) w asked =
     let more = writing-more t (after_writes u found m) found skips here (asked m (omega arith)) in
     subst (λ (row : Row). IsWriting t (record (after_writes u found (suc m)) { row = row }) found skips) (row-suc u.row m) more
 
-tally-writer : (w : Workplace) (v : Writer) (lo hi : ℕ) (tally : Tally) → lo ≤ hi → IsTally w lo hi tally → IsTally (record w { writer = v }) lo hi tally
+tally-writer : (w : Workplace) (v : Writer) (lo hi : ℕ) (tally : Yield) → lo ≤ hi → IsTally w lo hi tally → IsTally (record w { writer = v }) lo hi tally
 tally-writer w v lo hi tally le counted = tally-alike w (record w { writer = v }) lo hi tally le (λ k from to. entry-writer w v k) counted
 
 -- a block that was written, after the repeats of its write
-pub finished-tried : (t : Trial) (tally : Tally) (row next : Row) (left new : Workplace) (tried : Tried) → t.row.at ≤ t.hi → IsGathered t (Whole tally) row left → IsFinishAfter t.rules row t.hi tally left tried next new → (next ≡ (after_repeats t).row) × IsTried (after_repeats t) tried new
+pub finished-tried : (t : Trial) (tally : Yield) (row next : Row) (left new : Workplace) (tried : Tried) → t.row.at ≤ t.hi → IsWhole t tally row left → IsFinishAfter t.rules row t.hi tally left tried next new → (next ≡ (after_repeats t).row) × IsTried (after_repeats t) tried new
 finished-tried t tally row next left new tried le (u, repeated, row_is, none, counted, passes) (again, wrote, finish) =
-    let found = tally.found.items in
+    let found = tally.found in
     let skips = skips_of row + tally.read_skips + tally.process_skips in
     let at : u.row.at ≡ t.row.at = ap (λ (x : Row). x.at) repeated.row in
     let hi = repeated.hi in
@@ -135,16 +134,16 @@ asks-settled u k class choice at fault chosen last =
     ∙ ap is_again (sym chosen) ∙ last
 
 -- a block that a record's fault settled
-pub stopped-tried : (t : Trial) (k : ℕ) (class : ClassId) (choice : Choice) (row : Row) (left new : Workplace) (tried : Tried) → IsGathered t (Settled k class choice) row left → ((rules : RulesRecord) (at : Row) (skips : ℕ) → choice ≡ choice_at rules at class skips → tried.end ≡ end_at rules at (Some class) skips) → tried.delta ≡ no_counts → new ≡ record left { reader = opened left.reader row.at } → (row ≡ (after_repeats t).row) × IsTried (after_repeats t) tried new
-stopped-tried t k class choice row left new tried (u, repeated, row_is, at, fault, chosen, unskipped, last, passes) end delta opens =
+pub stopped-tried : (t : Trial) (k : ℕ) (class : ClassId) (choice : Choice) (row : Row) (left new : Workplace) (tried : Tried) (found : Numbered) → IsGathered t (Settled k class choice) found row left → ((rules : RulesRecord) (at : Row) (skips : ℕ) → choice ≡ choice_at rules at class skips → tried.end ≡ end_at rules at (Some class) skips) → tried.delta ≡ no_counts → new ≡ record left { reader = opened left.reader row.at } → (row ≡ (after_repeats t).row) × IsTried (after_repeats t) tried new
+stopped-tried t k class choice row left new tried found (u, repeated, row_is, at, fault, chosen, unskipped, last, passes) end delta opens =
     let is : u ≡ after_repeats t = repeated-last t u repeated (asks-settled u k class choice at fault chosen last) in
     let place = ap (λ (x : Row). record left { reader = opened left.reader x.at }) row_is in
     let done = settled-tried u k class left new tried at fault (ap is_skip (sym chosen) ∙ unskipped) passes (end u.rules u.row _ chosen) delta (opens ∙ place) in
     (row_is ∙ ap (λ (x : Trial). x.row) is, subst (λ x. IsTried x tried new) is done)
 
 -- and it is not repeated
-pub settled-not-again : (t : Trial) (k : ℕ) (class : ClassId) (choice : Choice) (row : Row) (left : Workplace) → IsGathered t (Settled k class choice) row left → is_again choice ≡ false
-settled-not-again t k class choice row left (u, repeated, row_is, at, fault, chosen, unskipped, last, passes) = last
+pub settled-not-again : (t : Trial) (k : ℕ) (class : ClassId) (choice : Choice) (row : Row) (left : Workplace) (found : Numbered) → IsGathered t (Settled k class choice) found row left → is_again choice ≡ false
+settled-not-again t k class choice row left found (u, repeated, row_is, at, fault, chosen, unskipped, last, passes) = last
 
 -- where the reader may be opened again, and how much is written
 pub record IsWithin (t : Trial) (row : Row) (left : Workplace) : Type 0 where
@@ -167,11 +166,11 @@ within-by t u row left n repeated row_is passes =
       written = ap (λ (x : Workplace). x.writer.written) passes ∙ ap (λ (x : Writer). x.written) repeated.work.writer;
     }
 
-pub whole-within : (t : Trial) (tally : Tally) (row : Row) (left : Workplace) → IsGathered t (Whole tally) row left → IsWithin t row left × (left.reader.place ≡ t.hi)
+pub whole-within : (t : Trial) (tally : Yield) (row : Row) (left : Workplace) → IsWhole t tally row left → IsWithin t row left × (left.reader.place ≡ t.hi)
 whole-within t tally row left (u, repeated, row_is, none, counted, passes) =
     (within-by t u row left _ repeated row_is passes, ap (λ (x : Workplace). x.reader.place) passes ∙ repeated.hi)
 
-pub whole-tally : (t : Trial) (tally : Tally) (row : Row) (left : Workplace) → IsGathered t (Whole tally) row left → (w : Workplace) × IsTally w t.row.at t.hi tally
+pub whole-tally : (t : Trial) (tally : Yield) (row : Row) (left : Workplace) → IsWhole t tally row left → (w : Workplace) × IsTally w t.row.at t.hi tally
 whole-tally t tally row left (u, repeated, row_is, none, counted, passes) =
     let at : u.row.at ≡ t.row.at = ap (λ (x : Row). x.at) repeated.row in
     (u.work, subst (λ x. IsTally u.work x t.hi tally) at (subst (λ x. IsTally u.work u.row.at x tally) repeated.hi counted))
@@ -184,7 +183,7 @@ may-written w lo hi (suc m) plans =
     let p = written_times m plans (results w lo hi) in
     may-trans lo hi _ _ _ (may-written w lo hi m plans) (may-used_for p (failing p (results w lo hi)) lo hi (λ r e. failing-of p w lo hi r e))
 
-pub whole-torn : (t : Trial) (tally : Tally) (row : Row) (left new : Workplace) → t.row.at ≤ t.hi → IsGathered t (Whole tally) row left → IsTornWrite left tally.found.items new → IsTorn t.row.at t.hi t.work new
+pub whole-torn : (t : Trial) (tally : Yield) (row : Row) (left new : Workplace) → t.row.at ≤ t.hi → IsWhole t tally row left → IsTornWrite left tally.found new → IsTorn t.row.at t.hi t.work new
 whole-torn t tally row left new le (u, repeated, row_is, none, counted, passes) torn =
     let at : u.row.at ≡ t.row.at = ap (λ (x : Row). x.at) repeated.row in
     let hi = repeated.hi in
@@ -193,7 +192,7 @@ whole-torn t tally row left new le (u, repeated, row_is, none, counted, passes) 
     let worn = subst (λ lo. IsWornTo lo t.hi u.work left) at worn0 in
     let read = restored-worn t.row.at t.hi t.work u.work left repeated.work worn in
     let others = torn.others in
-    let found : tally.found.items ≡ results u.work t.row.at t.hi = counted.found ∙ (λ i. results u.work (at i) (hi i)) in
+    let found : tally.found ≡ results u.work t.row.at t.hi = counted.found ∙ (λ i. results u.work (at i) (hi i)) in
     let plans = torn.plans ∙ ap (written_times torn.again left.writer.faults) found in
     let used = subst (λ p. MayBeUsed t.row.at t.hi left.writer.faults p) (sym plans) (may-written u.work t.row.at t.hi torn.again left.writer.faults) in
     let kept : left.writer.written ≡ t.work.writer.written = (within-by t u row left u.hi repeated row_is passes).written in
@@ -212,12 +211,12 @@ whole-torn t tally row left new le (u, repeated, row_is, none, counted, passes) 
 
 -- HOW A WRITE CALL ENDS THE BLOCK
 
-skips-now : (row now : Row) (tally : Tally) (again : ℕ) → now ≡ repeated_row row again → skips_of now + tally.read_skips + tally.process_skips ≡ skips_of row + tally.read_skips + tally.process_skips
+skips-now : (row now : Row) (tally : Yield) (again : ℕ) → now ≡ repeated_row row again → skips_of now + tally.read_skips + tally.process_skips ≡ skips_of row + tally.read_skips + tally.process_skips
 skips-now row now tally again e = ap (λ (x : Row). skips_of x + tally.read_skips + tally.process_skips) e
 
-pub put-written : (rules : RulesRecord) (row now : Row) (w left : Workplace) (tally : Tally) → IsPut rules (skips_of row + tally.read_skips + tally.process_skips) row w tally.found.items (Ok tt) now left → IsWriteEndAfter rules row tally w Written now left
+pub put-written : (rules : RulesRecord) (row now : Row) (w left : Workplace) (tally : Yield) → IsPut rules (skips_of row + tally.read_skips + tally.process_skips) row w tally.found (Ok tt) now left → IsWriteEndAfter rules row tally w Written now left
 put-written rules row now w left tally put =
-    let found = tally.found.items in
+    let found = tally.found in
     let fault = put.answered.0 in
     let writer = rewritten w.writer found put.again in (
       put.again,
@@ -228,9 +227,9 @@ put-written rules row now w left tally put =
       },
     )
 
-pub put-faulted : (rules : RulesRecord) (row now : Row) (w left back : Workplace) (tally : Tally) (class : ClassId) (end : End) → length w.writer.written ≡ row.written → IsPut rules (skips_of row + tally.read_skips + tally.process_skips) row w tally.found.items (Err (Fault class)) now left → end ≡ end_at rules now (Some class) (skips_of row + tally.read_skips + tally.process_skips) → back ≡ record left { writer = cut left.writer now.written } → IsWriteEndAfter rules row tally w end now back
+pub put-faulted : (rules : RulesRecord) (row now : Row) (w left back : Workplace) (tally : Yield) (class : ClassId) (end : End) → length w.writer.written ≡ row.written → IsPut rules (skips_of row + tally.read_skips + tally.process_skips) row w tally.found (Err (Fault class)) now left → end ≡ end_at rules now (Some class) (skips_of row + tally.read_skips + tally.process_skips) → back ≡ record left { writer = cut left.writer now.written } → IsWriteEndAfter rules row tally w end now back
 put-faulted rules row now w left back tally class end count put ends cuts =
-    let found = tally.found.items in
+    let found = tally.found in
     let skips = skips_of row + tally.read_skips + tally.process_skips in
     let fault = put.faulted.0 in
     let writer = rewritten w.writer found put.again in
@@ -272,7 +271,7 @@ put-torn rules skips row now w left found put =
     }
 
 -- the reader opened again where the block isn't committed
-pub finish-of : (rules : RulesRecord) (row now : Row) (hi : ℕ) (tally : Tally) (w left back : Workplace) (tried : Tried) (end : End) → tried.end ≡ end → IsWriteEndAfter rules row tally w end now left → tried.delta ≡ counts_by end (block_tally (hi - now.at) tally) → back ≡ record left { reader = opened left.reader (place_by end now.at hi) } → IsFinishAfter rules row hi tally w tried now back
+pub finish-of : (rules : RulesRecord) (row now : Row) (hi : ℕ) (tally : Yield) (w left back : Workplace) (tried : Tried) (end : End) → tried.end ≡ end → IsWriteEndAfter rules row tally w end now left → tried.delta ≡ counts_by end (block_tally (hi - now.at) tally) → back ≡ record left { reader = opened left.reader (place_by end now.at hi) } → IsFinishAfter rules row hi tally w tried now back
 finish-of rules row now hi tally w left back tried end same (again, wrote, ended) delta opens = (
   again,
   wrote,
@@ -282,6 +281,6 @@ finish-of rules row now hi tally w left back tried end same (again, wrote, ended
     left =
         opens
         ∙ ap (λ (v : Workplace). record v { reader = opened v.reader (place_by end now.at hi) }) ended.left
-        ∙ ap (λ e. record w { reader = opened w.reader (place_by e now.at hi); writer = writer_by e (rewritten w.writer tally.found.items again) tally.found.items }) (sym same);
+        ∙ ap (λ e. record w { reader = opened w.reader (place_by e now.at hi); writer = writer_by e (rewritten w.writer tally.found again) tally.found }) (sym same);
   },
 )

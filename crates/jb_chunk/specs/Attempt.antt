@@ -19,9 +19,7 @@ use Rattle.jb_chunk.specs.declared.outcome.Outcome.{Outcome}
 use Rattle.jb_chunk.specs.declared.outcome.Outcome.TheVariants.{NoMemory}
 use Rattle.jb_chunk.specs.declared.outcome.Outcome.TheVariants as outcome
 use Rattle.jb_chunk.specs.Block.{entry, results, count_of, skips_before, choice_at, is_skip, repeats, settling, passed, MayBeUsed}
-use Rattle.jb_chunk.specs.declared.entry.Entry.{Entry}
-use Rattle.jb_chunk.specs.declared.entry.Entry.TheVariants.{ReadFault, ProcessFault, Filtered, Found}
-use Rattle.jb_chunk.specs.Entries.{fault_in, is_read_fault, is_process_fault, is_filtered}
+use Rattle.jb_chunk.specs.Entries.{Entry, ReadFault, ProcessFault, Filtered, Found, fault_in, is_read_fault, is_process_fault, is_filtered}
 use Rattle.jb_chunk.specs.Standing.{TaskState}
 
 -- THE BLOCK, AND HOW IT ENDS

@@ -13,9 +13,7 @@ use Rattle.jb_artifacts.specs.Faults.{Plans, live, used, is_live}
 use Rattle.jb_artifacts.specs.Reader.{record_at}
 use Rattle.jb_artifacts.specs.Writer.{Numbered}
 use Rattle.jb_artifacts.specs.Meaning.{Workplace}
-use Rattle.jb_chunk.specs.declared.entry.Entry.{Entry}
-use Rattle.jb_chunk.specs.declared.entry.Entry.TheVariants.{ReadFault, ProcessFault, Filtered, Found}
-use Rattle.jb_chunk.specs.Entries.{fault_in, is_read_fault, is_process_fault, text_in, numbered}
+use Rattle.jb_chunk.specs.Entries.{Entry, ReadFault, ProcessFault, Filtered, Found, fault_in, is_read_fault, is_process_fault, text_in, numbered}
 
 -- What becomes of a record is one of four things: its read fails; else its process call fails; else the processor
 -- answers none, which filters it; else it has a result (Jakarta Batch 2.1, "Regular Chunk Processing" and "ItemProcessor").

@@ -1,6 +1,6 @@
 //! One block tried to its end.
 
-ghost use Rattle.std.specs.Prelude.{ℕ, ◌≡◌, ◌≤◌, ◌<◌, ◌+◌, ◌-◌, false, length, vec_len, Some, IfOk, OnErr};
+ghost use Rattle.std.specs.Prelude.{ℕ, ◌≡◌, ◌≤◌, ◌<◌, ◌+◌, ◌-◌, false, length, Some, IfOk, OnErr};
 ghost use Rattle.jb_job.specs.Records.{RulesRecord};
 ghost use Rattle.jb_rules.specs.declared.row.Row.{Row};
 ghost use Rattle.jb_artifacts.specs.Reader.{reader_end, opened};
@@ -9,11 +9,12 @@ ghost use Rattle.jb_rules.specs.Counts.{IsDelta};
 ghost use Rattle.jb_chunk.specs.Attempt.{Trial, end_at, after_repeats};
 ghost use Rattle.jb_chunk.specs.Block.{choice_at, is_again};
 ghost use Rattle.jb_chunk.specs.inside.Ends.{counts_by, place_by};
-ghost use Rattle.jb_chunk.specs.inside.Gathering.{IsSmallTally, block_tally};
+ghost use Rattle.jb_chunk.specs.inside.Gathering.{IsSmallTally, block_tally, yield_of};
 ghost use Rattle.jb_chunk.specs.Standing.{HasRepeats};
 ghost use Rattle.jb_chunk.specs.inside.Repeats.{IsWriteEndAfter, IsFinishAfter, IsTornWrite};
 ghost use Rattle.jb_chunk.specs.inside.Tried.{IsTried, IsCommitted, IsTorn};
 
+use crate::chunk_results::ChunkResults;
 use crate::end::End;
 use crate::gather::{Gathered, gather};
 use crate::partition_artifacts::PartitionArtifacts;
@@ -38,9 +39,9 @@ fn end_by_choice(choice: Choice, class: ClassId) -> End
 }
 
 /// What a block of so many records adds to the counts.
-fn delta_of(end: End, records: u64, tally: &Tally) -> Counts
+fn delta_of<R: ChunkResults>(end: End, records: u64, tally: &Tally, results: &R) -> Counts
     requires { tally.now.read_skips ≤ records }
-    ensures { result ≡ counts_by end (block_tally records tally.now) }
+    ensures { result ≡ counts_by end (block_tally records (yield_of tally.now (R.pairs results.now))) }
 {
     let done = Counts {
         read: records - tally.read_skips,
@@ -52,7 +53,7 @@ fn delta_of(end: End, records: u64, tally: &Tally) -> Counts
     };
     match end {
         End::Written => Counts {
-            write: tally.found.len() as u64,
+            write: results.count(),
             ..done
         },
         End::Unwritten => Counts {
@@ -83,20 +84,22 @@ fn settle_write<A: PartitionArtifacts>(
     rules: &Rules,
     row: &mut Row,
     tally: &Tally,
+    results: &A::Results,
 ) -> Result<End, AllocError>
     requires sound { IsSoundRow row.old }
     requires room { HasRepeats rules.now row.old }
     requires few { IsSmallTally tally.now }
     requires count { length (A.workplace artifacts.old).writer.written ≡ row.old.written }
     ensures ok { let w = A.workplace artifacts.old in
-        IfOk result (λ end. IsWriteEndAfter rules.now row.old tally.now w end row.new (A.workplace artifacts.new)) }
+        let came_to = yield_of tally.now (A.Results.pairs results.now) in
+        IfOk result (λ end. IsWriteEndAfter rules.now row.old came_to w end row.new (A.workplace artifacts.new)) }
     ensures sound { IsSoundRow row.new }
     ensures err { let w = A.workplace artifacts.old in
         let now = A.workplace artifacts.new in
-        OnErr result (IsTornWrite w tally.now.found.items now) }
+        OnErr result (IsTornWrite w (A.Results.pairs results.now) now) }
 {
     let skips = row.skips() + tally.read_skips + tally.process_skips;
-    match write_in_place(artifacts, rules, row, skips, tally.found.as_slice()) {
+    match write_in_place(artifacts, rules, row, skips, results) {
         Ok(()) => Ok(End::Written),
         Err(ArtifactError::Fault(class)) => {
             let choice = decide(rules, class, row.at < row.redo, skips, row.retries);
@@ -130,46 +133,49 @@ pub fn try_block<A: PartitionArtifacts>(
     ensures sound { IsSoundRow row.new }
     ensures err { OnErr result (IsTorn row.old.at hi (A.workplace artifacts.old) (A.workplace artifacts.new)) }
 {
-    match gather(alloc, artifacts, rules, row, hi) {
+    let mut results = A::Results::with_room(alloc, hi - row.at)?;
+    match gather(artifacts, rules, row, hi, &mut results) {
         Ok(Gathered::Settled(_, class, choice)) => {
             let end = end_by_choice(choice, class);
             artifacts.rewind(row.at);
             let delta = Counts::ZERO;
             Ok(Tried { end, delta })
         }
-        Ok(Gathered::Whole(tally)) => finish_block(artifacts, rules, row, hi, &tally),
+        Ok(Gathered::Whole(tally)) => finish_block(artifacts, rules, row, hi, &tally, &results),
         Err(error) => Err(error),
     }
 }
 
-/// Writes what the tally of a whole block found, and settles its end.
+/// Writes the results of a whole block, and settles its end.
 fn finish_block<A: PartitionArtifacts>(
     artifacts: &mut A,
     rules: &Rules,
     row: &mut Row,
     hi: u64,
     tally: &Tally,
+    results: &A::Results,
 ) -> Result<Tried, AllocError>
     requires sound { IsSoundRow row.old }
     requires room { HasRepeats rules.now row.old }
     requires order { row.old.at < hi }
     requires few { IsSmallTally tally.now }
-    requires records { tally.now.read_skips + tally.now.process_skips + tally.now.filtered + vec_len tally.now.found ≡ hi - row.old.at }
+    requires records { tally.now.read_skips + tally.now.process_skips + tally.now.filtered + length (A.Results.pairs results.now) ≡ hi - row.old.at }
     requires place { (A.workplace artifacts.old).reader.place ≡ hi }
     requires from { (A.workplace artifacts.old).reader.first ≤ row.old.at }
     requires to { hi ≤ reader_end (A.workplace artifacts.old).reader }
     requires count { length (A.workplace artifacts.old).writer.written ≡ row.old.written }
     ensures ok { let w = A.workplace artifacts.old in
-        IfOk result (λ tried. IsFinishAfter rules.now row.old hi tally.now w tried row.new (A.workplace artifacts.new)) }
+        let came_to = yield_of tally.now (A.Results.pairs results.now) in
+        IfOk result (λ tried. IsFinishAfter rules.now row.old hi came_to w tried row.new (A.workplace artifacts.new)) }
     ensures counted { IfOk result (λ tried. IsCommitted tried.end → IsDelta (hi - row.old.at) tried.delta) }
     ensures sound { IsSoundRow row.new }
     ensures err { let w = A.workplace artifacts.old in
         let now = A.workplace artifacts.new in
-        OnErr result (IsTornWrite w tally.now.found.items now) }
+        OnErr result (IsTornWrite w (A.Results.pairs results.now) now) }
 {
-    match settle_write(artifacts, rules, row, tally) {
+    match settle_write(artifacts, rules, row, tally, results) {
         Ok(end) => {
-            let delta = delta_of(end, hi - row.at, tally);
+            let delta = delta_of(end, hi - row.at, tally, results);
             reopen(artifacts, end, row.at, hi);
             Ok(Tried { end, delta })
         }

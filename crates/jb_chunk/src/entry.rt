@@ -1,14 +1,14 @@
 //! What becomes of a record.
 
-ghost use Rattle.std.specs.Prelude.{◌≡◌};
+ghost use Rattle.std.specs.Prelude.{◌≡◌, List, ℕ};
 ghost use Rattle.jb_chunk.specs.Entries.{fault_in};
+ghost use Rattle.jb_chunk.specs.inside.Gathering.{entry_with};
 
-use jb_artifacts::Item;
 use jb_job::ClassId;
 
-/// What becomes of a record, before its fault is settled.
-#[derive(Drop)]
-pub enum Entry {
+/// What becomes of a record, before its fault is settled. Its result, if it has one, stands behind the chunk's others.
+#[derive(Clone, Copy, Debug, PartialEq, Eq)]
+pub enum EntryKind {
     /// Its read failed.
     ReadFault(ClassId),
     /// Its processing failed.
@@ -16,16 +16,16 @@ pub enum Entry {
     /// It was filtered.
     Filtered,
     /// It has a result.
-    Found(Item),
+    Found,
 }
 
-impl Entry {
+impl EntryKind {
     pub fn fault(&self) -> Option<ClassId>
-        ensures { result ≡ fault_in self.now }
+        ensures { (text : List ℕ) → result ≡ fault_in (entry_with self.now text) }
     {
         match self {
-            Entry::ReadFault(class) | Entry::ProcessFault(class) => Some(*class),
-            Entry::Filtered | Entry::Found(_) => None,
+            EntryKind::ReadFault(class) | EntryKind::ProcessFault(class) => Some(*class),
+            EntryKind::Filtered | EntryKind::Found => None,
         }
     }
 }

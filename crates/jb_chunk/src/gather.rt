@@ -1,26 +1,27 @@
 //! The records of a block, read and processed one by one.
 
-ghost use Rattle.std.specs.Prelude.{◌≡◌, ◌+◌, ◌<◌, ◌≤◌, IfOk, OnErr};
+ghost use Rattle.std.specs.Prelude.{◌≡◌, ◌+◌, ◌<◌, ◌≤◌, [], IfOk, OnErr};
 ghost use Rattle.jb_artifacts.specs.Reader.{reader_end};
 ghost use Rattle.jb_rules.specs.Sound.{IsSoundRow};
 ghost use Rattle.jb_rules.specs.Rows.{skips_of};
-ghost use Rattle.jb_chunk.specs.declared.entry.Entry.{Entry};
+ghost use Rattle.jb_chunk.specs.Entries.{Entry};
 ghost use Rattle.jb_chunk.specs.Attempt.{Trial};
-ghost use Rattle.jb_chunk.specs.inside.Gathering.{IsWornTo, IsStep, IsSmallTally};
+ghost use Rattle.jb_chunk.specs.inside.Gathering.{IsWornTo, IsStep, IsSmallTally, yield_of};
 ghost use Rattle.jb_chunk.specs.Standing.{HasRepeats};
-ghost use Rattle.jb_chunk.specs.inside.Repeats.{IsDone, IsGathered};
+ghost use Rattle.jb_chunk.specs.inside.Repeats.{IsDone, IsEntered, IsGathered};
 ghost use Rattle.jb_chunk.specs.inside.Tried.{IsTorn};
 
-use crate::entry::Entry;
+use crate::chunk_results::ChunkResults;
+use crate::entry::EntryKind;
 use crate::partition_artifacts::PartitionArtifacts;
 use crate::repeat::{process_in_place, read_in_place};
 use crate::tally::Tally;
 use jb_job::{ArtifactError, ClassId, Rules};
 use jb_rules::{Choice, Row, decide};
-use std::alloc::{AllocError, Global};
+use std::alloc::AllocError;
 
-/// What the records of a block came to.
-#[derive(Drop)]
+/// What the records of a block came to, but for their results.
+#[derive(Clone, Copy, Debug, PartialEq, Eq)]
 pub enum Gathered {
     /// The fault of this record, of this class, isn't skipped.
     Settled(u64, ClassId, Choice),
@@ -28,34 +29,38 @@ pub enum Gathered {
     Whole(Tally),
 }
 
-/// Reads the record at the reader's place and processes it, each again after a fault that is repeated in place.
+/// Reads the record at the reader's place and processes it, each again after a fault that is repeated in place. Its result, if
+/// it has one, is put behind the others.
 fn read_and_process<A: PartitionArtifacts>(
     artifacts: &mut A,
     rules: &Rules,
     row: &mut Row,
     skips: u64,
     number: u64,
-) -> Result<Entry, AllocError>
+    results: &mut A::Results,
+) -> Result<EntryKind, AllocError>
     requires sound { IsSoundRow row.old }
     requires room { HasRepeats rules.now row.old }
     requires place { (A.workplace artifacts.old).reader.place ≡ number }
     requires from { (A.workplace artifacts.old).reader.first ≤ number }
     requires to { number < reader_end (A.workplace artifacts.old).reader }
     ensures done { let w = A.workplace artifacts.old in
-        IfOk result (λ found. IsDone rules.now skips row.old w number found row.new (A.workplace artifacts.new)) }
+        let before = A.Results.pairs results.old in
+        let after = A.Results.pairs results.new in
+        IfOk result (λ kind. IsEntered rules.now skips row.old w number before kind row.new (A.workplace artifacts.new) after) }
     ensures sound { IsSoundRow row.new }
     ensures room { HasRepeats rules.now row.new }
     ensures err { OnErr result (IsWornTo number (number + 1) (A.workplace artifacts.old) (A.workplace artifacts.new)) }
 {
-    let record = match read_in_place(artifacts, rules, row, skips, number) {
-        Ok(record) => record,
-        Err(ArtifactError::Fault(class)) => return Ok(Entry::ReadFault(class)),
+    let item = match read_in_place(artifacts, rules, row, skips, number) {
+        Ok(item) => item,
+        Err(ArtifactError::Fault(class)) => return Ok(EntryKind::ReadFault(class)),
         Err(ArtifactError::Memory) => return Err(AllocError),
     };
-    match process_in_place(artifacts, rules, row, skips, number, record.as_slice()) {
-        Ok(Some(text)) => Ok(Entry::Found(text)),
-        Ok(None) => Ok(Entry::Filtered),
-        Err(ArtifactError::Fault(class)) => Ok(Entry::ProcessFault(class)),
+    match process_in_place(artifacts, rules, row, skips, number, &item, results) {
+        Ok(true) => Ok(EntryKind::Found),
+        Ok(false) => Ok(EntryKind::Filtered),
+        Err(ArtifactError::Fault(class)) => Ok(EntryKind::ProcessFault(class)),
         Err(ArtifactError::Memory) => Err(AllocError),
     }
 }
@@ -67,6 +72,7 @@ fn settle_record<A: PartitionArtifacts>(
     row: &mut Row,
     number: u64,
     tally: &mut Tally,
+    results: &mut A::Results,
 ) -> Result<Option<(ClassId, Choice)>, AllocError>
     requires sound { IsSoundRow row.old }
     requires room { HasRepeats rules.now row.old }
@@ -76,31 +82,33 @@ fn settle_record<A: PartitionArtifacts>(
     requires to { number < reader_end (A.workplace artifacts.old).reader }
     ensures stepped { let w = A.workplace artifacts.old in
         let skips = skips_of row.old + tally.old.read_skips + tally.old.process_skips in
-        IfOk result (λ settled. (e : Entry) × IsDone rules.now skips row.old w number e row.new (A.workplace artifacts.new) × IsStep rules.now row.new e number tally.old settled tally.new) }
+        let before = yield_of tally.old (A.Results.pairs results.old) in
+        let after = yield_of tally.new (A.Results.pairs results.new) in
+        IfOk result (λ settled. (e : Entry) × IsDone rules.now skips row.old w number e row.new (A.workplace artifacts.new) × IsStep rules.now row.new e number before settled after) }
     ensures sound { IsSoundRow row.new }
     ensures room { HasRepeats rules.now row.new }
     ensures err { OnErr result (IsWornTo number (number + 1) (A.workplace artifacts.old) (A.workplace artifacts.new)) }
 {
     let skips = row.skips() + tally.read_skips + tally.process_skips;
-    let entry = read_and_process(artifacts, rules, row, skips, number)?;
-    if let Some(class) = entry.fault() {
+    let kind = read_and_process(artifacts, rules, row, skips, number, results)?;
+    if let Some(class) = kind.fault() {
         let choice = decide(rules, class, row.at < row.redo, skips, row.retries);
         if !matches!(choice, Choice::Skip) {
             return Ok(Some((class, choice)));
         }
     }
-    tally.count(number, entry)?;
+    tally.count(kind);
     Ok(None)
 }
 
 /// Reads and processes the records from the row's checkpoint up to `hi`, until one has a fault that is neither skipped nor
 /// repeated. The row counts the repeats.
 pub fn gather<A: PartitionArtifacts>(
-    alloc: Global,
     artifacts: &mut A,
     rules: &Rules,
     row: &mut Row,
     hi: u64,
+    results: &mut A::Results,
 ) -> Result<Gathered, AllocError>
     requires sound { IsSoundRow row.old }
     requires room { HasRepeats rules.now row.old }
@@ -109,15 +117,16 @@ pub fn gather<A: PartitionArtifacts>(
     requires place { (A.workplace artifacts.old).reader.place ≡ row.old.at }
     requires from { (A.workplace artifacts.old).reader.first ≤ row.old.at }
     requires to { hi ≤ reader_end (A.workplace artifacts.old).reader }
+    requires none { A.Results.pairs results.old ≡ [] }
     ensures ok { let t : Trial = record { rules = rules.now; row = row.old; hi = hi; work = A.workplace artifacts.old } in
-        IfOk result (λ gathered. IsGathered t gathered row.new (A.workplace artifacts.new)) }
+        IfOk result (λ gathered. IsGathered t gathered (A.Results.pairs results.new) row.new (A.workplace artifacts.new)) }
     ensures sound { IsSoundRow row.new }
     ensures room { HasRepeats rules.now row.new }
     ensures err { OnErr result (IsTorn row.old.at hi (A.workplace artifacts.old) (A.workplace artifacts.new)) }
 {
-    let mut tally = Tally::with_room(alloc, hi - row.at)?;
+    let mut tally = Tally::new();
     for number in row.at..hi {
-        match settle_record(artifacts, rules, row, number, &mut tally) {
+        match settle_record(artifacts, rules, row, number, &mut tally, results) {
             Ok(None) => {}
             Ok(Some((class, choice))) => return Ok(Gathered::Settled(number, class, choice)),
             Err(error) => return Err(error),

@@ -1,12 +1,14 @@
 //! What a partition's task works with, call by call.
 
-ghost use Rattle.std.specs.Prelude.{◌≡◌, ◌↔◌, ◌≤◌, ◌<◌, length, IsTrue, None, Some, IfOk, OnOk};
+ghost use Rattle.std.specs.Prelude.{◌≡◌, ◌↔◌, ◌≤◌, ◌<◌, ◌++◌, List, ℕ, length, vec_len, vec_capacity, option_to_list, is_some, IsTrue, None, Some, Ok, Err, IfOk, IfErr, OnOk};
 ghost use Rattle.jb_artifacts.specs.Answers.{IfFault, IfNoMemory};
 ghost use Rattle.jb_artifacts.specs.Meaning.{Fits};
 ghost use Rattle.jb_artifacts.specs.Processor.{process_fault, after_process};
 ghost use Rattle.jb_artifacts.specs.Reader.{opened, reader_end, record_at, read_fault, after_read};
 ghost use Rattle.jb_artifacts.specs.Writer.{cut, write_fault, after_write, torn_write};
+ghost use Rattle.jb_chunk.specs.Entries.{numbered};
 
+use crate::chunk_results::ChunkResults;
 use jb_artifacts::{
     Artifacts, ArtifactsOf, Collector, Item, ItemProcessor, ItemReader, ItemWriter, Meaning,
     RowView, row_is_served,
@@ -15,8 +17,18 @@ use jb_job::ArtifactError;
 use jb_rules::Row;
 use std::alloc::AllocError;
 
-/// A partition's reader, processor, writer and collector as one: in boxes, `Artifacts`, or of known types, `ArtifactsOf`.
+/// A partition's reader, processor, writer and collector as one: in boxes, `Artifacts`, or of known types, `ArtifactsOf`; and
+/// those that lend their records, `PackedArtifacts`.
 pub trait PartitionArtifacts: Meaning + Drop {
+    /// What a read gives: the record's bytes, or nothing, where the reader keeps them and lends them.
+    type Record: Drop;
+
+    /// The results of a chunk.
+    type Results: ChunkResults;
+
+    // what bytes a record stands for, where these are its reader's
+    ghost bytes: { Self.Record → (own : List ℕ) → List ℕ };
+
     /// Whether the reader has the row's records, and the writer as many results as it committed.
     fn serves(&self, row: &Row) -> bool
         ensures { IsTrue result ↔ Fits (Self.workplace self.now) row.now };
@@ -45,43 +57,85 @@ pub trait PartitionArtifacts: Meaning + Drop {
             Self.workplace self.new ≡ record w { writer = cut w.writer count } };
 
     /// Reads the next record.
-    fn read_item(&mut self) -> Result<Item, ArtifactError>
+    fn read_item(&mut self) -> Result<Self::Record, ArtifactError>
         requires { (Self.workplace self.old).reader.place < reader_end (Self.workplace self.old).reader }
         ensures answered { let w = Self.workplace self.old in
-            IfOk result (λ item. (read_fault w.reader ≡ None) × (item ≡ record_at w.reader w.reader.place)
+            let own = record_at w.reader w.reader.place in
+            IfOk result (λ item. (read_fault w.reader ≡ None) × (bytes item own ≡ own)
             × (Self.workplace self.new ≡ record w { reader = after_read w.reader })) }
         ensures faulted { let w = Self.workplace self.old in
             IfFault result (λ class. (read_fault w.reader ≡ Some class) × (Self.workplace self.new ≡ record w { reader = after_read w.reader })) }
         ensures no_memory { IfNoMemory result (Self.workplace self.new ≡ Self.workplace self.old) };
 
-    /// Processes an item, that of the record with this number.
-    fn process_item(&mut self, number: u64, item: &[u8]) -> Result<Option<Item>, ArtifactError>
+    /// Processes an item, that of the record with this number. Its result, if it has one, is put behind the others, and
+    /// the answer says whether it has. After a fault, and without memory, the results are as they were.
+    fn process_item(
+        &mut self,
+        number: u64,
+        item: &Self::Record,
+        results: &mut Self::Results,
+    ) -> Result<bool, ArtifactError>
+        requires from { (Self.workplace self.old).reader.first ≤ number }
+        requires to { number < reader_end (Self.workplace self.old).reader }
         ensures answered { let w = Self.workplace self.old in
-            IfOk result (λ answer. (process_fault w.processor number ≡ None) × (answer ≡ w.processor.answer number item.now)
-            × (Self.workplace self.new ≡ record w { processor = after_process w.processor number })) }
+            let answer = w.processor.answer number (bytes item.now (record_at w.reader number)) in
+            IfOk result (λ found. (process_fault w.processor number ≡ None) × (found ≡ is_some answer)
+            × (Self.workplace self.new ≡ record w { processor = after_process w.processor number })
+            × (Self.Results.pairs results.new ≡ Self.Results.pairs results.old ++ option_to_list (numbered number answer))) }
         ensures faulted { let w = Self.workplace self.old in
             IfFault result (λ class. (process_fault w.processor number ≡ Some class)
-            × (Self.workplace self.new ≡ record w { processor = after_process w.processor number })) }
-        ensures no_memory { IfNoMemory result (Self.workplace self.new ≡ Self.workplace self.old) };
+            × (Self.workplace self.new ≡ record w { processor = after_process w.processor number })
+            × (Self.Results.pairs results.new ≡ Self.Results.pairs results.old)) }
+        ensures no_memory { IfNoMemory result ((Self.workplace self.new ≡ Self.workplace self.old)
+            × (Self.Results.pairs results.new ≡ Self.Results.pairs results.old)) };
 
     /// Writes results, each with the number of its record.
-    fn write_items(&mut self, results: &[(u64, Item)]) -> Result<(), ArtifactError>
+    fn write_items(&mut self, results: &Self::Results) -> Result<(), ArtifactError>
         ensures written { let w = Self.workplace self.old in
-            OnOk result ((write_fault w.writer results.now ≡ None)
-            × (Self.workplace self.new ≡ record w { writer = after_write w.writer results.now })) }
+            let found = Self.Results.pairs results.now in
+            OnOk result ((write_fault w.writer found ≡ None)
+            × (Self.workplace self.new ≡ record w { writer = after_write w.writer found })) }
         ensures faulted { let w = Self.workplace self.old in
-            IfFault result (λ class. (write_fault w.writer results.now ≡ Some class)
-            × (Self.workplace self.new ≡ record w { writer = after_write w.writer results.now })) }
+            let found = Self.Results.pairs results.now in
+            IfFault result (λ class. (write_fault w.writer found ≡ Some class)
+            × (Self.workplace self.new ≡ record w { writer = after_write w.writer found })) }
         ensures no_memory { let w = Self.workplace self.old in
             let now = Self.workplace self.new in
-            IfNoMemory result (now ≡ record w { writer = torn_write w.writer results.now (length now.writer.written) }) };
+            let found = Self.Results.pairs results.now in
+            IfNoMemory result (now ≡ record w { writer = torn_write w.writer found (length now.writer.written) }) };
 
     /// The collector's text for this view.
     fn collect(&self, view: &RowView) -> Result<Item, AllocError>
         ensures { IfOk result (λ text. text ≡ (Self.workplace self.now).collector view.now) };
 }
 
+/// Puts the result that a processor answered for the record of this number behind the others, where there is one.
+fn put_behind(
+    number: u64,
+    answer: Result<Option<Item>, ArtifactError>,
+    results: &mut Vec<(u64, Item)>,
+) -> Result<bool, ArtifactError>
+    requires room { vec_len results.old < vec_capacity results.old }
+    ensures answered { IfOk answer (λ text. (result ≡ Ok (is_some text)) × (results.new.items ≡ results.old.items ++ option_to_list (numbered number text))) }
+    ensures refused { IfErr answer (λ error. (result ≡ Err error) × (results.new.items ≡ results.old.items)) }
+{
+    match answer {
+        Ok(Some(text)) => {
+            results.push_reserved((number, text));
+            Ok(true)
+        }
+        Ok(None) => Ok(false),
+        Err(error) => Err(error),
+    }
+}
+
 impl PartitionArtifacts for Artifacts {
+    type Record = Item;
+
+    type Results = Vec<(u64, Item)>;
+
+    ghost bytes = { λ item own. item };
+
     fn serves(&self, row: &Row) -> bool {
         self.fit(row)
     }
@@ -110,12 +164,19 @@ impl PartitionArtifacts for Artifacts {
         }
     }
 
-    fn process_item(&mut self, number: u64, item: &[u8]) -> Result<Option<Item>, ArtifactError> {
-        self.processor.process_item(number, item)
+    fn process_item(
+        &mut self,
+        number: u64,
+        item: &Item,
+        results: &mut Vec<(u64, Item)>,
+    ) -> Result<bool, ArtifactError> {
+        results.reserve(1)?;
+        let answer = self.processor.process_item(number, item.as_slice());
+        put_behind(number, answer, results)
     }
 
-    fn write_items(&mut self, results: &[(u64, Item)]) -> Result<(), ArtifactError> {
-        self.writer.write_items(results)
+    fn write_items(&mut self, results: &Vec<(u64, Item)>) -> Result<(), ArtifactError> {
+        self.writer.write_items(results.as_slice())
     }
 
     fn collect(&self, view: &RowView) -> Result<Item, AllocError> {
@@ -129,6 +190,12 @@ impl<
     W: ItemWriter + Drop,
     C: Collector + Drop,
 > PartitionArtifacts for ArtifactsOf<R, P, W, C> {
+    type Record = Item;
+
+    type Results = Vec<(u64, Item)>;
+
+    ghost bytes = { λ item own. item };
+
     fn serves(&self, row: &Row) -> bool {
         row_is_served(
             row,
@@ -162,12 +229,19 @@ impl<
         }
     }
 
-    fn process_item(&mut self, number: u64, item: &[u8]) -> Result<Option<Item>, ArtifactError> {
-        self.processor.process_item(number, item)
+    fn process_item(
+        &mut self,
+        number: u64,
+        item: &Item,
+        results: &mut Vec<(u64, Item)>,
+    ) -> Result<bool, ArtifactError> {
+        results.reserve(1)?;
+        let answer = self.processor.process_item(number, item.as_slice());
+        put_behind(number, answer, results)
     }
 
-    fn write_items(&mut self, results: &[(u64, Item)]) -> Result<(), ArtifactError> {
-        self.writer.write_items(results)
+    fn write_items(&mut self, results: &Vec<(u64, Item)>) -> Result<(), ArtifactError> {
+        self.writer.write_items(results.as_slice())
     }
 
     fn collect(&self, view: &RowView) -> Result<Item, AllocError> {

@@ -2,15 +2,15 @@
 
 ghost use Rattle.std.specs.Prelude.{◌≡◌, ◌≤◌, ◌<◌, length, None, Some, OnOk};
 ghost use Rattle.jb_artifacts.specs.Answers.{IfFault, IfNoMemory};
-ghost use Rattle.jb_artifacts.specs.Reader.{reader_end};
+ghost use Rattle.jb_artifacts.specs.Reader.{reader_end, record_at};
 ghost use Rattle.jb_artifacts.specs.Writer.{write_fault, after_write, torn_write};
 ghost use Rattle.jb_rules.specs.Sound.{IsSoundRow};
 ghost use Rattle.jb_chunk.specs.Block.{repeats};
 ghost use Rattle.jb_chunk.specs.Standing.{HasRepeats};
-ghost use Rattle.jb_chunk.specs.inside.Repeats.{fault_answered, IsRead, IsProcessed, IsPut};
+ghost use Rattle.jb_chunk.specs.inside.Repeats.{seen_as, fault_answered, results_behind, IsRead, IsProcessed, IsPut};
 
+use crate::chunk_results::ChunkResults;
 use crate::partition_artifacts::PartitionArtifacts;
-use jb_artifacts::Item;
 use jb_job::{ArtifactError, Rules};
 use jb_rules::{Choice, Row, decide};
 
@@ -35,14 +35,15 @@ pub fn read_in_place<A: PartitionArtifacts>(
     row: &mut Row,
     skips: u64,
     number: u64,
-) -> Result<Item, ArtifactError>
+) -> Result<A::Record, ArtifactError>
     requires sound { IsSoundRow row.old }
     requires room { HasRepeats rules.now row.old }
     requires place { (A.workplace artifacts.old).reader.place ≡ number }
     requires from { (A.workplace artifacts.old).reader.first ≤ number }
     requires to { number < reader_end (A.workplace artifacts.old).reader }
     ensures read { let w = A.workplace artifacts.old in
-        IsRead rules.now skips row.old w number result row.new (A.workplace artifacts.new) }
+        let seen = seen_as (λ item. A.bytes item (record_at w.reader number)) result in
+        IsRead rules.now skips row.old w number seen row.new (A.workplace artifacts.new) }
     ensures sound { IsSoundRow row.new }
     ensures room { HasRepeats rules.now row.new }
 {
@@ -56,25 +57,32 @@ pub fn read_in_place<A: PartitionArtifacts>(
     }
 }
 
-/// Processes the item of the record of this number, again after each fault that is repeated in place. The row counts the
-/// repeats.
+/// Processes the item of the record of this number, again after each fault that is repeated in place. Its result, if it has
+/// one, is put behind the others. The row counts the repeats.
 pub fn process_in_place<A: PartitionArtifacts>(
     artifacts: &mut A,
     rules: &Rules,
     row: &mut Row,
     skips: u64,
     number: u64,
-    item: &[u8],
-) -> Result<Option<Item>, ArtifactError>
+    item: &A::Record,
+    results: &mut A::Results,
+) -> Result<bool, ArtifactError>
     requires sound { IsSoundRow row.old }
     requires room { HasRepeats rules.now row.old }
+    requires from { (A.workplace artifacts.old).reader.first ≤ number }
+    requires to { number < reader_end (A.workplace artifacts.old).reader }
     ensures processed { let w = A.workplace artifacts.old in
-        IsProcessed rules.now skips row.old w number item.now result row.new (A.workplace artifacts.new) }
+        let bytes = A.bytes item.now (record_at w.reader number) in
+        IsProcessed rules.now skips row.old w number bytes result row.new (A.workplace artifacts.new) }
+    ensures results { let w = A.workplace artifacts.old in
+        let bytes = A.bytes item.now (record_at w.reader number) in
+        A.Results.pairs results.new ≡ results_behind result number (w.processor.answer number bytes) (A.Results.pairs results.old) }
     ensures sound { IsSoundRow row.new }
     ensures room { HasRepeats rules.now row.new }
 {
     loop {
-        let answer = artifacts.process_item(number, item);
+        let answer = artifacts.process_item(number, item, results);
         if !is_repeated(rules, row, skips, &answer) {
             return answer;
         }
@@ -85,22 +93,25 @@ pub fn process_in_place<A: PartitionArtifacts>(
 /// Writes the results, where there are any.
 fn write_found<A: PartitionArtifacts>(
     artifacts: &mut A,
-    found: &[(u64, Item)],
+    results: &A::Results,
 ) -> Result<(), ArtifactError>
     ensures written { let w = A.workplace artifacts.old in
-        OnOk result ((write_fault w.writer found.now ≡ None)
-        × (A.workplace artifacts.new ≡ record w { writer = after_write w.writer found.now })) }
+        let found = A.Results.pairs results.now in
+        OnOk result ((write_fault w.writer found ≡ None)
+        × (A.workplace artifacts.new ≡ record w { writer = after_write w.writer found })) }
     ensures faulted { let w = A.workplace artifacts.old in
-        IfFault result (λ class. (write_fault w.writer found.now ≡ Some class)
-        × (A.workplace artifacts.new ≡ record w { writer = after_write w.writer found.now })) }
+        let found = A.Results.pairs results.now in
+        IfFault result (λ class. (write_fault w.writer found ≡ Some class)
+        × (A.workplace artifacts.new ≡ record w { writer = after_write w.writer found })) }
     ensures no_memory { let w = A.workplace artifacts.old in
         let now = A.workplace artifacts.new in
-        IfNoMemory result (now ≡ record w { writer = torn_write w.writer found.now (length now.writer.written) }) }
+        let found = A.Results.pairs results.now in
+        IfNoMemory result (now ≡ record w { writer = torn_write w.writer found (length now.writer.written) }) }
 {
-    if found.is_empty() {
+    if results.count() == 0 {
         return Ok(());
     }
-    artifacts.write_items(found)
+    artifacts.write_items(results)
 }
 
 /// Writes the results, where there are any, again after each fault that is repeated in place: what a failing call wrote is
@@ -110,17 +121,17 @@ pub fn write_in_place<A: PartitionArtifacts>(
     rules: &Rules,
     row: &mut Row,
     skips: u64,
-    found: &[(u64, Item)],
+    results: &A::Results,
 ) -> Result<(), ArtifactError>
     requires sound { IsSoundRow row.old }
     requires room { HasRepeats rules.now row.old }
     requires count { length (A.workplace artifacts.old).writer.written ≡ row.old.written }
     ensures put { let w = A.workplace artifacts.old in
-        IsPut rules.now skips row.old w found.now result row.new (A.workplace artifacts.new) }
+        IsPut rules.now skips row.old w (A.Results.pairs results.now) result row.new (A.workplace artifacts.new) }
     ensures sound { IsSoundRow row.new }
 {
     loop {
-        let answer = write_found(artifacts, found);
+        let answer = write_found(artifacts, results);
         if !is_repeated(rules, row, skips, &answer) {
             return answer;
         }

@@ -1,6 +1,10 @@
+pub mod Apart
 pub mod Classes
 pub mod Counts
 pub mod FaultOrder
+pub mod Plain
+pub mod PlainRestart
 pub mod Resumed
+pub mod TextTrees
 pub mod Trees
 pub mod Restarted

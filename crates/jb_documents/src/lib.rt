@@ -5,11 +5,15 @@
 //! - `plan`: the document of `plan`, counts of chunks and a number of threads.
 //! - `check`: the document of `check`, a plan that someone made and its certificate.
 //! - `taken`: trees taken apart by value.
+//! - `borrowed`: trees that borrow their text, for documents in which all is plain.
+//! - `packed`: texts packed into one buffer.
 //!
 //! Each field is checked in the order of its document's table, and the first fault is the answer.
 #![tactic(auto)]
 
+mod borrowed;
 mod check;
+mod packed;
 mod plan;
 mod restart;
 mod run;

@@ -3,6 +3,7 @@
 mod document;
 mod fault;
 mod outputs;
+mod plain;
 mod resume;
 mod resume_fields;
 

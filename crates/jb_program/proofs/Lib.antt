@@ -11,7 +11,6 @@ pub mod Own
 pub mod PartitionRuns
 pub mod Partitions
 pub mod Prepared
-pub mod Records
 pub mod Refusals
 pub mod Rounds
 pub mod StepRuns

@@ -37,25 +37,6 @@ all-stand rows records within k d before =
 pub unfinished-stand : (rows : List Row) (records : ℕ) → All (IsWithin records) (map range_of rows) → All (Stands rows records) (unfinished rows)
 unfinished-stand rows records within = All-filter _ (Stands rows records) (enumerate_from 0 rows) (all-stand rows records within)
 
--- two partitions have no record in common
-abbrev pub AreApart : ℕ × Row → ℕ × Row → Type 0
-AreApart a b = HaveNoneInCommon (range_of a.1) (range_of b.1)
-
-all-apart : (rows : List Row) → AreDisjoint (map range_of rows) → AllPairs AreApart (enumerate_from 0 rows)
-all-apart rows disjoint i j d before within =
-    let second : j < length rows = omega (arith, length-enumerate_from 0 rows, within) in
-    let first : i < length rows = omega (arith, second, before) in
-    let counted : j < length (map range_of rows) = rw (length-map rows range_of) second in
-    let one : get_or (enumerate_from 0 rows) i d ≡ (0 + i, get_or rows i d.1) = get_or-enumerate_from 0 rows i d first in
-    let other : get_or (enumerate_from 0 rows) j d ≡ (0 + j, get_or rows j d.1) = get_or-enumerate_from 0 rows j d second in
-    let apart : HaveNoneInCommon (range_of (get_or rows i d.1)) (range_of (get_or rows j d.1)) =
-    subst (λ r. HaveNoneInCommon r (range_of (get_or rows j d.1))) (get_or-map range_of rows i d.1 (range_of d.1) first)
-    (subst (λ r. HaveNoneInCommon (get_or (map range_of rows) i (range_of d.1)) r) (get_or-map range_of rows j d.1 (range_of d.1) second) (disjoint i j (range_of d.1) before counted)) in
-    subst (λ n. AreApart n (get_or (enumerate_from 0 rows) j d)) (sym one) (subst (λ m. AreApart (0 + i, get_or rows i d.1) m) (sym other) apart)
-
-pub unfinished-apart : (rows : List Row) → AreDisjoint (map range_of rows) → AllPairs AreApart (unfinished rows)
-unfinished-apart rows disjoint = AllPairs-filter AreApart _ (enumerate_from 0 rows) (all-apart rows disjoint)
-
 -- ---- the unfinished partitions, one after another
 
 at-place : (ns : List (ℕ × Row)) (k p : ℕ) → slice_get (map (λ n. n.0) ns) k ≡ Some p → (row : Row) × (slice_get ns k ≡ Some (p, row))
@@ -90,30 +71,15 @@ next-row rows records k p row within h is =
     let same : next.0 ≡ row = cc in
     subst (IsNext rows records k p) same next.1
 
--- the records of the later ones stay where those of this one leave
-kept-behind : (settings : StepSettings) (outputs : List (List (List ℕ))) (old now : List (List ℕ)) (range : Range) (ns : List (ℕ × Row))
-    → AllByRecursion (λ m. HaveNoneInCommon range (range_of m.1)) ns → ((other : Range) → HaveNoneInCommon range other → records_in now other ≡ records_in old other)
-    → map (work_for settings now outputs) ns ≡ map (work_for settings old outputs) ns
-kept-behind settings outputs old now range [] apart others = refl
-kept-behind settings outputs old now range (m ∷ ns) apart others =
-    let same = others (range_of m.1) apart.0 in
-    (λ i. workplace_of settings (same i) (held_by outputs m.0) (range_of m.1) ∷ kept-behind settings outputs old now range ns apart.1 others i)
-
-pub works-more : (settings : StepSettings) (outputs : List (List (List ℕ))) (rows : List Row) (old now : List (List ℕ)) (records k p : ℕ) (row : Row) → AreDisjoint (map range_of rows) → IsNext rows records k p row
-    → ((other : Range) → HaveNoneInCommon (range_of row) other → records_in now other ≡ records_in old other)
-    → map (work_for settings old outputs) (drop k (unfinished rows)) ≡ work_for settings old outputs (p, row) ∷ map (work_for settings now outputs) (drop (k + 1) (unfinished rows))
-works-more settings outputs rows old now records k p row disjoint next others =
+-- what the partition at this place works with, and the later ones
+pub works-more : (settings : StepSettings) (outputs : List (List (List ℕ))) (rows : List Row) (records : List (List ℕ)) (k p : ℕ) (row : Row) → IsNext rows (length records) k p row
+    → map (work_for settings records outputs) (drop k (unfinished rows)) ≡ work_for settings records outputs (p, row) ∷ map (work_for settings records outputs) (drop (k + 1) (unfinished rows))
+works-more settings outputs rows records k p row next =
     let ns = unfinished rows in
     let n : ℕ × Row = (p, row) in
     let inside : k < length ns = slice_get_within ns k n next.place in
     let here : get_or ns k n ≡ n = get_or_from_slice_get ns k n n next.place in
-    let apart : All (λ m. HaveNoneInCommon (range_of row) (range_of m.1)) (drop (k + 1) ns) = λ j d within.
-    let past : k + 1 + j < length ns = omega (arith, length-drop (k + 1) ns, within) in
-    let first : get_or ns k d ≡ n = get_or_from_slice_get ns k n d next.place in
-    subst (λ m. HaveNoneInCommon (range_of row) (range_of m.1)) (sym (get_or-drop (k + 1) ns j d))
-    (subst (λ m. AreApart m (get_or ns (k + 1 + j) d)) first (unfinished-apart rows disjoint k (k + 1 + j) d (omega arith) past)) in
-    ap (map (work_for settings old outputs)) (drop_more ns k n inside ∙ ap (λ m. m ∷ drop (k + 1) ns) here)
-    ∙ ap (λ ws. work_for settings old outputs n ∷ ws) (sym (kept-behind settings outputs old now (range_of row) (drop (k + 1) ns) (recursion_from_All _ (drop (k + 1) ns) apart) others))
+    ap (map (work_for settings records outputs)) (drop_more ns k n inside ∙ ap (λ m. m ∷ drop (k + 1) ns) here)
 
 -- one partition's artifacts more, before those of the later ones
 pub works-added : {A : Type 0} (work : A → Workplace) (all pushed : List A) (own : A) (rest whole : List Workplace) → pushed ≡ all ++ own ∷ [] → whole ≡ work own ∷ rest

@@ -5,7 +5,7 @@
 //! - `preparing`: what it begins with, by its partition plan.
 //! - `settings`: what the partitions of a step have in common.
 //! - `artifacts`: what each of them works with.
-//! - `records`, `fault_plans`, `held`: what a partition's artifacts are made from.
+//! - `fault_plans`, `held`: what a partition's artifacts are made from.
 //! - `callbacks`: what hears of the run, and keeps its calls.
 //! - `told`: the report of a step that was run.
 //! - `laws`: what the crates below say of partitions.
@@ -17,7 +17,6 @@ mod held;
 mod job;
 mod laws;
 mod preparing;
-mod records;
 mod rounds;
 mod settings;
 mod step;

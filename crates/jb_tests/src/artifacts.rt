@@ -12,6 +12,7 @@ use jb_artifacts::{
     Collector, CountCollector, FaultList, FaultPlan, FaultPlans, Item, ItemProcessor, ItemReader,
     ItemWriter, ListWriter, PrefixProcessor, RowView, TableReader,
 };
+use jb_base::PackedList;
 use jb_job::{ArtifactError, ClassId};
 use jb_rules::Counts;
 use std::alloc::{AllocError, Global};
@@ -49,7 +50,7 @@ fn worked_values(class: ClassId, later: ClassId, view: RowView)
 {}
 
 /// The plans by which record 1 fails once.
-fn failing_once(alloc: Global, class: ClassId) -> Result<FaultPlans, AllocError> {
+pub(crate) fn failing_once(alloc: Global, class: ClassId) -> Result<FaultPlans, AllocError> {
     let classes = Vec::from_slice(alloc, &[class])?;
     let mut plans = FaultPlans::new(alloc);
     plans.insert(1, FaultPlan::Shaky(FaultList::from_vec(classes)))?;
@@ -57,21 +58,21 @@ fn failing_once(alloc: Global, class: ClassId) -> Result<FaultPlans, AllocError>
 }
 
 /// What each of those plans answers at the first call for record 1.
-fn fault() -> ArtifactError {
+pub(crate) fn fault() -> ArtifactError {
     ArtifactError::Fault(ClassId::new(3))
 }
 
-/// Items of these texts.
-fn items(alloc: Global, texts: &[&str]) -> Result<Vec<Item>, AllocError> {
-    let mut items = Vec::new(alloc);
+/// Records of these texts.
+pub(crate) fn records(alloc: Global, texts: &[&str]) -> Result<PackedList, AllocError> {
+    let mut records = PackedList::new(alloc);
     for text in texts {
-        items.push(Item::copy_of(alloc, text.as_bytes())?)?;
+        records.push(text.as_bytes())?;
     }
-    Ok(items)
+    Ok(records)
 }
 
 /// What a call failed with.
-fn fault_of<T: Drop>(answer: Result<T, ArtifactError>) -> Option<ArtifactError> {
+pub(crate) fn fault_of<T: Drop>(answer: Result<T, ArtifactError>) -> Option<ArtifactError> {
     match answer {
         Ok(_) => None,
         Err(fault) => Some(fault),
@@ -79,7 +80,7 @@ fn fault_of<T: Drop>(answer: Result<T, ArtifactError>) -> Option<ArtifactError> 
 }
 
 /// Whether a call answered with these bytes.
-fn holds(answer: &Result<Option<Item>, ArtifactError>, bytes: &[u8]) -> bool {
+pub(crate) fn holds(answer: &Result<Option<Item>, ArtifactError>, bytes: &[u8]) -> bool {
     match answer {
         Ok(Some(item)) => item.as_slice() == bytes,
         _ => false,
@@ -91,7 +92,7 @@ fn holds(answer: &Result<Option<Item>, ArtifactError>, bytes: &[u8]) -> bool {
 fn a_record_read_after_a_fault(rt: HostRuntime) -> Result<(), AllocError> {
     let alloc = rt.alloc();
     let plans = failing_once(alloc, ClassId::new(3))?;
-    let mut reader = TableReader::new(alloc, 0, items(alloc, &["a", "b"])?, plans);
+    let mut reader = TableReader::new(alloc, 0, records(alloc, &["a", "b"])?, plans);
     assert!(rt; holds(&reader.read_item(), b"a"));
     assert!(rt; fault_of(reader.read_item()) == Some(fault()));
     Ok(())
@@ -114,7 +115,7 @@ fn a_record_processed_after_a_fault(rt: HostRuntime) -> Result<(), AllocError> {
 fn a_result_written_after_a_fault(rt: HostRuntime) -> Result<(), AllocError> {
     let alloc = rt.alloc();
     let plans = failing_once(alloc, ClassId::new(3))?;
-    let mut writer = ListWriter::new(alloc, Vec::new(alloc), plans);
+    let mut writer = ListWriter::new(PackedList::new(alloc), plans);
     let results = [(1, Item::copy_of(alloc, b"xb")?)];
     assert!(rt; writer.write_items(&results) == Err(fault()));
     assert!(rt; writer.write_items(&results) == Ok(()));
@@ -181,8 +182,8 @@ fn writes(writer: &mut ListWriter, results: &[(u64, Item)]) -> bool {
 }
 
 /// What the three work with: a record, a prefix and a result.
-fn three_items(alloc: Global) -> Result<(Vec<Item>, Item, Item), AllocError> {
-    let records = items(alloc, &["a"])?;
+fn three_items(alloc: Global) -> Result<(PackedList, Item, Item), AllocError> {
+    let records = records(alloc, &["a"])?;
     let prefix = Item::copy_of(alloc, b"x")?;
     let result = Item::copy_of(alloc, b"xa")?;
     Ok((records, prefix, result))
@@ -198,6 +199,6 @@ fn wants_memory_or_answers_in_full(rt: HostRuntime) {
     assert!(rt; reads(&mut TableReader::new(alloc, 0, records, FaultPlans::new(alloc))));
     let mut processor = PrefixProcessor::new(alloc, prefix, None, FaultPlans::new(alloc));
     assert!(rt; processes(&mut processor));
-    let mut writer = ListWriter::new(alloc, Vec::new(alloc), FaultPlans::new(alloc));
+    let mut writer = ListWriter::new(PackedList::new(alloc), FaultPlans::new(alloc));
     assert!(rt; writes(&mut writer, &[(0, result)]));
 }

@@ -28,15 +28,20 @@ const ONE_STEP: &str =
     r#"{"job":{"id":"j","exception-classes":["E"],"step":[{"id":"s","chunk":{}}]},
         "data":[{"records":["a","b"],"drop":"x","faults":{"read":[[0,"bad","E"],[1,"shaky",["E"]]]}}]}"#;
 
+/// The same with its data twice, of which the last stand. It isn't plain, so the tree of the text decides.
+const DATA_TWICE: &str =
+    r#"{"job":{"id":"j","exception-classes":["E"],"step":[{"id":"s","chunk":{}}]},"data":[],
+        "data":[{"records":["a","b"],"drop":"x","faults":{"read":[[0,"bad","E"],[1,"shaky",["E"]]]}}]}"#;
+
 /// Whether the step has that second record, and that second fault in reading.
 fn is_that_step(step: &StepData) -> bool {
     match (
-        step.records.as_slice().last(),
+        step.records.as_list().get(1),
         step.faults.read.as_slice().last(),
     ) {
         (Some(record), Some(fault)) => {
             let is_shaky = matches!(&fault.kind, FaultKind::Shaky(_));
-            record.as_str() == "b" && fault.number == 1 && is_shaky
+            record == b"b".as_slice() && fault.number == 1 && is_shaky
         }
         _ => false,
     }
@@ -82,8 +87,10 @@ fn a_claim_is_read(rt: HostRuntime) -> Result<(), Fail> {
 
 #[test]
 fn a_document_is_read(rt: HostRuntime) -> Result<(), Fail> {
-    let document = read_document(rt.alloc(), bytes_of(rt.alloc(), ONE_STEP)?)?;
-    assert!(rt; has_one_step(&document));
+    for text in [ONE_STEP, DATA_TWICE] {
+        let document = read_document(rt.alloc(), bytes_of(rt.alloc(), text)?)?;
+        assert!(rt; has_one_step(&document));
+    }
     Ok(())
 }
 
@@ -91,9 +98,11 @@ fn a_document_is_read(rt: HostRuntime) -> Result<(), Fail> {
 #[test]
 fn wants_memory_or_answers_in_full(rt: HostRuntime) -> Result<(), Fail> {
     let alloc = rt.alloc();
-    match read_document(alloc, bytes_of(alloc, ONE_STEP)?) {
-        Ok(document) => assert!(rt; has_one_step(&document)),
-        Err(fault) => assert!(rt; fault == JobError::Memory),
+    for text in [ONE_STEP, DATA_TWICE] {
+        match read_document(alloc, bytes_of(alloc, text)?) {
+            Ok(document) => assert!(rt; has_one_step(&document)),
+            Err(fault) => assert!(rt; fault == JobError::Memory),
+        }
     }
     match read_load(alloc, bytes_of(alloc, LOAD)?) {
         Ok(load) => assert!(rt; is_that_load(&load)),

@@ -7,6 +7,8 @@
 #[cfg(test)]
 mod artifacts;
 #[cfg(test)]
+mod base;
+#[cfg(test)]
 mod chunk;
 #[cfg(test)]
 mod collect;
@@ -18,6 +20,8 @@ mod job;
 mod mapper;
 #[cfg(test)]
 mod plan;
+#[cfg(test)]
+mod ready;
 #[cfg(test)]
 mod repo;
 #[cfg(test)]

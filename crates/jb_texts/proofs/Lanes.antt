@@ -1,5 +1,5 @@
 -- The lanes of a round: the busy ones, and behind them the idle ones.
-use Rattle.std.proofs.Common.{◌≡◌, ℕ, zero, suc, ◌+◌, ◌*◌, ◌≤◌, ◌<◌, List, [], ◌∷◌, ◌++◌, map, take, codes, decimal, Some, None, option_map, refl, ap, sym, ◌∙◌, append_assoc, append-nil, arith}
+use Rattle.std.proofs.Common.{◌≡◌, ℕ, zero, suc, add-one, ◌+◌, ◌-◌, ◌*◌, ◌≤◌, ◌<◌, List, [], ◌∷◌, ◌++◌, map, take, codes, decimal, Some, None, option_map, refl, ap, sym, ◌∙◌, append_assoc, append-nil, arith}
 use Rattle.std.specs.List.{concat, range_with_len}
 use Rattle.jb_cert.specs.Laws.{LanesAreFound}
 use Rattle.jb_cert.specs.Lawful.{Pair}
@@ -42,8 +42,10 @@ take-idle (suc n) (suc m) h =
     let twice : 2 * suc n ≡ suc (suc (2 * n)) = omega arith in
     rw twice (ap (λ text. 32 ∷ 45 ∷ text) (take-idle n m (omega (arith, h))))
 
--- the parts of a round's line
-pub line-joined : (number busy idle lanes : List ℕ) → busy ++ idle ≡ lanes → (((number ++ 58 ∷ []) ++ busy) ++ idle) ++ 10 ∷ [] ≡ number ++ 58 ∷ (lanes ++ 10 ∷ [])
-line-joined number busy idle lanes is =
-    ap (λ text. text ++ 10 ∷ []) (append_assoc (number ++ 58 ∷ []) busy idle ∙ ap (λ text. (number ++ 58 ∷ []) ++ text) is ∙ append_assoc number (58 ∷ []) lanes)
-    ∙ append_assoc number (58 ∷ lanes) (10 ∷ [])
+-- one lane before the lanes behind it
+pub lane-before : (f : ℕ → List ℕ) (lanes behind : ℕ) → behind < lanes
+    → concat (map f (range_with_len (lanes - (behind + 1)) (behind + 1))) ≡ f (lanes - 1 - behind) ++ concat (map f (range_with_len (lanes - behind) behind))
+lane-before f lanes behind some =
+    let this : lanes - suc behind ≡ lanes - 1 - behind = omega arith in
+    let next : lanes - suc behind + 1 ≡ lanes - behind = omega (arith, some) in
+    rw (add-one behind) (λ i. f (this i) ++ concat (map f (range_with_len (next i) behind)))

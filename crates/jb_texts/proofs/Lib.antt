@@ -1,3 +1,4 @@
+pub mod Digits
 pub mod Fronts
 pub mod Heard
 pub mod Joined

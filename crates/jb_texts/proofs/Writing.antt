@@ -1,5 +1,5 @@
 -- What several writes in turn append.
-use Rattle.std.proofs.Common.{◌≡◌, ℕ, ◌+◌, List, [], ◌∷◌, ◌++◌, map, Option, Some, None, get_or, length, take, ◌<◌, zero, suc, refl, ap, sym, ◌∙◌, append_assoc, append-nil, add-one, arith}
+use Rattle.std.proofs.Common.{◌≡◌, ℕ, ◌+◌, List, [], ◌∷◌, ◌++◌, map, Option, Some, None, get_or, length, take, ◌<◌, zero, suc, refl, ap, sym, ◌∙◌, append_assoc, append-nil, add-one, arith, subst}
 use Rattle.std.specs.Io.KnownBytes.{Appends, Keeps}
 use Rattle.std.specs.List.{concat, enumerate_from, range_with_len}
 use Rattle.jb_cert.specs.declared.plans.Slot.{Slot}
@@ -14,6 +14,10 @@ appends-both None b c xs ys first second = tt
 appends-both (Some us) None c xs ys first second = absurd first
 appends-both (Some us) (Some vs) None xs ys first second = absurd second
 appends-both (Some us) (Some vs) (Some ws) xs ys first second = rw (second, first) (append_assoc us xs ys)
+
+-- one text by another name
+pub appends-text : (a b : Option (List ℕ)) (xs ys : List ℕ) → xs ≡ ys → Appends a b xs → Appends a b ys
+appends-text a b xs ys is written = subst (λ text. Appends a b text) is written
 
 pub concat-last : (xss : List (List ℕ)) (xs : List ℕ) → concat (xss ++ xs ∷ []) ≡ concat xss ++ xs
 concat-last [] xs = append-nil xs
@@ -60,5 +64,3 @@ appends-kept None b c xs first kept = tt
 appends-kept (Some us) None c xs first kept = absurd first
 appends-kept (Some us) (Some vs) None xs first kept = absurd kept
 appends-kept (Some us) (Some vs) (Some ws) xs first kept = kept ∙ first
-
-pub ruleset appends = (appends-both, appends-both)

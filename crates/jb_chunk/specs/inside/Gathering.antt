@@ -1,34 +1,53 @@
 -- What the functions that read and process a block keep, record by record.
-use Rattle.std.specs.Prelude.{ℕ, ◌≡◌, ◌+◌, ◌≤◌, ◌++◌, length, false, Option, Some, None, option_to_list}
+use Rattle.std.specs.Prelude.{ℕ, ◌≡◌, ◌+◌, ◌≤◌, ◌++◌, List, length, false, Option, Some, None, option_to_list}
 use Rattle.jb_job.specs.declared.class.ClassId.{ClassId}
 use Rattle.jb_job.specs.Limits.{max_records}
 use Rattle.jb_rules.specs.declared.row.Row.{Row}
 use Rattle.jb_job.specs.Records.{RulesRecord}
 use Rattle.jb_artifacts.specs.Faults.{Plans, live, used_at}
+use Rattle.jb_artifacts.specs.Writer.{Numbered}
 use Rattle.jb_artifacts.specs.Meaning.{Workplace}
+use Rattle.jb_chunk.specs.declared.entry.EntryKind.{EntryKind}
+use Rattle.jb_chunk.specs.declared.entry.EntryKind.TheVariants as kind
 use Rattle.jb_chunk.specs.declared.tally.Tally.{Tally}
 use Rattle.jb_rules.specs.declared.choice.Choice.{Choice}
 use Rattle.jb_rules.specs.Rows.{skips_of}
-use Rattle.jb_chunk.specs.declared.entry.Entry.{Entry}
 use Rattle.jb_chunk.specs.Attempt.{BlockTally}
 use Rattle.jb_chunk.specs.Block.{results, count_of, choice_at, is_skip, stops, MayBeUsed}
-use Rattle.jb_chunk.specs.Entries.{fault_in, is_read_fault, is_process_fault, is_filtered, text_in, numbered, one_if}
+use Rattle.jb_chunk.specs.Entries.{Entry, ReadFault, ProcessFault, Filtered, Found, fault_in, is_read_fault, is_process_fault, is_filtered, text_in, numbered, one_if}
 
--- the tally of the records `lo` to `hi - 1`
-pub record IsTally (w : Workplace) (lo hi : ℕ) (t : Tally) : Type 0 where
-  pub found : t.found.items ≡ results w lo hi
+-- the entry of such a kind; where it has a result, this one
+abbrev pub entry_with : EntryKind → (text : List ℕ) → Entry
+entry_with (kind.ReadFault class) text = ReadFault class
+entry_with (kind.ProcessFault class) text = ProcessFault class
+entry_with kind.Filtered text = Filtered
+entry_with kind.Found text = Found text
+
+-- what records came to: their results, and how many were skipped or filtered
+pub record Yield : Type 0 where
+  pub found : Numbered
+  pub read_skips : ℕ
+  pub process_skips : ℕ
+  pub filtered : ℕ
+
+abbrev pub yield_of : Tally → (found : Numbered) → Yield
+yield_of t found = record { found = found; read_skips = t.read_skips; process_skips = t.process_skips; filtered = t.filtered }
+
+-- what the records `lo` to `hi - 1` came to
+pub record IsTally (w : Workplace) (lo hi : ℕ) (t : Yield) : Type 0 where
+  pub found : t.found ≡ results w lo hi
   pub read_skips : t.read_skips ≡ count_of is_read_fault w lo hi
   pub process_skips : t.process_skips ≡ count_of is_process_fault w lo hi
   pub filtered : t.filtered ≡ count_of is_filtered w lo hi
 
 -- the tally, by its numbers, of a block of so many records
-abbrev pub block_tally : (records : ℕ) → Tally → BlockTally
+abbrev pub block_tally : (records : ℕ) → Yield → BlockTally
 block_tally records t = record {
   records = records;
   read_skips = t.read_skips;
   process_skips = t.process_skips;
   filtered = t.filtered;
-  found = length t.found.items;
+  found = length t.found;
 }
 
 -- the processor's plans after record `k`: only a record that was read is processed
@@ -58,15 +77,15 @@ pub record IsSmallTally (t : Tally) : Type 0 where
   pub process_skips : t.process_skips ≤ max_records
   pub filtered : t.filtered ≤ max_records
 
--- the tally has one more record, with this entry
-pub record IsCountedUp (number : ℕ) (e : Entry) (old new : Tally) : Type 0 where
-  pub found : new.found.items ≡ old.found.items ++ option_to_list (numbered number (text_in e))
+-- there is one more record, with this entry
+pub record IsCountedUp (number : ℕ) (e : Entry) (old new : Yield) : Type 0 where
+  pub found : new.found ≡ old.found ++ option_to_list (numbered number (text_in e))
   pub read_skips : new.read_skips ≡ old.read_skips + one_if (is_read_fault e)
   pub process_skips : new.process_skips ≡ old.process_skips + one_if (is_process_fault e)
   pub filtered : new.filtered ≡ old.filtered + one_if (is_filtered e)
 
 -- a record with this entry settled the block, or it is counted
-abbrev pub IsStep : RulesRecord → Row → Entry → (number : ℕ) → Tally → Option (ClassId × Choice) → Tally → Type 0
+abbrev pub IsStep : RulesRecord → Row → Entry → (number : ℕ) → Yield → Option (ClassId × Choice) → Yield → Type 0
 IsStep rules row e number old (Some settled) new =
     let choice = choice_at rules row settled.0 (skips_of row + old.read_skips + old.process_skips) in
     (fault_in e ≡ Some settled.0) × (settled.1 ≡ choice) × (is_skip choice ≡ false)

@@ -1,5 +1,5 @@
 -- What the functions keep that repeat a call in place, and what a block is between two of its repeats.
-use Rattle.std.specs.Prelude.{ℕ, zero, suc, ◌≡◌, ◌+◌, ◌≤◌, ◌<◌, ◌⊎◌, true, false, List, length, take, Option, Some, None, Result, Ok, Err, IfOk}
+use Rattle.std.specs.Prelude.{ℕ, zero, suc, ◌≡◌, ◌+◌, ◌≤◌, ◌<◌, ◌⊎◌, Bool, true, false, List, ◌++◌, length, take, option_to_list, is_some, Option, Some, None, Result, Ok, Err, IfOk}
 use Rattle.jb_job.specs.declared.class.ClassId.{ClassId}
 use Rattle.jb_job.specs.declared.artifact_error.ArtifactError.{ArtifactError}
 use Rattle.jb_job.specs.declared.artifact_error.ArtifactError.TheVariants.{Fault, Memory}
@@ -13,16 +13,20 @@ use Rattle.jb_artifacts.specs.Processor.{after_process}
 use Rattle.jb_artifacts.specs.Writer.{Writer, Numbered, failing, used_for, write_fault, after_write, torn_write}
 use Rattle.jb_artifacts.specs.Meaning.{Workplace}
 use Rattle.jb_chunk.specs.declared.end.End.{End}
-use Rattle.jb_chunk.specs.declared.entry.Entry.{Entry}
+use Rattle.jb_chunk.specs.declared.entry.EntryKind.{EntryKind}
 use Rattle.jb_chunk.specs.declared.gather.Gathered.{Gathered}
 use Rattle.jb_chunk.specs.declared.gather.Gathered.TheVariants.{Settled, Whole}
-use Rattle.jb_chunk.specs.declared.tally.Tally.{Tally}
 use Rattle.jb_chunk.specs.declared.tried.Tried.{Tried}
 use Rattle.jb_chunk.specs.Attempt.{Trial, after_repeats, settled_at, IsRestored}
 use Rattle.jb_chunk.specs.Block.{entry, repeats, is_skip, is_again, choice_at, skips_before, settling, passed}
-use Rattle.jb_chunk.specs.Entries.{fault_in}
-use Rattle.jb_chunk.specs.inside.Gathering.{IsTally, passed_one}
+use Rattle.jb_chunk.specs.Entries.{Entry, fault_in, text_in, numbered}
+use Rattle.jb_chunk.specs.inside.Gathering.{Yield, yield_of, entry_with, IsTally, passed_one}
 use Rattle.jb_chunk.specs.inside.Tried.{IsWriteEnd, IsFinish}
+
+-- an answer, by what its value stands for
+abbrev pub seen_as : {A B : Type 0} → (A → B) → Result A ArtifactError → Result B ArtifactError
+seen_as f (Ok x) = Ok (f x)
+seen_as f (Err e) = Err e
 
 -- the fault that a call answered
 abbrev pub fault_answered : {A : Type 0} → Result A ArtifactError → Option ClassId
@@ -96,8 +100,14 @@ process_call w k = record {
   without_memory = λ m left. called w k 0 m;
 }
 
-abbrev pub IsProcessed : RulesRecord → (skips : ℕ) → Row → Workplace → (k : ℕ) → (item : List ℕ) → Result (Option (List ℕ)) ArtifactError → (now : Row) → (left : Workplace) → Type 0
-IsProcessed rules skips row w k item answer now left = IsCalled rules skips row (process_call w k) (w.processor.answer k item) answer now left
+-- it answers whether this item has a result
+abbrev pub IsProcessed : RulesRecord → (skips : ℕ) → Row → Workplace → (k : ℕ) → (item : List ℕ) → Result Bool ArtifactError → (now : Row) → (left : Workplace) → Type 0
+IsProcessed rules skips row w k item answer now left = IsCalled rules skips row (process_call w k) (is_some (w.processor.answer k item)) answer now left
+
+-- the results behind such a call: the item's is put behind the others, where the call succeeds and there is one
+abbrev pub results_behind : Result Bool ArtifactError → (k : ℕ) → Option (List ℕ) → Numbered → Numbered
+results_behind (Ok found) k text results = results ++ option_to_list (numbered k text)
+results_behind (Err e) k text results = results
 
 -- a writer's plans after so many calls with these results
 abbrev pub written_times : ℕ → Plans → Numbered → Plans
@@ -132,6 +142,12 @@ pub record IsDone (rules : RulesRecord) (skips : ℕ) (row : Row) (w : Workplace
   pub last : repeats rules now (fault_in e) skips ≡ false
   pub passes : left ≡ passed_one (called w k reads processes) k
 
+-- so it was, its entry is of this kind, and its result, if it has one, is put behind the others
+pub record IsEntered (rules : RulesRecord) (skips : ℕ) (row : Row) (w : Workplace) (k : ℕ) (before : Numbered) (kind : EntryKind) (now : Row) (left : Workplace) (after : Numbered) : Type 0 where
+  pub text : List ℕ
+  pub done : IsDone rules skips row w k (entry_with kind text) now left
+  pub added : after ≡ before ++ option_to_list (numbered k (text_in (entry_with kind text)))
+
 -- the second block is the first after some of its repeats
 pub record IsRepeated (t u : Trial) : Type 0 where
   pub again : ℕ
@@ -143,7 +159,7 @@ pub record IsRepeated (t u : Trial) : Type 0 where
   pub same : after_repeats u ≡ after_repeats t
 
 -- the records of a block before `n` are done, and each fault of theirs is skipped
-pub record IsGathering (t : Trial) (n : ℕ) (tally : Tally) (now : Row) (left : Workplace) : Type 0 where
+pub record IsGathering (t : Trial) (n : ℕ) (tally : Yield) (now : Row) (left : Workplace) : Type 0 where
   pub last : Trial
   pub repeated : IsRepeated t last
   pub row : now ≡ last.row
@@ -151,9 +167,17 @@ pub record IsGathering (t : Trial) (n : ℕ) (tally : Tally) (now : Row) (left :
   pub counted : IsTally last.work last.row.at n tally
   pub none : settling last.rules last.row last.work n ≡ None
 
+-- the records of a block were read and processed, and each fault of theirs is skipped
+abbrev pub IsWhole : Trial → Yield → (now : Row) → (left : Workplace) → Type 0
+IsWhole t tally now left =
+    (u : Trial) × IsRepeated t u × (now ≡ u.row)
+    × (settled_at u ≡ None)
+    × IsTally u.work u.row.at u.hi tally
+    × (left ≡ passed u.work u.row.at u.hi)
+
 -- the records of a block were read and processed: a fault settled it, which is neither skipped nor repeated, or there is none
-abbrev pub IsGathered : Trial → Gathered → (now : Row) → (left : Workplace) → Type 0
-IsGathered t (Settled number class choice) now left =
+abbrev pub IsGathered : Trial → Gathered → (found : Numbered) → (now : Row) → (left : Workplace) → Type 0
+IsGathered t (Settled number class choice) found now left =
     (u : Trial) × IsRepeated t u × (now ≡ u.row)
     × (settled_at u ≡ Some number)
     × (fault_in (entry u.work number) ≡ Some class)
@@ -161,11 +185,7 @@ IsGathered t (Settled number class choice) now left =
     × (is_skip choice ≡ false)
     × (is_again choice ≡ false)
     × (left ≡ passed u.work u.row.at (number + 1))
-IsGathered t (Whole tally) now left =
-    (u : Trial) × IsRepeated t u × (now ≡ u.row)
-    × (settled_at u ≡ None)
-    × IsTally u.work u.row.at u.hi tally
-    × (left ≡ passed u.work u.row.at u.hi)
+IsGathered t (Whole tally) found now left = IsWhole t (yield_of tally found) now left
 
 -- a write was repeated so often, and then no more
 pub record IsRewritten (rules : RulesRecord) (skips : ℕ) (row : Row) (w : Writer) (found : Numbered) (again : ℕ) (now : Row) : Type 0 where
@@ -182,13 +202,13 @@ pub record IsTornWrite (w : Workplace) (found : Numbered) (left : Workplace) : T
   pub longer : length w.writer.written ≤ length left.writer.written
 
 -- how a block's write ended it, after its repeats
-abbrev pub IsWriteEndAfter : RulesRecord → Row → Tally → Workplace → End → (now : Row) → (left : Workplace) → Type 0
+abbrev pub IsWriteEndAfter : RulesRecord → Row → Yield → Workplace → End → (now : Row) → (left : Workplace) → Type 0
 IsWriteEndAfter rules row tally w end now left =
-    (again : ℕ) × IsRewritten rules (skips_of row + tally.read_skips + tally.process_skips) row w.writer tally.found.items again now
-    × IsWriteEnd rules now tally (record w { writer = rewritten w.writer tally.found.items again }) end left
+    (again : ℕ) × IsRewritten rules (skips_of row + tally.read_skips + tally.process_skips) row w.writer tally.found again now
+    × IsWriteEnd rules now tally (record w { writer = rewritten w.writer tally.found again }) end left
 
 -- how a block ended that nothing settled before its write, after its repeats
-abbrev pub IsFinishAfter : RulesRecord → Row → (hi : ℕ) → Tally → Workplace → Tried → (now : Row) → (left : Workplace) → Type 0
+abbrev pub IsFinishAfter : RulesRecord → Row → (hi : ℕ) → Yield → Workplace → Tried → (now : Row) → (left : Workplace) → Type 0
 IsFinishAfter rules row hi tally w tried now left =
-    (again : ℕ) × IsRewritten rules (skips_of row + tally.read_skips + tally.process_skips) row w.writer tally.found.items again now
-    × IsFinish rules now hi tally (record w { writer = rewritten w.writer tally.found.items again }) tried left
+    (again : ℕ) × IsRewritten rules (skips_of row + tally.read_skips + tally.process_skips) row w.writer tally.found again now
+    × IsFinish rules now hi tally (record w { writer = rewritten w.writer tally.found again }) tried left

@@ -6,13 +6,12 @@ use Rattle.jb_rules.specs.Rows.{skips_of}
 use Rattle.jb_artifacts.specs.Reader.{opened}
 use Rattle.jb_artifacts.specs.Writer.{Writer, Numbered, texts_of, write_fault, after_write}
 use Rattle.jb_artifacts.specs.Meaning.{Workplace}
-use Rattle.jb_chunk.specs.declared.tally.Tally.{Tally}
 use Rattle.jb_chunk.specs.declared.tried.Tried.{Tried}
 use Rattle.jb_chunk.specs.declared.end.End.{End}
 use Rattle.jb_chunk.specs.declared.end.End.TheVariants.{Written, Unwritten, Rolled, Failed}
 use Rattle.jb_chunk.specs.Attempt.{Trial, end_at, end_of}
 use Rattle.jb_chunk.specs.inside.Ends.{counts_by, delta_by, place_by, kept_by, work_by}
-use Rattle.jb_chunk.specs.inside.Gathering.{block_tally}
+use Rattle.jb_chunk.specs.inside.Gathering.{Yield, block_tally}
 use Rattle.jb_chunk.specs.Block.{MayBeUsed}
 
 -- the writer after a block's write ended so
@@ -20,17 +19,17 @@ abbrev pub writer_by : End → Writer → Numbered → Writer
 writer_by end w found = record { written = kept_by end w.written (texts_of found); faults = (after_write w found).faults }
 
 -- how a block's write ended it, after the faults that the tally counts, and what it left
-pub record IsWriteEnd (rules : RulesRecord) (row : Row) (tally : Tally) (w : Workplace) (end : End) (now : Workplace) : Type 0 where
-  pub ended : end ≡ end_at rules row (write_fault w.writer tally.found.items) (skips_of row + tally.read_skips + tally.process_skips)
-  pub left : now ≡ record w { writer = writer_by end w.writer tally.found.items }
+pub record IsWriteEnd (rules : RulesRecord) (row : Row) (tally : Yield) (w : Workplace) (end : End) (now : Workplace) : Type 0 where
+  pub ended : end ≡ end_at rules row (write_fault w.writer tally.found) (skips_of row + tally.read_skips + tally.process_skips)
+  pub left : now ≡ record w { writer = writer_by end w.writer tally.found }
 
 -- how a block ended that nothing settled before its write, what it adds to the counts, and what it left
-pub record IsFinish (rules : RulesRecord) (row : Row) (hi : ℕ) (tally : Tally) (w : Workplace) (tried : Tried) (now : Workplace) : Type 0 where
-  pub ended : tried.end ≡ end_at rules row (write_fault w.writer tally.found.items) (skips_of row + tally.read_skips + tally.process_skips)
+pub record IsFinish (rules : RulesRecord) (row : Row) (hi : ℕ) (tally : Yield) (w : Workplace) (tried : Tried) (now : Workplace) : Type 0 where
+  pub ended : tried.end ≡ end_at rules row (write_fault w.writer tally.found) (skips_of row + tally.read_skips + tally.process_skips)
   pub delta : tried.delta ≡ counts_by tried.end (block_tally (hi - row.at) tally)
   pub left : now ≡ record w {
     reader = opened w.reader (place_by tried.end row.at hi);
-    writer = writer_by tried.end w.writer tally.found.items;
+    writer = writer_by tried.end w.writer tally.found;
   }
 
 -- the block was tried to its end

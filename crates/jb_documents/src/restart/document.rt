@@ -9,6 +9,7 @@ ghost use Rattle.jb_documents.specs.RestartDocument.{GivesRestart, IsRestart, Is
 ghost use Rattle.jb_documents.specs.inside.Parts.{parts_at};
 
 use super::fault::RestartFault;
+use super::plain::plain_restart;
 use super::resume::Resume;
 use super::resume_fields::resume;
 use crate::run::{DataList, document_data, document_job};
@@ -64,11 +65,16 @@ fn document_of(alloc: Global, tree: Value) -> Result<RestartDocument, RestartFau
 }
 
 /// The document that the bytes stand for, or their first fault: `NotJson` where they are no JSON text. The bytes are let
-/// go once they are read.
+/// go once they are read. A plain document is read with no string for a record; in any doubt its tree decides.
 pub fn read_restart(alloc: Global, bytes: Vec<u8>) -> Result<RestartDocument, RestartFault>
     ensures document { IfOk result (IsRestart bytes.items) }
     ensures refused { IfErr result (λ fault. IsRefusedRestart fault bytes.items) }
 {
+    match plain_restart(alloc, &bytes) {
+        Ok(document) => return Ok(document),
+        Err(RestartFault::Document(JobError::Memory)) => return Err(JobError::Memory.into()),
+        Err(_) => {}
+    }
     let tree = read_tree(alloc, &bytes)?;
     drop(bytes);
     document_of(alloc, tree)

@@ -1,12 +1,12 @@
 //! What the writers of a step held when it stopped.
 
-use jb_job::Text;
+use jb_base::PackedList;
 use std::marker::Model;
 
 /// The texts that a partition's writer held, in order. Contracts see their bytes.
 #[derive(Drop)]
 pub struct WriterTexts {
-    texts: Vec<Text>,
+    list: PackedList,
 }
 
 impl Model for WriterTexts {
@@ -14,32 +14,32 @@ impl Model for WriterTexts {
 
     ghost Value = { List (List ℕ) };
 
-    ghost view = { λ t. t.texts.items };
+    ghost view = { λ t. t.list };
 }
 
 impl WriterTexts {
     ghost use Rattle.std.specs.Prelude.{◌≡◌};
 
     /// The list of these texts, whose memory it keeps.
-    pub fn new(texts: Vec<Text>) -> WriterTexts
-        ensures { result ≡ texts.items }
+    pub fn new(list: PackedList) -> WriterTexts
+        ensures { result ≡ list }
     {
-        WriterTexts { texts }
+        WriterTexts { list }
     }
 
     /// The texts, in order.
-    pub fn as_slice(&self) -> &[Text]
+    pub fn as_list(&self) -> &PackedList
         ensures { result.now ≡ self.now }
     {
-        self.texts.as_slice()
+        &self.list
     }
 
     /// The texts, by value. Takes no memory.
-    pub fn into_vec(self) -> Vec<Text>
-        ensures { result.items ≡ self }
+    pub fn into_list(self) -> PackedList
+        ensures { result ≡ self }
     {
-        let WriterTexts { texts } = self;
-        texts
+        let WriterTexts { list } = self;
+        list
     }
 }
 

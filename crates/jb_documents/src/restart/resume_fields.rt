@@ -14,6 +14,7 @@ ghost use Rattle.jb_saved.specs.Reading.{saved_at};
 use super::fault::RestartFault;
 use super::outputs::{Outputs, WriterTexts};
 use super::resume::Resume;
+use crate::packed::pack;
 use crate::taken::{take_array, take_field, take_object, take_text_of};
 use jb_job::kinds::{each_by_value, required};
 use jb_job::{Field, JobError, Step, Text};
@@ -31,7 +32,7 @@ fn writer_texts(alloc: Global, tree: Value) -> Result<WriterTexts, JobError>
     let texts = each_by_value::<Brand, Text, _>(alloc, items, |_, tree| {
         take_text_of(Field::Outputs, tree)
     })?;
-    Ok(WriterTexts::new(texts))
+    Ok(WriterTexts::new(pack(alloc, texts)?))
 }
 
 #[tactic(auto, unfolding(crate::specs::ResumeFields::outputs_at))]
@@ -49,7 +50,10 @@ fn outputs(alloc: Global, tree: Value) -> Result<Outputs, JobError>
 fn hold(outputs: &[WriterTexts], rows: &[Row]) -> bool
     ensures { result ≡ list_all holds (zip outputs.now rows.now) }
 {
-    outputs.iter().zip(rows).all(|(texts, row)| row.written <= texts.as_slice().len() as u64)
+    outputs
+        .iter()
+        .zip(rows)
+        .all(|(texts, row)| row.written <= texts.as_list().len() as u64)
 }
 
 /// The outputs, where there are as many writers as rows, and each holds what its row committed.

@@ -9,6 +9,7 @@ ghost use Rattle.jb_job.specs.Reading.{Gives, required};
 ghost use Rattle.jb_documents.specs.RunDocument.{IsDocument, IsRefusedDocument, data_list_at, document_at};
 ghost use Rattle.jb_documents.specs.inside.Taken.{taken};
 
+use super::plain::plain_document;
 use super::step_data::StepData;
 use super::step_fields::step_data;
 use crate::taken::{take_array, take_field, take_object};
@@ -118,11 +119,16 @@ fn document_of(alloc: Global, tree: Value) -> Result<Document, JobError>
 }
 
 /// The document that the bytes stand for, or their first fault: `NotJson` where they are no JSON text. The bytes are let
-/// go once they are read.
+/// go once they are read. A plain document is read with no string for a record; in any doubt its tree decides.
 pub fn read_document(alloc: Global, bytes: Vec<u8>) -> Result<Document, JobError>
     ensures document { IfOk result (IsDocument bytes.items) }
     ensures refused { IfErr result (λ fault. IsRefusedDocument fault bytes.items) }
 {
+    match plain_document(alloc, &bytes) {
+        Ok(document) => return Ok(document),
+        Err(JobError::Memory) => return Err(JobError::Memory),
+        Err(_) => {}
+    }
     let tree = read_tree(alloc, &bytes)?;
     drop(bytes);
     document_of(alloc, tree)

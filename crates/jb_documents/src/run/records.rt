@@ -1,13 +1,13 @@
 //! The records of a step.
 
-use jb_job::Text;
+use jb_base::PackedList;
 use std::marker::Model;
 
 /// The records of a step in order, at most 10,000,000 of at most 4,096 bytes each. Contracts see the list of their
 /// bytes.
 #[derive(Drop)]
 pub struct Records {
-    texts: Vec<Text>,
+    list: PackedList,
 }
 
 impl Model for Records {
@@ -16,9 +16,9 @@ impl Model for Records {
 
     ghost Value = { List (List ℕ) };
 
-    ghost view = { λ r. r.texts.items };
+    ghost view = { λ r. r.list };
 
-    ghost invariant = { λ r. length r.texts.items ≤ max_records };
+    ghost invariant = { λ r. length r.list ≤ max_records };
 }
 
 impl Records {
@@ -26,27 +26,27 @@ impl Records {
     ghost use Rattle.jb_job.specs.Limits.{max_records};
 
     /// The list of these records, whose memory it keeps.
-    pub fn new(texts: Vec<Text>) -> Records
-        requires { length texts.items ≤ max_records }
-        ensures { result ≡ texts.items }
+    pub fn new(list: PackedList) -> Records
+        requires { length list ≤ max_records }
+        ensures { result ≡ list }
     {
-        Records { texts }
+        Records { list }
     }
 
     /// The records, in order.
-    pub fn as_slice(&self) -> &[Text]
+    pub fn as_list(&self) -> &PackedList
         ensures value { result.now ≡ self.now }
         ensures few { length result.now ≤ max_records }
     {
-        self.texts.as_slice()
+        &self.list
     }
 
     /// The records, by value. Takes no memory.
-    pub fn into_vec(self) -> Vec<Text>
-        ensures value { result.items ≡ self }
-        ensures few { length result.items ≤ max_records }
+    pub fn into_list(self) -> PackedList
+        ensures value { result ≡ self }
+        ensures few { length result ≤ max_records }
     {
-        let Records { texts } = self;
-        texts
+        let Records { list } = self;
+        list
     }
 }

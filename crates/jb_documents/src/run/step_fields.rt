@@ -9,12 +9,14 @@ ghost use Rattle.jb_job.specs.Names.{name_of};
 ghost use Rattle.jb_job.specs.Reading.{Gives, optional, text_at};
 ghost use Rattle.jb_documents.specs.FaultLists.{no_faults, step_faults_at};
 ghost use Rattle.jb_documents.specs.StepFields.{data_at, drop_at, records_at};
+ghost use Rattle.jb_documents.specs.inside.Filled.{filled_at};
 ghost use Rattle.jb_documents.specs.inside.Taken.{taken};
 
 use super::fault_lists::step_faults;
 use super::faults::StepFaults;
 use super::records::Records;
 use super::step_data::StepData;
+use crate::packed::pack;
 use crate::taken::{take_field, take_list, take_object, take_text};
 use jb_job::kinds::{each_by_value, text};
 use jb_job::{Field, Job, JobError, MAX_AFFIX, MAX_RECORD, MAX_RECORDS, Text};
@@ -27,10 +29,10 @@ fn records(alloc: Global, tree: Value) -> Result<Records, JobError>
     ensures { Gives (λ r. r) result (records_at field.Records (view tree)) }
 {
     let items = take_list(0, MAX_RECORDS as usize, Field::Records, tree)?;
-    let records = each_by_value::<Brand, Text, _>(alloc, items, |_, tree| {
+    let texts = each_by_value::<Brand, Text, _>(alloc, items, |_, tree| {
         take_text(0, MAX_RECORD, Field::Records, tree)
     })?;
-    Ok(Records::new(records))
+    Ok(Records::new(pack(alloc, texts)?))
 }
 
 #[tactic(auto, unfolding(jb_job::specs::Reading::optional))]
@@ -86,8 +88,30 @@ fn taken_records(alloc: Global, found: Option<Value>) -> Result<Records, JobErro
     records(alloc, found.ok_or(JobError::WrongShape(Field::Records))?)
 }
 
+/// The data of a step with these records, whose other fields the object has, or their first fault.
+#[tactic(auto, unfolding(crate::specs::inside::Filled::filled_at))]
+pub fn filled(
+    alloc: Global,
+    job: &Job,
+    records: Records,
+    others: &Value,
+) -> Result<StepData, JobError>
+    ensures { Gives (λ s. s) result (filled_at job.now.classes records (view others.now)) }
+{
+    let prefix = prefix(alloc, others)?;
+    let drop = dropped(alloc, others)?;
+    let count = records.as_list().len() as u64;
+    let faults = faults(alloc, job, count, others)?;
+    Ok(StepData {
+        records,
+        prefix,
+        drop,
+        faults,
+    })
+}
+
 /// The data of one of the job's steps that the tree stands for, or its first fault.
-#[tactic(auto, unfolding(crate::specs::StepFields::data_at, jb_job::specs::Reading::required, jb_job::specs::Reading::optional))]
+#[tactic(auto, unfolding(crate::specs::StepFields::data_at, crate::specs::inside::Filled::filled_at, jb_job::specs::Reading::required, jb_job::specs::Reading::optional))]
 pub fn step_data(alloc: Global, job: &Job, tree: Value) -> Result<StepData, JobError>
     ensures { Gives (λ s. s) result (data_at job.now.classes (view tree)) }
 {
@@ -98,14 +122,5 @@ pub fn step_data(alloc: Global, job: &Job, tree: Value) -> Result<StepData, JobE
     )?;
     let (taken, rest) = take_records(data);
     let records = taken_records(alloc, taken)?;
-    let prefix = prefix(alloc, &rest)?;
-    let drop = dropped(alloc, &rest)?;
-    let count = records.as_slice().len() as u64;
-    let faults = faults(alloc, job, count, &rest)?;
-    Ok(StepData {
-        records,
-        prefix,
-        drop,
-        faults,
-    })
+    filled(alloc, job, records, &rest)
 }

@@ -4,20 +4,19 @@ ghost use Rattle.std.specs.Prelude.{◌≡◌, ◌≤◌, ◌<◌, ◌-◌, ◌+
 ghost use Rattle.jb_artifacts.specs.Prefix.{prefixed};
 ghost use Rattle.jb_job.specs.declared.job.Range.{Range};
 ghost use Rattle.jb_plan.specs.Plans.{IsWithin};
-ghost use Rattle.jb_plan.specs.Ranges.{AreDisjoint, HaveNoneInCommon};
 ghost use Rattle.jb_rules.specs.Rows.{range_of};
 ghost use Rattle.jb_step.specs.Setup.{needs, unfinished};
 ghost use Rattle.jb_program.specs.PartitionRun.{plans_in, records_in, work_for, workplace_of};
 ghost use Rattle.jb_program.specs.StepRun.{works_for};
 
 use crate::run::fault_plans::plans_for;
-use crate::run::held::held_items;
-use crate::run::records::take_records;
+use crate::run::held::held_list;
 use crate::run::settings::StepSettings;
 use jb_artifacts::{
-    ArtifactsOf, CountCollector, Item, ItemProcessor, ItemReader, ItemWriter, ListWriter, Meaning,
-    PrefixProcessor, TableReader,
+    CountCollector, Item, ItemProcessor, ItemReader, ItemWriter, ListWriter, Meaning,
+    PackedArtifacts, PrefixProcessor, TableReader,
 };
+use jb_base::PackedList;
 use jb_documents::WriterTexts;
 use jb_job::{Range, Text};
 use jb_rules::Row;
@@ -25,20 +24,20 @@ use jb_step::Prepared;
 use std::alloc::{AllocError, Global};
 
 /// What a partition of the program works with.
-pub type OwnArtifacts = ArtifactsOf<TableReader, PrefixProcessor, ListWriter, CountCollector>;
+pub type OwnArtifacts = PackedArtifacts<TableReader, PrefixProcessor, ListWriter, CountCollector>;
 
 /// A reader of the range's records.
 fn reader_for(
     alloc: Global,
     step: &StepSettings,
-    records: Vec<Item>,
+    records: PackedList,
     range: Range,
 ) -> Result<TableReader, AllocError>
     requires order { range.lo ≤ range.hi }
-    requires records { length records.items ≡ range.hi - range.lo }
+    requires records { length records ≡ range.hi - range.lo }
     ensures { IfOk result (λ r. ⟦<TableReader as ItemReader>⟧.reader r ≡ record {
       first = range.lo;
-      records = records.items;
+      records = records;
       place = range.lo;
       faults = plans_in step.now.faults.read range;
     }) }
@@ -78,28 +77,28 @@ fn processor_for(
 fn writer_for(
     alloc: Global,
     step: &StepSettings,
-    held: Vec<Item>,
+    held: PackedList,
     range: Range,
 ) -> Result<ListWriter, AllocError>
-    ensures { IfOk result (λ w. ⟦<ListWriter as ItemWriter>⟧.writer w ≡ record { written = held.items; faults = plans_in step.now.faults.write range }) }
+    ensures { IfOk result (λ w. ⟦<ListWriter as ItemWriter>⟧.writer w ≡ record { written = held; faults = plans_in step.now.faults.write range }) }
 {
     let faults = plans_for(alloc, &step.faults.write, range)?;
-    Ok(ListWriter::new(alloc, held, faults))
+    Ok(ListWriter::new(held, faults))
 }
 
 /// What a partition works with before it begins.
 fn artifacts_for(
     alloc: Global,
     step: &StepSettings,
-    records: Vec<Item>,
-    held: Vec<Item>,
+    records: PackedList,
+    held: PackedList,
     range: Range,
 ) -> Result<OwnArtifacts, AllocError>
     requires order { range.lo ≤ range.hi }
-    requires records { length records.items ≡ range.hi - range.lo }
-    ensures { IfOk result (λ own. ⟦<OwnArtifacts as Meaning>⟧.workplace own ≡ workplace_of step.now records.items held.items range) }
+    requires records { length records ≡ range.hi - range.lo }
+    ensures { IfOk result (λ own. ⟦<OwnArtifacts as Meaning>⟧.workplace own ≡ workplace_of step.now records held range) }
 {
-    Ok(ArtifactsOf {
+    Ok(PackedArtifacts {
         reader: reader_for(alloc, step, records, range)?,
         processor: processor_for(alloc, step, range)?,
         writer: writer_for(alloc, step, held, range)?,
@@ -107,70 +106,64 @@ fn artifacts_for(
     })
 }
 
-/// What the partition of this row works with, whose writer holds these texts. The records of its range leave the list: none
-/// is copied.
+/// What the partition of this row works with, whose writer holds these texts: its reader has a copy of its range's records.
 fn artifacts_of_row(
     alloc: Global,
     step: &StepSettings,
-    records: &mut [Text],
-    held: Vec<Item>,
+    records: &PackedList,
+    held: PackedList,
     row: &Row,
 ) -> Result<OwnArtifacts, AllocError>
-    requires { IsWithin (length records.old) (range_of row.now) }
-    ensures made { IfOk result (λ own. ⟦<OwnArtifacts as Meaning>⟧.workplace own ≡ workplace_of step.now (records_in records.old (range_of row.now)) held.items (range_of row.now)) }
-    ensures length { length records.new ≡ length records.old }
-    ensures others { (other : Range) → HaveNoneInCommon (range_of row.now) other → records_in records.new other ≡ records_in records.old other }
+    requires { IsWithin (length records.now) (range_of row.now) }
+    ensures { IfOk result (λ own. ⟦<OwnArtifacts as Meaning>⟧.workplace own ≡ workplace_of step.now (records_in records.now (range_of row.now)) held (range_of row.now)) }
 {
     let range = Range {
         lo: row.lo,
         hi: row.hi,
     };
-    let own = take_records(alloc, records, range)?;
+    let own = records.part(alloc, range.lo as usize, range.hi as usize)?;
     artifacts_for(alloc, step, own, held, range)
 }
 
-/// Adds what the unfinished partition at this place of their list works with: those behind it still have their records.
+/// Adds what the unfinished partition at this place of their list works with.
 fn add_artifacts(
     alloc: Global,
     step: &StepSettings,
-    records: &mut [Text],
+    records: &PackedList,
     outputs: &[WriterTexts],
     prepared: &Prepared,
     place: usize,
     all: &mut Vec<OwnArtifacts>,
 ) -> Result<(), AllocError>
-    requires within { All (IsWithin (length records.old)) (map range_of prepared.now.rows) }
-    requires disjoint { AreDisjoint (map range_of prepared.now.rows) }
+    requires within { All (IsWithin (length records.now)) (map range_of prepared.now.rows) }
     requires place { place < length (needs prepared.now.rows) }
-    ensures added { OnOk result (map ⟦<OwnArtifacts as Meaning>⟧.workplace all.new.items ++ map (work_for step.now records.new outputs.now) (drop (place + 1) (unfinished prepared.now.rows))
-        ≡ map ⟦<OwnArtifacts as Meaning>⟧.workplace all.old.items ++ map (work_for step.now records.old outputs.now) (drop place (unfinished prepared.now.rows))) }
-    ensures length { length records.new ≡ length records.old }
+    ensures { OnOk result (map ⟦<OwnArtifacts as Meaning>⟧.workplace all.new.items ++ map (work_for step.now records.now outputs.now) (drop (place + 1) (unfinished prepared.now.rows))
+        ≡ map ⟦<OwnArtifacts as Meaning>⟧.workplace all.old.items ++ map (work_for step.now records.now outputs.now) (drop place (unfinished prepared.now.rows))) }
 {
     let partition = prepared.needs()[place];
     let Some(row) = prepared.row(partition) else {
         unreachable!();
     };
-    let held = held_items(alloc, outputs, partition)?;
+    let held = held_list(alloc, outputs, partition)?;
     all.push(artifacts_of_row(alloc, step, records, held, row)?)?;
     Ok(())
 }
 
-/// What the unfinished partitions work with, in their order. The records of their ranges leave the list: none is copied. Each
-/// writer begins with a copy of the texts that it held.
+/// What the unfinished partitions work with, in their order. Each reader has a copy of its range's records, after which the
+/// list of all is let go, and each writer begins with a copy of the texts that it held.
 pub fn all_artifacts(
     alloc: Global,
     step: &StepSettings,
-    records: &mut [Text],
+    records: PackedList,
     outputs: &[WriterTexts],
     prepared: &Prepared,
 ) -> Result<Vec<OwnArtifacts>, AllocError>
-    requires within { All (IsWithin (length records.old)) (map range_of prepared.now.rows) }
-    requires disjoint { AreDisjoint (map range_of prepared.now.rows) }
-    ensures { IfOk result (λ all. map ⟦<OwnArtifacts as Meaning>⟧.workplace all.items ≡ works_for step.now records.old outputs.now prepared.now.rows) }
+    requires { All (IsWithin (length records)) (map range_of prepared.now.rows) }
+    ensures { IfOk result (λ all. map ⟦<OwnArtifacts as Meaning>⟧.workplace all.items ≡ works_for step.now records outputs.now prepared.now.rows) }
 {
     let mut all = Vec::new(alloc);
     for place in 0..prepared.needs().len() {
-        add_artifacts(alloc, step, records, outputs, prepared, place, &mut all)?;
+        add_artifacts(alloc, step, &records, outputs, prepared, place, &mut all)?;
     }
     Ok(all)
 }

@@ -1,12 +1,12 @@
 //! What the writers of a step held when it stopped.
 
-ghost use Rattle.std.specs.Prelude.{◌≡◌, ◌++◌, ◌≤◌, [], drop, length, take, IfOk, OnOk};
+ghost use Rattle.std.specs.Prelude.{◌≡◌, take, IfOk};
 ghost use Rattle.jb_program.specs.PartitionRun.{held_by};
 ghost use Rattle.jb_program.specs.StepRun.{gone_on_from, outputs_of, saved_of};
 
-use jb_artifacts::{FaultPlans, Item, ItemWriter, ListWriter};
+use jb_artifacts::{FaultPlans, ItemWriter, ListWriter};
+use jb_base::PackedList;
 use jb_documents::{Outputs, Resume, WriterTexts};
-use jb_job::Text;
 use jb_saved::Saved;
 use std::alloc::{AllocError, Global};
 
@@ -27,28 +27,20 @@ pub fn taken(alloc: Global, resume: Option<Resume>, replace: bool) -> (Option<Sa
     }
 }
 
-/// Copies of the texts.
-fn items_of(alloc: Global, texts: &[Text]) -> Result<Vec<Item>, AllocError>
-    ensures { IfOk result (λ items. items.items ≡ texts.now) }
-{
-    let mut items = Vec::with_capacity(alloc, texts.len())?;
-    for text in texts {
-        items.push(Item::copy_of(alloc, text.as_str().as_bytes())?)?;
-    }
-    Ok(items)
-}
-
 /// Copies of the texts that this partition's writer held.
-pub fn held_items(
+pub fn held_list(
     alloc: Global,
     outputs: &[WriterTexts],
     partition: u32,
-) -> Result<Vec<Item>, AllocError>
-    ensures { IfOk result (λ items. items.items ≡ held_by outputs.now partition) }
+) -> Result<PackedList, AllocError>
+    ensures { IfOk result (λ list. list ≡ held_by outputs.now partition) }
 {
     match outputs.get(partition as usize) {
-        None => Ok(Vec::new(alloc)),
-        Some(texts) => items_of(alloc, texts.as_slice()),
+        None => Ok(PackedList::new(alloc)),
+        Some(texts) => {
+            let list = texts.as_list();
+            list.part(alloc, 0, list.len())
+        }
     }
 }
 
@@ -61,7 +53,7 @@ pub fn committed_by(
 ) -> Result<ListWriter, AllocError>
     ensures { IfOk result (λ w. (⟦<ListWriter as ItemWriter>⟧.writer w).written ≡ take written (held_by outputs.now partition)) }
 {
-    let mut items = held_items(alloc, outputs, partition)?;
-    items.truncate(written as usize);
-    Ok(ListWriter::new(alloc, items, FaultPlans::new(alloc)))
+    let mut list = held_list(alloc, outputs, partition)?;
+    list.truncate(written as usize);
+    Ok(ListWriter::new(list, FaultPlans::new(alloc)))
 }

@@ -50,12 +50,12 @@ pub fn run_step<T: Threads + Wait + Sync>(
     laws_below();
     let (saved, outputs) = taken(alloc, resume, step.spec().replace());
     let mut recorder = Recorder::new(alloc);
-    let count = records.as_slice().len() as u64;
+    let count = records.as_list().len() as u64;
     let prepared = prepared_step(alloc, step, count, saved, &mut recorder)?;
-    let mut records = records.into_vec();
     let settings = settings_for(step, prefix, drop, faults);
     let outputs = outputs.as_slice();
-    let artifacts = all_artifacts(alloc, &settings, &mut records, outputs, &prepared)?;
+    let records = records.into_list();
+    let artifacts = all_artifacts(alloc, &settings, records, outputs, &prepared)?;
     let mut listener = Listener::new(alloc);
     let blank = Blank::new(MAX_PARTS);
     let end = run_rounds::<T, Brand>(

@@ -4,6 +4,7 @@ use jb_artifacts::{
     ArtifactsOf, CountCollector, FaultList, FaultPlan, FaultPlans, Item, ItemProcessor, ListWriter,
     PrefixProcessor, TableReader,
 };
+use jb_base::PackedList;
 use jb_chunk::{PartitionTask, Task};
 use jb_collect::{Analyzer, Reducer};
 use jb_job::{
@@ -57,7 +58,7 @@ const STEP: &str = "step";
 /// time that the record is processed, there is no memory. A record `-` is filtered.
 #[derive(Drop)]
 pub(crate) struct Given {
-    records: Vec<Item>,
+    records: PackedList,
     ranges: Vec<Range>,
     reads: FaultPlans,
     processes: FaultPlans,
@@ -70,7 +71,7 @@ pub(crate) struct Given {
 impl Given {
     pub(crate) fn read(alloc: Global, text: &str) -> Result<Given, AllocError> {
         let mut given = Given {
-            records: Vec::new(alloc),
+            records: PackedList::new(alloc),
             ranges: Vec::new(alloc),
             reads: FaultPlans::new(alloc),
             processes: FaultPlans::new(alloc),
@@ -112,7 +113,7 @@ impl Given {
                 self.ranges.push(Range { lo, hi })?;
             }
             b'~' => self.wanting = Some(last),
-            letter => self.records.push(Item::copy_of(alloc, &[letter])?)?,
+            letter => self.records.push(&[letter])?,
         }
         Ok(())
     }
@@ -137,18 +138,19 @@ impl Given {
     }
 
     /// The results of the row's records before its place, but for those that fail each time.
-    fn written(&self, alloc: Global, row: &Row) -> Result<Vec<Item>, AllocError> {
-        let mut written = Vec::new(alloc);
-        for (number, record) in (0..MAX_RECORDS).zip(self.records.iter()) {
+    fn written(&self, alloc: Global, row: &Row) -> Result<PackedList, AllocError> {
+        let mut written = PackedList::new(alloc);
+        for index in 0..self.records.len() {
+            let number = index as u64;
             if row.lo <= number && number < row.at && !self.bad.contains(&number) {
-                written.push(result_of(alloc, record)?)?;
+                written.push_joined(b"x", self.records.at(index))?;
             }
         }
         Ok(written)
     }
 
     /// The artifacts of one partition, whose writer has these results.
-    fn works(self, alloc: Global, written: Vec<Item>) -> Result<Works, AllocError> {
+    fn works(self, alloc: Global, written: PackedList) -> Result<Works, AllocError> {
         let prefix = Item::copy_of(alloc, b"x")?;
         let filtered = Item::copy_of(alloc, b"-")?;
         let processor = Processor {
@@ -158,7 +160,7 @@ impl Given {
         Ok(ArtifactsOf {
             reader: TableReader::new(alloc, 0, self.records, self.reads),
             processor,
-            writer: ListWriter::new(alloc, written, self.writes),
+            writer: ListWriter::new(written, self.writes),
             collector: CountCollector::new(alloc),
         })
     }
@@ -172,7 +174,7 @@ fn once(alloc: Global, class: ClassId) -> Result<FaultPlan, AllocError> {
 
 /// The artifacts of one partition of the records.
 pub(crate) fn works(alloc: Global, text: &str) -> Result<Works, AllocError> {
-    Given::read(alloc, text)?.works(alloc, Vec::new(alloc))
+    Given::read(alloc, text)?.works(alloc, PackedList::new(alloc))
 }
 
 /// The artifacts of one partition of records of which none was left out but those that fail each time that they are processed,
@@ -181,13 +183,6 @@ pub(crate) fn works_from(alloc: Global, text: &str, row: &Row) -> Result<Works, 
     let given = Given::read(alloc, text)?;
     let written = given.written(alloc, row)?;
     given.works(alloc, written)
-}
-
-/// What the processor makes of the record.
-fn result_of(alloc: Global, record: &Item) -> Result<Item, AllocError> {
-    let mut result = Vec::from_slice(alloc, b"x")?;
-    result.extend_from_slice(record.as_slice())?;
-    Ok(Item::from_vec(result))
 }
 
 /// The artifacts of so many partitions of the records.

@@ -8,6 +8,7 @@ ghost use Rattle.jb_workers.specs.Works.{AllCanBegin};
 use jb_artifacts::{
     CountCollector, FaultPlans, Item, ItemProcessor, ListWriter, PrefixProcessor, TableReader,
 };
+use jb_base::PackedList;
 use jb_chunk::PartitionTask;
 use jb_job::{ArtifactError, MAX_ITEM_COUNT, Range, Rules};
 use jb_repo::{Repo, can_open};
@@ -46,9 +47,9 @@ pub(crate) fn repository(alloc: Global, rows: &[Row]) -> Option<Repo>
 
 /// The letters a, b, c and d.
 pub(crate) fn letters(alloc: Global) -> Result<TableReader, AllocError> {
-    let mut records = Vec::new(alloc);
+    let mut records = PackedList::new(alloc);
     for byte in b"abcd" {
-        records.push(Item::copy_of(alloc, &[*byte])?)?;
+        records.push(&[*byte])?;
     }
     Ok(TableReader::new(alloc, 0, records, FaultPlans::new(alloc)))
 }
@@ -85,7 +86,7 @@ pub(crate) fn prefixing(
 
 /// A writer with no result yet.
 pub(crate) fn writer(alloc: Global) -> ListWriter {
-    ListWriter::new(alloc, Vec::new(alloc), FaultPlans::new(alloc))
+    ListWriter::new(PackedList::new(alloc), FaultPlans::new(alloc))
 }
 
 /// The artifacts of a partition, each in a box of its own. A test hands them on as objects.

@@ -8,7 +8,8 @@ use jb_artifacts::{
     Artifacts, ArtifactsOf, Collector, CountCollector, FaultList, FaultPlan, FaultPlans, Item,
     ItemProcessor, ItemReader, ItemWriter, ListWriter, PrefixProcessor, RowView, TableReader,
 };
-use jb_chunk::{Outcome, PartitionArtifacts, PartitionTask, Task};
+use jb_base::PackedList;
+use jb_chunk::{ChunkResults, Outcome, PartitionArtifacts, PartitionTask, Task};
 use jb_job::{ArtifactError, ClassId, MAX_IN_PLACE, MAX_RETRY_LIMIT, MAX_ROLLBACKS, Range, Rules};
 use jb_rules::{Counts, Row};
 use std::alloc::{AllocError, Global};
@@ -261,9 +262,9 @@ fn plans(alloc: Global, faults: &[Fault]) -> Result<FaultPlans, Fail> {
 fn reader_of(alloc: Global, told: &Told<'_>, calls: &AllCalls) -> Result<CountedReader, Fail> {
     let calls = calls.reads.shared()?;
     let faults = plans(alloc, told.reads)?;
-    let mut lines = Vec::new(alloc);
+    let mut lines = PackedList::new(alloc);
     for line in told.lines.lines() {
-        lines.push(Item::copy_of(alloc, line.as_bytes())?)?;
+        lines.push(line.as_bytes())?;
     }
     let table = TableReader::new(alloc, 0, lines, faults);
     Ok(CountedReader {
@@ -293,7 +294,7 @@ fn processor_of(
 
 fn writer_of(alloc: Global, told: &Told<'_>, calls: &AllCalls) -> Result<CountedWriter, Fail> {
     let calls = calls.writes.shared()?;
-    let list = ListWriter::new(alloc, Vec::new(alloc), plans(alloc, told.writes)?);
+    let list = ListWriter::new(PackedList::new(alloc), plans(alloc, told.writes)?);
     Ok(CountedWriter {
         list,
         calls,
@@ -636,10 +637,13 @@ fn do_a_record<A: PartitionArtifacts>(alloc: Global, mut artifacts: A) -> Result
         return Err(Fail::from("a reader"));
     }
     artifacts.rewind(0);
-    let item = artifacts.read_item().ok().ok_or("an item")?;
-    let answer = artifacts.process_item(0, item.as_slice()).ok();
-    let result = answer.flatten().ok_or("a result")?;
-    let results = Vec::from_array(alloc, [(0, result)])?;
+    let Ok(item) = artifacts.read_item() else {
+        return Err(Fail::from("an item"));
+    };
+    let mut results = A::Results::with_room(alloc, 1)?;
+    if artifacts.process_item(0, &item, &mut results) != Ok(true) || results.count() != 1 {
+        return Err(Fail::from("a result"));
+    }
     artifacts.write_items(&results).ok().ok_or("a write")?;
     artifacts.collect(&view_of(range))?;
     Ok(())

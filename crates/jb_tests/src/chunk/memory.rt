@@ -5,6 +5,7 @@ use jb_artifacts::{
     ArtifactsOf, CountCollector, FaultPlans, Item, ItemWriter, ListWriter, PrefixProcessor,
     TableReader,
 };
+use jb_base::PackedList;
 use jb_chunk::{Done, Outcome, PartitionTask, Task};
 use std::alloc::Global;
 use std::process::Abort;
@@ -14,15 +15,15 @@ pub(crate) type Plain = Task<ArtifactsOf<TableReader, PrefixProcessor, ListWrite
 
 /// A task over two letters, which are one chunk, with a processor that puts an x before each.
 fn letters(alloc: Global) -> Option<Plain> {
-    let mut records = Vec::new(alloc);
+    let mut records = PackedList::new(alloc);
     for byte in b"ab" {
-        records.push(Item::copy_of(alloc, &[*byte]).ok()?).ok()?;
+        records.push(&[*byte]).ok()?;
     }
     let prefix = Item::copy_of(alloc, b"x").ok()?;
     let artifacts = ArtifactsOf {
         reader: TableReader::new(alloc, 0, records, FaultPlans::new(alloc)),
         processor: PrefixProcessor::new(alloc, prefix, None, FaultPlans::new(alloc)),
-        writer: ListWriter::new(alloc, Vec::new(alloc), FaultPlans::new(alloc)),
+        writer: ListWriter::new(PackedList::new(alloc), FaultPlans::new(alloc)),
         collector: CountCollector::new(alloc),
     };
     begun(2, artifacts)

@@ -4,6 +4,7 @@ use jb_artifacts::{
     ArtifactsOf, CountCollector, FaultPlan, FaultPlans, Item, ItemWriter, ListWriter,
     PrefixProcessor, TableReader,
 };
+use jb_base::PackedList;
 use jb_chunk::{Alone, AloneEnd, PartitionTask, Task, run_alone};
 use jb_job::{ClassId, MAX_ITEM_COUNT, Range, Rules};
 use jb_rules::{Row, RowState};
@@ -28,10 +29,10 @@ struct Ran {
     last: Vec<u8>,
 }
 
-fn letters(alloc: Global) -> Result<Vec<Item>, Fail> {
-    let mut records = Vec::new(alloc);
+fn letters(alloc: Global) -> Result<PackedList, Fail> {
+    let mut records = PackedList::new(alloc);
     for byte in b"abcd" {
-        records.push(Item::copy_of(alloc, &[*byte])?)?;
+        records.push(&[*byte])?;
     }
     Ok(records)
 }
@@ -39,7 +40,7 @@ fn letters(alloc: Global) -> Result<Vec<Item>, Fail> {
 /// What a partition of these records works with.
 fn works(
     alloc: Global,
-    records: Vec<Item>,
+    records: PackedList,
     processes: FaultPlans,
     writes: FaultPlans,
 ) -> Result<Works, Fail> {
@@ -47,7 +48,7 @@ fn works(
     Ok(ArtifactsOf {
         reader: TableReader::new(alloc, 0, records, FaultPlans::new(alloc)),
         processor: PrefixProcessor::new(alloc, prefix, None, processes),
-        writer: ListWriter::new(alloc, Vec::new(alloc), writes),
+        writer: ListWriter::new(PackedList::new(alloc), writes),
         collector: CountCollector::new(alloc),
     })
 }
@@ -71,7 +72,7 @@ fn left(alloc: Global, alone: Alone<Task<Works>>) -> Result<Ran, Fail> {
 /// skippable and the classes `retryable` are retried. Answers the last output too.
 fn run(
     alloc: Global,
-    records: Vec<Item>,
+    records: PackedList,
     item_count: u64,
     retryable: u64,
     processes: FaultPlans,
@@ -136,10 +137,10 @@ fn finishes_or_wants_memory(rt: HostRuntime) -> Result<(), Fail> {
     Ok(())
 }
 
-fn many_records(alloc: Global) -> Result<Vec<Item>, AllocError> {
-    let mut records = Vec::new(alloc);
+fn many_records(alloc: Global) -> Result<PackedList, AllocError> {
+    let mut records = PackedList::new(alloc);
     for _ in 0..100_000 {
-        records.push(Item::copy_of(alloc, b"r")?)?;
+        records.push(b"r")?;
     }
     Ok(records)
 }

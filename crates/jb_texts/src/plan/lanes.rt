@@ -1,86 +1,97 @@
-//! What the lanes have in a round.
+//! What the lanes have in a round, written into a line from its end on: the last lane first, and each before the one behind it.
 
-ghost use Rattle.std.specs.Prelude.{◌≡◌, ◌≤◌, ◌<◌, ◌++◌, ◌∷◌, decimal, length, OnOk};
-ghost use Rattle.std.specs.Io.KnownBytes.{Appends};
+ghost use Rattle.std.specs.Prelude.{◌≡◌, ◌+◌, ◌*◌, ◌≤◌, ◌<◌, ◌++◌, ◌∷◌, decimal, drop, length};
 ghost use Rattle.jb_job.specs.Limits.{max_threads};
 ghost use Rattle.jb_cert.specs.WrapAround.{slots_of_round};
 ghost use Rattle.jb_texts.specs.PlanText.{lane_text, lanes_text};
 ghost use Rattle.jb_texts.specs.inside.Idle.{idle_text};
 
-use itoa::Buffer;
+use itoa::write_digits;
 use jb_cert::lanes_are_found;
 use jb_job::MAX_THREADS;
 use jb_rounds::RoundCursor;
-use std::io;
-use std::io::Write;
 
 /// The largest number of lanes.
 pub const MAX_LANES: usize = MAX_THREADS as usize;
+
+/// The most bytes that a lane has: a space, a partition of ten digits, a dot and a chunk of twenty.
+pub const LANE_ROOM: usize = 32;
 
 /// What as many idle lanes have.
 const IDLE: &[u8; 128] =
     b" - - - - - - - - - - - - - - - - - - - - - - - - - - - - - - - - - - - - - - - - - - - - - - - - - - - - - - - - - - - - - - - -";
 
-/// Writes a space, the partition, a dot and the chunk.
-fn write_slot<W: Write>(writer: &mut W, partition: u32, chunk: u64) -> io::Result<()>
-    ensures { OnOk result (Appends (W.contents writer.old) (W.contents writer.new) (32 ∷ (decimal partition ++ 46 ∷ decimal chunk))) }
+/// Writes a space, the partition, a dot and the chunk, which end at `end`, and gives where they begin.
+fn write_slot(line: &mut [u8], end: usize, partition: u32, chunk: u64) -> usize
+    requires { (32 ≤ end) × (end ≤ length line.old) }
+    ensures begin { (result ≤ end) × (end ≤ result + 32) }
+    ensures written { drop result line.new ≡ (32 ∷ (decimal partition ++ 46 ∷ decimal chunk)) ++ drop end line.old }
 {
-    let mut digits = Buffer::new();
-    writer.write_all(b" ")?;
-    writer.write_all(digits.format(partition).as_bytes())?;
-    writer.write_all(b".")?;
-    writer.write_all(digits.format(chunk).as_bytes())
+    let dot = write_digits(chunk, line, end) - 1;
+    line[dot] = b'.';
+    let begin = write_digits(u64::from(partition), line, dot) - 1;
+    line[begin] = b' ';
+    begin
 }
 
-/// Writes what a lane has in a round, and gives the lane's partition, for its next round. `near` is where it is looked
-/// for first.
+/// Writes what a lane has in a round, which ends at `end`, and gives where it begins and the lane's partition, for its next
+/// round. `near` is where that is looked for first.
 #[tactic(auto, unfolding(crate::specs::PlanText::lane_text))]
-fn write_lane<W: Write>(
-    writer: &mut W,
+fn write_lane(
+    line: &mut [u8],
+    end: usize,
     cursor: &RoundCursor,
     round: u64,
     lane: u32,
     near: u32,
-) -> io::Result<u32>
-    requires { lane < cursor.now.threads }
-    ensures { OnOk result (Appends (W.contents writer.old) (W.contents writer.new) (lane_text (slots_of_round cursor.now.counts cursor.now.threads round) lane)) }
+) -> (usize, u32)
+    requires lane { lane < cursor.now.threads }
+    requires room { (32 ≤ end) × (end ≤ length line.old) }
+    ensures begin { (result.0 ≤ end) × (end ≤ result.0 + 32) }
+    ensures written { drop result.0 line.new ≡ lane_text (slots_of_round cursor.now.counts cursor.now.threads round) lane ++ drop end line.old }
 {
     lanes_are_found();
     match cursor.slot_near(round, lane, near) {
-        Some((partition, chunk)) => {
-            write_slot(writer, partition, chunk)?;
-            Ok(partition)
-        }
-        None => {
-            writer.write_all(b" -")?;
-            Ok(near)
-        }
+        Some((partition, chunk)) => (write_slot(line, end, partition, chunk), partition),
+        None => (write_idle(line, end, 1), near),
     }
 }
 
-/// Writes what the first lanes have in a round.
-pub fn write_lanes<W: Write>(
-    writer: &mut W,
+/// Writes what the first lanes have in a round, which ends at `end`, and gives where it begins.
+pub fn write_lanes(
+    line: &mut [u8],
+    end: usize,
     cursor: &RoundCursor,
     round: u64,
     lanes: u32,
     near: &mut [u32],
-) -> io::Result<()>
+) -> usize
     requires lanes { lanes ≤ cursor.now.threads }
     requires near { cursor.now.threads ≤ length near.old }
-    ensures lanes { OnOk result (Appends (W.contents writer.old) (W.contents writer.new) (lanes_text lanes (slots_of_round cursor.now.counts cursor.now.threads round))) }
+    requires room { (32 * lanes ≤ end) × (end ≤ length line.old) }
+    ensures begin { (result ≤ end) × (end ≤ result + 32 * lanes) }
+    ensures written { drop result line.new ≡ lanes_text lanes (slots_of_round cursor.now.counts cursor.now.threads round) ++ drop end line.old }
     ensures near { length near.new ≡ length near.old }
 {
-    for lane in 0..lanes {
-        near[lane as usize] = write_lane(writer, cursor, round, lane, near[lane as usize])?;
+    let mut begin = end;
+    for behind in 0..lanes {
+        let lane = lanes - 1 - behind;
+        let (at, partition) = write_lane(line, begin, cursor, round, lane, near[lane as usize]);
+        begin = at;
+        near[lane as usize] = partition;
     }
-    Ok(())
+    begin
 }
 
-/// Writes what so many idle lanes have.
-pub fn write_idle<W: Write>(writer: &mut W, lanes: u32) -> io::Result<()>
-    requires { lanes ≤ max_threads }
-    ensures { OnOk result (Appends (W.contents writer.old) (W.contents writer.new) (idle_text lanes)) }
+/// Writes what so many idle lanes have, which ends at `end`, and gives where it begins.
+pub fn write_idle(line: &mut [u8], end: usize, lanes: u32) -> usize
+    requires lanes { lanes ≤ max_threads }
+    requires room { (2 * lanes ≤ end) × (end ≤ length line.old) }
+    ensures begin { result + 2 * lanes ≡ end }
+    ensures written { drop result line.new ≡ idle_text lanes ++ drop end line.old }
 {
-    writer.write_all(&IDLE[..2 * lanes as usize])
+    let bytes = 2 * lanes as usize;
+    let begin = end - bytes;
+    line[begin..end].copy_from_slice(&IDLE[..bytes]);
+    begin
 }

@@ -1,14 +1,15 @@
 //! The heading of a plan, and a line for each round.
 
-ghost use Rattle.std.specs.Prelude.{◌≡◌, ◌≤◌, ℕ, List, [], ◌++◌, length, OnErr, OnOk};
+ghost use Rattle.std.specs.Prelude.{◌≡◌, ◌≤◌, ℕ, List, [], ◌++◌, drop, length, OnErr, OnOk};
 ghost use Rattle.std.specs.Io.KnownBytes.{Appends};
 ghost use Rattle.std.specs.List.{enumerate_from};
 ghost use Rattle.jb_cert.specs.WrapAround.{slots_of_round, wrapped_rounds};
 ghost use Rattle.jb_texts.specs.Front.{AppendsFront};
 ghost use Rattle.jb_texts.specs.PlanText.{lines_of, round_line, text_of_load};
 
-use super::lanes::{MAX_LANES, write_idle, write_lanes};
+use super::lanes::{LANE_ROOM, MAX_LANES, write_idle, write_lanes};
 use crate::whole::{write_bytes, write_whole};
+use itoa::write_digits;
 use jb_cert::lanes_are_found;
 use jb_rounds::RoundCursor;
 use std::io;
@@ -20,24 +21,29 @@ pub const BLOCK_ROOM: usize = 65_536;
 /// A block with this many bytes is handed on.
 const FULL_BLOCK: usize = 64_512;
 
-/// Writes the line of a round.
-#[tactic(auto, using(crate::proofs::Writing::appends), unfolding(crate::specs::PlanText::round_line))]
-fn write_round<W: Write>(
-    writer: &mut W,
+/// The memory of a line: for its lanes, a number of twenty digits, a colon and a line feed.
+const LINE_ROOM: usize = LANE_ROOM * MAX_LANES + 22;
+
+/// Writes the line of a round at the end of a line's memory, and gives where it begins.
+#[tactic(auto, unfolding(crate::specs::PlanText::round_line))]
+fn write_round(
+    line: &mut [u8; LINE_ROOM],
     cursor: &RoundCursor,
     round: u64,
     near: &mut [u32],
-) -> io::Result<()>
+) -> usize
     requires { cursor.now.threads ≤ length near.old }
-    ensures line { OnOk result (Appends (W.contents writer.old) (W.contents writer.new) (round_line cursor.now.threads round (slots_of_round cursor.now.counts cursor.now.threads round))) }
+    ensures line { drop result line.new ≡ round_line cursor.now.threads round (slots_of_round cursor.now.counts cursor.now.threads round) }
+    ensures within { result ≤ 2070 }
     ensures near { length near.new ≡ length near.old }
 {
     lanes_are_found();
     let busy = cursor.busy_lanes(round);
-    write!(writer, "{round}:")?;
-    write_lanes(writer, cursor, round, busy, near)?;
-    write_idle(writer, cursor.threads() - busy)?;
-    writer.write_all(b"\n")
+    line[LINE_ROOM - 1] = b'\n';
+    let idle = write_idle(line, LINE_ROOM - 1, cursor.threads() - busy);
+    let colon = write_lanes(line, idle, cursor, round, busy, near) - 1;
+    line[colon] = b':';
+    write_digits(round, line, colon)
 }
 
 /// Hands a block on once it is full.
@@ -61,8 +67,10 @@ fn write_lines<W: Write>(mut block: Vec<u8>, cursor: &RoundCursor, writer: &mut 
 {
     let _lanes = cursor.threads();
     let mut near = [0; MAX_LANES];
+    let mut line = [0; LINE_ROOM];
     for round in 0..cursor.rounds() {
-        write_round(&mut block, cursor, round, &mut near)?;
+        let begin = write_round(&mut line, cursor, round, &mut near);
+        block.write_all(&line[begin..])?;
         pass_on(&mut block, writer)?;
     }
     write_whole(&block, writer)

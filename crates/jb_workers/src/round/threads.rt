@@ -15,6 +15,7 @@ use crate::round::RoundError;
 use crate::round::report::{Report, with_report};
 use crate::worker::lane_work::Work;
 use crate::worker::work;
+use core::thread::Stack;
 use jb_chunk::{Done, PartitionTask};
 use std::alloc::Global;
 use std::snapshot::Snapshot;
@@ -34,6 +35,10 @@ impl<T: PartitionTask, L: Ledger> Promise<(Result<Done<T>, RoundError>, Share<L>
 }
 
 type Answer<T, L> = (Result<Done<T>, RoundError>, Share<L>);
+
+/// The bytes of a worker's stack. The stacks of 63 workers then fit into the 40 MB that the C library keeps for the next threads, which
+/// larger ones, as its own default of 8 MB, don't: each would be asked of the system anew.
+const WORKER_STACK: usize = 512 * 1024;
 
 /// Starts a worker for one work, where a thread can be made.
 fn start<
@@ -63,7 +68,10 @@ fn start<
         requires { IsSync R.row × IsSync G.row × IsSend T.row × CanBegin (T.standing next.task) × (share.parts ≡ 1) }
         ensures { MeetsWork T.standing next result.0 × (result.1.parts ≡ 1) }
     { work(&*desk, &*rt, alloc, &*gate, next, share) };
-    scope.spawn_with(promise, job).ok()
+    Stack::new()
+        .stack_size(WORKER_STACK)
+        .spawn_scoped_with(scope, promise, job)
+        .ok()
 }
 
 /// Does a work in the caller's thread, and reports on it.

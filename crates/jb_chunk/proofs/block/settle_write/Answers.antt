@@ -1,5 +1,5 @@
 use Rattle.std.proofs.Common.{ℕ, ◌+◌, Ok, subst}
-use Rattle.jb_artifacts.specs.Writer.{Numbered}
+use Rattle.jb_chunk.specs.inside.Gathering.{yield_of}
 use Rattle.jb_chunk.specs.inside.Repeats.{IsPut}
 use Rattle.jb_chunk.proofs.Rewriting.{put-written}
 use Rattle.jb_chunk.proofs.block.settle_write.Goals as goal
@@ -7,12 +7,11 @@ use Rattle.jb_chunk.proofs.block.settle_write.Goals as goal
 pub returns-in-Ok-clause-ok : goal.returns-in-Ok-clause-ok
 returns-in-Ok-clause-ok g c =
     let meaning = g.A.Meaning.workplace in
-    let tally = c.args.tally.now in
+    let tally = yield_of c.args.tally.now (g.A.Results.ChunkResults.pairs c.args.results.now) in
     let rules = c.args.rules.now in
     let row = c.args.row.now in
     let w = meaning c.args.artifacts.now in
     let now = c.write_in_place.new.row in
     let left = meaning c.write_in_place.new.artifacts in
-    let P : Numbered → Type 0 = λ xs. IsPut rules (c.skips.result + tally.read_skips + tally.process_skips) row w xs (Ok tt) now left in
-    let Q : ℕ → Type 0 = λ n. IsPut rules (n + tally.read_skips + tally.process_skips) row w tally.found.items (Ok tt) now left in
-    put-written rules row now w left tally (subst Q c.skips.ensures.value (subst P c.as_slice.ensures.value c.in-Ok.ensures.put))
+    let Q : ℕ → Type 0 = λ n. IsPut rules (n + tally.read_skips + tally.process_skips) row w tally.found (Ok tt) now left in
+    put-written rules row now w left tally (subst Q c.skips.ensures.value c.in-Ok.ensures.put)

@@ -1,5 +1,6 @@
 use Rattle.std.proofs.Common.{arith}
 use Rattle.jb_chunk.specs.Attempt.{Trial}
+use Rattle.jb_chunk.specs.inside.Gathering.{yield_of}
 use Rattle.jb_chunk.proofs.Counting.{tally-none, one_if-le}
 use Rattle.jb_chunk.proofs.Recording.{gathering-none, gathering-more, gathering-settled, gathering-whole, gathering-torn, gathering-stands}
 use Rattle.jb_chunk.proofs.gather.gather.Goals as goal
@@ -9,12 +10,12 @@ loop-number-init g c =
     let old = g.A.Meaning.workplace c.args.artifacts.now in
     let t : Trial = record { rules = c.args.rules.now; row = c.args.row.now; hi = c.args.hi; work = old } in
     record {
-      gathering = gathering-none t _ c.requires.place c.requires.order (tally-none old _ _ c.in_ok-tally.ensures.found c.in_ok-tally.ensures.read_skips c.in_ok-tally.ensures.process_skips c.in_ok-tally.ensures.filtered);
+      gathering = gathering-none t _ c.requires.place c.requires.order (tally-none old _ _ c.requires.none c.new-tally.ensures.read_skips c.new-tally.ensures.process_skips c.new-tally.ensures.filtered);
       sound = c.requires.sound;
       room = c.requires.room;
-      read_skips = let none = c.in_ok-tally.ensures.read_skips in omega (arith, none);
-      process_skips = let none = c.in_ok-tally.ensures.process_skips in omega (arith, none);
-      filtered = let none = c.in_ok-tally.ensures.filtered in omega (arith, none);
+      read_skips = let none = c.new-tally.ensures.read_skips in omega (arith, none);
+      process_skips = let none = c.new-tally.ensures.process_skips in omega (arith, none);
+      filtered = let none = c.new-tally.ensures.filtered in omega (arith, none);
     }
 
 pub settle_record-requires-clause-place : goal.settle_record-requires-clause-place
@@ -34,22 +35,24 @@ pub returns-in-Err-clause-err : goal.returns-in-Err-clause-err
 returns-in-Err-clause-err g c =
     let meaning = g.A.Meaning.workplace in
     let t : Trial = record { rules = c.args.rules.now; row = c.args.row.now; hi = c.args.hi; work = meaning c.args.artifacts.now } in
-    gathering-torn t c.loop-number.number c.loop-number.tally c.loop-number.row (meaning c.loop-number.artifacts) (meaning c.settle_record.new.artifacts) c.loop-number.invariant.gathering (omega arith) (omega arith) c.in-Err.ensures.err
+    gathering-torn t c.loop-number.number (yield_of c.loop-number.tally (g.A.Results.ChunkResults.pairs c.loop-number.results)) c.loop-number.row (meaning c.loop-number.artifacts) (meaning c.settle_record.new.artifacts) c.loop-number.invariant.gathering (omega arith) (omega arith) c.in-Err.ensures.err
 
 pub returns-in-Ok-Some-clause-ok : goal.returns-in-Ok-Some-clause-ok
 returns-in-Ok-Some-clause-ok g c =
     let meaning = g.A.Meaning.workplace in
+    let pairs = g.A.Results.ChunkResults.pairs in
     let t : Trial = record { rules = c.args.rules.now; row = c.args.row.now; hi = c.args.hi; work = meaning c.args.artifacts.now } in
     let stepped = rw c.in-Ok-Some.field-0-is at c.in-Ok-Some.ensures.stepped in
-    gathering-settled t c.loop-number.number c.loop-number.tally c.settle_record.new.tally c.loop-number.row c.settle_record.new.row (meaning c.loop-number.artifacts) (meaning c.settle_record.new.artifacts) stepped.0 c.in-Ok-Some.class c.in-Ok-Some.choice c.loop-number.invariant.gathering (omega arith) (omega arith) stepped.1 stepped.2
+    gathering-settled t c.loop-number.number (yield_of c.loop-number.tally (pairs c.loop-number.results)) (yield_of c.settle_record.new.tally (pairs c.settle_record.new.results)) c.loop-number.row c.settle_record.new.row (meaning c.loop-number.artifacts) (meaning c.settle_record.new.artifacts) stepped.0 c.in-Ok-Some.class c.in-Ok-Some.choice (pairs c.settle_record.new.results) c.loop-number.invariant.gathering (omega arith) (omega arith) stepped.1 stepped.2
 
 pub loop-number-preserved : goal.loop-number-preserved
 loop-number-preserved g c =
     let meaning = g.A.Meaning.workplace in
+    let pairs = g.A.Results.ChunkResults.pairs in
     let t : Trial = record { rules = c.args.rules.now; row = c.args.row.now; hi = c.args.hi; work = meaning c.args.artifacts.now } in
     let stepped = rw c.in-Ok-None.field-0-is at c.in-Ok-None.ensures.stepped in
     record {
-      gathering = gathering-more t c.loop-number.number c.loop-number.tally c.settle_record.new.tally c.loop-number.row c.settle_record.new.row (meaning c.loop-number.artifacts) (meaning c.settle_record.new.artifacts) stepped.0 c.loop-number.invariant.gathering (omega arith) (omega arith) stepped.1 stepped.2;
+      gathering = gathering-more t c.loop-number.number (yield_of c.loop-number.tally (pairs c.loop-number.results)) (yield_of c.settle_record.new.tally (pairs c.settle_record.new.results)) c.loop-number.row c.settle_record.new.row (meaning c.loop-number.artifacts) (meaning c.settle_record.new.artifacts) stepped.0 c.loop-number.invariant.gathering (omega arith) (omega arith) stepped.1 stepped.2;
       sound = c.in-Ok-None.ensures.sound;
       room = c.in-Ok-None.ensures.room;
       read_skips = let up = stepped.2.1.read_skips in omega (arith, up, one_if-le);

@@ -1,34 +1,54 @@
-use Rattle.jb_chunk.proofs.Recording.{read-fault-done, process-fault-done, found-done, filtered-done, read-worn, process-worn}
+use Rattle.std.proofs.Common.{arith}
+use Rattle.jb_chunk.proofs.Recording.{read-fault-entered, process-fault-entered, found-entered, filtered-entered, read-same, read-there, read-worn, process-worn}
 use Rattle.jb_chunk.proofs.gather.read_and_process.Goals as goal
 
 pub returns-in-Err-Fault-clause-done : goal.returns-in-Err-Fault-clause-done
 returns-in-Err-Fault-clause-done g c =
     let w = g.A.Meaning.workplace c.args.artifacts.now in
     let read = rw c.in-Err-Fault.field-0-is at c.in-Err-Fault.ensures.read in
-    read-fault-done c.args.rules.now c.args.skips c.args.row.now w c.args.number c.in-Err-Fault.class c.read_in_place.new.row (g.A.Meaning.workplace c.read_in_place.new.artifacts) c.requires.place read
+    read-fault-entered c.args.rules.now c.args.skips c.args.row.now w c.args.number c.in-Err-Fault.class c.read_in_place.new.row (g.A.Meaning.workplace c.read_in_place.new.artifacts) (g.A.Results.ChunkResults.pairs c.args.results.now) c.requires.place read
 
 pub returns-in-Err-Memory-clause-err : goal.returns-in-Err-Memory-clause-err
 returns-in-Err-Memory-clause-err g c =
     let read = rw c.in-Err-Memory.field-0-is at c.in-Err-Memory.ensures.read in
     read-worn c.args.rules.now c.args.skips c.args.row.now c.read_in_place.new.row (g.A.Meaning.workplace c.args.artifacts.now) (g.A.Meaning.workplace c.read_in_place.new.artifacts) c.args.number read
 
-pub returns-in-Ok-Some-clause-done : goal.returns-in-Ok-Some-clause-done
-returns-in-Ok-Some-clause-done g c =
-    let meaning = g.A.Meaning.workplace in
-    let processed = rw c.in-Ok-Some.field-0-is at c.in-Ok-Some.ensures.processed in
-    found-done c.args.rules.now c.args.skips c.args.row.now c.read_in_place.new.row c.process_in_place.new.row (meaning c.args.artifacts.now) (meaning c.read_in_place.new.artifacts) (meaning c.process_in_place.new.artifacts) c.args.number _ _ _ c.requires.place c.in-Ok.ensures.read c.as_slice.ensures processed
+pub process_in_place-requires-clause-from : goal.process_in_place-requires-clause-from
+process_in_place-requires-clause-from g c =
+    let same = (read-there _ _ _ _ _ _ _ _ c.in-Ok.ensures.read).0 in
+    omega (arith, same, c.requires.from)
 
-pub returns-in-Ok-None-clause-done : goal.returns-in-Ok-None-clause-done
-returns-in-Ok-None-clause-done g c =
+pub process_in_place-requires-clause-to : goal.process_in_place-requires-clause-to
+process_in_place-requires-clause-to g c =
+    let same = (read-there _ _ _ _ _ _ _ _ c.in-Ok.ensures.read).1 in
+    omega (arith, same, c.requires.to)
+
+pub returns-in-Ok-true-clause-done : goal.returns-in-Ok-true-clause-done
+returns-in-Ok-true-clause-done g c =
     let meaning = g.A.Meaning.workplace in
-    let processed = rw c.in-Ok-None.field-0-is at c.in-Ok-None.ensures.processed in
-    filtered-done c.args.rules.now c.args.skips c.args.row.now c.read_in_place.new.row c.process_in_place.new.row (meaning c.args.artifacts.now) (meaning c.read_in_place.new.artifacts) (meaning c.process_in_place.new.artifacts) c.args.number _ _ c.requires.place c.in-Ok.ensures.read c.as_slice.ensures processed
+    let pairs = g.A.Results.ChunkResults.pairs in
+    let bytes = g.A.PartitionArtifacts.bytes c.in-Ok.item in
+    let same = read-same c.args.rules.now c.args.skips c.args.row.now c.read_in_place.new.row (meaning c.args.artifacts.now) (meaning c.read_in_place.new.artifacts) c.args.number _ bytes c.in-Ok.ensures.read in
+    let processed = rw c.in-Ok-true.field-0-test at c.in-Ok-true.ensures.processed in
+    found-entered c.args.rules.now c.args.skips c.args.row.now c.read_in_place.new.row c.process_in_place.new.row (meaning c.args.artifacts.now) (meaning c.read_in_place.new.artifacts) (meaning c.process_in_place.new.artifacts) c.args.number _ _ (pairs c.args.results.now) (pairs c.process_in_place.new.results) c.requires.place c.in-Ok.ensures.read same processed c.in-Ok-true.ensures.results
+
+pub returns-in-Ok-false-clause-done : goal.returns-in-Ok-false-clause-done
+returns-in-Ok-false-clause-done g c =
+    let meaning = g.A.Meaning.workplace in
+    let pairs = g.A.Results.ChunkResults.pairs in
+    let bytes = g.A.PartitionArtifacts.bytes c.in-Ok.item in
+    let same = read-same c.args.rules.now c.args.skips c.args.row.now c.read_in_place.new.row (meaning c.args.artifacts.now) (meaning c.read_in_place.new.artifacts) c.args.number _ bytes c.in-Ok.ensures.read in
+    let processed = rw c.in-Ok-false.field-0-test at c.in-Ok-false.ensures.processed in
+    filtered-entered c.args.rules.now c.args.skips c.args.row.now c.read_in_place.new.row c.process_in_place.new.row (meaning c.args.artifacts.now) (meaning c.read_in_place.new.artifacts) (meaning c.process_in_place.new.artifacts) c.args.number _ _ (pairs c.args.results.now) (pairs c.process_in_place.new.results) c.requires.place c.in-Ok.ensures.read same processed c.in-Ok-false.ensures.results
 
 pub returns-in-Err-Fault-process_in_place-clause-done : goal.returns-in-Err-Fault-process_in_place-clause-done
 returns-in-Err-Fault-process_in_place-clause-done g c =
     let meaning = g.A.Meaning.workplace in
+    let pairs = g.A.Results.ChunkResults.pairs in
+    let bytes = g.A.PartitionArtifacts.bytes c.in-Ok.item in
+    let same = read-same c.args.rules.now c.args.skips c.args.row.now c.read_in_place.new.row (meaning c.args.artifacts.now) (meaning c.read_in_place.new.artifacts) c.args.number _ bytes c.in-Ok.ensures.read in
     let processed = rw c.in-Err-Fault-process_in_place.field-0-is at c.in-Err-Fault-process_in_place.ensures.processed in
-    process-fault-done c.args.rules.now c.args.skips c.args.row.now c.read_in_place.new.row c.process_in_place.new.row (meaning c.args.artifacts.now) (meaning c.read_in_place.new.artifacts) (meaning c.process_in_place.new.artifacts) c.args.number _ _ c.in-Err-Fault-process_in_place.class c.requires.place c.in-Ok.ensures.read c.as_slice.ensures processed
+    process-fault-entered c.args.rules.now c.args.skips c.args.row.now c.read_in_place.new.row c.process_in_place.new.row (meaning c.args.artifacts.now) (meaning c.read_in_place.new.artifacts) (meaning c.process_in_place.new.artifacts) c.args.number _ _ c.in-Err-Fault-process_in_place.class (pairs c.args.results.now) (pairs c.process_in_place.new.results) c.requires.place c.in-Ok.ensures.read same processed c.in-Err-Fault-process_in_place.ensures.results
 
 pub returns-clause-err : goal.returns-clause-err
 returns-clause-err g c =

@@ -1,4 +1,4 @@
-use Rattle.std.proofs.Common.{◌-◌}
+use Rattle.std.proofs.Common.{◌≡◌, ◌-◌}
 use Rattle.jb_rules.specs.Sound.{IsSoundRow}
 use Rattle.jb_chunk.specs.Standing.{HasRepeats}
 use Rattle.jb_chunk.specs.inside.Repeats.{IsCalling, process_call}
@@ -10,6 +10,7 @@ invariant-loop-answer g l = record {
   calling : IsCalling l.rules l.skips l.fn.row (process_call (g.A.Meaning.workplace l.fn.artifacts) l.number) l.row (g.A.Meaning.workplace l.artifacts);
   sound : IsSoundRow l.row;
   room : HasRepeats l.rules l.row;
+  results : g.A.Results.ChunkResults.pairs l.results ≡ g.A.Results.ChunkResults.pairs l.fn.results;
 }
 
 abbrev pub decreases-loop-answer : goal.decreases-loop-answer

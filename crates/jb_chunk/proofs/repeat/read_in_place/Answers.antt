@@ -22,7 +22,7 @@ pub returns-then-not-is_repeated-clause-read : goal.returns-then-not-is_repeated
 returns-then-not-is_repeated-clause-read g c =
     let meaning = g.A.Meaning.workplace in
     let made = c.read_item-answer.ensures in
-    reading-last _ _ _ _ (meaning c.args.artifacts.now) (meaning c.loop-answer.artifacts) (meaning c.read_item-answer.new.self) _ c.read_item-answer.result c.requires.place c.loop-answer.invariant.calling made.answered made.faulted made.no_memory (sym c.is_repeated.ensures ∙ c.if-not-is_repeated.true)
+    reading-last g.A.PartitionArtifacts.bytes _ _ _ _ (meaning c.args.artifacts.now) (meaning c.loop-answer.artifacts) (meaning c.read_item-answer.new.self) _ c.read_item-answer.result c.requires.place c.loop-answer.invariant.calling made.answered made.faulted made.no_memory (sym c.is_repeated.ensures ∙ c.if-not-is_repeated.true)
 
 pub returns-then-not-is_repeated-clause-sound : goal.returns-then-not-is_repeated-clause-sound
 returns-then-not-is_repeated-clause-sound g c = c.loop-answer.invariant.sound

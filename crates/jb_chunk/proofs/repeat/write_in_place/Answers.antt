@@ -6,7 +6,7 @@ use Rattle.jb_chunk.proofs.repeat.write_in_place.Goals as goal
 
 pub loop-answer-init : goal.loop-answer-init
 loop-answer-init g c = record {
-  calling = calling-none _ _ _ (write_call (g.A.Meaning.workplace c.args.artifacts.now) c.args.found.now) (g.A.Meaning.workplace c.args.artifacts.now) refl;
+  calling = calling-none _ _ _ (write_call (g.A.Meaning.workplace c.args.artifacts.now) (g.A.Results.ChunkResults.pairs c.args.results.now)) (g.A.Meaning.workplace c.args.artifacts.now) refl;
   sound = c.requires.sound;
   room = c.requires.room;
 }

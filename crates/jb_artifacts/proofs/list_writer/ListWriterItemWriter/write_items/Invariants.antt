@@ -5,5 +5,5 @@ use Rattle.jb_artifacts.proofs.list_writer.ListWriterItemWriter.write_items.Give
 -- the results so far are appended, and none of their records has a live fault
 abbrev pub invariant-loop-result : goal.invariant-loop-result
 invariant-loop-result l =
-    IsWrittenTo (record { written = l.fn.self.written.items; faults = plans_of l.fn.self.faults }) l.results l.result-index
-    (record { written = l.self.written.items; faults = plans_of l.self.faults })
+    IsWrittenTo (record { written = l.fn.self.written; faults = plans_of l.fn.self.faults }) l.results l.result-index
+    (record { written = l.self.written; faults = plans_of l.self.faults })

@@ -20,18 +20,17 @@ artifacts_of_row-requires c =
     let listed : slice_get (needs rows) c.args.place ≡ Some p = listed-at c.needs.result.now (needs rows) c.args.place 0 c.requires.place c.needs.ensures in
     (next-row rows (length c.args.records.now) c.args.place p c.in-Some.row.now c.requires.within listed (sym c.row.ensures ∙ ap option_copied c.in-Some.is)).stands.within
 
-pub returns-clause-added : goal.returns-clause-added
-returns-clause-added c =
+pub returns : goal.returns
+returns c =
     let rows = c.args.prepared.now.rows in
     let p = get_or c.needs.result.now c.args.place 0 in
     let row = c.in-Some.row.now in
-    let old = c.args.records.now in
-    let now = c.artifacts_of_row.new.records in
-    let listed : slice_get (needs rows) c.args.place ≡ Some p = listed-at c.needs.result.now (needs rows) c.args.place 0 c.requires.place c.needs.ensures in
-    let next = next-row rows (length old) c.args.place p row c.requires.within listed (sym c.row.ensures ∙ ap option_copied c.in-Some.is) in
+    let records = c.args.records.now in
     let outputs = c.args.outputs.now in
+    let listed : slice_get (needs rows) c.args.place ≡ Some p = listed-at c.needs.result.now (needs rows) c.args.place 0 c.requires.place c.needs.ensures in
+    let next = next-row rows (length records) c.args.place p row c.requires.within listed (sym c.row.ensures ∙ ap option_copied c.in-Some.is) in
     let range = range_of row in
-    let made = c.in_ok-artifacts_of_row.ensures.made ∙ ap (λ held. workplace_of c.args.step.now (records_in old range) held range) c.in_ok-held.ensures in
-    let whole = works-more c.args.step.now outputs rows old now (length old) c.args.place p row c.requires.disjoint next c.artifacts_of_row.ensures.others in
-    let rest = map (work_for c.args.step.now now outputs) (drop (c.args.place + 1) (unfinished rows)) in
+    let made = c.in_ok-artifacts_of_row.ensures ∙ ap (λ held. workplace_of c.args.step.now (records_in records range) held range) c.in_ok-held.ensures in
+    let whole = works-more c.args.step.now outputs rows records c.args.place p row next in
+    let rest = map (work_for c.args.step.now records outputs) (drop (c.args.place + 1) (unfinished rows)) in
     works-added _ c.args.all.now.items c.push.new.self.items c.in_ok-artifacts_of_row.field-0 rest _ c.in_ok-push.ensures.items (whole ∙ ap (λ w. w ∷ rest) (sym made))

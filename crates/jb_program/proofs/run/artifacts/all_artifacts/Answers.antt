@@ -6,15 +6,12 @@ use Rattle.jb_program.proofs.Own.{own_work}
 use Rattle.jb_program.proofs.run.artifacts.all_artifacts.Goals as goal
 
 pub loop-place-preserved : goal.loop-place-preserved
-loop-place-preserved c = record {
-  works = c.in_ok-add_artifacts.ensures.added ∙ c.loop-place.invariant.works;
-  length = c.in_ok-add_artifacts.ensures.length ∙ c.loop-place.invariant.length;
-}
+loop-place-preserved c = c.in_ok-add_artifacts.ensures ∙ c.loop-place.invariant
 
 pub returns : goal.returns
 returns c =
     let rows = c.args.prepared.now.rows in
-    let work = work_for c.args.step.now c.loop-place.records c.args.outputs.now in
+    let work = work_for c.args.step.now c.args.records c.args.outputs.now in
     let counted : length c.needs-place-end.result.now ≡ length (unfinished rows) = ap length c.needs-place-end.ensures ∙ length-map (unfinished rows) (λ n. n.0) in
     let none : drop c.loop-place.place (unfinished rows) ≡ [] = drop_all c.loop-place.place (unfinished rows) (omega (arith, counted, c.loop-place-test.false)) in
-    sym (append-nil (map own_work c.loop-place.all.items)) ∙ ap (λ later. map own_work c.loop-place.all.items ++ map work later) (sym none) ∙ c.loop-place.invariant.works
+    sym (append-nil (map own_work c.loop-place.all.items)) ∙ ap (λ later. map own_work c.loop-place.all.items ++ map work later) (sym none) ∙ c.loop-place.invariant

@@ -4,9 +4,8 @@ use Rattle.jb_program.specs.PartitionRun.{work_for}
 use Rattle.jb_program.proofs.Own.{own_work}
 use Rattle.jb_program.proofs.run.artifacts.all_artifacts.Given as goal
 
--- those that were made and those to come, which still have their records
+-- those that were made and those to come
 abbrev pub invariant-loop-place : goal.invariant-loop-place
-invariant-loop-place l = record {
-  works : map own_work l.all.items ++ map (work_for l.step l.records l.outputs) (drop l.place (unfinished l.prepared.rows)) ≡ map (work_for l.step l.initial.records l.outputs) (unfinished l.prepared.rows);
-  length : length l.records ≡ length l.initial.records;
-}
+invariant-loop-place l =
+    map own_work l.all.items ++ map (work_for l.step l.fn.records l.outputs) (drop l.place (unfinished l.prepared.rows))
+    ≡ map (work_for l.step l.fn.records l.outputs) (unfinished l.prepared.rows)

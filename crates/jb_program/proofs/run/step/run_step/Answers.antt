@@ -9,36 +9,33 @@ use Rattle.jb_program.proofs.run.step.run_step.Goals as goal
 
 pub returns-in_err-prepared-clause-why : goal.returns-in_err-prepared-clause-why
 returns-in_err-prepared-clause-why g c =
-    let counted : length c.as_slice.result.now ≡ length c.args.supply.records = search rules in
+    let counted : c.len-count.result ≡ length c.args.supply.records = search rules in
     handed-on c.from_residual.result c.in_err-prepared.field-0.0 (λ e. IsBroken e ⊎ IsStepRefused c.args.step.now c.args.supply c.args.resume e) c.from_residual.ensures.1
-    (refused c.args.step.now c.args.supply c.args.resume c.taken-saved.result.0 (length c.as_slice.result.now) c.in_err-prepared.field-0.0 counted c.taken-saved.ensures.saved c.in_err-prepared.ensures.why)
+    (refused c.args.step.now c.args.supply c.args.resume c.taken-saved.result.0 c.len-count.result c.in_err-prepared.field-0.0 counted c.taken-saved.ensures.saved c.in_err-prepared.ensures.why)
 
-pub all_artifacts-requires-clause-within : goal.all_artifacts-requires-clause-within
-all_artifacts-requires-clause-within g c =
-    let counted : length c.as_slice.result.now ≡ length c.deref_mut.result.now = search rules in
+pub all_artifacts-requires : goal.all_artifacts-requires
+all_artifacts-requires g c =
+    let counted : c.len-count.result ≡ length c.into_list-records.result = search rules in
     let prepared = c.in_ok-prepared.ensures in
-    within-prepared c.args.step.now c.args.resume (length c.as_slice.result.now) c.in_ok-prepared.prepared c.deref_mut.result.now c.as_slice-outputs.result.now
+    within-prepared c.args.step.now c.args.resume c.len-count.result c.in_ok-prepared.prepared c.into_list-records.result c.as_slice-outputs.result.now
     (record { counted = counted; prepares = prepared-with _ _ c.args.resume _ _ c.taken-saved.ensures.saved prepared.runnable prepared.accepted prepared.prepared prepared.setup c.requires.held; outputs_are = search rules })
-
-pub all_artifacts-requires-clause-disjoint : goal.all_artifacts-requires-clause-disjoint
-all_artifacts-requires-clause-disjoint g c = c.in_ok-prepared.ensures.setup.openable.disjoint
 
 pub run_rounds-requires-clause-fit : goal.run_rounds-requires-clause-fit
 run_rounds-requires-clause-fit g c κs within =
-    let counted : length c.as_slice.result.now ≡ length c.deref_mut.result.now = search rules in
+    let counted : c.len-count.result ≡ length c.into_list-records.result = search rules in
     let prepared = c.in_ok-prepared.ensures in
-    works-serve c.args.step.now c.args.resume (length c.as_slice.result.now) c.in_ok-prepared.prepared c.deref_mut.result.now _ c.settings_for-settings.result _
+    works-serve c.args.step.now c.args.resume c.len-count.result c.in_ok-prepared.prepared c.into_list-records.result _ c.settings_for-settings.result _
     (record { counted = counted; prepares = prepared-with _ _ c.args.resume _ _ c.taken-saved.ensures.saved prepared.runnable prepared.accepted prepared.prepared prepared.setup c.requires.held; outputs_are = search rules })
     c.in_ok-artifacts.ensures
 
 pub returns : goal.returns
 returns g c =
-    let counted : length c.as_slice.result.now ≡ length c.deref_mut.result.now = search rules in
-    let taken : c.deref_mut.result.now ≡ c.args.supply.records = search rules in
+    let counted : c.len-count.result ≡ length c.into_list-records.result = search rules in
+    let taken : c.into_list-records.result ≡ c.args.supply.records = search rules in
     let prepared = c.in_ok-prepared.ensures in
     let calls = λ (rows : Option SavedRows). calls_before (discards c.args.step.now.spec.replace rows) false in
     let begins = c.in_ok-prepared.ensures.begun ∙ ap (λ cs. cs ++ calls c.taken-saved.result.0) c.new-recorder.ensures ∙ ap calls c.taken-saved.ensures.saved in
-    let run = step-run c.laws_below.ensures c.args.step.now c.args.supply c.args.round_limit c.args.resume (length c.as_slice.result.now) c.in_ok-prepared.prepared c.deref_mut.result.now _ c.settings_for-settings.result _
+    let run = step-run c.laws_below.ensures c.args.step.now c.args.supply c.args.round_limit c.args.resume c.len-count.result c.in_ok-prepared.prepared c.into_list-records.result _ c.settings_for-settings.result _
     c.in_ok-end.end.snapshot _ c.id.result.now c.in_ok-end.end.status c.in_ok-end.end.plans.items c.calls.result.now _ _ c.calls-2.result.now _ _
     (record { counted = counted; prepares = prepared-with _ _ c.args.resume _ _ c.taken-saved.ensures.saved prepared.runnable prepared.accepted prepared.prepared prepared.setup c.requires.held; outputs_are = search rules })
     taken c.settings_for-settings.ensures.settings

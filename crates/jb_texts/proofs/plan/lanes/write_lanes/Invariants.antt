@@ -1,12 +1,15 @@
-use Rattle.std.proofs.Common.{◌≡◌, length}
-use Rattle.std.specs.Io.KnownBytes.{Appends}
+use Rattle.std.proofs.Common.{◌≡◌, ◌≤◌, ◌+◌, ◌-◌, ◌*◌, ◌++◌, length, drop, map}
+use Rattle.std.specs.List.{concat, range_with_len}
 use Rattle.jb_cert.specs.WrapAround.{slots_of_round}
-use Rattle.jb_texts.specs.PlanText.{lanes_text}
+use Rattle.jb_texts.specs.PlanText.{lane_text}
 use Rattle.jb_texts.proofs.plan.lanes.write_lanes.Given as goal
 
--- the lanes so far are written
-abbrev pub invariant-loop-lane : goal.invariant-loop-lane
-invariant-loop-lane g l = record {
-  written : Appends (g.W.Write.contents l.initial.writer) (g.W.Write.contents l.writer) (lanes_text l.lane (slots_of_round l.cursor.counts l.cursor.threads l.round));
+-- the last lanes are written, before what stood at the end
+abbrev pub invariant-loop-behind : goal.invariant-loop-behind
+invariant-loop-behind l = record {
+  begin : (l.begin ≤ l.end) × (l.end ≤ l.begin + 32 * l.behind);
+  line : length l.line ≡ length l.initial.line;
+  written : drop l.begin l.line
+      ≡ concat (map (lane_text (slots_of_round l.cursor.counts l.cursor.threads l.round)) (range_with_len (l.lanes - l.behind) l.behind)) ++ drop l.end l.initial.line;
   near : length l.near ≡ length l.initial.near;
 }

@@ -1,0 +1,115 @@
+#!/usr/bin/env python3
+"""`batchrun` beside Python's `json` and beside a plain program, on the same documents and in one run.
+
+    bench/compare.py [--records N] [--runs N]
+
+`plain` is the program of the folder plain/, whose head says what it leaves out; it is built here by `rustc`, and its outputs are
+compared with those of `batchrun`. `python3` reads a document of records into a tree by its module `json` and writes that tree again,
+and does nothing else. All run on one thread, their output goes to the null device, and they take turns: `cpu s` is the least
+processor time of some runs of each, `peak MB` the most memory that one held at once, never less than this script's own, about
+15 MB. `instructions` are those for one record, or for one slot of a plan, counted by valgrind's callgrind, as the difference between a
+document of 30,000 and one of 10,000: a count that no load of the machine changes. The table is Markdown, as docs/PROOFS.md has it. No number
+here decides the gate.
+
+With --records there are so many short records in place of 1,000,000, and of the others so many fewer: ten times the records should take
+about ten times as long.
+"""
+import argparse
+import json
+import os
+import subprocess
+import sys
+import tempfile
+
+import documents
+from measure import BENCH, PROGRAM, PYTHON, built, in_a_process, instructions, measure
+
+MILLION = 1_000_000
+
+
+def records_of(make, *given):
+    """Makes a document of so many records."""
+    return lambda size: (make, size, *given)
+
+
+def plan_of(partitions, threads):
+    """Makes a load of so many slots, in that many partitions."""
+    return lambda size: (documents.load, [size // partitions] * partitions, threads)
+
+
+# What it is called, the word that runs it, how many records or slots it has at a million short records, and what makes it.
+CASES = (
+    ("{:,} records of ten bytes, chunks of 1,000, 8 partitions", "run", MILLION, records_of(documents.short, 1_000)),
+    ("{:,} in chunks of 10", "run", MILLION, records_of(documents.short, 10)),
+    ("{:,} in chunks of 10, one partition has half", "run", MILLION, records_of(documents.short, 10, 8, documents.skewed)),
+    ("{:,} of 28 bytes, 1 in 50 faulty, chunks of 100, 64 partitions", "run", MILLION, records_of(documents.faulty, 100)),
+    ("{:,} of 1,000 bytes, chunks of 1,000, 8 partitions", "run", 3 * MILLION // 10, records_of(documents.wide, 1_000)),
+    ("{:,} of ten bytes, restarted half-way, chunks of 100, 64 partitions", "restart", MILLION, records_of(documents.half_done, 100)),
+    ("plan of {:,} slots, 4,096 partitions on 63 threads", "plan", 8_192_000, plan_of(4_096, 63)),
+    ("plan of {:,} slots, one partition on 64 threads", "plan", 10_000_000, plan_of(1, 64)),
+)
+
+
+def plain_program(room):
+    """Builds the plain program in a folder and gives its path."""
+    program = os.path.join(room, "plain")
+    subprocess.run(["rustc", "--edition", "2024", "-C", "opt-level=3", os.path.join(BENCH, "plain/main.rs"), "-o", program], check=True)
+    return program
+
+
+def answer(command, path):
+    with open(path, "rb") as document:
+        return subprocess.run(command, stdin=document, stdout=subprocess.PIPE, check=True).stdout
+
+
+def compare(word, program, plain, path):
+    """Ends the script where the two commands don't print the same plan, or the same outputs and commits."""
+    found, wanted = (answer(command, path) for command in (program, plain))
+    if word != "plan":
+        step, wanted = json.loads(found)["steps"][-1], json.loads(wanted)
+        found = {"heard": step["heard"], "outputs": step["outputs"]}
+    if found != wanted:
+        sys.exit(f"batchrun and the plain program don't agree on {path}")
+
+
+def taken_in_turns(commands, path, runs):
+    """The least processor seconds and the peak of each command, which take turns."""
+    taken = [[measure(command, path) for command in commands] for _ in range(runs)]
+    if any(status for turn in taken for status, *_ in turn):
+        sys.exit(f"a program failed on {path}")
+    return [(min(cpu for _, _, cpu, _ in each), max(peak for *_, peak in each)) for each in zip(*taken)]
+
+
+def cells(commands, word, size, make, runs, room):
+    """For each command its instructions for one record more, its processor seconds and its peak."""
+    # The counts of plans are divided by 4,096.
+    least = 40_960 if word == "plan" else 10_000
+    whole, small, large = (os.path.join(room, f"{it}.json") for it in ("whole", "small", "large"))
+    for path, of in ((whole, size), (small, least), (large, 3 * least)):
+        documents.write(path, *make(of))
+    in_a_process(compare, word, commands[0], commands[1], whole)
+    for command, (cpu, peak) in zip(commands, taken_in_turns(commands, whole, runs)):
+        each = (instructions(command, large) - instructions(command, small)) / (2 * least)
+        yield f"{each:,.0f}, {cpu:.2f}, {peak:.0f}"
+
+
+def main():
+    parser = argparse.ArgumentParser()
+    parser.add_argument("--records", type=int, default=MILLION)
+    parser.add_argument("--runs", type=int, default=3)
+    options = parser.parse_args()
+    built()
+    print("| What | `batchrun`: instructions each, cpu s, peak MB | `plain`: the same | `python3`: the same |\n|---|---|---|---|")
+    with tempfile.TemporaryDirectory() as room:
+        plain = plain_program(room)
+        for name, word, most, make in CASES:
+            size = most * options.records // MILLION
+            commands = [[PROGRAM, word], [plain, word]] + ([PYTHON] if word != "plan" else [])
+            print(f"| {name.format(size)} |", end="", flush=True)
+            for cell in cells(commands, word, size, make, options.runs, room):
+                print(f" {cell} |", end="", flush=True)
+            print("" if word != "plan" else " |")
+
+
+if __name__ == "__main__":
+    main()

@@ -1,0 +1,6 @@
+pub mod Checks
+pub mod Csv
+pub mod Json
+pub mod Lines
+pub mod Notes
+pub mod Refused

@@ -1,0 +1,34 @@
+//! A processor that notes the faults of another.
+
+ghost use Rattle.std.specs.Prelude.{◌≡◌, None, Some, IfOk};
+ghost use Rattle.jb_artifacts.specs.Answers.{IfFault, IfNoMemory};
+ghost use Rattle.jb_artifacts.specs.Processor.{process_fault, after_process};
+ghost use Rattle.jb_ready.specs.Notes.{NotesCall};
+
+use crate::notes::{Note, Notes};
+use jb_artifacts::{Item, ItemProcessor};
+use jb_job::ArtifactError;
+
+/// A processor that answers as `inner` does, and notes each fault that it passes on.
+#[derive(Drop)]
+pub struct NotingProcessor<P> {
+    pub inner: P,
+    pub notes: Notes<Note>,
+}
+
+impl<P: ItemProcessor> ItemProcessor for NotingProcessor<P> {
+    ghost processor = { λ n. P.processor n.inner };
+
+    fn process_item(&mut self, number: u64, item: &[u8]) -> Result<Option<Item>, ArtifactError>
+        ensures answered { let p = P.processor self.old.inner in
+            IfOk result (λ answer. (process_fault p number ≡ None) × (answer ≡ p.answer number item.now) × (P.processor self.new.inner ≡ after_process p number)) }
+        ensures faulted { let p = P.processor self.old.inner in
+            IfFault result (λ class. (process_fault p number ≡ Some class) × (P.processor self.new.inner ≡ after_process p number)) }
+        ensures no_memory { IfNoMemory result (P.processor self.new.inner ≡ P.processor self.old.inner) }
+        ensures noted { NotesCall result number self.old.notes self.new.notes }
+    {
+        let answer = self.inner.process_item(number, item);
+        self.notes.note_call(number, &answer);
+        answer
+    }
+}

@@ -1,0 +1,241 @@
+//! The ready parts of `jb_ready`: what texts are read into, and what is noted.
+
+ghost use Rattle.std.specs.Prelude.{◌==◌, ◌++◌, Some, None, if◌then◌else◌, length};
+
+use crate::artifacts::{failing_once, fault, fault_of, holds, records};
+use jb_artifacts::{
+    FaultPlans, Item, ItemProcessor, ItemReader, ItemWriter, LendingReader, ListWriter,
+};
+use jb_base::PackedList;
+use jb_job::ClassId;
+use jb_ready::{
+    Answer, AnswerProcessor, Check, CheckedReader, Note, Notes, NotingProcessor, NotingReader,
+    NotingWriter, RecordsError, csv_rows, json_lines, lines, table_reader,
+};
+use std::alloc::{AllocError, Global};
+
+/// How a text is read.
+#[derive(Clone, Copy)]
+enum Form {
+    Lines,
+    Csv,
+    Flexible,
+    Json,
+}
+
+/// Texts, and the records that they are read into, each with a bar behind it, or what their refusal says.
+const TEXTS: [(Form, &str, &str); 17] = [
+    (Form::Lines, "", ""),
+    (Form::Lines, "\n", "|"),
+    (Form::Lines, "a", "a|"),
+    (Form::Lines, "a\n", "a|"),
+    (Form::Lines, "a\r\n\nb\rc\r\n", "a||b\rc|"),
+    (Form::Csv, "", ""),
+    (Form::Csv, "x,1\n\"y\nz\",2\n", "x,1\n|\"y\nz\",2\n|"),
+    (
+        Form::Csv,
+        "x,1\r\n\r\n \"y\",\"a\"\"\"",
+        "x,1\n|\" \"\"y\"\"\",\"a\"\"\"\n|",
+    ),
+    (Form::Csv, "x,1\ny,2\nz\n", "line 3: record 2 can't be read"),
+    (
+        Form::Csv,
+        "x\r\n\r\n\"y\r\n\"\r\nz,\r\n",
+        "line 5: record 2 can't be read",
+    ),
+    (Form::Flexible, "x,1\ny\n", "x,1\n|y\n|"),
+    (Form::Json, "", ""),
+    (
+        Form::Json,
+        "{\"a\": 1}\r\n[2]\nnull",
+        "{\"a\": 1}|[2]|null|",
+    ),
+    (Form::Json, "1\n\n2\n", "line 2: record 1 can't be read"),
+    (Form::Json, "1\n2 3\n", "line 2: record 1 can't be read"),
+    (Form::Json, "{\"a\": 1", "line 1: record 0 can't be read"),
+    (Form::Json, "01\n", "line 1: record 0 can't be read"),
+];
+
+/// The records of a text.
+fn read(alloc: Global, form: Form, text: &[u8]) -> Result<PackedList, RecordsError> {
+    match form {
+        Form::Lines => match lines::records_of(alloc, text) {
+            Ok(records) => Ok(records),
+            Err(_) => Err(RecordsError::Memory),
+        },
+        Form::Csv => csv_rows::records_of(alloc, text),
+        Form::Flexible => csv_rows::flexible_records_of(alloc, text),
+        Form::Json => json_lines::records_of(alloc, text),
+    }
+}
+
+/// The records, each with a bar behind it.
+fn joined(alloc: Global, records: &PackedList) -> Result<Vec<u8>, AllocError> {
+    let mut all = Vec::new(alloc);
+    for number in 0..records.len() {
+        all.extend_from_slice(records.at(number))?;
+        all.push(b'|')?;
+    }
+    Ok(all)
+}
+
+/// Whether the text is told of so: the records or the refusal. Where a request for memory is refused, it is at the second
+/// call.
+fn tells(alloc: Global, form: Form, text: &str, want: &str) -> bool {
+    match told(alloc, form, text) {
+        Ok(got) => got.as_slice() == want.as_bytes(),
+        Err(_) => false,
+    }
+}
+
+/// What is told of the records of a text.
+fn told(alloc: Global, form: Form, text: &str) -> Result<Vec<u8>, AllocError> {
+    match read(alloc, form, text.as_bytes()) {
+        Ok(records) => joined(alloc, &records),
+        Err(RecordsError::Memory) => Err(AllocError),
+        Err(error) => Ok(format!(in alloc; "{error}")?.into_bytes()),
+    }
+}
+
+/// Each text is read into its records, or refused.
+#[test]
+fn texts_are_read_or_memory_is_wanted(rt: HostRuntime) {
+    for (form, text, want) in TEXTS {
+        let alloc = rt.alloc();
+        assert!(rt;
+            tells(alloc, form, text, want) || tells(alloc, form, text, want),
+            "of {text:?}"
+        );
+    }
+}
+
+/// A function whose answer is the item twice, or none for an item of no bytes.
+#[derive(Drop)]
+struct Twice {
+    alloc: Global,
+}
+
+impl Answer for Twice {
+    ghost answer = { λ _ _ item. if length item == 0 then None else Some (item ++ item) };
+
+    fn answer_of(&self, _number: u64, item: &[u8]) -> Result<Option<Item>, AllocError> {
+        if item.is_empty() {
+            return Ok(None);
+        }
+        let mut bytes = Vec::from_slice(self.alloc, item)?;
+        bytes.extend_from_slice(item)?;
+        Ok(Some(Item::from_vec(bytes)))
+    }
+}
+
+/// A check that refuses items of no bytes.
+#[derive(Drop)]
+struct NotEmpty {
+    class: ClassId,
+}
+
+impl Check for NotEmpty {
+    ghost refusal = { λ c item. if length item == 0 then Some c.class else None };
+
+    fn refusal_of(&self, item: &[u8]) -> Result<Option<ClassId>, AllocError> {
+        if item.is_empty() {
+            return Ok(Some(self.class));
+        }
+        Ok(None)
+    }
+}
+
+/// The note of a fault of class 3 at this record.
+fn note_of(number: u64) -> Note {
+    Note {
+        number,
+        class: ClassId::new(3),
+    }
+}
+
+/// Records from number 5 on, of which 6 is refused.
+fn a_reader(alloc: Global) -> Result<NotingReader<CheckedReader<NotEmpty>>, RecordsError> {
+    let check = NotEmpty {
+        class: ClassId::new(3),
+    };
+    let inner = CheckedReader::new(alloc, check, 5, records(alloc, &["a", "", "b"])?)?;
+    Ok(NotingReader {
+        inner,
+        notes: Notes::new(alloc),
+    })
+}
+
+/// Whether the next record is these bytes, lent, and is then passed by.
+fn lends(reader: &mut NotingReader<CheckedReader<NotEmpty>>, bytes: &[u8]) -> bool {
+    let number = reader.place();
+    number < reader.end() && reader.record(number) == bytes && reader.pass_item() == Ok(())
+}
+
+/// Whether a refused record is passed by and noted, and the records round it are read, or lent.
+fn notes_a_read(alloc: Global) -> Result<bool, RecordsError> {
+    let mut reader = a_reader(alloc)?;
+    let before = holds(&reader.read_item(), b"a");
+    let refused = fault_of(reader.read_item()) == Some(fault());
+    let behind = lends(&mut reader, b"b") && reader.place() == reader.end();
+    Ok(before && refused && behind && reader.notes.kept() == [note_of(6)].as_slice())
+}
+
+/// Whether a fault of a function's processor is noted, and its answer is the function's.
+fn notes_a_process_call(alloc: Global) -> Result<bool, AllocError> {
+    let inner = AnswerProcessor {
+        function: Twice { alloc },
+        faults: failing_once(alloc, ClassId::new(3))?,
+    };
+    let mut processor = NotingProcessor {
+        inner,
+        notes: Notes::new(alloc),
+    };
+    let failed = fault_of(processor.process_item(1, b"b")) == Some(fault());
+    let answered = holds(&processor.process_item(1, b"b"), b"bb");
+    Ok(failed && answered && processor.notes.kept() == [note_of(1)].as_slice())
+}
+
+/// Whether a write call that fails is noted with its numbers.
+fn notes_a_write_call(alloc: Global) -> Result<bool, AllocError> {
+    let inner = ListWriter::new(
+        PackedList::new(alloc),
+        failing_once(alloc, ClassId::new(3))?,
+    );
+    let mut writer = NotingWriter {
+        inner,
+        notes: Notes::new(alloc),
+        alloc,
+    };
+    let results = [
+        (0, Item::copy_of(alloc, b"a")?),
+        (1, Item::copy_of(alloc, b"b")?),
+    ];
+    let failed = writer.write_items(&results) == Err(fault()) && writer.count() == 1;
+    let numbers = match writer.notes.kept().first() {
+        Some(note) => note.numbers.as_slice() == [0u64, 1].as_slice(),
+        None => false,
+    };
+    Ok(failed && numbers && writer.notes.lost() == 0)
+}
+
+/// Whether a table whose last number is 2^64 - 1 has no reader, and one before it has.
+fn ends_its_numbers(alloc: Global) -> Result<bool, AllocError> {
+    let mut all = true;
+    for (first, ends) in [(u64::MAX, true), (u64::MAX - 1, false)] {
+        let none = FaultPlans::new(alloc);
+        let answer = table_reader(alloc, first, records(alloc, &["a"])?, none);
+        all = all && matches!(&answer, Err(RecordsError::Numbers)) == ends;
+    }
+    Ok(all)
+}
+
+/// A fault of each kind of artifact is noted, and numbers that are too many are refused.
+#[test]
+fn ready_artifacts_answer(rt: HostRuntime) -> Result<(), RecordsError> {
+    let alloc = rt.alloc();
+    assert!(rt; notes_a_read(alloc)?);
+    assert!(rt; notes_a_process_call(alloc)?);
+    assert!(rt; notes_a_write_call(alloc)?);
+    assert!(rt; ends_its_numbers(alloc)?);
+    Ok(())
+}

@@ -1,0 +1,232 @@
+"""What the tools of this folder have in common: the words of a tool, reports of `batchrun run` and `restart` and what
+`examples/array/join` prints, read and tested, their sums, and files that are put in their place whole."""
+import argparse
+import collections
+import dataclasses
+import json
+import os
+import re
+import signal
+import sys
+import tempfile
+
+TOP = os.path.dirname(os.path.dirname(os.path.realpath(__file__)))
+PROGRAM = os.environ.get("BATCHRUN") or os.path.join(TOP, "crates/batchrun/out/batchrun")
+Row = collections.namedtuple(
+    "Row", "lo hi at redo retries written READ WRITE COMMIT ROLLBACK READ_SKIP PROCESS_SKIP FILTER WRITE_SKIP in_place state"
+)
+METRICS = Row._fields[Row._fields.index("READ") : Row._fields.index("in_place")]
+SKIPS = ("READ_SKIP", "PROCESS_SKIP", "WRITE_SKIP")
+STATES = ("done", "failed", "waiting")
+NUMBERS = {1: 14, 2: 15}  # of a row, by the version of the saved object
+SHOWN_LETTERS = 60  # of a value in a line
+REPORT_KEYS, STEP_KEYS = {"job", "status", "steps"}, {"heard", "outputs", "plans", "reducer", "saved", "status", "step"}
+JOINED_KEYS = {"job", "outputs", "rows", "step", "sums"}
+
+
+class Refused(Exception):
+    """A text or a file that isn't what a tool asks for, with the reason."""
+
+
+class Words(argparse.ArgumentParser):
+    """A tool's words. Its help is the text of its module; wrong words are refused by one line and this status."""
+
+    def __init__(self, tool, text, status):
+        super().__init__(prog=tool, allow_abbrev=False)
+        self.text, self.status = text, status
+
+    def format_help(self):
+        return self.text
+
+    def error(self, message):
+        refuse(self.prog, f"{message}; --help says which words there are", self.status)
+
+
+def end_with_the_reader():
+    """A tool that only prints ends silently where nobody reads on."""
+    signal.signal(signal.SIGPIPE, signal.SIG_DFL)
+
+
+def refuse(tool, reason, status=1):
+    print(f"{tool}: {reason}", file=sys.stderr)
+    sys.exit(status)
+
+
+def checked(is_right, reason):
+    if not is_right:
+        raise Refused(reason)
+
+
+def tree_of(text, what):
+    try:
+        return json.loads(text)
+    except (ValueError, RecursionError):
+        raise Refused(f"{what} isn't JSON") from None
+
+
+def content_of(path):
+    try:
+        with open(path, "rb") as file:
+            return file.read()
+    except OSError as fault:
+        raise Refused(f"{path} can't be read: {fault.strerror}") from None
+
+
+def tree_in(path):
+    """The JSON tree in a file."""
+    return tree_of(content_of(path), path)
+
+
+def put_in_place(path, content):
+    """Writes a file beside its place and renames it, so that what stands there is whole, whenever this is killed."""
+    with tempfile.NamedTemporaryFile(dir=os.path.dirname(path) or ".", prefix=f".{os.path.basename(path)}.", delete=False) as part:
+        try:
+            part.write(content)
+            part.flush()
+            os.fsync(part.fileno())
+            os.chmod(part.name, 0o644)
+            os.replace(part.name, path)
+        except BaseException:
+            os.unlink(part.name)
+            raise
+
+
+def shown(value):
+    """A value of a JSON tree on one line, cut where it is long."""
+    text = ""
+    for part in json.JSONEncoder().iterencode(value):
+        text += part
+        if len(text) > SHOWN_LETTERS:
+            return f"{text[:SHOWN_LETTERS]}.."
+    return text
+
+
+def numbered_in(folder):
+    """The numbers and places of the reports that `run-job` keeps in a folder, the last one last."""
+    names = os.listdir(folder) if os.path.exists(folder) else []
+    numbers = sorted(int(match[1]) for name in names if (match := re.fullmatch(r"report-([1-9]\d{0,8})\.json", name)))
+    return [(number, place_of(folder, number)) for number in numbers]
+
+
+def place_of(folder, number):
+    return os.path.join(folder, f"report-{number}.json")
+
+
+# ---- reports
+
+
+@dataclasses.dataclass
+class Step:
+    """A step of a report: its rows have the form of version 2, whichever they have there. `tree` is the step as it stands."""
+
+    name: str
+    status: str
+    plans: list
+    rows: list
+    tree: dict
+
+
+@dataclasses.dataclass
+class Report:
+    job: str
+    status: str
+    steps: list
+
+
+def has_keys(value, keys):
+    return isinstance(value, dict) and keys <= value.keys()
+
+
+def is_number(value):
+    return type(value) is int and value >= 0
+
+
+def is_text(value):
+    """Whether it is a text that can be printed: JSON's escapes also write halves of characters."""
+    return isinstance(value, str) and not any("\ud800" <= letter <= "\udfff" for letter in value)
+
+
+def is_saved(saved):
+    is_object = has_keys(saved, {"rows", "version"}) and isinstance(saved["rows"], list)
+    return is_object and is_number(saved["version"]) and saved["version"] in NUMBERS
+
+
+def is_row(row, numbers):
+    if not (isinstance(row, list) and len(row) == numbers + 1 and all(map(is_number, row[:-1]))):
+        return False
+    lo, hi, at, *_, state = row
+    return lo <= at <= hi and is_text(state) and state in STATES
+
+
+def is_plan(plan):
+    return isinstance(plan, list) and len(plan) == 3 and is_text(plan[0]) and all(map(is_number, plan[1:]))
+
+
+def rows_of(rows, version, place):
+    for partition, row in enumerate(rows):
+        checked(is_row(row, NUMBERS[version]), f"{place}[{partition}] isn't a partition's row")
+    return [Row(*row[: NUMBERS[1]], row[NUMBERS[1]] if version == 2 else 0, row[-1]) for row in rows]
+
+
+def step_of(tree, place):
+    is_step = has_keys(tree, STEP_KEYS) and is_text(tree["step"]) and is_text(tree["status"])
+    checked(is_step and isinstance(tree["plans"], list), f"{place} isn't a step of a report")
+    checked(is_saved(tree["saved"]), f"{place}.saved isn't a saved object of version 1 or 2")
+    rows = rows_of(tree["saved"]["rows"], tree["saved"]["version"], f"{place}.saved.rows")
+    for number, plan in enumerate(tree["plans"]):
+        checked(is_plan(plan), f"{place}.plans[{number}] isn't a plan with its rounds")
+    return Step(tree["step"], tree["status"], tree["plans"], rows, tree)
+
+
+def joined_of(tree):
+    """What `join` prints, as the report of a job whose one step is completed; that all rows are done is what `join` looks at."""
+    checked(is_text(tree["job"]) and is_text(tree["step"]) and isinstance(tree["rows"], list), "the text isn't what join prints")
+    version = 1 if tree["rows"] and isinstance(tree["rows"][0], list) and len(tree["rows"][0]) == NUMBERS[1] + 1 else 2
+    rows = rows_of(tree["rows"], version, "rows")
+    for number, row in enumerate(rows):
+        checked(row.state == "done", f"rows[{number}] isn't done, and join joins those that are")
+    sums = {name: sum(getattr(row, name) for row in rows) for name in METRICS}
+    checked(tree["sums"] == sums, "sums aren't those of the rows")
+    return Report(tree["job"], "COMPLETED", [Step(tree["step"], "COMPLETED", [], rows, tree)])
+
+
+def report_in(text, what="the text"):
+    """The report, or Refused with the place where it isn't one."""
+    tree = tree_of(text, what)
+    if has_keys(tree, JOINED_KEYS) and not has_keys(tree, REPORT_KEYS):
+        return joined_of(tree)
+    is_report = has_keys(tree, REPORT_KEYS) and is_text(tree["job"]) and is_text(tree["status"]) and isinstance(tree["steps"], list)
+    checked(is_report, f"{what} isn't a report: job, status and steps")
+    return Report(tree["job"], tree["status"], [step_of(step, f"steps[{number}]") for number, step in enumerate(tree["steps"])])
+
+
+# ---- sums
+
+
+def skips_of(row):
+    """How many faults of a partition were skipped: reads, results and write calls."""
+    return sum(getattr(row, name) for name in SKIPS)
+
+
+def sums_of(steps):
+    """The sums of these steps: records, skips, partitions by their states, plans and rounds, the metrics and the repeats in place."""
+    rows, plans = [row for step in steps for row in step.rows], [plan for step in steps for plan in step.plans]
+    return {
+        "records": sum(row.hi - row.lo for row in rows),
+        "done": sum(row.at - row.lo for row in rows),
+        "left": sum(row.hi - row.at for row in rows),
+        "skips": sum(map(skips_of, rows)),
+        "partitions": len(rows),
+        **{f"partitions_{state}": sum(row.state == state for row in rows) for state in STATES},
+        "plans": len(plans),
+        "rounds_planned": sum(plan[1] for plan in plans),
+        "rounds_run": sum(plan[2] for plan in plans),
+        **{name: sum(getattr(row, name) for row in rows) for name in (*METRICS, "in_place")},
+    }
+
+
+def in_words(sums):
+    """How far the records are, and which partitions didn't get there."""
+    failed = [f"{sums['partitions_failed']} of {sums['partitions']} partitions failed"] if sums["partitions_failed"] else []
+    waiting = [f"{sums['partitions_waiting']} not at their end"] if failed and sums["partitions_waiting"] else []
+    return ", ".join([*failed, *waiting, f"{sums['done']} of {sums['records']} records done", f"{sums['skips']} skipped"])
