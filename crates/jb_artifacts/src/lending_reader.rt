@@ -1,10 +1,11 @@
 //! A reader that lends its records.
 
-ghost use Rattle.std.specs.Prelude.{◌≡◌, ◌≤◌, ◌<◌, None, Some, OnOk};
+ghost use Rattle.std.specs.Prelude.{◌≡◌, ◌<◌, ◌-◌, [], None, Some, OnOk, slice_index_or};
 ghost use Rattle.jb_artifacts.specs.Answers.{IfFault, IfNoMemory};
 ghost use Rattle.jb_artifacts.specs.Reader.{reader_end, record_at, read_fault, after_read};
 
 use crate::interfaces::ItemReader;
+use jb_base::PackedList;
 use jb_job::ArtifactError;
 
 /// A reader that holds its records, so that a read need not copy them.
@@ -18,9 +19,19 @@ pub trait LendingReader: ItemReader {
             IfFault result (λ class. (read_fault r ≡ Some class) × (Self.reader self.new ≡ after_read r)) }
         ensures no_memory { IfNoMemory result (Self.reader self.new ≡ Self.reader self.old) };
 
-    /// The record of this number.
+    /// The record of this number, of those that are there; past the end an empty one, and before the first the first.
     fn record(&self, number: u64) -> &[u8]
-        requires from { (Self.reader self.now).first ≤ number }
-        requires to { number < reader_end (Self.reader self.now) }
         ensures { result.now ≡ record_at (Self.reader self.now) number };
+}
+
+/// The record of this number in a table whose first record has the number `first`; past the end an empty one, and before the first the
+/// first.
+pub fn record_of(records: &PackedList, first: u64, number: u64) -> &[u8]
+    ensures { result.now ≡ slice_index_or records.now (number - first) [] }
+{
+    let index = number.saturating_sub(first) as usize;
+    match records.get(index) {
+        Some(record) => record,
+        None => &[],
+    }
 }

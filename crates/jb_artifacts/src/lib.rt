@@ -33,7 +33,7 @@ pub use fault_plans::FaultPlans;
 pub use faults::{FaultList, FaultPlan};
 pub use interfaces::{Collector, ItemProcessor, ItemReader, ItemWriter};
 pub use item::Item;
-pub use lending_reader::LendingReader;
+pub use lending_reader::{LendingReader, record_of};
 pub use list_writer::ListWriter;
 pub use packed_artifacts::PackedArtifacts;
 pub use packed_results::PackedResults;

@@ -6,7 +6,7 @@ ghost use Rattle.jb_artifacts.specs.Faults.{plans_of};
 use crate::fault_plans::FaultPlans;
 use crate::interfaces::ItemReader;
 use crate::item::Item;
-use crate::lending_reader::LendingReader;
+use crate::lending_reader::{LendingReader, record_of};
 use jb_base::PackedList;
 use jb_job::ArtifactError;
 use std::alloc::Global;
@@ -88,6 +88,6 @@ impl LendingReader for TableReader {
     }
 
     fn record(&self, number: u64) -> &[u8] {
-        self.records.at((number - self.first) as usize)
+        record_of(&self.records, self.first, number)
     }
 }

@@ -22,15 +22,22 @@ pub trait ChunkResults: Drop {
         ensures { result ≡ length (pairs self.now) };
 }
 
-impl ChunkResults for Vec<(u64, Item)> {
-    ghost pairs = { λ results. results.items };
+/// A chunk's results, each with its record's number, one by one.
+#[derive(Drop)]
+pub struct ItemResults {
+    pub(crate) items: Vec<(u64, Item)>,
+}
 
-    fn with_room(alloc: Global, results: u64) -> Result<Vec<(u64, Item)>, AllocError> {
-        Vec::with_capacity(alloc, results as usize)
+impl ChunkResults for ItemResults {
+    ghost pairs = { λ results. results.items.items };
+
+    fn with_room(alloc: Global, results: u64) -> Result<ItemResults, AllocError> {
+        let items = Vec::with_capacity(alloc, results as usize)?;
+        Ok(ItemResults { items })
     }
 
     fn count(&self) -> u64 {
-        self.len() as u64
+        self.items.len() as u64
     }
 }
 

@@ -31,7 +31,7 @@ mod task;
 mod tried;
 
 pub use alone::{Alone, AloneEnd, run_alone};
-pub use chunk_results::ChunkResults;
+pub use chunk_results::{ChunkResults, ItemResults};
 pub use laws::{
     attempts_are_steps, repeats_need_a_class, runs_end_alike, runs_lead_to_an_end, tasks_go_on,
     tasks_stand_at_checkpoints, tasks_stay_ready,

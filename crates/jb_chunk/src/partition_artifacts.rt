@@ -8,7 +8,7 @@ ghost use Rattle.jb_artifacts.specs.Reader.{opened, reader_end, record_at, read_
 ghost use Rattle.jb_artifacts.specs.Writer.{cut, write_fault, after_write, torn_write};
 ghost use Rattle.jb_chunk.specs.Entries.{numbered};
 
-use crate::chunk_results::ChunkResults;
+use crate::chunk_results::{ChunkResults, ItemResults};
 use jb_artifacts::{
     Artifacts, ArtifactsOf, Collector, Item, ItemProcessor, ItemReader, ItemWriter, Meaning,
     RowView, row_is_served,
@@ -75,8 +75,6 @@ pub trait PartitionArtifacts: Meaning + Drop {
         item: &Self::Record,
         results: &mut Self::Results,
     ) -> Result<bool, ArtifactError>
-        requires from { (Self.workplace self.old).reader.first ≤ number }
-        requires to { number < reader_end (Self.workplace self.old).reader }
         ensures answered { let w = Self.workplace self.old in
             let answer = w.processor.answer number (bytes item.now (record_at w.reader number)) in
             IfOk result (λ found. (process_fault w.processor number ≡ None) × (found ≡ is_some answer)
@@ -132,7 +130,7 @@ fn put_behind(
 impl PartitionArtifacts for Artifacts {
     type Record = Item;
 
-    type Results = Vec<(u64, Item)>;
+    type Results = ItemResults;
 
     ghost bytes = { λ item own. item };
 
@@ -168,15 +166,15 @@ impl PartitionArtifacts for Artifacts {
         &mut self,
         number: u64,
         item: &Item,
-        results: &mut Vec<(u64, Item)>,
+        results: &mut ItemResults,
     ) -> Result<bool, ArtifactError> {
-        results.reserve(1)?;
+        results.items.reserve(1)?;
         let answer = self.processor.process_item(number, item.as_slice());
-        put_behind(number, answer, results)
+        put_behind(number, answer, &mut results.items)
     }
 
-    fn write_items(&mut self, results: &Vec<(u64, Item)>) -> Result<(), ArtifactError> {
-        self.writer.write_items(results.as_slice())
+    fn write_items(&mut self, results: &ItemResults) -> Result<(), ArtifactError> {
+        self.writer.write_items(results.items.as_slice())
     }
 
     fn collect(&self, view: &RowView) -> Result<Item, AllocError> {
@@ -192,7 +190,7 @@ impl<
 > PartitionArtifacts for ArtifactsOf<R, P, W, C> {
     type Record = Item;
 
-    type Results = Vec<(u64, Item)>;
+    type Results = ItemResults;
 
     ghost bytes = { λ item own. item };
 
@@ -233,15 +231,15 @@ impl<
         &mut self,
         number: u64,
         item: &Item,
-        results: &mut Vec<(u64, Item)>,
+        results: &mut ItemResults,
     ) -> Result<bool, ArtifactError> {
-        results.reserve(1)?;
+        results.items.reserve(1)?;
         let answer = self.processor.process_item(number, item.as_slice());
-        put_behind(number, answer, results)
+        put_behind(number, answer, &mut results.items)
     }
 
-    fn write_items(&mut self, results: &Vec<(u64, Item)>) -> Result<(), ArtifactError> {
-        self.writer.write_items(results.as_slice())
+    fn write_items(&mut self, results: &ItemResults) -> Result<(), ArtifactError> {
+        self.writer.write_items(results.items.as_slice())
     }
 
     fn collect(&self, view: &RowView) -> Result<Item, AllocError> {

@@ -6,7 +6,7 @@ ghost use Rattle.jb_ready.specs.Checks.{checked_plans};
 ghost use Rattle.jb_ready.specs.declared.records_error.RecordsError.TheVariants.{Numbers};
 
 use crate::records_error::RecordsError;
-use jb_artifacts::{Item, ItemReader, LendingReader};
+use jb_artifacts::{Item, ItemReader, LendingReader, record_of};
 use jb_base::PackedList;
 use jb_job::{ArtifactError, ClassId};
 use std::alloc::{AllocError, Global};
@@ -106,6 +106,6 @@ impl<C: Check> LendingReader for CheckedReader<C> {
     }
 
     fn record(&self, number: u64) -> &[u8] {
-        self.items.at((number - self.first) as usize)
+        record_of(&self.items, self.first, number)
     }
 }

@@ -1,7 +1,7 @@
-use Rattle.std.proofs.Common.{refl, arith, ◌∙◌, sym, ap}
+use Rattle.std.proofs.Common.{refl, ◌∙◌, sym, ap}
 use Rattle.jb_chunk.specs.inside.Repeats.{fault_answered, process_call, results_behind}
 use Rattle.jb_artifacts.specs.Reader.{record_at}
-use Rattle.jb_chunk.proofs.Calling.{calling-none, processing-more, processing-last, process-bounds, results-kept, results-last, room-more, room-one, fewer-left}
+use Rattle.jb_chunk.proofs.Calling.{calling-none, processing-more, processing-last, results-kept, results-last, room-more, room-one, fewer-left}
 use Rattle.jb_chunk.proofs.repeat.process_in_place.Goals as goal
 
 pub loop-answer-init : goal.loop-answer-init
@@ -11,16 +11,6 @@ loop-answer-init g c = record {
   room = c.requires.room;
   results = refl;
 }
-
-pub process_item-answer-requires-clause-from : goal.process_item-answer-requires-clause-from
-process_item-answer-requires-clause-from g c =
-    let same = (process-bounds _ _ _ _ (g.A.Meaning.workplace c.args.artifacts.now) (g.A.Meaning.workplace c.loop-answer.artifacts) c.args.number c.loop-answer.invariant.calling).0 in
-    omega (arith, same, c.requires.from)
-
-pub process_item-answer-requires-clause-to : goal.process_item-answer-requires-clause-to
-process_item-answer-requires-clause-to g c =
-    let same = (process-bounds _ _ _ _ (g.A.Meaning.workplace c.args.artifacts.now) (g.A.Meaning.workplace c.loop-answer.artifacts) c.args.number c.loop-answer.invariant.calling).1 in
-    omega (arith, same, c.requires.to)
 
 pub returns-then-not-is_repeated-clause-processed : goal.returns-then-not-is_repeated-clause-processed
 returns-then-not-is_repeated-clause-processed g c =

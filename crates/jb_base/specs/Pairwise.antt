@@ -1,0 +1,9 @@
+-- Two lists of one length, seen place by place.
+use Rattle.std.specs.Prelude.{List, [], ◌∷◌}
+
+-- the lists are as long as one another, and each member stands in this relation to the one at its place
+abbrev pub Pairwise : {A B : Type 0} → (A → B → Type 0) → List A → List B → Type 0
+Pairwise R [] [] = Unit {0}
+Pairwise R [] (y ∷ ys) = ⊥
+Pairwise R (x ∷ xs) [] = ⊥
+Pairwise R (x ∷ xs) (y ∷ ys) = R x y × Pairwise R xs ys
