@@ -2,7 +2,7 @@
 
 ghost use Rattle.jb_collect.specs.Worked.{FirstRun, OneFailed, StoppedAfterARound, NoRecord, RolledBack, CallsTaken, ListedCalls, ReducerCalls, ReducerFaults};
 
-use crate::workers::most::{OneRecordTask, own_artifacts, own_task};
+use crate::workers::most::{OneRecordTask, own_task};
 use jb_chunk::{Done, PartitionTask};
 use jb_collect::{
     Analyzer, AnalyzerCall, ListAnalyzer, ListReducer, PartitionStatus, Reducer, ReducerCall,
@@ -27,8 +27,7 @@ fn worked_rows()
 
 /// The attempt of a partition of one record, which has the partition's number.
 fn attempt(alloc: Global, partition: u32) -> Option<Done<OneRecordTask>> {
-    let artifacts = own_artifacts(alloc, partition).ok()?;
-    let task = own_task::<OneRecordTask>(partition, artifacts)?;
+    let task = own_task(alloc, partition)?;
     let row = *task.row();
     if row.state.is_waiting() && row.counts.rollback < MAX_ROLLBACKS && row.in_place == 0 {
         Some(task.attempt(alloc))

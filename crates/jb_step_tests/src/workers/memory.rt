@@ -38,12 +38,12 @@ fn artifacts(alloc: Global) -> Result<LettersArtifacts, AllocError> {
 }
 
 /// The task of partition 0 or 1.
-fn own_task<T: PartitionTask>(partition: u32, artifacts: T::Artifacts) -> Option<T>
-    ensures { IfSome result (λ task. IsReady (T.standing task)) }
+fn own_task(alloc: Global, partition: u32) -> Option<LettersTask>
+    ensures { IfSome result (λ task. IsReady (⟦<LettersTask as PartitionTask>⟧.standing task)) }
 {
     let [first, second] = fresh_rows();
     let row = if partition == 0 { first } else { second };
-    task_of::<T>(partition, row, RULES, 2, artifacts)
+    task_of::<LettersTask>(partition, row, RULES, 2, artifacts(alloc).ok()?)
 }
 
 /// Whether a round can end so for want of memory.
@@ -119,13 +119,7 @@ fn run_short<
 #[test]
 fn memory_refused(rt: HostRuntime) {
     let alloc = rt.alloc();
-    let (Ok(first), Ok(second)) = (artifacts(alloc), artifacts(alloc)) else {
-        return;
-    };
-    if let (Some(task), Some(other)) = (
-        own_task::<LettersTask>(0, first),
-        own_task::<LettersTask>(1, second),
-    ) {
+    if let (Some(task), Some(other)) = (own_task(alloc, 0), own_task(alloc, 1)) {
         let blank = Blank::new(MAX_PARTS);
         let is_well = run_short::<Brand, _, _>(&rt, alloc, blank, task, other);
         assert!(rt; is_well != Some(false));

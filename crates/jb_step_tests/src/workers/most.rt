@@ -37,7 +37,7 @@ fn own_reader(alloc: Global, partition: u32) -> Result<TableReader, AllocError> 
     Ok(TableReader::new(alloc, u64::from(partition), records, FaultPlans::new(alloc)))
 }
 
-pub(crate) fn own_artifacts(alloc: Global, partition: u32) -> Result<OneRecord, AllocError> {
+fn own_artifacts(alloc: Global, partition: u32) -> Result<OneRecord, AllocError> {
     let reader = own_reader(alloc, partition)?;
     let processor = prefixing(alloc, FaultPlans::new(alloc), true)?;
     Ok(ArtifactsOf {
@@ -49,10 +49,11 @@ pub(crate) fn own_artifacts(alloc: Global, partition: u32) -> Result<OneRecord, 
 }
 
 /// The task of the partition, over its own artifacts.
-pub(crate) fn own_task<T: PartitionTask>(partition: u32, artifacts: T::Artifacts) -> Option<T>
-    ensures { IfSome result (λ task. IsReady (T.standing task)) }
+pub(crate) fn own_task(alloc: Global, partition: u32) -> Option<OneRecordTask>
+    ensures { IfSome result (λ task. IsReady (⟦<OneRecordTask as PartitionTask>⟧.standing task)) }
 {
-    task_of::<T>(partition, own_row(partition), RULES, 1, artifacts)
+    let artifacts = own_artifacts(alloc, partition).ok()?;
+    task_of::<OneRecordTask>(partition, own_row(partition), RULES, 1, artifacts)
 }
 
 /// A work for each lane: the task that is made for its number.
@@ -122,11 +123,7 @@ pub(crate) fn commits<T>(dones: &[Done<T>]) -> (usize, usize) {
 #[test]
 fn a_round_on_64_lanes(rt: HostRuntime) -> Result<(), Fail> {
     let alloc = rt.alloc();
-    let works = works(alloc, 64, |lane| match own_artifacts(alloc, lane) {
-        Ok(artifacts) => own_task::<OneRecordTask>(lane, artifacts),
-        Err(_) => None,
-    })
-    .ok_or("works")?;
+    let works = works(alloc, 64, |lane| own_task(alloc, lane)).ok_or("works")?;
     let came = run::<Brand, _, _>(&rt, alloc, Blank::new(MAX_PARTS), works);
     assert!(rt; came == Some(((64, 64), 130, 1_024, 64)));
     Ok(())
