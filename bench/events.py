@@ -13,7 +13,7 @@ from measure import measure, report
 from programs import build
 
 SIZES = (10_000, 100_000, 1_000_000)
-STANDS_ON = ("jb_cert", "jb_job", "jb_repo", "jb_rules")
+STANDS_ON = ("jb_base", "jb_cert", "jb_repo", "jb_rules")
 
 
 def main():

@@ -13,7 +13,7 @@ import tempfile
 from measure import measure
 from programs import build
 
-STANDS_ON = ("jb_job", "jb_rules", "jb_artifacts", "jb_chunk", "jb_cert", "jb_repo", "jb_workers")
+STANDS_ON = ("jb_base", "jb_rules", "jb_artifacts", "jb_chunk", "jb_cert", "jb_repo", "jb_workers")
 WORKS = 20_000
 
 

@@ -21,7 +21,7 @@ import tempfile
 from measure import instructions, measure
 from programs import build
 
-STANDS_ON = ("jb_job", "jb_plan", "jb_rules", "jb_mapper", "jb_artifacts", "jb_chunk", "jb_repo", "jb_workers", "jb_collect", "jb_step")
+STANDS_ON = ("jb_base", "jb_job", "jb_plan", "jb_rules", "jb_mapper", "jb_artifacts", "jb_chunk", "jb_repo", "jb_workers", "jb_collect", "jb_step")
 SIZES = (100_000, 1_000_000)
 ITEM_COUNTS = (1_000, 10)
 CHUNKS = (10, 100, 1_000, 10_000)

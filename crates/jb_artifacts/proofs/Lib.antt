@@ -1,3 +1,3 @@
 pub mod Packing
-pub mod Plans
+pub mod FaultTables
 pub mod Writing

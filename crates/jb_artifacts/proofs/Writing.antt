@@ -6,11 +6,11 @@ use Rattle.std.specs.Option.{option_or}
 use Rattle.std.proofs.Math.Seq.{take-suc}
 use Rattle.std.proofs.lemmas.List.{get_or_default, map-append, take_all, length-take-le}
 use Rattle.std.proofs.lemmas.List.Folds.{find-append}
-use Rattle.jb_job.specs.declared.artifact_error.ArtifactError.{ArtifactError}
-use Rattle.jb_job.specs.declared.artifact_error.ArtifactError.TheVariants.{Fault, Memory}
+use Rattle.jb_base.specs.declared.artifact_error.ArtifactError.{ArtifactError}
+use Rattle.jb_base.specs.declared.artifact_error.ArtifactError.TheVariants.{Fault, Memory}
 use Rattle.jb_artifacts.specs.declared.faults.FaultPlan.TheVariants.{Sound}
 use Rattle.jb_artifacts.specs.Answers.{IfFault, IfNoMemory}
-use Rattle.jb_artifacts.specs.Faults.{Plans, live, is_live, used_at}
+use Rattle.jb_artifacts.specs.Faults.{FaultTable, live, is_live, used_at}
 use Rattle.jb_artifacts.specs.Writer.{Texts, Numbered, Writer, texts_of, failing, write_fault, after_write, fault_of, used_for, torn_write, Appends}
 
 -- the first `count` results are appended, none of their records has a live fault, and the plans are unchanged
@@ -143,7 +143,7 @@ all-sound [] = refl
 all-sound (r ∷ results) = all-sound results
 
 -- where no record has a plan, all are appended at once
-pub at-once : (written now : Texts) (plans : Plans) (results : Numbered) → plans ≡ (λ _. Sound) → now ≡ written ++ texts_of results
+pub at-once : (written now : Texts) (plans : FaultTable) (results : Numbered) → plans ≡ (λ _. Sound) → now ≡ written ++ texts_of results
     → (write_fault (record { written = written; faults = plans }) results ≡ None)
     × (record { written = now; faults = plans } ≡ after_write (record { written = written; faults = plans }) results)
 at-once written now plans results sound is =

@@ -1,8 +1,8 @@
 -- Words for what a call of an artifact answers. For a value that it answers std has `IfOk`.
 use Rattle.std.specs.Prelude.{Result, Ok, Err, ⊤}
-use Rattle.jb_job.specs.declared.class.ClassId.{ClassId}
-use Rattle.jb_job.specs.declared.artifact_error.ArtifactError.{ArtifactError}
-use Rattle.jb_job.specs.declared.artifact_error.ArtifactError.TheVariants.{Fault, Memory}
+use Rattle.jb_base.specs.declared.class.ClassId.{ClassId}
+use Rattle.jb_base.specs.declared.artifact_error.ArtifactError.{ArtifactError}
+use Rattle.jb_base.specs.declared.artifact_error.ArtifactError.TheVariants.{Fault, Memory}
 
 -- if the call answered a fault, this holds of its class
 abbrev pub IfFault : {A : Type 0} → Result A ArtifactError → (ClassId → Type 0) → Type 0

@@ -7,14 +7,14 @@ use Rattle.jb_artifacts.specs.Processor.{Processor}
 use Rattle.jb_artifacts.specs.Writer.{Writer}
 
 -- a partition's reader, processor and writer, and its collector's text for each view
-pub record Workplace : Type 0 where
+pub record ArtifactsMeaning : Type 0 where
   pub reader : Reader
   pub processor : Processor
   pub writer : Writer
   pub collector : RowView → List ℕ
 
 -- the reader has the row's records, and the writer as many results as the row committed
-pub record Fits (w : Workplace) (row : Row) : Type 0 where
+pub record Fits (w : ArtifactsMeaning) (row : Row) : Type 0 where
   pub from : w.reader.first ≤ row.lo
   pub to : row.hi ≤ reader_end w.reader
   pub count : row.written ≤ length w.writer.written

@@ -1,13 +1,13 @@
 -- What an item processor means (Jakarta Batch 2.1, "ItemProcessor"; that its answer is one per record and item, and its
 -- faults are planned, is own choice).
 use Rattle.std.specs.Prelude.{ℕ, List, Option}
-use Rattle.jb_job.specs.declared.class.ClassId.{ClassId}
-use Rattle.jb_artifacts.specs.Faults.{Plans, live, used_at}
+use Rattle.jb_base.specs.declared.class.ClassId.{ClassId}
+use Rattle.jb_artifacts.specs.Faults.{FaultTable, live, used_at}
 
 -- an answer per number and item, where none filters the item, and a fault plan per number
 pub record Processor : Type 0 where
   pub answer : ℕ → List ℕ → Option (List ℕ)
-  pub faults : Plans
+  pub faults : FaultTable
 
 -- the fault of the record's plan, if it has one
 abbrev pub process_fault : Processor → ℕ → Option ClassId

@@ -1,14 +1,14 @@
 -- What an item reader means (Jakarta Batch 2.1, "ItemReader"; that records are numbered, and faults planned, is own choice).
 use Rattle.std.specs.Prelude.{ℕ, ◌+◌, ◌-◌, List, [], length, Option, slice_index_or}
-use Rattle.jb_job.specs.declared.class.ClassId.{ClassId}
-use Rattle.jb_artifacts.specs.Faults.{Plans, live, used_at}
+use Rattle.jb_base.specs.declared.class.ClassId.{ClassId}
+use Rattle.jb_artifacts.specs.Faults.{FaultTable, live, used_at}
 
 -- records numbered from `first` on, the number of the next one to be read, and a fault plan per record
 pub record Reader : Type 0 where
   pub first : ℕ
   pub records : List (List ℕ)
   pub place : ℕ
-  pub faults : Plans
+  pub faults : FaultTable
 
 -- one past the last record's number
 abbrev pub reader_end : Reader → ℕ

@@ -1,9 +1,9 @@
 -- What an item writer means (Jakarta Batch 2.1, "ItemWriter"; that it keeps a list, and that faults are planned, is own choice).
 use Rattle.std.specs.Prelude.{ℕ, ◌≡◌, ◌-◌, List, [], ◌∷◌, length, take, map, ◌++◌, Option, Some, None, not, find, take_while, Result, Ok, Err}
-use Rattle.jb_job.specs.declared.class.ClassId.{ClassId}
-use Rattle.jb_job.specs.declared.artifact_error.ArtifactError.{ArtifactError}
-use Rattle.jb_job.specs.declared.artifact_error.ArtifactError.TheVariants.{Fault, Memory}
-use Rattle.jb_artifacts.specs.Faults.{Plans, live, is_live, used_at}
+use Rattle.jb_base.specs.declared.class.ClassId.{ClassId}
+use Rattle.jb_base.specs.declared.artifact_error.ArtifactError.{ArtifactError}
+use Rattle.jb_base.specs.declared.artifact_error.ArtifactError.TheVariants.{Fault, Memory}
+use Rattle.jb_artifacts.specs.Faults.{FaultTable, live, is_live, used_at}
 
 -- results in the order in which they were written
 abbrev pub Texts : Type 0
@@ -25,23 +25,23 @@ numbered k (Some text) = Some (k, text)
 -- the list written, and a fault plan per record
 pub record Writer : Type 0 where
   pub written : Texts
-  pub faults : Plans
+  pub faults : FaultTable
 
 -- the writer with its first `count` results alone
 abbrev pub cut : Writer → ℕ → Writer
 cut w count = record w { written = take count w.written }
 
 -- the first result whose record has a live fault
-abbrev pub failing : Plans → Numbered → Option (ℕ × List ℕ)
+abbrev pub failing : FaultTable → Numbered → Option (ℕ × List ℕ)
 failing plans results = find (λ r. is_live plans r.0) results
 
 -- the fault with which these results are answered, if one has a live one
-abbrev pub fault_of : Plans → Option (ℕ × List ℕ) → Option ClassId
+abbrev pub fault_of : FaultTable → Option (ℕ × List ℕ) → Option ClassId
 fault_of plans None = None
 fault_of plans (Some r) = live (plans r.0)
 
 -- the plans after that fault
-abbrev pub used_for : Plans → Option (ℕ × List ℕ) → Plans
+abbrev pub used_for : FaultTable → Option (ℕ × List ℕ) → FaultTable
 used_for plans None = plans
 used_for plans (Some r) = used_at plans r.0
 

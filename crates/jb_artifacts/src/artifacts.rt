@@ -1,7 +1,7 @@
 //! The artifacts of a partition.
 
 ghost use Rattle.std.specs.Prelude.{◌≡◌, ◌↔◌, ◌≤◌, IsTrue};
-ghost use Rattle.jb_artifacts.specs.Meaning.{Workplace, Fits};
+ghost use Rattle.jb_artifacts.specs.Meaning.{ArtifactsMeaning, Fits};
 
 use crate::interfaces::{Collector, ItemProcessor, ItemReader, ItemWriter};
 use jb_rules::Row;
@@ -17,11 +17,11 @@ pub struct Artifacts {
 
 /// A value that stands for the artifacts of a partition. Clauses name their meaning by it.
 pub trait Meaning {
-    ghost workplace: { Self → Workplace };
+    ghost meaning: { Self → ArtifactsMeaning };
 }
 
 impl Meaning for Artifacts {
-    ghost workplace = { λ a. record {
+    ghost meaning = { λ a. record {
       reader = (ItemReader-box a.reader).reader a.reader.value;
       processor = (ItemProcessor-box a.processor).processor a.processor.value;
       writer = (ItemWriter-box a.writer).writer a.writer.value;
@@ -32,7 +32,7 @@ impl Meaning for Artifacts {
 impl Artifacts {
     /// Whether they serve this row: the reader has its records, and the writer as many results as it committed.
     pub fn fit(&self, row: &Row) -> bool
-        ensures { IsTrue result ↔ Fits (⟦<Artifacts as Meaning>⟧.workplace self.now) row.now }
+        ensures { IsTrue result ↔ Fits (⟦<Artifacts as Meaning>⟧.meaning self.now) row.now }
     {
         row_is_served(
             row,

@@ -20,7 +20,7 @@ impl<
     W: ItemWriter + Drop,
     C: Collector + Drop,
 > Meaning for ArtifactsOf<R, P, W, C> {
-    ghost workplace = { λ a. record {
+    ghost meaning = { λ a. record {
       reader = R.ItemReader.reader a.reader;
       processor = P.ItemProcessor.processor a.processor;
       writer = W.ItemWriter.writer a.writer;

@@ -4,7 +4,7 @@ ghost use Rattle.std.specs.Prelude.{◌≡◌, IsTrue, None, OnOk, OnErr};
 ghost use Rattle.jb_artifacts.specs.Faults.{live, plans_of, used_at, with_plan};
 
 use crate::faults::FaultPlan;
-use jb_job::ClassId;
+use jb_base::ClassId;
 use std::alloc::{AllocError, Global};
 use std::collections::BTreeMap;
 use std::marker::Model;

@@ -3,7 +3,7 @@
 ghost use Rattle.std.specs.Prelude.{◌≡◌};
 ghost use Rattle.jb_artifacts.specs.Faults.{live, used};
 
-use jb_job::ClassId;
+use jb_base::ClassId;
 use std::collections::VecDeque;
 use std::marker::Model;
 
@@ -15,7 +15,7 @@ pub struct FaultList {
 
 impl Model for FaultList {
     ghost use Rattle.std.specs.Prelude.{List};
-    ghost use Rattle.jb_job.specs.declared.class.ClassId.{ClassId};
+    ghost use Rattle.jb_base.specs.declared.class.ClassId.{ClassId};
 
     ghost Value = { List ClassId };
 

@@ -21,7 +21,7 @@ ghost use Rattle.jb_artifacts.specs.Writer.{Writer, cut, write_fault, after_writ
 
 use crate::item::Item;
 use crate::view::RowView;
-use jb_job::ArtifactError;
+use jb_base::ArtifactError;
 use std::alloc::AllocError;
 
 /// A reader of records that are numbered from `first` to `end - 1`. It stands at the record that is read next.

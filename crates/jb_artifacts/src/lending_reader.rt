@@ -5,8 +5,7 @@ ghost use Rattle.jb_artifacts.specs.Answers.{IfFault, IfNoMemory};
 ghost use Rattle.jb_artifacts.specs.Reader.{reader_end, record_at, read_fault, after_read};
 
 use crate::interfaces::ItemReader;
-use jb_base::PackedList;
-use jb_job::ArtifactError;
+use jb_base::{ArtifactError, PackedList};
 
 /// A reader that holds its records, so that a read need not copy them.
 pub trait LendingReader: ItemReader {

@@ -9,8 +9,7 @@ use crate::interfaces::ItemWriter;
 use crate::item::Item;
 use crate::packed_results::PackedResults;
 use crate::packed_writer::PackedWriter;
-use jb_base::PackedList;
-use jb_job::ArtifactError;
+use jb_base::{ArtifactError, PackedList};
 
 /// A writer that keeps the results in a list, with a fault plan for the writing of each record's result.
 #[derive(Drop)]
@@ -25,6 +24,14 @@ impl ListWriter {
         ensures { ⟦<ListWriter as ItemWriter>⟧.writer result ≡ record { written = written; faults = plans_of faults } }
     {
         ListWriter { written, faults }
+    }
+
+    /// The results, given back. Takes no memory.
+    pub fn into_written(self) -> PackedList
+        ensures { result ≡ (⟦<ListWriter as ItemWriter>⟧.writer self).written }
+    {
+        let ListWriter { written, faults: _ } = self;
+        written
     }
 
     /// Appends this record's result, unless the record's plan has a fault.

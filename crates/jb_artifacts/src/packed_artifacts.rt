@@ -21,7 +21,7 @@ impl<
     W: PackedWriter + Drop,
     C: Collector + Drop,
 > Meaning for PackedArtifacts<R, P, W, C> {
-    ghost workplace = { λ a. record {
+    ghost meaning = { λ a. record {
       reader = R.ItemReader.reader a.reader;
       processor = P.ItemProcessor.processor a.processor;
       writer = W.ItemWriter.writer a.writer;

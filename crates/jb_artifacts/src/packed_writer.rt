@@ -6,7 +6,7 @@ ghost use Rattle.jb_artifacts.specs.Writer.{write_fault, after_write, torn_write
 
 use crate::interfaces::ItemWriter;
 use crate::packed_results::PackedResults;
-use jb_job::ArtifactError;
+use jb_base::ArtifactError;
 
 /// A writer of packed results.
 pub trait PackedWriter: ItemWriter {

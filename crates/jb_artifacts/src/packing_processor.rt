@@ -7,7 +7,7 @@ ghost use Rattle.jb_artifacts.specs.Writer.{numbered};
 
 use crate::interfaces::ItemProcessor;
 use crate::packed_results::PackedResults;
-use jb_job::ArtifactError;
+use jb_base::ArtifactError;
 
 /// A processor that needs no allocation for a result.
 pub trait PackingProcessor: ItemProcessor {

@@ -9,7 +9,7 @@ use crate::interfaces::ItemProcessor;
 use crate::item::Item;
 use crate::packed_results::PackedResults;
 use crate::packing_processor::PackingProcessor;
-use jb_job::ArtifactError;
+use jb_base::ArtifactError;
 use std::alloc::{AllocError, Global};
 
 /// A processor that puts a prefix before each item, and filters the items that begin with the drop text, where there is

@@ -7,8 +7,7 @@ use crate::fault_plans::FaultPlans;
 use crate::interfaces::ItemReader;
 use crate::item::Item;
 use crate::lending_reader::{LendingReader, record_of};
-use jb_base::PackedList;
-use jb_job::ArtifactError;
+use jb_base::{ArtifactError, PackedList};
 use std::alloc::Global;
 
 /// A reader over a table of records, with a fault plan for the reading of each.

@@ -1,2 +1,7 @@
+pub mod Causes
+pub mod Limits
+pub mod Name
 pub mod Packed
 pub mod Pairwise
+pub mod Range
+pub mod Rules

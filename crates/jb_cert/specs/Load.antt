@@ -1,7 +1,7 @@
 -- A load: the count of chunks of each partition, and a number of threads.
 use Rattle.std.specs.Prelude.{ℕ, ◌≤◌, max, List, [], ◌∷◌, length, sum}
 use Rattle.std.specs.Int.{div_ceil}
-use Rattle.jb_job.specs.Limits.{max_load_partitions, max_chunks, max_threads}
+use Rattle.jb_base.specs.Limits.{max_load_partitions, max_chunks, max_threads}
 
 pub record Load : Type 0 where
   pub counts : List ℕ

@@ -8,6 +8,7 @@
 //! - `certificates`: short reasons why no plan has fewer rounds, and their test.
 //! - `plans`: plans of slots, and the ways in which one fails to be lawful.
 //! - `checker`: the test of a whole plan, whoever made it.
+//! - `notes`: a plan, and how much of it was run.
 //! - `laws`: what holds of every load.
 #![tactic(auto)]
 
@@ -15,6 +16,7 @@ mod certificates;
 mod checker;
 mod laws;
 mod load;
+mod notes;
 mod plans;
 
 pub use certificates::{Certificate, check_certificate, is_least_plan};
@@ -24,4 +26,5 @@ pub use laws::{
     wrap_around_is_least,
 };
 pub use load::{fits, least_rounds};
+pub use notes::PlanNote;
 pub use plans::{Plan, PlanFault, Slot};

@@ -1,10 +1,10 @@
 //! The limits of a load, and the least number of rounds for it.
 ghost use Rattle.std.specs.Prelude.{◌≡◌, ◌*◌, ◌≤◌, ◌↔◌, IsTrue, sum};
-ghost use Rattle.jb_job.specs.Limits.{max_chunks};
+ghost use Rattle.jb_base.specs.Limits.{max_chunks};
 ghost use Rattle.jb_cert.specs.Load.{IsWithinLimits, longest_count, mcnaughton};
 ghost use Rattle.jb_cert.specs.Lawful.{IsLeastNumber};
 
-use jb_job::{MAX_CHUNKS, MAX_LOAD_PARTITIONS, MAX_THREADS};
+use jb_base::{MAX_CHUNKS, MAX_LOAD_PARTITIONS, MAX_THREADS};
 
 /// Whether the counts of chunks, one for each partition, and the number of threads are within the limits: at most
 /// 4,096 counts, at most 10,000,000 chunks in all, and 1 to 64 threads.

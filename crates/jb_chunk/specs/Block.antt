@@ -1,50 +1,44 @@
 -- Faults of a block: one entry for each record, and the first fault that isn't skipped.
 use Rattle.std.specs.Prelude.{ℕ, zero, suc, ◌+◌, ◌-◌, Bool, true, false, not, ◌&&◌, nat_lt, nat_le, if◌then◌else◌, List, Option, Some, None, find, count_by, ◌≡◌, ◌≤◌, ◌<◌, ◌⊎◌}
 use Rattle.std.specs.List.{filter_map, range_with_len}
-use Rattle.jb_job.specs.declared.class.ClassId.{ClassId}
-use Rattle.jb_job.specs.Records.{RulesRecord}
+use Rattle.jb_base.specs.declared.class.ClassId.{ClassId}
+use Rattle.jb_base.specs.Rules.{RulesRecord}
 use Rattle.jb_rules.specs.declared.row.Row.{Row}
 use Rattle.jb_rules.specs.declared.choice.Choice.{Choice}
-use Rattle.jb_rules.specs.declared.choice.Choice.TheVariants.{Skip, Retry, Again, Fail}
+use Rattle.jb_rules.specs.declared.choice.Choice.TheVariants.{Skip, Again}
 use Rattle.jb_rules.specs.Decide.{choice_of}
 use Rattle.jb_rules.specs.Rows.{skips_of}
 use Rattle.jb_artifacts.specs.declared.faults.FaultPlan.{FaultPlan}
-use Rattle.jb_artifacts.specs.Faults.{Plans, live, used, is_live}
+use Rattle.jb_artifacts.specs.Faults.{FaultTable, live, used, is_live}
 use Rattle.jb_artifacts.specs.Reader.{record_at}
 use Rattle.jb_artifacts.specs.Writer.{Numbered}
-use Rattle.jb_artifacts.specs.Meaning.{Workplace}
-use Rattle.jb_chunk.specs.Entries.{Entry, ReadFault, ProcessFault, Filtered, Found, fault_in, is_read_fault, is_process_fault, text_in, numbered}
+use Rattle.jb_artifacts.specs.Meaning.{ArtifactsMeaning}
+use Rattle.jb_chunk.specs.Entries.{Entry, ReadFault, ProcessFault, Filtered, Answered, fault_in, is_read_fault, is_process_fault, text_in, numbered}
 
 -- What becomes of a record is one of four things: its read fails; else its process call fails; else the processor
 -- answers none, which filters it; else it has a result (Jakarta Batch 2.1, "Regular Chunk Processing" and "ItemProcessor").
-abbrev pub answer_entry : Option (List ℕ) → Entry
-answer_entry None = Filtered
-answer_entry (Some text) = Found text
-
-abbrev pub process_entry : (fault : Option ClassId) → (answer : Option (List ℕ)) → Entry
-process_entry (Some class) answer = ProcessFault class
-process_entry None answer = answer_entry answer
-
 abbrev pub entry_by : (read_fault process_fault : Option ClassId) → (answer : Option (List ℕ)) → Entry
 entry_by (Some class) process_fault answer = ReadFault class
-entry_by None process_fault answer = process_entry process_fault answer
+entry_by None (Some class) answer = ProcessFault class
+entry_by None None None = Filtered
+entry_by None None (Some text) = Answered text
 
 -- the entry of the record with this number
-unfoldable pub entry : Workplace → ℕ → Entry
+unfoldable pub entry : ArtifactsMeaning → ℕ → Entry
 entry w k = entry_by (live (w.reader.faults k)) (live (w.processor.faults k)) (w.processor.answer k (record_at w.reader k))
 
 -- the results of the records `lo` to `hi - 1`, in order
-unfoldable pub results : Workplace → (lo hi : ℕ) → Numbered
+unfoldable pub results : ArtifactsMeaning → (lo hi : ℕ) → Numbered
 results w lo hi = filter_map (λ k. numbered k (text_in (entry w k))) (range_with_len lo (hi - lo))
 
 -- how many of these records have such an entry
-unfoldable pub count_of : (Entry → Bool) → Workplace → (lo hi : ℕ) → ℕ
+unfoldable pub count_of : (Entry → Bool) → ArtifactsMeaning → (lo hi : ℕ) → ℕ
 count_of p w lo hi = count_by (λ k. p (entry w k)) (range_with_len lo (hi - lo))
 
 -- The skips before record `k`: those of the partition's committed chunks, and the faults of the block's earlier records.
 -- No other partition's are among them (this project's choice: a limit for the whole step would make the answer depend on
 -- the threads).
-abbrev pub skips_before : Row → Workplace → ℕ → ℕ
+abbrev pub skips_before : Row → ArtifactsMeaning → ℕ → ℕ
 skips_before row w k = skips_of row + count_of is_read_fault w row.at k + count_of is_process_fault w row.at k
 
 -- what becomes of a fault of this class after so many skips; below `redo` a rolled-back block is done again
@@ -53,15 +47,11 @@ choice_at rules row class skips = choice_of rules class (nat_lt row.at row.redo)
 
 abbrev pub is_skip : Choice → Bool
 is_skip Skip = true
-is_skip Retry = false
-is_skip Again = false
-is_skip Fail = false
+is_skip _ = false
 
 abbrev pub is_again : Choice → Bool
-is_again Skip = false
-is_again Retry = false
 is_again Again = true
-is_again Fail = false
+is_again _ = false
 
 -- there is a fault, and its call is to be repeated in place
 abbrev pub repeats : RulesRecord → Row → Option ClassId → (skips : ℕ) → Bool
@@ -74,20 +64,20 @@ stops rules row None skips = false
 stops rules row (Some class) skips = not (is_skip (choice_at rules row class skips))
 
 -- record `k` has a fault that isn't skipped
-unfoldable pub settles : RulesRecord → Row → Workplace → ℕ → Bool
+unfoldable pub settles : RulesRecord → Row → ArtifactsMeaning → ℕ → Bool
 settles rules row w k = stops rules row (fault_in (entry w k)) (skips_before row w k)
 
 -- the settling record: the first of the block up to `hi` whose fault isn't skipped
-unfoldable pub settling : RulesRecord → Row → Workplace → (hi : ℕ) → Option ℕ
+unfoldable pub settling : RulesRecord → Row → ArtifactsMeaning → (hi : ℕ) → Option ℕ
 settling rules row w hi = find (settles rules row w) (range_with_len row.at (hi - row.at))
 
 -- the plans after a call for each record from `lo` to `hi - 1` at which `called` holds
-unfoldable pub used_between : (called : ℕ → Bool) → Plans → (lo hi : ℕ) → Plans
+unfoldable pub used_between : (called : ℕ → Bool) → FaultTable → (lo hi : ℕ) → FaultTable
 used_between called plans lo hi = λ k. if nat_le lo k && nat_lt k hi && called k then used (plans k) else plans k
 
 -- Reader and processor after the records from `lo` to `hi - 1`: each is read, a read fault moves the reader past the
 -- record (this project's choice), and only a record that was read is processed.
-abbrev pub passed : Workplace → (lo hi : ℕ) → Workplace
+abbrev pub passed : ArtifactsMeaning → (lo hi : ℕ) → ArtifactsMeaning
 passed w lo hi = record w {
   reader = record w.reader { place = hi; faults = used_between (λ _. true) w.reader.faults lo hi };
   processor = record w.processor { faults = used_between (λ k. not (is_live w.reader.faults k)) w.processor.faults lo hi };
@@ -99,6 +89,6 @@ used_times zero plan = plan
 used_times (suc n) plan = used (used_times n plan)
 
 -- each plan of the records from `lo` to `hi - 1` is as it was after some calls; the others are as they were
-pub record MayBeUsed (lo hi : ℕ) (old new : Plans) : Type 0 where
+pub record MayBeUsed (lo hi : ℕ) (old new : FaultTable) : Type 0 where
   pub each : (k : ℕ) → (n : ℕ) × (new k ≡ used_times n (old k))
   pub others : (k : ℕ) → (k < lo) ⊎ (hi ≤ k) → new k ≡ old k

@@ -1,18 +1,18 @@
 -- What holds of a task's attempts, wherever they lead.
 use Rattle.std.specs.Prelude.{ℕ, ◌≡◌, ◌≤◌, ◌<◌, ◌+◌, ◌-◌, ◌↔◌, ◌⊎◌, true, List, ◌∷◌, length}
-use Rattle.jb_job.specs.declared.job.Range.{Range}
+use Rattle.jb_base.specs.declared.range.Range.{Range}
 use Rattle.jb_plan.specs.Blocks.{blocks}
 use Rattle.jb_rules.specs.declared.counts.Counts.{Counts}
 use Rattle.jb_rules.specs.declared.row.Row.{Row}
 use Rattle.jb_rules.specs.declared.row.RowState.TheVariants as state
-use Rattle.jb_job.specs.Limits.{max_rollbacks, max_in_place}
+use Rattle.jb_base.specs.Limits.{max_rollbacks, max_in_place}
 use Rattle.jb_rules.specs.Counts.{IsDelta}
 use Rattle.jb_rules.specs.Rows.{repeated_row, committed_row, rolled_row, failed_row}
 use Rattle.jb_rules.specs.States.{has_ended}
 use Rattle.jb_chunk.specs.declared.outcome.Outcome.{Outcome}
 use Rattle.jb_chunk.specs.declared.outcome.Outcome.TheVariants.{Committed, Rolled, Failed, NoMemory}
 use Rattle.jb_chunk.specs.Alone.{IsRunOf, IsOnTheWay, IsAlone, retries_in, retries_left, attempts_left}
-use Rattle.jb_chunk.specs.Attempt.{Ending, IsAttempt, trial_of, attempt_of, ending_by, end_of, block_of, task_after_repeats, again_of}
+use Rattle.jb_chunk.specs.Attempt.{AttemptEnd, IsAttempt, attempt_of, ending_by, end_of, block_of, after_repeats, again_of}
 use Rattle.jb_chunk.specs.Plain.{IsCalm, IsPlain}
 use Rattle.jb_chunk.specs.Standing.{TaskState, IsReady, taken_up}
 
@@ -32,16 +32,16 @@ CalmRunsArePlain =
 
 -- no run has more attempts than there are retries and records left
 abbrev pub RunsAreShort : Type 0
-RunsAreShort = (t s : TaskState) (attempts : List Ending) → IsReady t → IsRunOf t attempts s → length attempts ≤ attempts_left t
+RunsAreShort = (t s : TaskState) (attempts : List AttemptEnd) → IsReady t → IsRunOf t attempts s → length attempts ≤ attempts_left t
 
 -- a row's retries grow by those of the attempts, the repeats in place and the rollbacks together, which are no more than
 -- there are left
-pub record HasRetries (t s : TaskState) (attempts : List Ending) : Type 0 where
+pub record HasRetries (t s : TaskState) (attempts : List AttemptEnd) : Type 0 where
   pub counted : s.row.retries ≡ t.row.retries + retries_in attempts
   pub few : retries_in attempts ≤ retries_left t
 
 abbrev pub RetriesAreFew : Type 0
-RetriesAreFew = (t s : TaskState) (attempts : List Ending) → IsRunOf t attempts s → HasRetries t s attempts
+RetriesAreFew = (t s : TaskState) (attempts : List AttemptEnd) → IsRunOf t attempts s → HasRetries t s attempts
 
 -- two ways, one behind the other, are one
 abbrev pub WaysJoin : Type 0
@@ -91,7 +91,7 @@ CommitsTakeOneChunk =
 
 -- the repeats of a task's next block are so many retries of its row, and change nothing else of it
 abbrev pub RepeatsAreRetries : Type 0
-RepeatsAreRetries = (t : TaskState) → (task_after_repeats t).row ≡ repeated_row t.row (again_of t)
+RepeatsAreRetries = (t : TaskState) → (after_repeats t).row ≡ repeated_row t.row (again_of t)
 
 -- what an attempt at the chunk that ends at `hi`, with so many repeats, does to its row, by its outcome
 abbrev pub IsStepOfLife : Outcome → (again : ℕ) → (row : Row) → (hi : ℕ) → (after : Row) → Type 0
@@ -103,7 +103,7 @@ IsStepOfLife NoMemory again row hi after = after ≡ row
 -- each attempt takes the row a step further in its life
 abbrev pub RowsLiveOn : Type 0
 RowsLiveOn =
-    (t : TaskState) (e : Ending) → IsReady t → t.row.state ≡ state.Waiting → IsAttempt t e
+    (t : TaskState) (e : AttemptEnd) → IsReady t → t.row.state ≡ state.Waiting → IsAttempt t e
     → IsStepOfLife e.outcome e.again t.row (block_of t).hi e.task.row
 
 -- NO REPEATS
@@ -111,8 +111,8 @@ RowsLiveOn =
 -- Where no class is to roll nothing back, no call is repeated in place. The attempt is that of the block as it stands, which
 -- ends by its first fault that isn't skipped,
 abbrev pub AttemptsWithoutRepeats : Type 0
-AttemptsWithoutRepeats = (t : TaskState) → t.rules.no_rollback ≡ 0 → attempt_of t ≡ ending_by t 0 (end_of (trial_of t))
+AttemptsWithoutRepeats = (t : TaskState) → t.rules.no_rollback ≡ 0 → attempt_of t ≡ ending_by t 0 (end_of t)
 
 -- and however an attempt ended, the row's number of repeats is what it was
 abbrev pub RepeatsStay : Type 0
-RepeatsStay = (t : TaskState) (e : Ending) → t.rules.no_rollback ≡ 0 → IsAttempt t e → (e.again ≡ 0) × (e.task.row.in_place ≡ t.row.in_place)
+RepeatsStay = (t : TaskState) (e : AttemptEnd) → t.rules.no_rollback ≡ 0 → IsAttempt t e → (e.again ≡ 0) × (e.task.row.in_place ≡ t.row.in_place)

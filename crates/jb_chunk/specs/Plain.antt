@@ -8,11 +8,11 @@ use Rattle.jb_rules.specs.Counts.{no_counts}
 use Rattle.jb_rules.specs.Rows.{committed_row}
 use Rattle.jb_artifacts.specs.Faults.{live}
 use Rattle.jb_artifacts.specs.Reader.{record_at}
-use Rattle.jb_artifacts.specs.Meaning.{Workplace}
+use Rattle.jb_artifacts.specs.Meaning.{ArtifactsMeaning}
 use Rattle.jb_chunk.specs.Standing.{TaskState}
 
 -- the processor's answers on the records `lo` to `hi - 1`, in order, without the filtered ones
-unfoldable pub plain_answers : Workplace → (lo hi : ℕ) → List (List ℕ)
+unfoldable pub plain_answers : ArtifactsMeaning → (lo hi : ℕ) → List (List ℕ)
 plain_answers w lo hi = filter_map (λ k. w.processor.answer k (record_at w.reader k)) (range_with_len lo (hi - lo))
 
 -- so many records were read, so many results of them written in so many chunks, and the other records filtered
@@ -30,7 +30,7 @@ abbrev pub plain_outputs : TaskState → List (List ℕ)
 plain_outputs t = t.work.writer.written ++ plain_answers t.work t.row.at t.row.hi
 
 -- no call for the records `lo` to `hi - 1` fails
-pub record IsCalm (w : Workplace) (lo hi : ℕ) : Type 0 where
+pub record IsCalm (w : ArtifactsMeaning) (lo hi : ℕ) : Type 0 where
   pub reads : (k : ℕ) → lo ≤ k → k < hi → live (w.reader.faults k) ≡ None
   pub processes : (k : ℕ) → lo ≤ k → k < hi → live (w.processor.faults k) ≡ None
   pub writes : (k : ℕ) → lo ≤ k → k < hi → live (w.writer.faults k) ≡ None

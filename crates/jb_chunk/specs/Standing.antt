@@ -1,12 +1,12 @@
 -- Where a task stands, and what is asked of it between two chunks.
 use Rattle.std.specs.Prelude.{ℕ, ◌≡◌, ◌+◌, ◌-◌, ◌≤◌, length, take}
-use Rattle.jb_job.specs.Limits.{max_retry_limit, max_in_place}
-use Rattle.jb_job.specs.Records.{RulesRecord}
-use Rattle.jb_job.specs.Limits.{max_item_count}
+use Rattle.jb_base.specs.Limits.{max_retry_limit, max_in_place}
+use Rattle.jb_base.specs.Rules.{RulesRecord}
+use Rattle.jb_base.specs.Limits.{max_item_count}
 use Rattle.jb_rules.specs.declared.row.Row.{Row}
 use Rattle.jb_rules.specs.Sound.{IsSoundRow}
 use Rattle.jb_artifacts.specs.Reader.{opened}
-use Rattle.jb_artifacts.specs.Meaning.{Workplace, Fits}
+use Rattle.jb_artifacts.specs.Meaning.{ArtifactsMeaning, Fits}
 
 -- a partition's task: its row, the rules and the item count of its step, and where its artifacts stand
 pub record TaskState : Type 0 where
@@ -14,7 +14,7 @@ pub record TaskState : Type 0 where
   pub row : Row
   pub rules : RulesRecord
   pub item_count : ℕ
-  pub work : Workplace
+  pub work : ArtifactsMeaning
 
 -- the number of records in a chunk (Jakarta Batch 2.1, "Chunk"; the upper limit is this project's choice)
 pub record HasItemCount (item_count : ℕ) : Type 0 where
@@ -37,14 +37,14 @@ abbrev pub HasRepeats : RulesRecord → Row → Type 0
 HasRepeats rules row = row.in_place + (rules.retry_limit - row.retries) ≤ max_in_place
 
 -- reader and writer opened at the row's checkpoint: what was written past it is cut off
-abbrev pub at_checkpoint : Row → Workplace → Workplace
+abbrev pub at_checkpoint : Row → ArtifactsMeaning → ArtifactsMeaning
 at_checkpoint row w = record w {
   reader = opened w.reader row.at;
   writer = record w.writer { written = take row.written w.writer.written };
 }
 
 -- the task of a partition that is begun, or taken up again, from its row
-abbrev pub started : (partition : ℕ) → Row → RulesRecord → (item_count : ℕ) → Workplace → TaskState
+abbrev pub started : (partition : ℕ) → Row → RulesRecord → (item_count : ℕ) → ArtifactsMeaning → TaskState
 started partition row rules item_count w = record {
   partition = partition;
   row = row;

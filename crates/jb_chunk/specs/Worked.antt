@@ -2,8 +2,8 @@
 -- c, .., the processor puts an x before each, and faults are of the class E, whose number is 0, or F, whose number is 1.
 use Rattle.std.specs.Prelude.{◌≡◌, ℕ, ◌==◌, if◌then◌else◌, List, [], ◌∷◌, ◌++◌, codes, Some, None}
 use Rattle.std.proofs.Common.{lit<}
-use Rattle.jb_job.specs.declared.class.ClassId.{ClassId}
-use Rattle.jb_job.specs.Records.{RulesRecord}
+use Rattle.jb_base.specs.declared.class.ClassId.{ClassId}
+use Rattle.jb_base.specs.Rules.{RulesRecord}
 use Rattle.jb_rules.specs.declared.row.Row.{Row}
 use Rattle.jb_rules.specs.declared.row.RowState.{RowState}
 use Rattle.jb_rules.specs.declared.row.RowState.TheVariants.{Finished, Failed}
@@ -12,11 +12,11 @@ use Rattle.jb_artifacts.specs.declared.faults.FaultPlan.{FaultPlan}
 use Rattle.jb_artifacts.specs.declared.view.RowView.{RowView}
 use Rattle.jb_artifacts.specs.declared.faults.FaultPlan.TheVariants.{Sound, Bad, Shaky}
 use Rattle.jb_artifacts.specs.Collected.{count_text}
-use Rattle.jb_artifacts.specs.Faults.{Plans}
-use Rattle.jb_artifacts.specs.Meaning.{Workplace}
+use Rattle.jb_artifacts.specs.Faults.{FaultTable}
+use Rattle.jb_artifacts.specs.Meaning.{ArtifactsMeaning}
 use Rattle.jb_artifacts.specs.Prefix.{prefixed}
 use Rattle.jb_chunk.specs.Alone.{IsAlone}
-use Rattle.jb_chunk.specs.Attempt.{Ending}
+use Rattle.jb_chunk.specs.Attempt.{AttemptEnd}
 use Rattle.jb_chunk.specs.Plain.{plain_row, plain_outputs}
 use Rattle.jb_chunk.specs.Standing.{TaskState}
 
@@ -29,11 +29,11 @@ abbrev pub class_f : ClassId
 class_f = record { number = 1; below = lit< tt }
 
 -- no record has a fault
-abbrev pub sound : Plans
+abbrev pub sound : FaultTable
 sound = λ k. Sound
 
 -- this record alone has faults
-abbrev pub only : ℕ → FaultPlan → Plans
+abbrev pub only : ℕ → FaultPlan → FaultTable
 only n plan = λ k. if k == n then plan else Sound
 
 abbrev pub letters : List (List ℕ)
@@ -60,7 +60,7 @@ abbrev pub two_retries : (skippable retryable : ℕ) → RulesRecord
 two_retries skippable retryable = record (rules_of skippable retryable) { retry_limit = 2 }
 
 -- the artifacts of a partition that begins at record `lo`
-abbrev pub works : (lo : ℕ) → (reads processes writes : Plans) → Workplace
+abbrev pub works : (lo : ℕ) → (reads processes writes : FaultTable) → ArtifactsMeaning
 works lo reads processes writes = record {
   reader = record { first = 0; records = letters; place = lo; faults = reads };
   processor = record { answer = λ _ item. prefixed (codes "x") None item; faults = processes };
@@ -69,7 +69,7 @@ works lo reads processes writes = record {
 }
 
 -- a partition of the records `lo` to `hi - 1` that has not begun
-abbrev pub task : (partition lo hi item_count : ℕ) → RulesRecord → (reads processes writes : Plans) → TaskState
+abbrev pub task : (partition lo hi item_count : ℕ) → RulesRecord → (reads processes writes : FaultTable) → TaskState
 task partition lo hi item_count rules reads processes writes = record {
   partition = partition;
   row = fresh_row (record { lo = lo; hi = hi });
@@ -79,7 +79,7 @@ task partition lo hi item_count rules reads processes writes = record {
 }
 
 -- records 0 and 3 always fail
-abbrev pub two_bad : Plans
+abbrev pub two_bad : FaultTable
 two_bad = λ k. if k == 0 then Bad class_e else (if k == 3 then Bad class_e else Sound)
 
 abbrev pub first_task : TaskState
@@ -193,7 +193,7 @@ numbers r =
     ∷ r.counts.read_skip ∷ r.counts.process_skip ∷ r.counts.filter ∷ r.counts.write_skip ∷ r.in_place ∷ []
 
 -- the collector's texts of some attempts
-abbrev pub texts_in : List Ending → List (List ℕ)
+abbrev pub texts_in : List AttemptEnd → List (List ℕ)
 texts_in [] = []
 texts_in (e ∷ es) = e.values ++ texts_in es
 

@@ -1,4 +1,4 @@
-pub mod Ends
+pub mod ChunkEnds
 pub mod Gathering
 pub mod Repeats
-pub mod Tried
+pub mod TriedChunk

@@ -1,7 +1,7 @@
 //! A task's attempts, one after another.
 
 ghost use Rattle.std.specs.Prelude.{◌≡◌, ◌+◌, ◌<◌, ◌≤◌};
-ghost use Rattle.jb_job.specs.Limits.{max_retry_limit, max_rollbacks, max_in_place};
+ghost use Rattle.jb_base.specs.Limits.{max_retry_limit, max_rollbacks, max_in_place};
 ghost use Rattle.jb_rules.specs.declared.row.RowState.TheVariants.{Waiting};
 ghost use Rattle.jb_chunk.specs.Alone.{EndsAlone, KeepsPlain};
 ghost use Rattle.jb_chunk.specs.Standing.{IsReady};

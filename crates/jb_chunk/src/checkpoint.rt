@@ -9,11 +9,11 @@ use jb_rules::Row;
 
 /// Opens reader and writer at the row's checkpoint. What is written past it is cut off.
 pub fn open_at_checkpoint<A: PartitionArtifacts>(artifacts: &mut A, row: &Row)
-    requires from { (A.workplace artifacts.old).reader.first ≤ row.now.at }
-    requires to { row.now.at ≤ reader_end (A.workplace artifacts.old).reader }
-    requires count { row.now.written ≤ length (A.workplace artifacts.old).writer.written }
-    ensures { A.workplace artifacts.new ≡ at_checkpoint row.now (A.workplace artifacts.old) }
+    requires from { (A.meaning artifacts.old).reader.first ≤ row.now.at }
+    requires to { row.now.at ≤ reader_end (A.meaning artifacts.old).reader }
+    requires count { row.now.written ≤ length (A.meaning artifacts.old).writer.written }
+    ensures { A.meaning artifacts.new ≡ at_checkpoint row.now (A.meaning artifacts.old) }
 {
-    artifacts.rewind(row.at);
-    artifacts.cut_back(row.written);
+    artifacts.open_reader_at(row.at);
+    artifacts.open_writer_at(row.written);
 }

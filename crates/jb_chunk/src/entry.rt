@@ -4,7 +4,7 @@ ghost use Rattle.std.specs.Prelude.{◌≡◌, List, ℕ};
 ghost use Rattle.jb_chunk.specs.Entries.{fault_in};
 ghost use Rattle.jb_chunk.specs.inside.Gathering.{entry_with};
 
-use jb_job::ClassId;
+use jb_base::ClassId;
 
 /// What becomes of a record, before its fault is settled. Its result, if it has one, stands behind the chunk's others.
 #[derive(Clone, Copy, Debug, PartialEq, Eq)]
@@ -16,7 +16,7 @@ pub enum EntryKind {
     /// It was filtered.
     Filtered,
     /// It has a result.
-    Found,
+    Answered,
 }
 
 impl EntryKind {
@@ -25,7 +25,7 @@ impl EntryKind {
     {
         match self {
             EntryKind::ReadFault(class) | EntryKind::ProcessFault(class) => Some(*class),
-            EntryKind::Filtered | EntryKind::Found => None,
+            EntryKind::Filtered | EntryKind::Answered => None,
         }
     }
 }

@@ -3,20 +3,19 @@
 ghost use Rattle.std.specs.Prelude.{◌≡◌, ◌+◌, ◌<◌, ◌≤◌, [], IfOk, OnErr};
 ghost use Rattle.jb_artifacts.specs.Reader.{reader_end};
 ghost use Rattle.jb_rules.specs.Sound.{IsSoundRow};
-ghost use Rattle.jb_rules.specs.Rows.{skips_of};
+ghost use Rattle.jb_rules.specs.Rows.{row_block, skips_of};
 ghost use Rattle.jb_chunk.specs.Entries.{Entry};
-ghost use Rattle.jb_chunk.specs.Attempt.{Trial};
 ghost use Rattle.jb_chunk.specs.inside.Gathering.{IsWornTo, IsStep, IsSmallTally, yield_of};
-ghost use Rattle.jb_chunk.specs.Standing.{HasRepeats};
+ghost use Rattle.jb_chunk.specs.Standing.{HasItemCount, HasRepeats};
 ghost use Rattle.jb_chunk.specs.inside.Repeats.{IsDone, IsEntered, IsGathered};
-ghost use Rattle.jb_chunk.specs.inside.Tried.{IsTorn};
+ghost use Rattle.jb_chunk.specs.inside.TriedChunk.{OfTask, IsTorn};
 
 use crate::chunk_results::ChunkResults;
 use crate::entry::EntryKind;
 use crate::partition_artifacts::PartitionArtifacts;
 use crate::repeat::{process_in_place, read_in_place};
 use crate::tally::Tally;
-use jb_job::{ArtifactError, ClassId, Rules};
+use jb_base::{ArtifactError, ClassId, Rules};
 use jb_rules::{Choice, Row, decide};
 use std::alloc::AllocError;
 
@@ -41,16 +40,16 @@ fn read_and_process<A: PartitionArtifacts>(
 ) -> Result<EntryKind, AllocError>
     requires sound { IsSoundRow row.old }
     requires room { HasRepeats rules.now row.old }
-    requires place { (A.workplace artifacts.old).reader.place ≡ number }
-    requires from { (A.workplace artifacts.old).reader.first ≤ number }
-    requires to { number < reader_end (A.workplace artifacts.old).reader }
-    ensures done { let w = A.workplace artifacts.old in
+    requires place { (A.meaning artifacts.old).reader.place ≡ number }
+    requires from { (A.meaning artifacts.old).reader.first ≤ number }
+    requires to { number < reader_end (A.meaning artifacts.old).reader }
+    ensures done { let w = A.meaning artifacts.old in
         let before = A.Results.pairs results.old in
         let after = A.Results.pairs results.new in
-        IfOk result (λ kind. IsEntered rules.now skips row.old w number before kind row.new (A.workplace artifacts.new) after) }
+        IfOk result (λ kind. IsEntered rules.now skips row.old w number before kind row.new (A.meaning artifacts.new) after) }
     ensures sound { IsSoundRow row.new }
     ensures room { HasRepeats rules.now row.new }
-    ensures err { OnErr result (IsWornTo number (number + 1) (A.workplace artifacts.old) (A.workplace artifacts.new)) }
+    ensures err { OnErr result (IsWornTo number (number + 1) (A.meaning artifacts.old) (A.meaning artifacts.new)) }
 {
     let item = match read_in_place(artifacts, rules, row, skips, number) {
         Ok(item) => item,
@@ -58,7 +57,7 @@ fn read_and_process<A: PartitionArtifacts>(
         Err(ArtifactError::Memory) => return Err(AllocError),
     };
     match process_in_place(artifacts, rules, row, skips, number, &item, results) {
-        Ok(true) => Ok(EntryKind::Found),
+        Ok(true) => Ok(EntryKind::Answered),
         Ok(false) => Ok(EntryKind::Filtered),
         Err(ArtifactError::Fault(class)) => Ok(EntryKind::ProcessFault(class)),
         Err(ArtifactError::Memory) => Err(AllocError),
@@ -77,17 +76,17 @@ fn settle_record<A: PartitionArtifacts>(
     requires sound { IsSoundRow row.old }
     requires room { HasRepeats rules.now row.old }
     requires few { IsSmallTally tally.old }
-    requires place { (A.workplace artifacts.old).reader.place ≡ number }
-    requires from { (A.workplace artifacts.old).reader.first ≤ number }
-    requires to { number < reader_end (A.workplace artifacts.old).reader }
-    ensures stepped { let w = A.workplace artifacts.old in
+    requires place { (A.meaning artifacts.old).reader.place ≡ number }
+    requires from { (A.meaning artifacts.old).reader.first ≤ number }
+    requires to { number < reader_end (A.meaning artifacts.old).reader }
+    ensures stepped { let w = A.meaning artifacts.old in
         let skips = skips_of row.old + tally.old.read_skips + tally.old.process_skips in
         let before = yield_of tally.old (A.Results.pairs results.old) in
         let after = yield_of tally.new (A.Results.pairs results.new) in
-        IfOk result (λ settled. (e : Entry) × IsDone rules.now skips row.old w number e row.new (A.workplace artifacts.new) × IsStep rules.now row.new e number before settled after) }
+        IfOk result (λ settled. (e : Entry) × IsDone rules.now skips row.old w number e row.new (A.meaning artifacts.new) × IsStep rules.now row.new e number before settled after) }
     ensures sound { IsSoundRow row.new }
     ensures room { HasRepeats rules.now row.new }
-    ensures err { OnErr result (IsWornTo number (number + 1) (A.workplace artifacts.old) (A.workplace artifacts.new)) }
+    ensures err { OnErr result (IsWornTo number (number + 1) (A.meaning artifacts.old) (A.meaning artifacts.new)) }
 {
     let skips = row.skips() + tally.read_skips + tally.process_skips;
     let kind = read_and_process(artifacts, rules, row, skips, number, results)?;
@@ -101,31 +100,31 @@ fn settle_record<A: PartitionArtifacts>(
     Ok(None)
 }
 
-/// Reads and processes the records from the row's checkpoint up to `hi`, until one has a fault that is neither skipped nor
-/// repeated. The row counts the repeats.
+/// Reads and processes the records of the row's next chunk, until one has a fault that is neither skipped nor repeated. The row
+/// counts the repeats.
 pub fn gather<A: PartitionArtifacts>(
     artifacts: &mut A,
     rules: &Rules,
     row: &mut Row,
-    hi: u64,
+    item_count: u64,
     results: &mut A::Results,
 ) -> Result<Gathered, AllocError>
     requires sound { IsSoundRow row.old }
     requires room { HasRepeats rules.now row.old }
-    requires order { row.old.at ≤ hi }
-    requires within { hi ≤ row.old.hi }
-    requires place { (A.workplace artifacts.old).reader.place ≡ row.old.at }
-    requires from { (A.workplace artifacts.old).reader.first ≤ row.old.at }
-    requires to { hi ≤ reader_end (A.workplace artifacts.old).reader }
+    requires item_counted { HasItemCount item_count }
+    requires place { (A.meaning artifacts.old).reader.place ≡ row.old.at }
+    requires from { (A.meaning artifacts.old).reader.first ≤ row.old.at }
+    requires to { row.old.hi ≤ reader_end (A.meaning artifacts.old).reader }
     requires none { A.Results.pairs results.old ≡ [] }
-    ensures ok { let t : Trial = record { rules = rules.now; row = row.old; hi = hi; work = A.workplace artifacts.old } in
-        IfOk result (λ gathered. IsGathered t gathered (A.Results.pairs results.new) row.new (A.workplace artifacts.new)) }
+    ensures ok { OfTask rules.now row.old item_count (A.meaning artifacts.old) (λ t.
+        IfOk result (λ gathered. IsGathered t gathered (A.Results.pairs results.new) row.new (A.meaning artifacts.new))) }
     ensures sound { IsSoundRow row.new }
     ensures room { HasRepeats rules.now row.new }
-    ensures err { OnErr result (IsTorn row.old.at hi (A.workplace artifacts.old) (A.workplace artifacts.new)) }
+    ensures err { OnErr result (IsTorn row.old.at (row_block item_count row.old).hi (A.meaning artifacts.old) (A.meaning artifacts.new)) }
 {
+    let block = row.block(item_count);
     let mut tally = Tally::new();
-    for number in row.at..hi {
+    for number in row.at..block.hi {
         match settle_record(artifacts, rules, row, number, &mut tally, results) {
             Ok(None) => {}
             Ok(Some((class, choice))) => return Ok(Gathered::Settled(number, class, choice)),

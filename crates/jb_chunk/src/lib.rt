@@ -6,7 +6,7 @@
 //! - `laws`: what holds of a task's attempts, wherever they lead.
 //! - `outcome`: how an attempt ends.
 //! - `alone`: a task's attempts, one after another.
-//! - `block`: one block tried to its end, `end`, with what it adds to the counts, `tried`.
+//! - `block`: one chunk tried to its end, `chunk_end`.
 //! - `gather`: its records, read and processed one by one; each has an entry of some kind, `entry`, and those that have no
 //!   result are counted, `tally`.
 //! - `repeat`: its calls, repeated in place.
@@ -16,8 +16,8 @@
 mod alone;
 mod block;
 mod checkpoint;
+mod chunk_end;
 mod chunk_results;
-mod end;
 mod entry;
 mod gather;
 mod laws;
@@ -28,7 +28,6 @@ mod partition_task;
 mod repeat;
 mod tally;
 mod task;
-mod tried;
 
 pub use alone::{Alone, AloneEnd, run_alone};
 pub use chunk_results::{ChunkResults, ItemResults};

@@ -2,7 +2,7 @@
 
 use crate::task::Task;
 use jb_artifacts::Item;
-use jb_job::ClassId;
+use jb_base::ClassId;
 use jb_rules::Counts;
 
 /// How an attempt ended.

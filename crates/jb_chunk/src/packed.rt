@@ -6,7 +6,7 @@ use jb_artifacts::{
     Collector, Item, ItemProcessor, ItemReader, ItemWriter, LendingReader, Meaning,
     PackedArtifacts, PackedResults, PackedWriter, PackingProcessor, RowView, row_is_served,
 };
-use jb_job::ArtifactError;
+use jb_base::ArtifactError;
 use jb_rules::Row;
 use std::alloc::AllocError;
 
@@ -39,11 +39,11 @@ impl<
         self.writer.count()
     }
 
-    fn rewind(&mut self, at: u64) {
+    fn open_reader_at(&mut self, at: u64) {
         self.reader.open_at(at);
     }
 
-    fn cut_back(&mut self, count: u64) {
+    fn open_writer_at(&mut self, count: u64) {
         self.writer.open_at(count);
     }
 

@@ -13,7 +13,7 @@ use jb_artifacts::{
     Artifacts, ArtifactsOf, Collector, Item, ItemProcessor, ItemReader, ItemWriter, Meaning,
     RowView, row_is_served,
 };
-use jb_job::ArtifactError;
+use jb_base::ArtifactError;
 use jb_rules::Row;
 use std::alloc::AllocError;
 
@@ -31,41 +31,41 @@ pub trait PartitionArtifacts: Meaning + Drop {
 
     /// Whether the reader has the row's records, and the writer as many results as it committed.
     fn serves(&self, row: &Row) -> bool
-        ensures { IsTrue result ↔ Fits (Self.workplace self.now) row.now };
+        ensures { IsTrue result ↔ Fits (Self.meaning self.now) row.now };
 
     /// The number of the record that is read next.
     fn place(&self) -> u64
-        ensures place { result ≡ (Self.workplace self.now).reader.place }
-        ensures from { (Self.workplace self.now).reader.first ≤ result }
-        ensures to { result ≤ reader_end (Self.workplace self.now).reader };
+        ensures place { result ≡ (Self.meaning self.now).reader.place }
+        ensures from { (Self.meaning self.now).reader.first ≤ result }
+        ensures to { result ≤ reader_end (Self.meaning self.now).reader };
 
     /// How many results were written.
     fn count(&self) -> u64
-        ensures { result ≡ length (Self.workplace self.now).writer.written };
+        ensures { result ≡ length (Self.meaning self.now).writer.written };
 
     /// Opens the reader at the record of this number, or at the end.
-    fn rewind(&mut self, at: u64)
-        requires from { (Self.workplace self.old).reader.first ≤ at }
-        requires to { at ≤ reader_end (Self.workplace self.old).reader }
-        ensures { let w = Self.workplace self.old in
-            Self.workplace self.new ≡ record w { reader = opened w.reader at } };
+    fn open_reader_at(&mut self, at: u64)
+        requires from { (Self.meaning self.old).reader.first ≤ at }
+        requires to { at ≤ reader_end (Self.meaning self.old).reader }
+        ensures { let w = Self.meaning self.old in
+            Self.meaning self.new ≡ record w { reader = opened w.reader at } };
 
     /// Cuts what is written back to its first `count` results.
-    fn cut_back(&mut self, count: u64)
-        requires { count ≤ length (Self.workplace self.old).writer.written }
-        ensures { let w = Self.workplace self.old in
-            Self.workplace self.new ≡ record w { writer = cut w.writer count } };
+    fn open_writer_at(&mut self, count: u64)
+        requires { count ≤ length (Self.meaning self.old).writer.written }
+        ensures { let w = Self.meaning self.old in
+            Self.meaning self.new ≡ record w { writer = cut w.writer count } };
 
     /// Reads the next record.
     fn read_item(&mut self) -> Result<Self::Record, ArtifactError>
-        requires { (Self.workplace self.old).reader.place < reader_end (Self.workplace self.old).reader }
-        ensures answered { let w = Self.workplace self.old in
+        requires { (Self.meaning self.old).reader.place < reader_end (Self.meaning self.old).reader }
+        ensures answered { let w = Self.meaning self.old in
             let own = record_at w.reader w.reader.place in
             IfOk result (λ item. (read_fault w.reader ≡ None) × (bytes item own ≡ own)
-            × (Self.workplace self.new ≡ record w { reader = after_read w.reader })) }
-        ensures faulted { let w = Self.workplace self.old in
-            IfFault result (λ class. (read_fault w.reader ≡ Some class) × (Self.workplace self.new ≡ record w { reader = after_read w.reader })) }
-        ensures no_memory { IfNoMemory result (Self.workplace self.new ≡ Self.workplace self.old) };
+            × (Self.meaning self.new ≡ record w { reader = after_read w.reader })) }
+        ensures faulted { let w = Self.meaning self.old in
+            IfFault result (λ class. (read_fault w.reader ≡ Some class) × (Self.meaning self.new ≡ record w { reader = after_read w.reader })) }
+        ensures no_memory { IfNoMemory result (Self.meaning self.new ≡ Self.meaning self.old) };
 
     /// Processes an item, that of the record with this number. Its result, if it has one, is put behind the others, and
     /// the answer says whether it has. After a fault, and without memory, the results are as they were.
@@ -75,36 +75,36 @@ pub trait PartitionArtifacts: Meaning + Drop {
         item: &Self::Record,
         results: &mut Self::Results,
     ) -> Result<bool, ArtifactError>
-        ensures answered { let w = Self.workplace self.old in
+        ensures answered { let w = Self.meaning self.old in
             let answer = w.processor.answer number (bytes item.now (record_at w.reader number)) in
             IfOk result (λ found. (process_fault w.processor number ≡ None) × (found ≡ is_some answer)
-            × (Self.workplace self.new ≡ record w { processor = after_process w.processor number })
+            × (Self.meaning self.new ≡ record w { processor = after_process w.processor number })
             × (Self.Results.pairs results.new ≡ Self.Results.pairs results.old ++ option_to_list (numbered number answer))) }
-        ensures faulted { let w = Self.workplace self.old in
+        ensures faulted { let w = Self.meaning self.old in
             IfFault result (λ class. (process_fault w.processor number ≡ Some class)
-            × (Self.workplace self.new ≡ record w { processor = after_process w.processor number })
+            × (Self.meaning self.new ≡ record w { processor = after_process w.processor number })
             × (Self.Results.pairs results.new ≡ Self.Results.pairs results.old)) }
-        ensures no_memory { IfNoMemory result ((Self.workplace self.new ≡ Self.workplace self.old)
+        ensures no_memory { IfNoMemory result ((Self.meaning self.new ≡ Self.meaning self.old)
             × (Self.Results.pairs results.new ≡ Self.Results.pairs results.old)) };
 
     /// Writes results, each with the number of its record.
     fn write_items(&mut self, results: &Self::Results) -> Result<(), ArtifactError>
-        ensures written { let w = Self.workplace self.old in
+        ensures written { let w = Self.meaning self.old in
             let found = Self.Results.pairs results.now in
             OnOk result ((write_fault w.writer found ≡ None)
-            × (Self.workplace self.new ≡ record w { writer = after_write w.writer found })) }
-        ensures faulted { let w = Self.workplace self.old in
+            × (Self.meaning self.new ≡ record w { writer = after_write w.writer found })) }
+        ensures faulted { let w = Self.meaning self.old in
             let found = Self.Results.pairs results.now in
             IfFault result (λ class. (write_fault w.writer found ≡ Some class)
-            × (Self.workplace self.new ≡ record w { writer = after_write w.writer found })) }
-        ensures no_memory { let w = Self.workplace self.old in
-            let now = Self.workplace self.new in
+            × (Self.meaning self.new ≡ record w { writer = after_write w.writer found })) }
+        ensures no_memory { let w = Self.meaning self.old in
+            let now = Self.meaning self.new in
             let found = Self.Results.pairs results.now in
             IfNoMemory result (now ≡ record w { writer = torn_write w.writer found (length now.writer.written) }) };
 
     /// The collector's text for this view.
     fn collect(&self, view: &RowView) -> Result<Item, AllocError>
-        ensures { IfOk result (λ text. text ≡ (Self.workplace self.now).collector view.now) };
+        ensures { IfOk result (λ text. text ≡ (Self.meaning self.now).collector view.now) };
 }
 
 /// Puts the result that a processor answered for the record of this number behind the others, where there is one.
@@ -146,11 +146,11 @@ impl PartitionArtifacts for Artifacts {
         self.writer.count()
     }
 
-    fn rewind(&mut self, at: u64) {
+    fn open_reader_at(&mut self, at: u64) {
         self.reader.open_at(at);
     }
 
-    fn cut_back(&mut self, count: u64) {
+    fn open_writer_at(&mut self, count: u64) {
         self.writer.open_at(count);
     }
 
@@ -211,11 +211,11 @@ impl<
         self.writer.count()
     }
 
-    fn rewind(&mut self, at: u64) {
+    fn open_reader_at(&mut self, at: u64) {
         self.reader.open_at(at);
     }
 
-    fn cut_back(&mut self, count: u64) {
+    fn open_writer_at(&mut self, count: u64) {
         self.writer.open_at(count);
     }
 

@@ -3,14 +3,14 @@
 ghost use Rattle.std.specs.Prelude.{◌≡◌, ◌↔◌, ◌<◌, ◌≤◌, IsTrue};
 ghost use Rattle.jb_rules.specs.Sound.{IsSoundRow};
 ghost use Rattle.jb_rules.specs.declared.row.RowState.TheVariants.{Waiting};
-ghost use Rattle.jb_job.specs.Limits.{max_rollbacks, max_retry_limit};
+ghost use Rattle.jb_base.specs.Limits.{max_rollbacks, max_retry_limit};
 ghost use Rattle.jb_artifacts.specs.Meaning.{Fits};
 ghost use Rattle.jb_chunk.specs.Attempt.{IsAttempt, ending_of};
 ghost use Rattle.jb_chunk.specs.Standing.{TaskState, IsReady, HasItemCount, HasRepeats, started};
 
 use crate::outcome::Done;
 use jb_artifacts::Meaning;
-use jb_job::Rules;
+use jb_base::Rules;
 use jb_rules::Row;
 use std::alloc::Global;
 
@@ -25,7 +25,7 @@ pub trait PartitionTask: Send + Drop {
 
     /// Whether the artifacts serve the row: its records are there, and its committed results.
     fn fits(artifacts: &Self::Artifacts, row: &Row) -> bool
-        ensures { IsTrue result ↔ Fits (Self.Artifacts.workplace artifacts.now) row.now };
+        ensures { IsTrue result ↔ Fits (Self.Artifacts.meaning artifacts.now) row.now };
 
     /// The task of a partition, with reader and writer opened at the row's checkpoint. What is written past it is cut off.
     ///
@@ -37,11 +37,11 @@ pub trait PartitionTask: Send + Drop {
         item_count: u64,
         artifacts: Self::Artifacts,
     ) -> Self
-        requires fit { Fits (Self.Artifacts.workplace artifacts) row }
+        requires fit { Fits (Self.Artifacts.meaning artifacts) row }
         requires sound { IsSoundRow row }
         requires waiting { row.state ≡ Waiting }
         requires item_counted { HasItemCount item_count }
-        ensures task { standing result ≡ started partition row rules item_count (Self.Artifacts.workplace artifacts) }
+        ensures task { standing result ≡ started partition row rules item_count (Self.Artifacts.meaning artifacts) }
         ensures ready { IsReady (standing result) };
 
     /// The partition's number.
@@ -73,5 +73,5 @@ pub trait PartitionTask: Send + Drop {
 
     /// What the task worked with, as it now stands.
     fn into_artifacts(self) -> Self::Artifacts
-        ensures { Self.Artifacts.workplace result ≡ (standing self).work };
+        ensures { Self.Artifacts.meaning result ≡ (standing self).work };
 }

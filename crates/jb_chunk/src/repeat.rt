@@ -11,7 +11,7 @@ ghost use Rattle.jb_chunk.specs.inside.Repeats.{seen_as, fault_answered, results
 
 use crate::chunk_results::ChunkResults;
 use crate::partition_artifacts::PartitionArtifacts;
-use jb_job::{ArtifactError, Rules};
+use jb_base::{ArtifactError, Rules};
 use jb_rules::{Choice, Row, decide};
 
 /// Whether the call that answered so is to be repeated in place.
@@ -38,12 +38,12 @@ pub fn read_in_place<A: PartitionArtifacts>(
 ) -> Result<A::Record, ArtifactError>
     requires sound { IsSoundRow row.old }
     requires room { HasRepeats rules.now row.old }
-    requires place { (A.workplace artifacts.old).reader.place ≡ number }
-    requires from { (A.workplace artifacts.old).reader.first ≤ number }
-    requires to { number < reader_end (A.workplace artifacts.old).reader }
-    ensures read { let w = A.workplace artifacts.old in
+    requires place { (A.meaning artifacts.old).reader.place ≡ number }
+    requires from { (A.meaning artifacts.old).reader.first ≤ number }
+    requires to { number < reader_end (A.meaning artifacts.old).reader }
+    ensures read { let w = A.meaning artifacts.old in
         let seen = seen_as (λ item. A.bytes item (record_at w.reader number)) result in
-        IsRead rules.now skips row.old w number seen row.new (A.workplace artifacts.new) }
+        IsRead rules.now skips row.old w number seen row.new (A.meaning artifacts.new) }
     ensures sound { IsSoundRow row.new }
     ensures room { HasRepeats rules.now row.new }
 {
@@ -53,7 +53,7 @@ pub fn read_in_place<A: PartitionArtifacts>(
             return answer;
         }
         *row = row.repeated(1);
-        artifacts.rewind(number);
+        artifacts.open_reader_at(number);
     }
 }
 
@@ -70,12 +70,12 @@ pub fn process_in_place<A: PartitionArtifacts>(
 ) -> Result<bool, ArtifactError>
     requires sound { IsSoundRow row.old }
     requires room { HasRepeats rules.now row.old }
-    requires from { (A.workplace artifacts.old).reader.first ≤ number }
-    requires to { number < reader_end (A.workplace artifacts.old).reader }
-    ensures processed { let w = A.workplace artifacts.old in
+    requires from { (A.meaning artifacts.old).reader.first ≤ number }
+    requires to { number < reader_end (A.meaning artifacts.old).reader }
+    ensures processed { let w = A.meaning artifacts.old in
         let bytes = A.bytes item.now (record_at w.reader number) in
-        IsProcessed rules.now skips row.old w number bytes result row.new (A.workplace artifacts.new) }
-    ensures results { let w = A.workplace artifacts.old in
+        IsProcessed rules.now skips row.old w number bytes result row.new (A.meaning artifacts.new) }
+    ensures results { let w = A.meaning artifacts.old in
         let bytes = A.bytes item.now (record_at w.reader number) in
         A.Results.pairs results.new ≡ results_behind result number (w.processor.answer number bytes) (A.Results.pairs results.old) }
     ensures sound { IsSoundRow row.new }
@@ -95,16 +95,16 @@ fn write_found<A: PartitionArtifacts>(
     artifacts: &mut A,
     results: &A::Results,
 ) -> Result<(), ArtifactError>
-    ensures written { let w = A.workplace artifacts.old in
+    ensures written { let w = A.meaning artifacts.old in
         let found = A.Results.pairs results.now in
         OnOk result ((write_fault w.writer found ≡ None)
-        × (A.workplace artifacts.new ≡ record w { writer = after_write w.writer found })) }
-    ensures faulted { let w = A.workplace artifacts.old in
+        × (A.meaning artifacts.new ≡ record w { writer = after_write w.writer found })) }
+    ensures faulted { let w = A.meaning artifacts.old in
         let found = A.Results.pairs results.now in
         IfFault result (λ class. (write_fault w.writer found ≡ Some class)
-        × (A.workplace artifacts.new ≡ record w { writer = after_write w.writer found })) }
-    ensures no_memory { let w = A.workplace artifacts.old in
-        let now = A.workplace artifacts.new in
+        × (A.meaning artifacts.new ≡ record w { writer = after_write w.writer found })) }
+    ensures no_memory { let w = A.meaning artifacts.old in
+        let now = A.meaning artifacts.new in
         let found = A.Results.pairs results.now in
         IfNoMemory result (now ≡ record w { writer = torn_write w.writer found (length now.writer.written) }) }
 {
@@ -125,9 +125,9 @@ pub fn write_in_place<A: PartitionArtifacts>(
 ) -> Result<(), ArtifactError>
     requires sound { IsSoundRow row.old }
     requires room { HasRepeats rules.now row.old }
-    requires count { length (A.workplace artifacts.old).writer.written ≡ row.old.written }
-    ensures put { let w = A.workplace artifacts.old in
-        IsPut rules.now skips row.old w (A.Results.pairs results.now) result row.new (A.workplace artifacts.new) }
+    requires count { length (A.meaning artifacts.old).writer.written ≡ row.old.written }
+    ensures put { let w = A.meaning artifacts.old in
+        IsPut rules.now skips row.old w (A.Results.pairs results.now) result row.new (A.meaning artifacts.new) }
     ensures sound { IsSoundRow row.new }
 {
     loop {
@@ -136,6 +136,6 @@ pub fn write_in_place<A: PartitionArtifacts>(
             return answer;
         }
         *row = row.repeated(1);
-        artifacts.cut_back(row.written);
+        artifacts.open_writer_at(row.written);
     }
 }

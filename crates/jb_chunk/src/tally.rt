@@ -41,7 +41,7 @@ impl Tally {
             EntryKind::ReadFault(_) => self.read_skips += 1,
             EntryKind::ProcessFault(_) => self.process_skips += 1,
             EntryKind::Filtered => self.filtered += 1,
-            EntryKind::Found => {}
+            EntryKind::Answered => {}
         }
     }
 }

@@ -1,25 +1,23 @@
 //! A partition's row with its rules and artifacts.
 
 ghost use Rattle.std.specs.Prelude.{◌≡◌, ◌≤◌, ◌<◌, ◌-◌, IfOk, [], length};
-ghost use Rattle.jb_rules.specs.Counts.{IsDelta};
 ghost use Rattle.jb_rules.specs.Sound.{IsSoundRow};
-ghost use Rattle.jb_job.specs.Limits.{max_rollbacks};
+ghost use Rattle.jb_base.specs.Limits.{max_rollbacks};
 ghost use Rattle.jb_chunk.specs.Attempt.{values_of};
-ghost use Rattle.jb_chunk.specs.inside.Ends.{outcome_with, values_with, row_with};
-ghost use Rattle.jb_chunk.specs.inside.Tried.{IsCommitted};
+ghost use Rattle.jb_chunk.specs.inside.ChunkEnds.{outcome_with, values_with, row_with};
+ghost use Rattle.jb_chunk.specs.inside.TriedChunk.{HasDelta};
 ghost use Rattle.jb_chunk.specs.declared.outcome.Outcome.TheVariants.{NoMemory};
 ghost use Rattle.jb_artifacts.specs.Reader.{reader_end};
 ghost use Rattle.jb_chunk.specs.Standing.{at_checkpoint};
 
 use crate::block::try_block;
 use crate::checkpoint::open_at_checkpoint;
-use crate::end::End;
+use crate::chunk_end::ChunkEnd;
 use crate::outcome::{Done, Outcome};
 use crate::partition_artifacts::PartitionArtifacts;
 use crate::partition_task::PartitionTask;
-use crate::tried::Tried;
 use jb_artifacts::{Artifacts, Item, RowView};
-use jb_job::{MAX_ITEM_COUNT, Rules};
+use jb_base::{MAX_ITEM_COUNT, Rules};
 use jb_rules::Row;
 use std::alloc::{AllocError, Global};
 
@@ -41,7 +39,7 @@ impl<A: PartitionArtifacts + Send> PartitionTask for Task<A> {
       row = t.row;
       rules = t.rules;
       item_count = t.item_count;
-      work = A.Meaning.workplace t.artifacts;
+      work = A.Meaning.meaning t.artifacts;
     } };
 
     fn fits(artifacts: &A, row: &Row) -> bool {
@@ -89,11 +87,11 @@ impl<A: PartitionArtifacts + Send> PartitionTask for Task<A> {
         } = self;
         let block = row.block(item_count);
         let mut repeated = row;
-        match try_block(alloc, &mut artifacts, &rules, &mut repeated, block.hi) {
+        match try_block(alloc, &mut artifacts, &rules, &mut repeated, item_count) {
             Err(_) => unfinished(alloc, partition, row, rules, item_count, artifacts),
-            Ok(tried) => {
-                let after = ended_row(&repeated, block.hi, &tried);
-                match values_after(alloc, &artifacts, partition, &after, tried.end) {
+            Ok(end) => {
+                let after = ended_row(&repeated, block.hi, end);
+                match values_after(alloc, &artifacts, partition, &after, end) {
                     Err(_) => unfinished(alloc, partition, row, rules, item_count, artifacts),
                     Ok(values) => Done {
                         task: Task {
@@ -103,7 +101,7 @@ impl<A: PartitionArtifacts + Send> PartitionTask for Task<A> {
                             item_count,
                             artifacts,
                         },
-                        outcome: outcome_of(&tried),
+                        outcome: outcome_of(end),
                         values,
                         again: repeated.in_place - row.in_place,
                     },
@@ -117,50 +115,47 @@ impl<A: PartitionArtifacts + Send> PartitionTask for Task<A> {
     }
 }
 
-/// The row after its block, up to `hi`, was tried.
-fn ended_row(row: &Row, hi: u64, tried: &Tried) -> Row
+/// The row after its chunk, up to `hi`, ended so.
+fn ended_row(row: &Row, hi: u64, end: ChunkEnd) -> Row
     requires sound { IsSoundRow row.now }
     requires from { row.now.at < hi }
     requires to { hi ≤ row.now.hi }
     requires room { row.now.counts.rollback < max_rollbacks }
-    requires counted { IsCommitted tried.now.end → IsDelta (hi - row.now.at) tried.now.delta }
-    ensures row { result ≡ row_with row.now hi tried.now.end tried.now.delta }
+    requires counted { HasDelta (hi - row.now.at) end }
+    ensures row { result ≡ row_with row.now hi end }
     ensures sound { IsSoundRow result }
 {
-    match tried.end {
-        End::Written => row.committed(hi, &tried.delta),
-        End::Unwritten => row.committed(hi, &tried.delta),
-        End::Rolled(_) => row.rolled(hi),
-        End::Failed(_) => row.failed(),
+    match end {
+        ChunkEnd::Committed(delta) => row.committed(hi, &delta),
+        ChunkEnd::Rolled(_) => row.rolled(hi),
+        ChunkEnd::Failed(_) => row.failed(),
     }
 }
 
-/// The outcome of a block that was tried.
-fn outcome_of(tried: &Tried) -> Outcome
-    ensures { result ≡ outcome_with tried.now.end tried.now.delta }
+/// The outcome of a chunk that ended so.
+fn outcome_of(end: ChunkEnd) -> Outcome
+    ensures { result ≡ outcome_with end }
 {
-    match tried.end {
-        End::Written => Outcome::Committed(tried.delta),
-        End::Unwritten => Outcome::Committed(tried.delta),
-        End::Rolled(class) => Outcome::Rolled(class),
-        End::Failed(class) => Outcome::Failed(class),
+    match end {
+        ChunkEnd::Committed(delta) => Outcome::Committed(delta),
+        ChunkEnd::Rolled(class) => Outcome::Rolled(class),
+        ChunkEnd::Failed(class) => Outcome::Failed(class),
     }
 }
 
-/// The collector's texts for a block that ended so and left this row.
+/// The collector's texts for a chunk that ended so and left this row.
 fn values_after<A: PartitionArtifacts>(
     alloc: Global,
     artifacts: &A,
     partition: u32,
     row: &Row,
-    end: End,
+    end: ChunkEnd,
 ) -> Result<Vec<Item>, AllocError>
-    ensures { IfOk result (λ values. values.items ≡ values_with (A.workplace artifacts.now).collector partition row.now end) }
+    ensures { IfOk result (λ values. values.items ≡ values_with (A.meaning artifacts.now).collector partition row.now end) }
 {
     match end {
-        End::Written => collect_values(alloc, artifacts, partition, row),
-        End::Unwritten => collect_values(alloc, artifacts, partition, row),
-        End::Rolled(_) | End::Failed(_) => Ok(Vec::new(alloc)),
+        ChunkEnd::Committed(_) => collect_values(alloc, artifacts, partition, row),
+        ChunkEnd::Rolled(_) | ChunkEnd::Failed(_) => Ok(Vec::new(alloc)),
     }
 }
 
@@ -171,7 +166,7 @@ fn collect_values<A: PartitionArtifacts>(
     partition: u32,
     row: &Row,
 ) -> Result<Vec<Item>, AllocError>
-    ensures { IfOk result (λ values. values.items ≡ values_of (A.workplace artifacts.now).collector partition row.now) }
+    ensures { IfOk result (λ values. values.items ≡ values_of (A.meaning artifacts.now).collector partition row.now) }
 {
     let view = RowView {
         partition,
@@ -199,9 +194,9 @@ fn unfinished<A: PartitionArtifacts>(
     item_count: u64,
     artifacts: A,
 ) -> Done<Task<A>>
-    requires from { (A.workplace artifacts).reader.first ≤ row.at }
-    requires to { row.at ≤ reader_end (A.workplace artifacts).reader }
-    requires count { row.written ≤ length (A.workplace artifacts).writer.written }
+    requires from { (A.meaning artifacts).reader.first ≤ row.at }
+    requires to { row.at ≤ reader_end (A.meaning artifacts).reader }
+    requires count { row.written ≤ length (A.meaning artifacts).writer.written }
     ensures outcome { result.outcome ≡ NoMemory }
     ensures values { result.values.items ≡ [] }
     ensures again { result.again ≡ 0 }
@@ -209,7 +204,7 @@ fn unfinished<A: PartitionArtifacts>(
     ensures row { result.task.row ≡ row }
     ensures rules { result.task.rules ≡ rules }
     ensures item_count { result.task.item_count ≡ item_count }
-    ensures work { A.workplace result.task.artifacts ≡ at_checkpoint row (A.workplace artifacts) }
+    ensures work { A.meaning result.task.artifacts ≡ at_checkpoint row (A.meaning artifacts) }
 {
     let mut artifacts = artifacts;
     open_at_checkpoint(&mut artifacts, &row);

@@ -4,11 +4,11 @@ use Rattle.std.specs.List.{filter}
 use Rattle.std.proofs.lemmas.List.Elements.{filter-append}
 use Rattle.jb_rules.specs.declared.row.RowState.{RowState}
 use Rattle.jb_rules.specs.declared.row.RowState.TheVariants as state
-use Rattle.jb_chunk.specs.Attempt.{Ending}
+use Rattle.jb_chunk.specs.Attempt.{AttemptEnd}
 use Rattle.jb_collect.specs.declared.calls.AnalyzerCall.{AnalyzerCall}
 use Rattle.jb_collect.specs.declared.calls.AnalyzerCall.TheVariants.{Collected}
-use Rattle.jb_collect.specs.Heard.{collected_calls, ended_calls, heard_of, heard_in}
-use Rattle.jb_collect.specs.Laws.{partition_of, PartitionsAreHeardApart}
+use Rattle.jb_collect.specs.Heard.{collected_calls, ended_calls, heard_of, heard_in, partition_of}
+use Rattle.jb_collect.specs.Laws.{PartitionsAreHeardApart}
 
 -- the calls of partition p
 abbrev own : ℕ → List AnalyzerCall → List AnalyzerCall
@@ -42,7 +42,7 @@ own_ended p q (state.Running lane) = none_if (eqb q p)
 own_ended p q state.Finished = refl
 own_ended p q state.Failed = refl
 
-own_heard : (p : ℕ) (e : Ending) → own p (heard_of e) ≡ all_if (eqb e.task.partition p) (heard_of e)
+own_heard : (p : ℕ) (e : AttemptEnd) → own p (heard_of e) ≡ all_if (eqb e.task.partition p) (heard_of e)
 own_heard p e =
     let q : ℕ = e.task.partition in
     filter-append (λ (call : AnalyzerCall). eqb (partition_of call) p) (collected_calls q e.values) (ended_calls q e.task.row.state)
@@ -50,7 +50,7 @@ own_heard p e =
     ∙ all_if-append (eqb q p) (collected_calls q e.values) (ended_calls q e.task.row.state)
 
 -- one attempt more
-heard_more : (b : Bool) (e : Ending) (es : List Ending) → all_if b (heard_of e) ++ heard_in es ≡ heard_in (cond b (e ∷ es) es)
+heard_more : (b : Bool) (e : AttemptEnd) (es : List AttemptEnd) → all_if b (heard_of e) ++ heard_in es ≡ heard_in (cond b (e ∷ es) es)
 heard_more true e es = refl
 heard_more false e es = refl
 
@@ -59,4 +59,4 @@ heard_apart p [] = refl
 heard_apart p (e ∷ es) =
     filter-append (λ (call : AnalyzerCall). eqb (partition_of call) p) (heard_of e) (heard_in es)
     ∙ ap₂ ◌++◌ (own_heard p e) (heard_apart p es)
-    ∙ heard_more (eqb e.task.partition p) e (filter (λ (x : Ending). eqb x.task.partition p) es)
+    ∙ heard_more (eqb e.task.partition p) e (filter (λ (x : AttemptEnd). eqb x.task.partition p) es)

@@ -2,9 +2,9 @@
 use Rattle.std.proofs.Common.{◌≡◌, ◌<◌, ℕ, ◌+◌, List, [], ◌∷◌, ◌++◌, length, get_or, take, drop, None, Result, Ok, Err, ap, sym, ◌∙◌, subst, append-nil}
 use Rattle.std.proofs.lemmas.List.{map-append, take_more, take-append-drop}
 use Rattle.std.proofs.lemmas.Grind.{flat_map-append}
-use Rattle.jb_job.specs.declared.artifact_error.ArtifactError.{ArtifactError}
+use Rattle.jb_base.specs.declared.artifact_error.ArtifactError.{ArtifactError}
 use Rattle.jb_rules.specs.declared.row.RowState.{RowState}
-use Rattle.jb_chunk.specs.Attempt.{Ending, ending_of}
+use Rattle.jb_chunk.specs.Attempt.{AttemptEnd, ending_of}
 use Rattle.jb_chunk.specs.Standing.{TaskState}
 use Rattle.jb_chunk.specs.declared.outcome.Done.{Done}
 use Rattle.jb_collect.specs.declared.calls.AnalyzerCall.{AnalyzerCall}
@@ -54,23 +54,23 @@ end_told before after p s known c result is one takes =
 -- ---- one attempt
 
 -- where its partition, its texts and its state were read
-pub record IsRead (e : Ending) (p : ℕ) (texts : List (List ℕ)) (s : RowState) : Type 0 where
+pub record IsRead (e : AttemptEnd) (p : ℕ) (texts : List (List ℕ)) (s : RowState) : Type 0 where
   pub partition : p ≡ e.task.partition
   pub texts_are : texts ≡ e.values
   pub state : s ≡ e.task.row.state
 
-heard_is : (e : Ending) (p : ℕ) (texts : List (List ℕ)) (s : RowState) → IsRead e p texts s → collected_calls p texts ++ ended_calls p s ≡ heard_of e
+heard_is : (e : AttemptEnd) (p : ℕ) (texts : List (List ℕ)) (s : RowState) → IsRead e p texts s → collected_calls p texts ++ ended_calls p s ≡ heard_of e
 heard_is e p texts s read =
     ap (λ (q : ℕ). collected_calls q texts ++ ended_calls q s) read.partition
     ∙ ap (λ (ts : List (List ℕ)). collected_calls e.task.partition ts ++ ended_calls e.task.partition s) read.texts_are
     ∙ ap (λ (st : RowState). collected_calls e.task.partition e.values ++ ended_calls e.task.partition st) read.state
 
-pub attempt_told : (before between after : List (Taken AnalyzerCall)) (e : Ending) (p : ℕ) (texts : List (List ℕ)) (s : RowState) (done : Unit {0}) (result : Result (Unit {0}) ArtifactError) → IsRead e p texts s → TakesCalls before (collected_calls p texts) (Ok done) between → TakesCalls between (ended_calls p s) result after → TakesCalls before (heard_of e) result after
+pub attempt_told : (before between after : List (Taken AnalyzerCall)) (e : AttemptEnd) (p : ℕ) (texts : List (List ℕ)) (s : RowState) (done : Unit {0}) (result : Result (Unit {0}) ArtifactError) → IsRead e p texts s → TakesCalls before (collected_calls p texts) (Ok done) between → TakesCalls between (ended_calls p s) result after → TakesCalls before (heard_of e) result after
 attempt_told before between after e p texts s done result read first then_ =
     subst (λ (cs : List AnalyzerCall). TakesCalls before cs result after) (heard_is e p texts s read)
     (takes_more before between after (collected_calls p texts) (ended_calls p s) result first then_)
 
-pub attempt_stopped : (before after : List (Taken AnalyzerCall)) (e : Ending) (p : ℕ) (texts : List (List ℕ)) (error : ArtifactError) (result : Result (Unit {0}) ArtifactError) → IsRead e p texts e.task.row.state → TakesCalls before (collected_calls p texts) (Err error) after → result ≡ Err error → TakesCalls before (heard_of e) result after
+pub attempt_stopped : (before after : List (Taken AnalyzerCall)) (e : AttemptEnd) (p : ℕ) (texts : List (List ℕ)) (error : ArtifactError) (result : Result (Unit {0}) ArtifactError) → IsRead e p texts e.task.row.state → TakesCalls before (collected_calls p texts) (Err error) after → result ≡ Err error → TakesCalls before (heard_of e) result after
 attempt_stopped before after e p texts error result read first told =
     subst (λ (r : Result (Unit {0}) ArtifactError). TakesCalls before (heard_of e) r after) (sym told)
     (subst (λ (cs : List AnalyzerCall). TakesCalls before cs (Err error) after) (heard_is e p texts e.task.row.state read)
@@ -81,7 +81,7 @@ attempt_stopped before after e p texts error result read first told =
 abbrev heard_of_dones : {T : Type 0} → (T → TaskState) → List (Done T) → List AnalyzerCall
 heard_of_dones standing dones = heard_in (endings_of standing dones)
 
-abbrev how : {T : Type 0} → (T → TaskState) → Done T → Ending
+abbrev how : {T : Type 0} → (T → TaskState) → Done T → AttemptEnd
 how standing d = ending_of (standing d.task) d.outcome d.values.items d.again
 
 dones_split : {T : Type 0} (standing : T → TaskState) (xs ys : List (Done T)) → heard_of_dones standing (xs ++ ys) ≡ heard_of_dones standing xs ++ heard_of_dones standing ys

@@ -1,8 +1,8 @@
 -- A list of calls with its planned fault.
 use Rattle.std.proofs.Common.{◌≡◌, ℕ, suc, ◌+◌, List, [], ◌∷◌, ◌++◌, length, map, Option, Some, None, Result, refl, ap, sym, ◌∙◌, arith, zero-add, subst}
 use Rattle.std.specs.List.{enumerate_from}
-use Rattle.jb_job.specs.declared.class.ClassId.{ClassId}
-use Rattle.jb_job.specs.declared.artifact_error.ArtifactError.{ArtifactError}
+use Rattle.jb_base.specs.declared.class.ClassId.{ClassId}
+use Rattle.jb_base.specs.declared.artifact_error.ArtifactError.{ArtifactError}
 use Rattle.jb_collect.specs.Listed.{Listed, planned_at, answer_with, taken_of}
 use Rattle.jb_collect.specs.Taken.{Taken, TakesCall, calls_of}
 

@@ -6,7 +6,7 @@ use Rattle.jb_rules.specs.declared.row.Row.{Row}
 use Rattle.jb_rules.specs.declared.row.RowState.{RowState}
 use Rattle.jb_rules.specs.declared.row.RowState.TheVariants as state
 use Rattle.jb_rules.specs.States.{is_waiting}
-use Rattle.jb_chunk.specs.Attempt.{Ending, ending_of}
+use Rattle.jb_chunk.specs.Attempt.{AttemptEnd, ending_of}
 use Rattle.jb_chunk.specs.Standing.{TaskState}
 use Rattle.jb_chunk.specs.declared.outcome.Done.{Done}
 use Rattle.jb_collect.specs.declared.calls.Status.TheVariants.{Stopped, Failed, Completed}
@@ -25,11 +25,11 @@ ended_calls partition state.Finished = call.Status partition Completed ∷ []
 ended_calls partition state.Failed = call.Status partition Failed ∷ []
 
 -- of one attempt: the texts, and then the partition's status where it ended
-abbrev pub heard_of : Ending → List AnalyzerCall
+abbrev pub heard_of : AttemptEnd → List AnalyzerCall
 heard_of e = collected_calls e.task.partition e.values ++ ended_calls e.task.partition e.task.row.state
 
 -- of attempts, as those of a round by rising partition, or of all rounds one after another
-abbrev pub heard_in : List Ending → List AnalyzerCall
+abbrev pub heard_in : List AttemptEnd → List AnalyzerCall
 heard_in attempts = flat_map heard_of attempts
 
 -- before the first round: the partitions with an empty range are completed, where the step begins them; where its rows are
@@ -43,9 +43,17 @@ abbrev pub heard_last : List TaskState → List AnalyzerCall
 heard_last tasks = map (λ t. call.Status t.partition Stopped) (filter (λ t. is_waiting t.row.state) tasks)
 
 -- of a whole run of a step: by the rows that it begins with, all its attempts, and the tasks as they were left
-abbrev pub heard_by : (begun_anew : Bool) → List Row → List Ending → List TaskState → List AnalyzerCall
+abbrev pub heard_by : (begun_anew : Bool) → List Row → List AttemptEnd → List TaskState → List AnalyzerCall
 heard_by begun_anew rows attempts tasks = heard_first begun_anew rows ++ heard_in attempts ++ heard_last tasks
 
+-- the calls about a partition
+abbrev pub partition_of : AnalyzerCall → ℕ
+partition_of (call.Collected partition text) = partition
+partition_of (call.Status partition status) = partition
+
+abbrev pub calls_about : ℕ → List AnalyzerCall → List AnalyzerCall
+calls_about p calls = filter (λ one. partition_of one == p) calls
+
 -- how attempts ended, of which these tasks, outcomes and texts came back
-abbrev pub endings_of : {T : Type 0} → (T → TaskState) → List (Done T) → List Ending
+abbrev pub endings_of : {T : Type 0} → (T → TaskState) → List (Done T) → List AttemptEnd
 endings_of standing dones = map (λ d. ending_of (standing d.task) d.outcome d.values.items d.again) dones

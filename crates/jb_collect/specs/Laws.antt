@@ -1,11 +1,10 @@
 -- What holds of all calls of an analyzer.
 use Rattle.std.specs.Prelude.{◌≡◌, ℕ, ◌==◌, Option, Some, None, List, [], ◌∷◌, ◌++◌, map}
 use Rattle.std.specs.List.{filter}
-use Rattle.jb_job.specs.declared.class.ClassId.{ClassId}
-use Rattle.jb_chunk.specs.Attempt.{Ending}
+use Rattle.jb_base.specs.declared.class.ClassId.{ClassId}
+use Rattle.jb_chunk.specs.Attempt.{AttemptEnd}
 use Rattle.jb_collect.specs.declared.calls.AnalyzerCall.{AnalyzerCall}
-use Rattle.jb_collect.specs.declared.calls.AnalyzerCall.TheVariants.{Collected, Status}
-use Rattle.jb_collect.specs.Heard.{heard_in}
+use Rattle.jb_collect.specs.Heard.{calls_about, heard_in}
 use Rattle.jb_collect.specs.Taken.{Taken, HasTaken, HasTakenSome, well, faulted}
 
 -- WHICH CALLS WERE TAKEN
@@ -46,11 +45,7 @@ NoneAfterAFault =
 
 -- WHAT IS HEARD OF A PARTITION
 
-abbrev pub partition_of : AnalyzerCall → ℕ
-partition_of (Collected partition text) = partition
-partition_of (Status partition status) = partition
-
 abbrev pub PartitionsAreHeardApart : Type 0
 PartitionsAreHeardApart =
-    (p : ℕ) (attempts : List Ending)
-    → filter (λ call. partition_of call == p) (heard_in attempts) ≡ heard_in (filter (λ e. e.task.partition == p) attempts)
+    (p : ℕ) (attempts : List AttemptEnd)
+    → calls_about p (heard_in attempts) ≡ heard_in (filter (λ e. e.task.partition == p) attempts)

@@ -1,6 +1,6 @@
 pub mod Taken
 pub mod Listed
 pub mod Heard
-pub mod Reduced
+pub mod ReducerCalls
 pub mod Laws
 pub mod Worked

@@ -1,9 +1,9 @@
 -- A list of calls, one of which fails where that is planned (own choice).
 use Rattle.std.specs.Prelude.{ℕ, ◌==◌, Option, Some, None, Result, Ok, Err, if◌then◌else◌, List, map}
 use Rattle.std.specs.List.{enumerate_from}
-use Rattle.jb_job.specs.declared.class.ClassId.{ClassId}
-use Rattle.jb_job.specs.declared.artifact_error.ArtifactError.{ArtifactError}
-use Rattle.jb_job.specs.declared.artifact_error.ArtifactError.TheVariants.{Fault}
+use Rattle.jb_base.specs.declared.class.ClassId.{ClassId}
+use Rattle.jb_base.specs.declared.artifact_error.ArtifactError.{ArtifactError}
+use Rattle.jb_base.specs.declared.artifact_error.ArtifactError.TheVariants.{Fault}
 use Rattle.jb_collect.specs.Taken.{Taken}
 
 -- the calls, and the number of the one that fails, counted from 0, with the class of its fault

@@ -1,8 +1,8 @@
 -- Calls that an object took, and what it answered: all were answered well, or the last with a fault.
 use Rattle.std.specs.Prelude.{◌≡◌, Option, Some, None, MatchOption, Result, Ok, Err, List, [], ◌∷◌, ◌++◌, map}
-use Rattle.jb_job.specs.declared.class.ClassId.{ClassId}
-use Rattle.jb_job.specs.declared.artifact_error.ArtifactError.{ArtifactError}
-use Rattle.jb_job.specs.declared.artifact_error.ArtifactError.TheVariants.{Fault, Memory}
+use Rattle.jb_base.specs.declared.class.ClassId.{ClassId}
+use Rattle.jb_base.specs.declared.artifact_error.ArtifactError.{ArtifactError}
+use Rattle.jb_base.specs.declared.artifact_error.ArtifactError.TheVariants.{Fault, Memory}
 
 -- a call that was taken, and the fault with which it was answered, if it was
 pub record Taken (C : Type 0) : Type 0 where

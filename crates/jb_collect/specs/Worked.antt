@@ -12,7 +12,7 @@ use Rattle.jb_collect.specs.declared.calls.ReducerCall.TheVariants.{Begin, Befor
 use Rattle.jb_collect.specs.declared.calls.PartitionStatus.TheVariants as end
 use Rattle.jb_collect.specs.Heard.{heard_of, heard_by}
 use Rattle.jb_collect.specs.Listed.{taken_of}
-use Rattle.jb_collect.specs.Reduced.{reducer_calls, begin_failed, before_failed}
+use Rattle.jb_collect.specs.ReducerCalls.{NotBegun, before_failed, reducer_calls, run_end}
 use Rattle.jb_collect.specs.Taken.{AreTaken, well, faulted}
 
 abbrev pub text : ℕ → List ℕ → AnalyzerCall
@@ -97,15 +97,14 @@ pub record ListedCalls : Type 0 where
 
 -- THE REDUCER'S CALLS, in all cases: an earlier run's results are kept or discarded
 pub record ReducerCalls : Type 0 where
-  pub begin_fails : (discards well fails : Bool) → reducer_calls discards true well fails ≡ Begin ∷ []
-  pub completed : reducer_calls false false true false ≡ Begin ∷ Before ∷ After end.Commit ∷ []
-  pub before_fails : reducer_calls false false true true ≡ Begin ∷ Before ∷ Rollback ∷ After end.Rollback ∷ []
-  pub not_well : (fails : Bool) → reducer_calls false false false fails ≡ Begin ∷ Rollback ∷ After end.Rollback ∷ []
-  pub discarding : reducer_calls true false true false ≡ Begin ∷ Rollback ∷ Before ∷ After end.Commit ∷ []
+  pub begin_fails : (discards : Bool) → reducer_calls discards NotBegun ≡ Begin ∷ []
+  pub completed : reducer_calls false (run_end Completed false) ≡ Begin ∷ Before ∷ After end.Commit ∷ []
+  pub before_fails : reducer_calls false (run_end Completed true) ≡ Begin ∷ Before ∷ Rollback ∷ After end.Rollback ∷ []
+  pub stopped : (fails : Bool) → reducer_calls false (run_end Stopped fails) ≡ Begin ∷ Rollback ∷ After end.Rollback ∷ []
+  pub failed : (fails : Bool) → reducer_calls false (run_end Failed fails) ≡ Begin ∷ Rollback ∷ After end.Rollback ∷ []
+  pub discarding : reducer_calls true (run_end Completed false) ≡ Begin ∷ Rollback ∷ Before ∷ After end.Commit ∷ []
 
--- which of the reducer's calls was answered with a fault
+-- whether it was `before_completion` that was answered with a fault
 pub record ReducerFaults : Type 0 where
-  pub begin : begin_failed (faulted Begin class_e ∷ []) ≡ true
-  pub not_begin : begin_failed (well Begin ∷ faulted Before class_e ∷ []) ≡ false
   pub before : before_failed (well Begin ∷ faulted Before class_e ∷ []) ≡ true
   pub not_before : before_failed (well Begin ∷ well Before ∷ faulted (After end.Commit) class_e ∷ []) ≡ false

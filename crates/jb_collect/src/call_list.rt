@@ -4,7 +4,7 @@ ghost use Rattle.std.specs.Prelude.{◌≡◌, []};
 ghost use Rattle.jb_collect.specs.Listed.{planned_at, answer_with, taken_of};
 ghost use Rattle.jb_collect.specs.Taken.{TakesCall};
 
-use jb_job::{ArtifactError, ClassId};
+use jb_base::{ArtifactError, ClassId};
 use std::alloc::Global;
 use std::marker::Model;
 

@@ -8,8 +8,8 @@ ghost use Rattle.jb_collect.specs.Taken.{TakesCalls};
 use crate::calls::Status;
 use crate::interfaces::Analyzer;
 use jb_artifacts::Item;
+use jb_base::ArtifactError;
 use jb_chunk::{Done, PartitionTask};
-use jb_job::ArtifactError;
 use jb_rules::RowState;
 
 /// Tells the analyzer of the attempts of one round, given by rising partition (Jakarta Batch 2.1, "Partition Analyzer"; the

@@ -12,7 +12,7 @@ ghost use Rattle.jb_collect.specs.declared.calls.ReducerCall.TheVariants as redu
 ghost use Rattle.jb_collect.specs.Taken.{Taken, TakesCall, calls_of};
 
 use crate::calls::{AnalyzerCall, PartitionStatus, ReducerCall, Status};
-use jb_job::ArtifactError;
+use jb_base::ArtifactError;
 
 /// A partition analyzer: it is told what the partitions collected and how they ended.
 pub trait Analyzer {

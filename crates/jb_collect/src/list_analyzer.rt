@@ -7,7 +7,7 @@ use crate::call_list::CallList;
 use crate::calls::{AnalyzerCall, Status};
 use crate::interfaces::Analyzer;
 use jb_artifacts::Item;
-use jb_job::{ArtifactError, ClassId};
+use jb_base::{ArtifactError, ClassId};
 use std::alloc::Global;
 use std::marker::Model;
 

@@ -6,7 +6,7 @@ ghost use Rattle.jb_collect.specs.Listed.{taken_of};
 use crate::call_list::CallList;
 use crate::calls::{PartitionStatus, ReducerCall};
 use crate::interfaces::Reducer;
-use jb_job::{ArtifactError, ClassId};
+use jb_base::{ArtifactError, ClassId};
 use std::alloc::Global;
 use std::marker::Model;
 

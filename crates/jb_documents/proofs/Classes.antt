@@ -2,8 +2,8 @@
 use Rattle.std.proofs.Common.{◌≡◌, ℕ, ◌<◌, ◌-◌, Option, Some, Ok, option_map, min, sym, ap, subst, ◌∙◌, arith}
 use Rattle.std.proofs.Math.Nat.{min-eq_left}
 use Rattle.std.proofs.Math.Bridge.{le_prop}
-use Rattle.jb_job.specs.Limits.{max_classes}
-use Rattle.jb_job.specs.declared.class.ClassId.{ClassId}
+use Rattle.jb_base.specs.Limits.{max_classes}
+use Rattle.jb_base.specs.declared.class.ClassId.{ClassId}
 use Rattle.jb_documents.specs.Classes.{class_of}
 use Rattle.jb_documents.specs.FaultLists.{known_class}
 
@@ -14,7 +14,7 @@ same_class : (n m : ℕ) (h : n < max_classes) (k : m < max_classes) → n ≡ m
 same_class n m h k e = let P : ℕ → Type 0 = λ other. (small : other < max_classes) → numbered n h ≡ numbered other small in subst P e (λ small. ap (numbered n) (le_prop h small)) k
 
 -- a class is that of its number
-class_of-number : (class : ClassId) → class_of class.number ≡ class
+pub class_of-number : (class : ClassId) → class_of class.number ≡ class
 unfolding class_of numbered
 class_of-number class = same_class (min class.number (max_classes - 1)) class.number _ class.below (min-eq_left (omega (arith, class.below)))
 

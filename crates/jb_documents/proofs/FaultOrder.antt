@@ -9,33 +9,17 @@ use Rattle.std.proofs.lemmas.List.Sorted.{IsNonDecreasingBy-push, IsNonDecreasin
 use Rattle.serde_json.specs.Data.{Data, Items, no_items, item}
 use Rattle.serde_json.specs.Find.{as_str}
 use Rattle.jb_job.specs.declared.field.Field.{Field}
-use Rattle.jb_job.specs.Limits.{max_entries}
+use Rattle.jb_base.specs.Limits.{max_entries}
+use Rattle.jb_base.proofs.Causes.{followed, next}
+use Rattle.jb_job.proofs.Kept.{each-keeps}
 use Rattle.jb_job.specs.Reading.{Read, Fault, ◌>>=◌, shaped, ranged, whole_number, triple_at, list_at, each_after, each_at}
 use Rattle.jb_documents.specs.declared.run.faults.PlannedFault.{PlannedFault}
 use Rattle.jb_documents.specs.FaultLists.{is_past, fault_number, form_at, fault_kind, planned_fault_at, planned_faults_at}
 use Rattle.jb_documents.specs.FaultOrder.{AreInOrder}
 
--- ---- one reading after another
-
-anything : {A : Type 0} (r : Read A) → IfOk r (λ _. ⊤)
-anything (Ok x) = tt
-anything (Err e) = tt
-
-followed : {A B : Type 0} (P : A → Type 0) (Q : B → Type 0) (r : Read A) (f : A → Read B) → IfOk r P → ((x : A) → P x → IfOk (f x) Q) → IfOk (r >>= f) Q
-followed P Q (Ok x) f known go_on = go_on x known
-followed P Q (Err e) f known go_on = tt
-
-next : {A B : Type 0} (Q : B → Type 0) (r : Read A) (f : A → Read B) → ((x : A) → IfOk (f x) Q) → IfOk (r >>= f) Q
-next Q r f go_on = followed (λ _. ⊤) Q r f (anything r) (λ x _. go_on x)
-
 in-range : {A : Type 0} (P : A → Type 0) (f : Field) (inside : Bool) (x : A) → P x → IfOk (ranged f inside x) P
 in-range P f true x known = known
 in-range P f false x known = tt
-
-each-keeps : {A : Type 0} (Q : List A → Type 0) (kind : List A → Data → Read A) → ((done : List A) (d : Data) → Q done → IfOk (kind done d) (λ x. Q (done ++ x ∷ []))) → (done : List A) (items : Items) → Q done → IfOk (each_after kind done items) Q
-each-keeps Q kind keeps done no_items so_far = so_far
-each-keeps Q kind keeps done (item d ds) so_far =
-    followed (λ x. Q (done ++ x ∷ [])) Q (kind done d) (λ x. each_after kind (done ++ x ∷ []) ds) (keeps done d so_far) (λ x more. each-keeps Q kind keeps (done ++ x ∷ []) ds more)
 
 -- ---- the numbers
 

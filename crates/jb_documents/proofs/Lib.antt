@@ -1,6 +1,8 @@
 pub mod Apart
 pub mod Classes
 pub mod Counts
+pub mod DocumentRanges
+pub mod DocumentTrees
 pub mod FaultOrder
 pub mod Plain
 pub mod PlainRestart
@@ -8,3 +10,5 @@ pub mod Resumed
 pub mod TextTrees
 pub mod Trees
 pub mod Restarted
+pub mod RestartRanges
+pub mod RestartTrees

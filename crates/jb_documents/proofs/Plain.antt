@@ -15,7 +15,7 @@ use Rattle.jb_job.specs.declared.field.Field.{Field}
 use Rattle.jb_job.specs.declared.field.Field.TheVariants as field
 use Rattle.jb_job.specs.declared.job.Job.{Job}
 use Rattle.jb_job.specs.JobRecord.{job_at}
-use Rattle.jb_job.specs.Limits.{max_record, max_records}
+use Rattle.jb_base.specs.Limits.{max_record, max_records}
 use Rattle.jb_job.specs.Names.{name_of}
 use Rattle.jb_job.specs.Reading.{Read, ◌>>=◌, text_at, list_at, each_after, each_at, required, optional, tree_of, Gives}
 use Rattle.jb_job.specs.declared.error.JobError.{JobError}

@@ -10,7 +10,7 @@ use Rattle.jb_job.specs.Reading.{wrong_shape, GivesOfText, tree_of, Read, ◌>>=
 use Rattle.jb_cert.specs.declared.plans.Slot.{Slot}
 use Rattle.jb_cert.specs.declared.certificates.Certificate.{Certificate}
 use Rattle.jb_cert.specs.declared.certificates.Certificate.TheVariants.{Nothing, Longest, FullLoad}
-use Rattle.jb_job.specs.Limits.{max_place, max_threads}
+use Rattle.jb_base.specs.Limits.{max_place, max_threads}
 use Rattle.jb_cert.specs.Plans.{rounds_of}
 use Rattle.jb_documents.specs.PlanDocument.{counts_at}
 use Rattle.jb_documents.specs.declared.check.claim.PlanClaim.{PlanClaim}

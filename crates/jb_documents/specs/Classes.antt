@@ -2,8 +2,8 @@
 use Rattle.std.specs.Prelude.{ℕ, ◌-◌, min}
 use Rattle.std.proofs.Common.{suc-le-suc}
 use Rattle.std.proofs.Math.Nat.{min-le_right}
-use Rattle.jb_job.specs.Limits.{max_classes}
-use Rattle.jb_job.specs.declared.class.ClassId.{ClassId}
+use Rattle.jb_base.specs.Limits.{max_classes}
+use Rattle.jb_base.specs.declared.class.ClassId.{ClassId}
 
 -- The class of a number below the most classes of a job. A job has no other, so what a larger number gives is no matter.
 unfoldable pub class_of : ℕ → ClassId

@@ -1,8 +1,11 @@
 pub mod CheckDocument
 pub mod Classes
+pub mod DocumentRanges
+pub mod DocumentTrees
 pub mod FaultLists
 pub mod FaultOrder
 pub mod inside
+pub mod Laws
 pub mod PlanDocument
 pub mod RestartDocument
 pub mod ResumeFields

@@ -6,7 +6,7 @@ use Rattle.jb_job.specs.declared.field.Field.{Field}
 use Rattle.jb_job.specs.declared.field.Field.TheVariants as field
 use Rattle.jb_job.specs.declared.error.JobError.{JobError}
 use Rattle.jb_job.specs.Reading.{Read, ◌>>=◌, GivesOfText, tree_of, ranged, object_at, number_at, list_at, each_at, required}
-use Rattle.jb_job.specs.Limits.{max_load_partitions, max_chunks, max_threads}
+use Rattle.jb_base.specs.Limits.{max_load_partitions, max_chunks, max_threads}
 use Rattle.jb_cert.specs.Load.{Load}
 
 -- how many chunks each partition has: each count, and then their sum, within the limit

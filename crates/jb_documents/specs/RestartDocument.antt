@@ -3,13 +3,14 @@
 use Rattle.std.specs.Prelude.{◌≡◌, ℕ, List, [], ◌∷◌, ◌++◌, codes, bytes_eq, Option, Some, None, Result, Ok, Err, ◌⊎◌, if◌then◌else◌}
 use Rattle.std.specs.List.{list_any}
 use Rattle.serde_json.specs.Data.{Data}
-use Rattle.jb_job.specs.declared.error.JobError.{JobError}
+pub use Rattle.jb_base.specs.Causes.{◌>>=◌}
+use Rattle.jb_base.specs.Causes.{Cause, no_memory, of_fault, never, Answers}
 use Rattle.jb_job.specs.declared.error.JobError.TheVariants as job_error
 use Rattle.jb_job.specs.declared.field.Field.{Field}
 use Rattle.jb_job.specs.declared.field.Field.TheVariants as field
 use Rattle.jb_job.specs.JobRecord.{job_at}
 use Rattle.jb_job.specs.Names.{fault_text}
-use Rattle.jb_job.specs.Reading.{Fault, wrong_shape, out_of_range, too_many, unknown_class, Read, object_at, required, tree_of}
+use Rattle.jb_job.specs.Reading.{Fault, Read, cause_of, object_at, required, tree_of}
 use Rattle.jb_job.specs.Records.{StepRecord}
 use Rattle.jb_saved.specs.declared.place.SavedPlace.{SavedPlace}
 use Rattle.jb_saved.specs.declared.place.SavedPlace.TheVariants.{Step}
@@ -27,12 +28,6 @@ use Rattle.jb_documents.specs.RunDocument.{data_list_at}
 pub data Refusal : Type 0 where
   of_field : Fault → Refusal
   of_saved : SavedPlace → Refusal
-
--- One reading after another: the first fault ends them.
-infixl 10 ◌>>=◌
-abbrev pub ◌>>=◌ : {A B : Type 0} → Result A Refusal → (A → Result B Refusal) → Result B Refusal
-(Ok x) >>= f = f x
-(Err e) >>= f = Err e
 
 -- what fields give
 abbrev pub fields : {A : Type 0} → Read A → Result A Refusal
@@ -70,20 +65,20 @@ restart_at d = do
 
 -- ---- what code is held to
 
--- The error of a field is what reading gives, unless memory ran out. A tree never gives NotJson.
-abbrev pub FailsAtField : {Y : Type 0} → JobError → Result Y Refusal → Type 0
-FailsAtField job_error.Memory reading = Unit {0}
-FailsAtField job_error.NotJson reading = ⊥
-FailsAtField (job_error.WrongShape f) reading = reading ≡ Err (of_field (wrong_shape f))
-FailsAtField (job_error.OutOfRange f) reading = reading ≡ Err (of_field (out_of_range f))
-FailsAtField (job_error.TooMany f) reading = reading ≡ Err (of_field (too_many f))
-FailsAtField job_error.UnknownClass reading = reading ≡ Err (of_field unknown_class)
+-- a fault of a field is one of the document's
+abbrev pub in_document : Cause Fault → Cause Refusal
+in_document no_memory = no_memory
+in_document (of_fault fault) = of_fault (of_field fault)
+in_document never = never
+
+-- what an error says of a document
+abbrev pub refusal_of : RestartFault → Cause Refusal
+refusal_of (Document error) = in_document (cause_of error)
+refusal_of (Saved place) = of_fault (of_saved place)
 
 -- what a function returned is what reading gives, unless memory ran out
 abbrev pub GivesRestart : {Y : Type 0} → Result Y RestartFault → Result Y Refusal → Type 0
-GivesRestart (Ok x) reading = reading ≡ Ok x
-GivesRestart (Err (Document error)) reading = FailsAtField error reading
-GivesRestart (Err (Saved place)) reading = reading ≡ Err (of_saved place)
+GivesRestart result reading = Answers refusal_of (λ x. x) result reading
 
 -- the bytes are the JSON text of this document
 pub record IsRestart (bytes : List ℕ) (document : RestartDocument) : Type 0 where

@@ -5,7 +5,7 @@ use Rattle.serde_json.specs.Data.{Data}
 use Rattle.jb_job.specs.declared.field.Field.{Field}
 use Rattle.jb_job.specs.declared.field.Field.TheVariants as field
 use Rattle.jb_job.specs.Reading.{Read, ◌>>=◌, object_at, text_at, list_at, each_at, required, optional}
-use Rattle.jb_job.specs.Limits.{max_records, max_record, max_affix}
+use Rattle.jb_base.specs.Limits.{max_records, max_record, max_affix}
 use Rattle.jb_documents.specs.FaultLists.{no_faults, step_faults_at}
 use Rattle.jb_documents.specs.declared.run.step_data.StepData.{StepData}
 

@@ -13,6 +13,7 @@
 
 mod borrowed;
 mod check;
+mod laws;
 mod packed;
 mod plan;
 mod restart;
@@ -20,6 +21,7 @@ mod run;
 mod taken;
 
 pub use check::{PlanClaim, read_claim};
+pub use laws::{documents_have_trees, documents_keep_ranges, worked_documents};
 pub use plan::{ChunkLoad, read_load};
 pub use restart::{Outputs, RestartDocument, RestartFault, Resume, WriterTexts, read_restart};
 pub use run::{

@@ -2,8 +2,7 @@
 
 ghost use Rattle.std.specs.Prelude.{◌≡◌, IfOk};
 
-use jb_base::PackedList;
-use jb_job::Text;
+use jb_base::{PackedList, Text};
 use std::alloc::{AllocError, Global};
 
 /// The number of bytes of all texts, or the largest number, where there are more.

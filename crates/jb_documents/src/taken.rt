@@ -6,8 +6,9 @@ ghost use Rattle.serde_json.specs.View.{view, items_view};
 ghost use Rattle.jb_job.specs.Names.{name_of};
 ghost use Rattle.jb_job.specs.Reading.{GivesExactly, list_at, object_at, shaped, text_at};
 
+use jb_base::Text;
 use jb_job::kinds::{list, object};
-use jb_job::{Field, JobError, Text};
+use jb_job::{Field, JobError};
 use serde_json::Value;
 
 /// An object that has no key besides the table's. Another key is `WrongShape(unknown)`.

@@ -13,53 +13,38 @@ use Rattle.serde_json.specs.Data.{Data, Items, no_items, item}
 use Rattle.serde_json.specs.Find.{get}
 use Rattle.jb_job.specs.declared.field.Field.{Field}
 use Rattle.jb_job.specs.declared.field.Field.TheVariants as field
-use Rattle.jb_job.specs.declared.job.Range.{Range}
-use Rattle.jb_job.specs.Kept.{IsNumbered, HaveOwnIds}
+use Rattle.jb_base.specs.declared.range.Range.{Range}
+use Rattle.jb_base.specs.Range.{IsNumbered}
+use Rattle.jb_job.specs.Kept.{HaveOwnIds}
 use Rattle.jb_job.specs.JobRecord.{range_pair_at, new_id_at, chunk_at, partition_at, one_partition, step_at}
-use Rattle.jb_job.specs.Limits.{max_name, max_records}
+use Rattle.jb_base.specs.Limits.{max_name, max_records}
+use Rattle.jb_base.proofs.Causes.{followed, next, answer-has}
 use Rattle.jb_job.specs.Names.{name_of}
-use Rattle.jb_job.specs.Reading.{Read, Fault, ◌>>=◌, shaped, ranged, whole_number, pair_at, text_at, object_at, required, optional, each_after, each_at}
+use Rattle.jb_job.specs.Reading.{Read, Fault, shaped, ranged, whole_number, pair_at, text_at, object_at, required, optional, each_after, each_at}
 use Rattle.jb_job.specs.Records.{StepRecord}
 
--- ---- one reading after another
+-- ---- one reading
 
--- whatever was read
-anything : {A : Type 0} (r : Read A) → IfOk r (λ _. ⊤)
-anything (Ok x) = tt
-anything (Err e) = tt
-
--- what the second reading gives has what each of the first one's values leads to
-followed : {A B : Type 0} (P : A → Type 0) (Q : B → Type 0) (r : Read A) (f : A → Read B) → IfOk r P → ((x : A) → P x → IfOk (f x) Q) → IfOk (r >>= f) Q
-followed P Q (Ok x) f known go_on = go_on x known
-followed P Q (Err e) f known go_on = tt
-
-next : {A B : Type 0} (Q : B → Type 0) (r : Read A) (f : A → Read B) → ((x : A) → IfOk (f x) Q) → IfOk (r >>= f) Q
-next Q r f go_on = followed (λ _. ⊤) Q r f (anything r) (λ x _. go_on x)
-
-in-range : {A : Type 0} (P : A → Type 0) (f : Field) (inside : Bool) (x : A) → (inside ≡ true → P x) → IfOk (ranged f inside x) P
+pub in-range : {A : Type 0} (P : A → Type 0) (f : Field) (inside : Bool) (x : A) → (inside ≡ true → P x) → IfOk (ranged f inside x) P
 in-range P f true x known = known refl
 in-range P f false x known = tt
 
-unless : {A : Type 0} (P : A → Type 0) (refused : Bool) (fault : Fault) (x : A) → (refused ≡ false → P x) → IfOk (if refused then Err fault else Ok x) P
+pub unless : {A : Type 0} (P : A → Type 0) (refused : Bool) (fault : Fault) (x : A) → (refused ≡ false → P x) → IfOk (if refused then Err fault else Ok x) P
 unless P true fault x known = tt
 unless P false fault x known = known refl
 
 -- what each further member keeps, the whole list has
-each-keeps : {A : Type 0} (Q : List A → Type 0) (kind : List A → Data → Read A) → ((done : List A) (d : Data) → Q done → IfOk (kind done d) (λ x. Q (done ++ x ∷ []))) → (done : List A) (items : Items) → Q done → IfOk (each_after kind done items) Q
+pub each-keeps : {A : Type 0} (Q : List A → Type 0) (kind : List A → Data → Read A) → ((done : List A) (d : Data) → Q done → IfOk (kind done d) (λ x. Q (done ++ x ∷ []))) → (done : List A) (items : Items) → Q done → IfOk (each_after kind done items) Q
 each-keeps Q kind keeps done no_items so_far = so_far
 each-keeps Q kind keeps done (item d ds) so_far =
     followed (λ x. Q (done ++ x ∷ [])) Q (kind done d) (λ x. each_after kind (done ++ x ∷ []) ds) (keeps done d so_far) (λ x more. each-keeps Q kind keeps (done ++ x ∷ []) ds more)
-
--- what was read has what all that is read has
-read-has : {A : Type 0} (Q : A → Type 0) (r : Read A) (x : A) → IfOk r Q → r ≡ Ok x → Q x
-read-has {A = A} Q r x known is = subst (λ (read : Read A). IfOk read Q) is known
 
 -- ---- ranges
 
 few-enough : (lo hi : ℕ) → (nat_le lo max_records && nat_le hi max_records) ≡ true → (lo ≤ max_records) × (hi ≤ max_records)
 few-enough lo hi inside = grind (arith, nat_tests)
 
-range-numbered : (d : Data) → IfOk (range_pair_at d) IsNumbered
+pub range-numbered : (d : Data) → IfOk (range_pair_at d) IsNumbered
 unfolding range_pair_at
 range-numbered d =
     next _ (pair_at field.Ranges d) _ (λ pair. next _ (shaped field.Ranges (whole_number pair.0)) _ (λ lo. next _ (shaped field.Ranges (whole_number pair.1)) _ (λ hi.
@@ -67,12 +52,12 @@ range-numbered d =
 
 pub ranges-numbered : (items : Items) (ranges : List Range) → each_at (λ _. range_pair_at) items ≡ Ok ranges → All IsNumbered ranges
 ranges-numbered items ranges =
-    read-has (All IsNumbered) (each_at (λ _. range_pair_at) items) ranges
+    answer-has (All IsNumbered) (each_at (λ _. range_pair_at) items) ranges
     (each-keeps (All IsNumbered) (λ _. range_pair_at) (λ done d kept. IfOk-weaker (range_pair_at d) IsNumbered _ (λ x is. All-append IsNumbered done (x ∷ []) kept (All-cons IsNumbered x [] is (All-nil IsNumbered))) (range-numbered d)) [] items (All-nil IsNumbered))
 
 -- ---- steps
 
-abbrev id_of : StepRecord → List ℕ
+abbrev pub id_of : StepRecord → List ℕ
 id_of s = s.id
 
 -- no earlier step has the id
@@ -94,7 +79,7 @@ step-new classes earlier d =
     next _ (required (chunk_at classes) field.Chunk step) _ (λ chunk. next _ (optional partition_at one_partition field.Partition step) _ (λ spec. new))))
 
 -- the test of the ids, taken the other way round
-turned : (earlier : List StepRecord) (id : List ℕ) → list_any (bytes_eq id) (map id_of earlier) ≡ list_any (λ s. bytes_eq s.id id) earlier
+pub turned : (earlier : List StepRecord) (id : List ℕ) → list_any (bytes_eq id) (map id_of earlier) ≡ list_any (λ s. bytes_eq s.id id) earlier
 turned [] id = refl
 turned (s ∷ earlier) id = rw (nat_list_eq_equiv.symm id s.id, turned earlier id) refl
 
@@ -104,7 +89,7 @@ more-apart done s apart new = rw (map-append id_of done (s ∷ [])) (IsDistinct-
 pub steps-apart : (classes : List (List ℕ)) (items : Items) (steps : List StepRecord) → each_at (step_at classes) items ≡ Ok steps → HaveOwnIds steps
 unfolding IsDistinct
 steps-apart classes items steps =
-    read-has HaveOwnIds (each_at (step_at classes) items) steps
+    answer-has HaveOwnIds (each_at (step_at classes) items) steps
     (each-keeps HaveOwnIds (step_at classes) (λ done d apart. IfOk-weaker (step_at classes done d) _ _ (λ s new. more-apart done s apart new) (step-new classes done d)) [] items tt)
 
 -- one more step with an id of its own

@@ -1,4 +1,10 @@
+pub mod FieldRanges
+pub mod FieldTrees
+pub mod JobRanges
+pub mod JobTexts
+pub mod JobTrees
 pub mod Kept
 pub mod Names
+pub mod Sets
 pub mod Texts
 pub mod Trees

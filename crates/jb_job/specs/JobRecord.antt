@@ -11,12 +11,13 @@ use Rattle.serde_json.specs.Data.{Data}
 use Rattle.serde_json.specs.Find.{get, as_str}
 use Rattle.jb_job.specs.declared.field.Field.{Field}
 use Rattle.jb_job.specs.declared.field.Field.TheVariants as field
-use Rattle.jb_job.specs.declared.job.Range.{Range}
+use Rattle.jb_base.specs.declared.range.Range.{Range}
 use Rattle.jb_job.specs.declared.job.Job.{Job}
-use Rattle.jb_job.specs.Limits.{max_steps, max_name, max_classes, max_class_names, max_item_count, default_item_count, max_skip_limit, max_retry_limit, default_retry_limit, max_partitions_asked, max_threads_asked, max_ranges, max_records}
+use Rattle.jb_base.specs.Limits.{max_steps, max_name, max_classes, max_class_names, max_item_count, default_item_count, max_skip_limit, max_retry_limit, default_retry_limit, max_partitions_asked, max_threads_asked, max_ranges, max_records}
 use Rattle.jb_job.specs.Names.{name_of}
 use Rattle.jb_job.specs.Reading.{wrong_shape, unknown_class, Read, ◌>>=◌, shaped, ranged, whole_number, object_at, text_at, number_at, flag_at, list_at, each_at, pair_at, required, optional}
-use Rattle.jb_job.specs.Records.{RulesRecord, SpecRecord, StepRecord}
+use Rattle.jb_base.specs.Rules.{RulesRecord}
+use Rattle.jb_job.specs.Records.{SpecRecord, StepRecord}
 
 -- ---- exception-classes: the fault classes that the job declares, each once, in first-seen order (own)
 

@@ -1,19 +1,9 @@
 -- What the types of a job keep.
-use Rattle.std.specs.Prelude.{ℕ, ◌≡◌, ◌≤◌, List, length, map, All, IfSome, bytes_eq}
+use Rattle.std.specs.Prelude.{◌≡◌, ◌≤◌, List, length, map, All, IfSome, bytes_eq}
 use Rattle.std.specs.List.{IsDistinct}
-use Rattle.jb_job.specs.declared.job.Range.{Range}
-use Rattle.jb_job.specs.Limits.{max_name, max_partitions_asked, max_threads_asked, max_ranges, max_records, max_steps}
+use Rattle.jb_base.specs.Limits.{max_partitions_asked, max_threads_asked, max_ranges, max_steps}
+use Rattle.jb_base.specs.Range.{IsNumbered}
 use Rattle.jb_job.specs.Records.{SpecRecord, StepRecord}
-
--- the name of a job or of a step
-pub record IsName (name : List ℕ) : Type 0 where
-  pub some : 1 ≤ length name
-  pub short : length name ≤ max_name
-
--- a range of records that there may be
-pub record IsNumbered (r : Range) : Type 0 where
-  pub lo : r.lo ≤ max_records
-  pub hi : r.hi ≤ max_records
 
 -- What a step asks of its partitions: a number of even ones, or ranges of records in place of a number.
 pub record IsSpec (s : SpecRecord) : Type 0 where

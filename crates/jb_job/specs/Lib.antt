@@ -1,5 +1,7 @@
+pub mod JobRanges
+pub mod JobTree
 pub mod Kept
-pub mod Limits
+pub mod Laws
 pub mod Names
 pub mod Reading
 pub mod Records

@@ -11,6 +11,8 @@ use Rattle.serde_json.specs.Data.{Data, Items, no_items, item, Members, no_membe
 use Rattle.serde_json.specs.Events.{items_len}
 use Rattle.serde_json.specs.Find.{get, as_bool, as_number, as_str, as_array, as_object, as_u64}
 use Rattle.serde_json.specs.Read.{read}
+pub use Rattle.jb_base.specs.Causes.{◌>>=◌}
+use Rattle.jb_base.specs.Causes.{Cause, no_memory, of_fault, never, with_memory, Answers}
 use Rattle.jb_job.specs.declared.error.JobError.{JobError}
 use Rattle.jb_job.specs.declared.error.JobError.TheVariants.{NotJson, WrongShape, OutOfRange, TooMany, UnknownClass, Memory}
 use Rattle.jb_job.specs.declared.field.Field.{Field}
@@ -28,41 +30,24 @@ pub data Fault : Type 0 where
 abbrev pub Read : Type 0 → Type 0
 Read A = Result A Fault
 
--- One reading after another: the first fault ends them.
-infixl 10 ◌>>=◌
-abbrev pub ◌>>=◌ : {A B : Type 0} → Read A → (A → Read B) → Read B
-(Ok x) >>= f = f x
-(Err e) >>= f = Err e
-
 -- ---- what code is held to
 
--- The error is what reading gives, unless memory ran out. A tree never gives NotJson.
-abbrev pub Fails : {Y : Type 0} → JobError → Read Y → Type 0
-Fails Memory read = Unit {0}
-Fails NotJson read = ⊥
-Fails (WrongShape f) read = read ≡ Err (wrong_shape f)
-Fails (OutOfRange f) read = read ≡ Err (out_of_range f)
-Fails (TooMany f) read = read ≡ Err (too_many f)
-Fails UnknownClass read = read ≡ Err unknown_class
-
--- The error is what reading gives. Nothing took memory, so none ran out.
-abbrev pub FailsExactly : {Y : Type 0} → JobError → Read Y → Type 0
-FailsExactly Memory read = ⊥
-FailsExactly NotJson read = ⊥
-FailsExactly (WrongShape f) read = read ≡ Err (wrong_shape f)
-FailsExactly (OutOfRange f) read = read ≡ Err (out_of_range f)
-FailsExactly (TooMany f) read = read ≡ Err (too_many f)
-FailsExactly UnknownClass read = read ≡ Err unknown_class
+-- What an error says of a tree, which never gives NotJson.
+abbrev pub cause_of : JobError → Cause Fault
+cause_of Memory = no_memory
+cause_of NotJson = never
+cause_of (WrongShape f) = of_fault (wrong_shape f)
+cause_of (OutOfRange f) = of_fault (out_of_range f)
+cause_of (TooMany f) = of_fault (too_many f)
+cause_of UnknownClass = of_fault unknown_class
 
 -- What a function that takes no memory returned, seen by view, is what reading gives.
 abbrev pub GivesExactly : {X Y : Type 0} → (X → Y) → Result X JobError → Read Y → Type 0
-GivesExactly view (Ok x) read = read ≡ Ok (view x)
-GivesExactly view (Err e) read = FailsExactly e read
+GivesExactly view result read = Answers (λ e. with_memory (cause_of e)) view result read
 
 -- What a function returned, seen by view, is what reading gives, unless memory ran out.
 abbrev pub Gives : {X Y : Type 0} → (X → Y) → Result X JobError → Read Y → Type 0
-Gives view (Ok x) read = read ≡ Ok (view x)
-Gives view (Err e) read = Fails e read
+Gives view result read = Answers cause_of view result read
 
 -- ---- kinds of fields
 

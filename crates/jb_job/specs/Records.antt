@@ -1,13 +1,7 @@
 -- What contracts see of the parts of a job: plain records, whose ranges the types keep.
 use Rattle.std.specs.Prelude.{ℕ, Bool, List, Option}
-use Rattle.jb_job.specs.declared.job.Range.{Range}
-
-pub record RulesRecord : Type 0 where
-  pub skippable : ℕ
-  pub retryable : ℕ
-  pub no_rollback : ℕ
-  pub skip_limit : Option ℕ
-  pub retry_limit : ℕ
+use Rattle.jb_base.specs.declared.range.Range.{Range}
+use Rattle.jb_base.specs.Rules.{RulesRecord}
 
 pub record SpecRecord : Type 0 where
   pub partitions : ℕ

@@ -4,7 +4,7 @@ ghost use Rattle.std.specs.Prelude.{◌≡◌, ◌≤◌, IfOk, None};
 ghost use Rattle.std.specs.Option.{ForSome};
 ghost use Rattle.serde_json.specs.View.{view};
 ghost use Rattle.jb_job.specs.Reading.{Gives, GivesExactly, number_at, optional};
-ghost use Rattle.jb_job.specs.Limits.{max_item_count, default_item_count, max_skip_limit, max_retry_limit, default_retry_limit};
+ghost use Rattle.jb_base.specs.Limits.{max_item_count, default_item_count, max_skip_limit, max_retry_limit, default_retry_limit};
 ghost use Rattle.jb_job.specs.JobRecord.{limit_at, chunk_at};
 ghost use Rattle.jb_job.specs.declared.field.Field.TheVariants as field;
 
@@ -13,10 +13,9 @@ use crate::classes::Classes;
 use crate::error::JobError;
 use crate::field::Field;
 use crate::kinds::{number, object};
-use crate::limits::{
-    DEFAULT_ITEM_COUNT, DEFAULT_RETRY_LIMIT, MAX_ITEM_COUNT, MAX_RETRY_LIMIT, MAX_SKIP_LIMIT,
+use jb_base::{
+    DEFAULT_ITEM_COUNT, DEFAULT_RETRY_LIMIT, MAX_ITEM_COUNT, MAX_RETRY_LIMIT, MAX_SKIP_LIMIT, Rules,
 };
-use crate::rules::Rules;
 use serde_json::Value;
 use std::alloc::Global;
 

@@ -2,7 +2,7 @@
 
 ghost use Rattle.std.specs.Prelude.{◌≡◌, ◌≤◌, ◌+◌, length, map, string_bytes, OnOk, IfOk, IfErr};
 ghost use Rattle.serde_json.specs.View.{view, items_view};
-ghost use Rattle.jb_job.specs.Limits.{max_classes};
+ghost use Rattle.jb_base.specs.Limits.{max_classes};
 ghost use Rattle.jb_job.specs.Reading.{Gives};
 ghost use Rattle.jb_job.specs.JobRecord.{class_name_at, with_name, distinct, classes_at};
 ghost use Rattle.jb_job.specs.declared.error.JobError.TheVariants.{Memory};
@@ -12,8 +12,8 @@ use crate::classes::Classes;
 use crate::error::JobError;
 use crate::field::Field;
 use crate::kinds::{each, list, text};
-use crate::limits::{MAX_CLASSES, MAX_NAME};
 use indexmap::IndexSet;
+use jb_base::{MAX_CLASSES, MAX_NAME};
 use serde_json::Value;
 use std::alloc::Global;
 use std::marker::Brand;

@@ -11,7 +11,7 @@ use crate::classes::Classes;
 use crate::error::JobError;
 use crate::field::Field;
 use crate::kinds::{each, list, object};
-use crate::limits::MAX_CLASS_NAMES;
+use jb_base::MAX_CLASS_NAMES;
 use serde_json::Value;
 use std::alloc::Global;
 use std::marker::Brand;

@@ -1,7 +1,7 @@
 //! The fault classes that a job declares.
 
-use crate::class::ClassId;
 use indexmap::IndexSet;
+use jb_base::ClassId;
 use std::fmt;
 use std::marker::Model;
 
@@ -15,7 +15,7 @@ pub struct Classes {
 
 impl Model for Classes {
     ghost use Rattle.std.specs.Prelude.{ℕ, List, map, length, string_bytes, ◌≤◌};
-    ghost use Rattle.jb_job.specs.Limits.{max_classes};
+    ghost use Rattle.jb_base.specs.Limits.{max_classes};
 
     ghost Value = { List (List ℕ) };
 
@@ -26,7 +26,7 @@ impl Model for Classes {
 
 impl Classes {
     ghost use Rattle.std.specs.Prelude.{◌≡◌, ◌≤◌, ◌<◌, length, map, position, bytes_eq, string_bytes, option_map, IfSome};
-    ghost use Rattle.jb_job.specs.Limits.{max_classes};
+    ghost use Rattle.jb_base.specs.Limits.{max_classes};
 
     /// The classes of a set of at most 64 names.
     pub fn new(names: IndexSet<String>) -> Classes

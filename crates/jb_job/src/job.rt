@@ -1,20 +1,9 @@
 //! A job and its parts.
 
-use crate::class::ClassId;
 use crate::classes::Classes;
-use crate::lists::{Ranges, Steps};
-use crate::name::Name;
-use crate::rules::Rules;
+use crate::steps::Steps;
+use jb_base::{ClassId, Name, Ranges, Rules};
 use std::marker::Model;
-
-/// The records numbered from `lo` to `hi - 1`.
-#[derive(Clone, Copy, Debug, PartialEq, Eq)]
-pub struct Range {
-    /// The first record.
-    pub lo: u64,
-    /// One past the last record.
-    pub hi: u64,
-}
 
 /// What a step asks of its partitions.
 ///
@@ -40,8 +29,8 @@ impl Model for Spec {
 
 impl Spec {
     ghost use Rattle.std.specs.Prelude.{◌≡◌, ◌≤◌, All, IfSome, length, option_map};
-    ghost use Rattle.jb_job.specs.Kept.{IsNumbered};
-    ghost use Rattle.jb_job.specs.Limits.{max_partitions_asked, max_ranges, max_threads_asked};
+    ghost use Rattle.jb_base.specs.Range.{IsNumbered};
+    ghost use Rattle.jb_base.specs.Limits.{max_partitions_asked, max_ranges, max_threads_asked};
     ghost use Rattle.jb_job.specs.Records.{SpecRecord};
 
     /// The values of 1 to 4,096 partitions and at most 4,096 threads; or of at most 4,096 ranges of records numbered to
@@ -118,7 +107,7 @@ pub struct Step {
 
 impl Model for Step {
     ghost use Rattle.std.specs.Prelude.{◌≤◌};
-    ghost use Rattle.jb_job.specs.Limits.{max_item_count};
+    ghost use Rattle.jb_base.specs.Limits.{max_item_count};
     ghost use Rattle.jb_job.specs.Records.{StepRecord};
 
     ghost Value = { StepRecord };
@@ -130,8 +119,8 @@ impl Model for Step {
 
 impl Step {
     ghost use Rattle.std.specs.Prelude.{◌≡◌, ◌≤◌};
-    ghost use Rattle.jb_job.specs.Kept.{IsName};
-    ghost use Rattle.jb_job.specs.Limits.{max_item_count};
+    ghost use Rattle.jb_base.specs.Name.{IsName};
+    ghost use Rattle.jb_base.specs.Limits.{max_item_count};
 
     /// A step of an item count of 1 to 1,000,000.
     pub fn new(id: Name, item_count: u64, rules: Rules, spec: Spec) -> Step

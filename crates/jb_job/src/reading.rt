@@ -3,8 +3,8 @@
 ghost use Rattle.std.specs.Prelude.{◌≡◌, ◌≤◌, [], IfOk, length};
 ghost use Rattle.serde_json.specs.View.{view, items_view};
 ghost use Rattle.jb_job.specs.Reading.{Gives, GivesExactly, GivesOfText, each_at, optional, required, text_at, tree_of};
-ghost use Rattle.jb_job.specs.Kept.{IsName};
-ghost use Rattle.jb_job.specs.Limits.{max_name, max_steps};
+ghost use Rattle.jb_base.specs.Name.{IsName};
+ghost use Rattle.jb_base.specs.Limits.{max_name, max_steps};
 ghost use Rattle.jb_job.specs.JobRecord.{classes_at, new_id_at, one_partition, partition_at, steps_at, step_at, job_at};
 ghost use Rattle.jb_job.specs.declared.field.Field.TheVariants as field;
 
@@ -15,12 +15,11 @@ use crate::error::JobError;
 use crate::field::Field;
 use crate::job::{Job, Spec, Step};
 use crate::kinds::{each, list, object, required, text};
-use crate::limits::{MAX_NAME, MAX_STEPS};
-use crate::lists::{Steps, has_id};
-use crate::name::Name;
 use crate::partition::partition_spec;
+use crate::steps::{Steps, has_id};
 use crate::tree::read_tree;
 use indexmap::IndexSet;
+use jb_base::{MAX_NAME, MAX_STEPS, Name};
 use serde_json::Value;
 use std::alloc::Global;
 use std::marker::Brand;

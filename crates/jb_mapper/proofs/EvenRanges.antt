@@ -4,7 +4,7 @@ use Rattle.std.proofs.Math.Nat.{mul-le-mul_right, div-add-mod, mod-lt, suc-mul, 
 use Rattle.std.specs.Prelude.{min, nat_lt, if◌then◌else◌, All}
 use Rattle.std.proofs.lemmas.List.FromFn.{get_or-map-range_with_len, length-map-range_with_len}
 use Rattle.std.proofs.lemmas.Bool.{ltb-true, ltb-false}
-use Rattle.jb_job.specs.declared.job.Range.{Range}
+use Rattle.jb_base.specs.declared.range.Range.{Range}
 use Rattle.jb_plan.specs.Plans.{IsWithin}
 use Rattle.jb_plan.specs.Ranges.{HaveNoneInCommon, AreDisjoint}
 use Rattle.jb_mapper.specs.EvenCover.{bound, even_range, even_ranges, ith_range, HasRecord, IsEvenCover}

@@ -1,7 +1,7 @@
 -- How records are divided evenly among partitions.
 use Rattle.std.specs.Prelude.{ℕ, ◌≡◌, ◌+◌, ◌-◌, ◌*◌, ◌/◌, ◌%◌, ◌<◌, ◌≤◌, if◌then◌else◌, nat_lt, min, List, length, map, slice_index_or}
 use Rattle.std.specs.List.{range_with_len}
-use Rattle.jb_job.specs.declared.job.Range.{Range}
+use Rattle.jb_base.specs.declared.range.Range.{Range}
 
 -- the records of the first i ranges: each has as many as divide evenly, and the first ones have one more of the rest
 abbrev pub bound : (records parts i : ℕ) → ℕ

@@ -1,6 +1,6 @@
 -- What a partition mapper means.
 use Rattle.std.specs.Prelude.{ℕ, Bool, Result, Ok}
-use Rattle.jb_job.specs.declared.class.ClassId.{ClassId}
+use Rattle.jb_base.specs.declared.class.ClassId.{ClassId}
 use Rattle.jb_plan.specs.declared.plan.PartitionPlan.{PartitionPlan}
 use Rattle.jb_mapper.specs.EvenCover.{even_ranges}
 

@@ -2,12 +2,12 @@
 
 ghost use Rattle.std.specs.Prelude.{◌≡◌, ◌≤◌, ◌<◌, IfOk};
 ghost use Rattle.jb_plan.specs.Plans.{IsRunnable};
-ghost use Rattle.jb_job.specs.Limits.{max_partitions, max_partitions_asked, max_threads_asked};
+ghost use Rattle.jb_base.specs.Limits.{max_partitions, max_partitions_asked, max_threads_asked};
 ghost use Rattle.jb_mapper.specs.EvenCover.{bound, even_ranges, IsEvenCover};
 ghost use Rattle.jb_mapper.specs.Mapping.{even};
 
 use crate::mapper::PartitionMapper;
-use jb_job::{ArtifactError, Range, Ranges};
+use jb_base::{ArtifactError, Range, Ranges};
 use jb_plan::PartitionPlan;
 use std::alloc::{AllocError, Global};
 

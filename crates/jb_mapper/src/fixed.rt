@@ -4,7 +4,7 @@ ghost use Rattle.std.specs.Prelude.{◌≡◌};
 ghost use Rattle.jb_mapper.specs.Mapping.{fixed};
 
 use crate::mapper::PartitionMapper;
-use jb_job::ArtifactError;
+use jb_base::ArtifactError;
 use jb_plan::PartitionPlan;
 
 /// A mapper that answers a copy of its plan, whatever the number of records.

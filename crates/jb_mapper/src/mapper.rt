@@ -1,10 +1,10 @@
 //! The interface of a partition mapper.
 
 ghost use Rattle.std.specs.Prelude.{◌≡◌, Ok, Err, IfOk};
-ghost use Rattle.jb_job.specs.declared.class.ClassId.{ClassId};
+ghost use Rattle.jb_base.specs.declared.class.ClassId.{ClassId};
 ghost use Rattle.jb_mapper.specs.Mapping.{Mapping};
 
-use jb_job::ArtifactError;
+use jb_base::ArtifactError;
 use jb_plan::PartitionPlan;
 
 /// Divides the records of a step among partitions (Jakarta Batch 2.1, "Partition Mapper").

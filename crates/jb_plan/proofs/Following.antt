@@ -5,7 +5,7 @@ use Rattle.std.specs.List.{range_with_len}
 use Rattle.std.proofs.lemmas.Bool.{ltb-true, ltb-false}
 use Rattle.std.proofs.lemmas.Bool.Decides.{nat_tests}
 use Rattle.std.proofs.Math.Nat.{suc-mul, zero-mul, one-mul, div-eq_of_lt, add-div_right}
-use Rattle.jb_job.specs.declared.job.Range.{Range}
+use Rattle.jb_base.specs.declared.range.Range.{Range}
 use Rattle.jb_plan.specs.Blocks.{single, singles, block, full_blocks, blocks, next_block, IsNext, ChunksFollow}
 use Rattle.jb_plan.proofs.BlockLists.{begins_by, few_blocks, left_is, left-few}
 

@@ -3,11 +3,11 @@ use Rattle.std.proofs.Common.{◌≡◌, ℕ, zero, suc, ◌+◌, ◌≤◌, ◌
 use Rattle.std.specs.Prelude.{max, min, nat_lt, ◌==◌, All, Result, Ok, Err, is_ok, IsTrue, ◌↔◌}
 use Rattle.std.proofs.lemmas.List.Kept.{AllPairs-cons}
 use Rattle.std.proofs.lemmas.Bool.Decides.{nat_tests}
-use Rattle.jb_job.specs.declared.job.Range.{Range}
+use Rattle.jb_base.specs.declared.range.Range.{Range}
 use Rattle.jb_plan.specs.declared.fault.PlanError.{PlanError}
 use Rattle.jb_plan.specs.declared.fault.PlanError.TheVariants.{NoPartition, Reversed, PastEnd, Overlap, Threads}
 use Rattle.jb_plan.specs.declared.plan.PartitionPlan.{PartitionPlan}
-use Rattle.jb_job.specs.Limits.{max_partitions, max_threads_asked}
+use Rattle.jb_base.specs.Limits.{max_partitions, max_threads_asked}
 use Rattle.jb_plan.specs.Plans.{IsWithin, IsRunnable}
 use Rattle.jb_plan.specs.Ranges.{HaveNoneInCommon, AreDisjoint, do_overlap}
 use Rattle.jb_plan.specs.Faults.{error_if, bound_errors, overlaps_with, overlap_errors, range_errors, plan_errors, IsFirst}
@@ -41,7 +41,7 @@ none-within records i (r ∷ ranges) all =
     let rest = none-within records (i + 1) ranges (λ k d lt. all (suc k) d (omega arith)) in
     rw (forward, inside) rest
 
-apart : (r s : Range) → do_overlap r s ≡ false → HaveNoneInCommon r s
+pub apart : (r s : Range) → do_overlap r s ≡ false → HaveNoneInCommon r s
 apart r s none x a b c d = let le : min r.hi s.hi ≤ max r.lo s.lo = grind (arith, nat_tests) in omega (arith, le, a, b, c, d)
 
 no_overlap : (here : Bool) (r s : Range) → do_overlap r s ≡ here → HaveNoneInCommon r s → here ≡ false

@@ -1,7 +1,7 @@
 -- The chunks that are left of a range of records.
 use Rattle.std.specs.Prelude.{ℕ, ◌+◌, ◌-◌, ◌*◌, ◌/◌, if◌then◌else◌, nat_lt, ◌==◌, min, max, Option, Some, None, unwrap_or, slice_get, List, [], ◌∷◌, ◌++◌, length, map, filter, drop, ◌≡◌, ◌≤◌, ◌<◌}
 use Rattle.std.specs.List.{range_with_len}
-use Rattle.jb_job.specs.declared.job.Range.{Range}
+use Rattle.jb_base.specs.declared.range.Range.{Range}
 
 -- the one record x
 abbrev pub single : (x : ℕ) → Range

@@ -1,10 +1,10 @@
 -- What is wrong with a partition plan, as the list of its errors in the order in which they are answered.
 use Rattle.std.specs.Prelude.{◌≡◌, ℕ, ◌+◌, ◌==◌, nat_lt, Bool, if◌then◌else◌, List, [], ◌∷◌, ◌++◌, length, slice_get, Some}
-use Rattle.jb_job.specs.declared.job.Range.{Range}
+use Rattle.jb_base.specs.declared.range.Range.{Range}
 use Rattle.jb_plan.specs.declared.fault.PlanError.{PlanError}
 use Rattle.jb_plan.specs.declared.fault.PlanError.TheVariants.{NoPartition, TooMany, Reversed, PastEnd, Overlap, Threads}
 use Rattle.jb_plan.specs.declared.plan.PartitionPlan.{PartitionPlan}
-use Rattle.jb_job.specs.Limits.{max_partitions, max_threads_asked}
+use Rattle.jb_base.specs.Limits.{max_partitions, max_threads_asked}
 use Rattle.jb_plan.specs.Ranges.{do_overlap}
 
 -- this error, where the condition holds

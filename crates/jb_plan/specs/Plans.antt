@@ -1,9 +1,9 @@
 -- Partition plans that can be run.
 use Rattle.std.specs.Prelude.{ℕ, ◌≤◌, ◌==◌, if◌then◌else◌, min, Bool, List, length, All}
-use Rattle.jb_job.specs.declared.job.Range.{Range}
+use Rattle.jb_base.specs.declared.range.Range.{Range}
 use Rattle.jb_plan.specs.declared.plan.PartitionPlan.{PartitionPlan}
 use Rattle.jb_plan.specs.Ranges.{AreDisjoint}
-use Rattle.jb_job.specs.Limits.{max_partitions, max_records, max_threads, max_threads_asked}
+use Rattle.jb_base.specs.Limits.{max_partitions, max_records, max_threads, max_threads_asked}
 
 -- a range of records below `records`; it may be empty
 abbrev pub IsWithin : (records : ℕ) → Range → Type 0

@@ -1,6 +1,6 @@
 -- Ranges that have no record in common.
 use Rattle.std.specs.Prelude.{ℕ, ◌≤◌, ◌<◌, nat_lt, min, max, Bool, List, AllPairs}
-use Rattle.jb_job.specs.declared.job.Range.{Range}
+use Rattle.jb_base.specs.declared.range.Range.{Range}
 
 -- no record stands in both ranges; so an empty range has none in common with any
 abbrev pub HaveNoneInCommon : Range → Range → Type 0

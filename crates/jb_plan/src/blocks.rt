@@ -1,10 +1,10 @@
 //! The chunks that are left of a range of records.
 
 ghost use Rattle.std.specs.Prelude.{◌≡◌, ◌≤◌, ◌-◌, List, slice_get, IfSome};
-ghost use Rattle.jb_job.specs.Limits.{max_item_count, max_records};
+ghost use Rattle.jb_base.specs.Limits.{max_item_count, max_records};
 ghost use Rattle.jb_plan.specs.Blocks.{blocks, left, first_block, blocks_left, IsNext, ChunksFollow};
 
-use jb_job::Range;
+use jb_base::Range;
 
 /// The next chunk of the records from `at` to below `hi`, or none where nothing is left.
 ///

@@ -1,7 +1,7 @@
 //! The check of a partition plan.
 
 ghost use Rattle.std.specs.Prelude.{◌≡◌, ◌≤◌, ◌<◌, ◌+◌, ◌↔◌, [], length, drop, IsTrue, IsOk, IfOk, IfErr};
-ghost use Rattle.jb_job.specs.Limits.{max_records};
+ghost use Rattle.jb_base.specs.Limits.{max_records};
 ghost use Rattle.jb_plan.specs.Plans.{IsRunnable, checked_plan};
 ghost use Rattle.jb_plan.specs.Faults.{bound_errors, overlaps_with, overlap_errors, range_errors, plan_errors, IsFirst};
 ghost use Rattle.jb_plan.specs.inside.Found.{FindsFirst};
@@ -9,10 +9,10 @@ ghost use Rattle.jb_plan.specs.Ranges.{do_overlap, AreDisjoint};
 
 use crate::fault::PlanError;
 use crate::plan::{Checked, PartitionPlan};
-use jb_job::{MAX_PARTITIONS, MAX_THREADS_ASKED, Range};
+use jb_base::{MAX_PARTITIONS, MAX_THREADS_ASKED, Range};
 
 /// Whether some record stands in both ranges.
-fn do_overlap(left: Range, right: Range) -> bool
+pub fn do_overlap(left: Range, right: Range) -> bool
     ensures { result ≡ do_overlap left right }
 {
     left.lo.max(right.lo) < left.hi.min(right.hi)

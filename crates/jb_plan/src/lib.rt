@@ -12,6 +12,6 @@ mod fault;
 mod plan;
 
 pub use blocks::{chunks_follow_one_another, chunks_left, next_chunk};
-pub use checking::{are_disjoint, checked, ranges_in};
+pub use checking::{are_disjoint, checked, do_overlap, ranges_in};
 pub use fault::PlanError;
 pub use plan::{Checked, PartitionPlan};

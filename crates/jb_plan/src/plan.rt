@@ -1,10 +1,10 @@
 //! Partition plans, and plans that were checked.
 
 ghost use Rattle.std.specs.Prelude.{◌≡◌, ◌≤◌};
-ghost use Rattle.jb_job.specs.Limits.{max_records, max_threads};
+ghost use Rattle.jb_base.specs.Limits.{max_records, max_threads};
 ghost use Rattle.jb_plan.specs.Plans.{IsRunnable, IsCheckedPlan, checked_plan, threads_of};
 
-use jb_job::{MAX_THREADS, Range, Ranges};
+use jb_base::{MAX_THREADS, Range, Ranges};
 use std::marker::Model;
 
 /// How a step's records are to be partitioned (Jakarta Batch 2.1, "Partition Plan"; the ranges are this project's own).

@@ -5,7 +5,7 @@ use Rattle.std.proofs.Math.Path.{fun_ext}
 use Rattle.std.proofs.lemmas.Bool.Decides.{nat_tests}
 use Rattle.std.proofs.lemmas.List.{reverse-append, append-nil, take-append-drop, get_or-take, get_or-drop, length-take-le, length-drop}
 use Rattle.std.proofs.lemmas.List.Elements.{filter-append}
-use Rattle.jb_job.specs.declared.job.Range.{Range}
+use Rattle.jb_base.specs.declared.range.Range.{Range}
 use Rattle.jb_artifacts.specs.Faults.{with_plan}
 use Rattle.jb_documents.specs.declared.run.faults.PlannedFault.{PlannedFault}
 use Rattle.jb_program.specs.PartitionRun.{is_of_range, fault_plan_by, fault_plan_of, fault_plans}

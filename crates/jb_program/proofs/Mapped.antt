@@ -1,6 +1,6 @@
 -- The plan that a mapper answered.
 use Rattle.std.proofs.Common.{◌≡◌, Result, Ok, Err, ap, sym}
-use Rattle.jb_job.specs.declared.class.ClassId.{ClassId}
+use Rattle.jb_base.specs.declared.class.ClassId.{ClassId}
 use Rattle.jb_plan.specs.declared.plan.PartitionPlan.{PartitionPlan}
 
 plan_in : PartitionPlan → Result PartitionPlan ClassId → PartitionPlan

@@ -8,7 +8,7 @@ use Rattle.std.proofs.lemmas.List.Elements.{All-from_recursion}
 use Rattle.jb_job.specs.Records.{StepRecord}
 use Rattle.jb_job.specs.Reading.{Read, out_of_range, wrong_shape}
 use Rattle.jb_job.specs.declared.field.Field.TheVariants as field
-use Rattle.jb_job.specs.declared.job.Range.{Range}
+use Rattle.jb_base.specs.declared.range.Range.{Range}
 use Rattle.jb_plan.specs.Plans.{IsRunnable, IsWithin}
 use Rattle.jb_plan.specs.declared.plan.PartitionPlan.{PartitionPlan}
 use Rattle.jb_rules.specs.Rows.{dropped_row, fresh_row, range_of}

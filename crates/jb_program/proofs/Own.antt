@@ -1,5 +1,5 @@
 -- What the program's own artifacts mean.
-use Rattle.jb_artifacts.specs.Meaning.{Workplace}
+use Rattle.jb_artifacts.specs.Meaning.{ArtifactsMeaning}
 use Rattle.jb_artifacts.specs.declared.packed_artifacts.PackedArtifacts.{PackedArtifacts}
 use Rattle.jb_artifacts.specs.declared.table_reader.TableReader.{TableReader}
 use Rattle.jb_artifacts.specs.declared.prefix_processor.PrefixProcessor.{PrefixProcessor}
@@ -10,7 +10,7 @@ use Rattle.jb_artifacts.specs.contracts.prefix_processor.PrefixProcessorItemProc
 use Rattle.jb_artifacts.specs.contracts.list_writer.ListWriterItemWriter.TheImpl as writer_of
 use Rattle.jb_artifacts.specs.contracts.count_collector.CountCollectorCollector.TheImpl as collector_of
 
-abbrev pub own_work : PackedArtifacts TableReader PrefixProcessor ListWriter CountCollector → Workplace
+abbrev pub own_work : PackedArtifacts TableReader PrefixProcessor ListWriter CountCollector → ArtifactsMeaning
 own_work own = record {
   reader = (reader_of.ghosts).reader own.reader;
   processor = (processor_of.ghosts).processor own.processor;

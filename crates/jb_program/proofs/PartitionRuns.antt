@@ -5,21 +5,21 @@ use Rattle.std.proofs.lemmas.List.{length-take-le}
 use Rattle.std.specs.List.{enumerate_from, zip, AllByRecursion}
 use Rattle.std.specs.Str.Lossy.{utf8_lossy}
 use Rattle.std.proofs.lemmas.Bool.Decides.{nat_tests}
-use Rattle.jb_job.specs.Limits.{max_retry_limit}
+use Rattle.jb_base.specs.Limits.{max_retry_limit}
 use Rattle.jb_job.specs.Records.{StepRecord}
 use Rattle.jb_rules.specs.Rows.{fresh_row}
 use Rattle.jb_rules.specs.States.{has_ended, is_finished}
 use Rattle.jb_rules.specs.declared.row.Row.{Row}
-use Rattle.jb_artifacts.specs.Meaning.{Workplace}
+use Rattle.jb_artifacts.specs.Meaning.{ArtifactsMeaning}
 use Rattle.jb_chunk.specs.Alone.{IsAlone, IsOnTheWay, IsRunOf}
-use Rattle.jb_chunk.specs.Attempt.{Ending, again_of, end_of, ending_by, task_after_repeats, trial_of}
-use Rattle.jb_chunk.specs.declared.end.End.{End}
-use Rattle.jb_chunk.specs.declared.end.End.TheVariants as end
+use Rattle.jb_chunk.specs.Attempt.{AttemptEnd, after_repeats, again_of, end_of, ending_by}
+use Rattle.jb_chunk.specs.declared.chunk_end.ChunkEnd.{ChunkEnd}
+use Rattle.jb_chunk.specs.declared.chunk_end.ChunkEnd.TheVariants as end
 use Rattle.jb_chunk.specs.Standing.{HasItemCount, IsReady, TaskState, started}
 use Rattle.jb_repo.specs.declared.snapshot.Snapshot.{Snapshot}
-use Rattle.jb_step.specs.Ending.{tasks_left}
+use Rattle.jb_step.specs.Answers.{tasks_left}
 use Rattle.jb_step.specs.Setup.{Setup, row_now, rows_now}
-use Rattle.jb_step.specs.Ways.{AreOnTheWay}
+use Rattle.jb_step.specs.Alone.{AreOnTheWay}
 use Rattle.jb_documents.specs.declared.run.step_data.StepData.{StepData}
 use Rattle.jb_texts.specs.Report.{PartitionReport}
 use Rattle.jb_program.specs.declared.run.settings.StepSettings.{StepSettings}
@@ -70,26 +70,25 @@ leaves below settings records outputs p row left kept is way =
 
 -- ---- an attempt leaves the partition's number as it is
 
-partition-by : (t : TaskState) (again : ℕ) (e : End) → (ending_by t again e).task.partition ≡ t.partition
-partition-by t again end.Written = refl
-partition-by t again end.Unwritten = refl
+partition-by : (t : TaskState) (again : ℕ) (e : ChunkEnd) → (ending_by t again e).task.partition ≡ t.partition
+partition-by t again (end.Committed delta) = refl
 partition-by t again (end.Rolled class) = refl
 partition-by t again (end.Failed class) = refl
 
-same-number : (t s : TaskState) (attempts : List Ending) → IsRunOf t attempts s → s.partition ≡ t.partition
+same-number : (t s : TaskState) (attempts : List AttemptEnd) → IsRunOf t attempts s → s.partition ≡ t.partition
 same-number t s [] run = ap (λ (u : TaskState). u.partition) run
-same-number t s (e ∷ es) run = same-number e.task s es run.2 ∙ ap (λ (f : Ending). f.task.partition) run.1 ∙ partition-by (task_after_repeats t) (again_of t) (end_of (trial_of (task_after_repeats t)))
+same-number t s (e ∷ es) run = same-number e.task s es run.2 ∙ ap (λ (f : AttemptEnd). f.task.partition) run.1 ∙ partition-by (after_repeats t) (again_of t) (end_of (after_repeats t))
 
 -- ---- all partitions
 
 -- a partition's report by what is left of all
-abbrev pub report_at : (outputs : List (List (List ℕ))) → List TaskState → List (ℕ × Workplace) → ℕ × Row → PartitionReport
+abbrev pub report_at : (outputs : List (List (List ℕ))) → List TaskState → List (ℕ × ArtifactsMeaning) → ℕ × Row → PartitionReport
 report_at outputs table left n = record {
   row = row_now table n.0 n.1;
   outputs = outputs_in (committed_of outputs (n.0, row_now table n.0 n.1)) (find (λ one. one.0 == n.0) left);
 }
 
-abbrev pub reports_from : (outputs : List (List (List ℕ))) → List TaskState → List (ℕ × Workplace) → ℕ → List Row → List PartitionReport
+abbrev pub reports_from : (outputs : List (List (List ℕ))) → List TaskState → List (ℕ × ArtifactsMeaning) → ℕ → List Row → List PartitionReport
 reports_from outputs table left k rows = map (report_at outputs table left) (enumerate_from k rows)
 
 -- the first tasks, where these partitions are to be run
@@ -97,25 +96,25 @@ abbrev tasks_of : StepRecord → StepData → (outputs : List (List (List ℕ)))
 tasks_of step supply outputs ns = map (λ n. started n.0.0 n.0.1 step.rules step.item_count n.1) (zip ns (map (work_for (settings_of step supply) supply.records outputs) ns))
 
 -- a partition that is not among these has its first row, and no writer came back from it
-abbrev IsAbove : ℕ → List (ℕ × Workplace) → Type 0
-IsAbove k left = AllByRecursion (λ (a : ℕ × Workplace). k < a.0) left
+abbrev IsAbove : ℕ → List (ℕ × ArtifactsMeaning) → Type 0
+IsAbove k left = AllByRecursion (λ (a : ℕ × ArtifactsMeaning). k < a.0) left
 
 none-now : (b : Bool) (row other rest : Row) → b ≡ false → rest ≡ other → cond b row rest ≡ other
 none-now true row other rest e is = let never : ⊥ = cc in absurd never
 none-now false row other rest e is = is
 
-other-now : (s : Setup) (snapshot : Snapshot) (k : ℕ) (row : Row) (left : List (ℕ × Workplace)) → IsAbove k left → row_now (tasks_left s snapshot left) k row ≡ row
+other-now : (s : Setup) (snapshot : Snapshot) (k : ℕ) (row : Row) (left : List (ℕ × ArtifactsMeaning)) → IsAbove k left → row_now (tasks_left s snapshot left) k row ≡ row
 other-now s snapshot k row [] above = refl
 other-now s snapshot k row (a ∷ left) above =
     let here = above.0 in
     let differs : nat_eq a.0 k ≡ false = grind (arith, nat_tests, here) in
     none-now (nat_eq a.0 k) _ row (row_now (tasks_left s snapshot left) k row) differs (other-now s snapshot k row left above.1)
 
-none-found : (b : Bool) (a : ℕ × Workplace) (rest : Option (ℕ × Workplace)) → b ≡ false → rest ≡ None → cond b (Some a) rest ≡ None
+none-found : (b : Bool) (a : ℕ × ArtifactsMeaning) (rest : Option (ℕ × ArtifactsMeaning)) → b ≡ false → rest ≡ None → cond b (Some a) rest ≡ None
 none-found true a rest e is = let never : ⊥ = cc in absurd never
 none-found false a rest e is = is
 
-other-found : (k : ℕ) (left : List (ℕ × Workplace)) → IsAbove k left → find (λ one. one.0 == k) left ≡ None
+other-found : (k : ℕ) (left : List (ℕ × ArtifactsMeaning)) → IsAbove k left → find (λ one. one.0 == k) left ≡ None
 other-found k [] above = refl
 other-found k (a ∷ left) above =
     let here = above.0 in
@@ -123,7 +122,7 @@ other-found k (a ∷ left) above =
     none-found (a.0 == k) a (find (λ one. one.0 == k) left) differs (other-found k left above.1)
 
 -- what is left of a partition doesn't count for the ones behind it
-rest-from : (outputs : List (List (List ℕ))) (s : Setup) (snapshot : Snapshot) (a : ℕ × Workplace) (left : List (ℕ × Workplace)) (k : ℕ) (rows : List Row) → a.0 < k
+rest-from : (outputs : List (List (List ℕ))) (s : Setup) (snapshot : Snapshot) (a : ℕ × ArtifactsMeaning) (left : List (ℕ × ArtifactsMeaning)) (k : ℕ) (rows : List Row) → a.0 < k
     → reports_from outputs (tasks_left s snapshot (a ∷ left)) (a ∷ left) k rows ≡ reports_from outputs (tasks_left s snapshot left) left k rows
 rest-from outputs s snapshot a left k [] before = refl
 rest-from outputs s snapshot a left k (row ∷ rows) before =
@@ -137,7 +136,7 @@ rest-from outputs s snapshot a left k (row ∷ rows) before =
     (rest-from outputs s snapshot a left (k + 1) rows (omega (arith, before)))
 
 -- all that came back is behind a partition, if all that began is
-left-above : (step : StepRecord) (supply : StepData) (outputs : List (List (List ℕ))) (s : Setup) (snapshot : Snapshot) (k : ℕ) (ns : List (ℕ × Row)) (left : List (ℕ × Workplace)) → AllByRecursion (λ (m : ℕ × Row). k < m.0) ns
+left-above : (step : StepRecord) (supply : StepData) (outputs : List (List (List ℕ))) (s : Setup) (snapshot : Snapshot) (k : ℕ) (ns : List (ℕ × Row)) (left : List (ℕ × ArtifactsMeaning)) → AllByRecursion (λ (m : ℕ × Row). k < m.0) ns
     → AreOnTheWay (tasks_of step supply outputs ns) (tasks_left s snapshot left) → IsAbove k left
 left-above step supply outputs s snapshot k [] [] above way = tt
 left-above step supply outputs s snapshot k [] (a ∷ left) above way = absurd way
@@ -151,7 +150,7 @@ left-above step supply outputs s snapshot k (n ∷ ns) (a ∷ left) above way =
 
 abbrev Runs : StepRecord → StepData → (outputs : List (List (List ℕ))) → Setup → Snapshot → ℕ → List Row → List (ℕ × Row) → Type 0
 Runs step supply outputs s snapshot k rows ns =
-    (left : List (ℕ × Workplace)) → AreOnTheWay (tasks_of step supply outputs ns) (tasks_left s snapshot left)
+    (left : List (ℕ × ArtifactsMeaning)) → AreOnTheWay (tasks_of step supply outputs ns) (tasks_left s snapshot left)
     → ArePartitionRuns (begun_with (settings_of step supply) supply.records outputs) k rows (reports_from outputs (tasks_left s snapshot left) left k rows)
 
 -- one partition more, which was finished before
@@ -205,13 +204,13 @@ runs-from below step supply outputs s snapshot k (row ∷ rows) kept opens =
 
 -- ---- as the report has them
 
-left-from : (outputs : List (List (List ℕ))) (table : List TaskState) (left : List (ℕ × Workplace)) (k : ℕ) (rows : List Row)
+left-from : (outputs : List (List (List ℕ))) (table : List TaskState) (left : List (ℕ × ArtifactsMeaning)) (k : ℕ) (rows : List Row)
     → map (λ n. record { row = n.1; outputs = outputs_in (committed_of outputs n) (find (λ one. one.0 == n.0) left) }) (enumerate_from k (map (λ n. row_now table n.0 n.1) (enumerate_from k rows))) ≡ reports_from outputs table left k rows
 left-from outputs table left k [] = refl
 left-from outputs table left k (row ∷ rows) = ap (λ others. report_at outputs table left (k, row) ∷ others) (left-from outputs table left (k + 1) rows)
 
 -- each partition left what it leaves by itself
-pub partition-runs : LawsBelow → (step : StepRecord) (supply : StepData) (outputs : List (List (List ℕ))) (s : Setup) (snapshot : Snapshot) (left : List (ℕ × Workplace)) → AreKept (settings_of step supply)
+pub partition-runs : LawsBelow → (step : StepRecord) (supply : StepData) (outputs : List (List (List ℕ))) (s : Setup) (snapshot : Snapshot) (left : List (ℕ × ArtifactsMeaning)) → AreKept (settings_of step supply)
     → AreOpening (length supply.records) outputs 0 s.rows → AreOnTheWay (tasks_of step supply outputs (open_from 0 s.rows)) (tasks_left s snapshot left)
     → snapshot.rows.items ≡ rows_now s.rows (tasks_left s snapshot left)
     → ArePartitionRuns (begun_with (settings_of step supply) supply.records outputs) 0 s.rows (partitions_left outputs snapshot.rows.items left)

@@ -1,8 +1,8 @@
 -- A step whose mapper has a plan, and whose reducer answers each call well.
 use Rattle.std.proofs.Common.{◌≡◌, ℕ, Bool, true, false, Option, Some, None, List, [], ◌∷◌, ◌++◌, Result, Ok, ◌⊎◌, inl, inr, length, map, refl, ap, sym, subst, ◌∙◌}
 use Rattle.jb_job.specs.Records.{SpecRecord, StepRecord}
-use Rattle.jb_job.specs.declared.class.ClassId.{ClassId}
-use Rattle.jb_job.specs.declared.job.Range.{Range}
+use Rattle.jb_base.specs.declared.class.ClassId.{ClassId}
+use Rattle.jb_base.specs.declared.range.Range.{Range}
 use Rattle.jb_plan.specs.declared.fault.PlanError.{PlanError}
 use Rattle.jb_plan.specs.declared.plan.PartitionPlan.{PartitionPlan}
 use Rattle.jb_mapper.specs.EvenCover.{even_ranges}
@@ -11,7 +11,7 @@ use Rattle.jb_collect.specs.declared.calls.ReducerCall.{ReducerCall}
 use Rattle.jb_collect.specs.declared.calls.ReducerCall.TheVariants.{Begin}
 use Rattle.jb_collect.specs.Taken.{Taken, calls_of, faulted, well}
 use Rattle.jb_step.specs.Prepare.{CanDiscard, IsFaultedRollback, IsRefusal}
-use Rattle.jb_step.specs.Reduced.{Grew, has_fault, since}
+use Rattle.jb_step.specs.Callbacks.{Grew, has_fault, since}
 use Rattle.jb_saved.specs.SavedRows.{SavedRows}
 use Rattle.jb_saved.specs.declared.place.SavedPlace.{SavedPlace}
 use Rattle.jb_saved.specs.declared.error.StepError.{StepError}

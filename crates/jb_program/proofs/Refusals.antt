@@ -1,5 +1,6 @@
 -- A refused document or plan is a failure of its kind.
 use Rattle.std.proofs.Common.{◌≡◌, ◌≢◌, ◌⊎◌, ℕ, List, [], ◌∷◌, drop, Option, Some, None, IfSome, Result, Ok, Err, IfErr, IsErrAnd, inl, inr, refl, subst, sym, arith}
+use Rattle.std.specs.List.{zip}
 use Rattle.jb_job.specs.declared.error.JobError.{JobError}
 use Rattle.jb_job.specs.declared.error.JobError.TheVariants as fault
 use Rattle.jb_plan.specs.declared.fault.PlanError.{PlanError}
@@ -60,11 +61,10 @@ not-begun step supply resume failure.Workers refused = refused
 not-begun step supply resume (failure.Repository p) refused = refused
 not-begun step supply resume (failure.Usage f) refused = refused
 
-at-step : (steps : List StepRecord) (supplies : List StepData) (round_limit : Option ℕ) (resume : Option Resume) (e : Failure) → IsRefusedAtStep steps supplies round_limit resume e → IsRefusal e
-at-step [] supplies round_limit resume e refused = absurd refused
-at-step (step ∷ steps) [] round_limit resume e refused = absurd refused
-at-step (step ∷ steps) (supply ∷ supplies) round_limit resume e (inl refused) = not-begun step supply resume e refused
-at-step (step ∷ steps) (supply ∷ supplies) round_limit resume e (inr later) = at-step steps supplies round_limit None e later.3
+at-step : (steps : List (StepRecord × StepData)) (round_limit : Option ℕ) (resume : Option Resume) (e : Failure) → IsRefusedAtStep steps round_limit resume e → IsRefusal e
+at-step [] round_limit resume e refused = absurd refused
+at-step ((step, supply) ∷ steps) round_limit resume e (inl refused) = not-begun step supply resume e refused
+at-step ((step, supply) ∷ steps) round_limit resume e (inr later) = at-step steps round_limit None e later.3
 
 -- what broke a run off, or why a step is refused, is a failure of `run`
 fails-for : (R : Failure → Type 0) → ((e : Failure) → R e → IsRefusal e) → (e : Failure) → IsBroken e ⊎ R e → IsRunFailure e
@@ -97,15 +97,15 @@ pub record RunFails (round_limit : Option ℕ) (input : Option (List ℕ)) (e : 
   pub failures : IsRunFailure e
 
 pub run-fails : (round_limit : Option ℕ) (input : Option (List ℕ)) (items : List ℕ) (document : Document) (e : Failure) → IfSome input (λ bytes. items ≡ bytes) → IsDocument items document
-    → IsBroken e ⊎ IsRefusedAtStep document.job.steps document.steps round_limit None e → RunFails round_limit input e
+    → IsBroken e ⊎ IsRefusedAtStep (zip document.job.steps document.steps) round_limit None e → RunFails round_limit input e
 run-fails round_limit input items document e are read why =
-    let R : Failure → Type 0 = λ one. IsRefusedAtStep document.job.steps document.steps round_limit None one in
-    let refusal : (one : Failure) → R one → IsRefusal one = λ one. at-step document.job.steps document.steps round_limit None one in
+    let R : Failure → Type 0 = λ one. IsRefusedAtStep (zip document.job.steps document.steps) round_limit None one in
+    let refusal : (one : Failure) → R one → IsRefusal one = λ one. at-step (zip document.job.steps document.steps) round_limit None one in
     record {
       refused = λ f is. absurd (no-document R refusal e why f is);
       unplanned = λ f is. some-along {P = λ bytes. items ≡ bytes} {Q = IsRefusedPlan round_limit f} input
           (λ bytes here. record { document = document; read = subst (λ bs. IsDocument bs document) here read; refused = refused-by R e (failure.Plan f) (λ broken. broken) why is }) are;
-      unsaved = λ place is. never-saved document.job.steps document.steps round_limit place (refused-by R e (failure.Saved place) (λ broken. broken) why is);
+      unsaved = λ place is. never-saved (zip document.job.steps document.steps) round_limit place (refused-by R e (failure.Saved place) (λ broken. broken) why is);
       failures = fails-for R refusal e why;
     }
 
@@ -120,7 +120,7 @@ pub restart-fails : (round_limit : Option ℕ) (input : Option (List ℕ)) (item
     → IsBroken e ⊎ IsRestartRefused document round_limit e → RestartFails round_limit input e
 restart-fails round_limit input items document e are read why =
     let R : Failure → Type 0 = λ one. IsRestartRefused document round_limit one in
-    let refusal : (one : Failure) → R one → IsRefusal one = λ one. at-step (drop (done_before document) document.job.steps) (drop (done_before document) document.steps) round_limit (Some document.resume) one in
+    let refusal : (one : Failure) → R one → IsRefusal one = λ one. at-step (drop (done_before document) (zip document.job.steps document.steps)) round_limit (Some document.resume) one in
     let told : (one : Failure) → (IsBroken one → ⊥) → e ≡ one → (bytes : List ℕ) → items ≡ bytes → IsRefusedRestartStep round_limit one bytes =
     λ one whole is bytes here. record { document = document; read = subst (λ bs. IsRestart bs document) here read; refused = refused-by R e one whole why is } in
     record {

@@ -2,26 +2,26 @@
 use Rattle.std.proofs.Common.{◌≡◌, ℕ, suc, ◌+◌, ◌≤◌, ◌⊎◌, inl, inr, Bool, true, List, [], ◌∷◌, ◌++◌, length, map, Option, Result, Ok, Err, false, refl, ap, sym, ◌∙◌, subst, arith}
 use Rattle.std.specs.Prelude.{All, IfErr, IfSome, IsErrAnd}
 use Rattle.std.specs.List.{enumerate_from}
-use Rattle.jb_job.specs.Limits.{max_partitions}
+use Rattle.jb_base.specs.Limits.{max_partitions}
 use Rattle.jb_job.specs.Records.{StepRecord}
 use Rattle.jb_plan.specs.Plans.{IsRunnable, IsWithin}
 use Rattle.jb_rules.specs.Rows.{range_of}
 use Rattle.jb_rules.specs.declared.row.Row.{Row}
-use Rattle.jb_artifacts.specs.Meaning.{Workplace}
+use Rattle.jb_artifacts.specs.Meaning.{ArtifactsMeaning}
 use Rattle.jb_chunk.specs.Standing.{TaskState}
 use Rattle.jb_collect.specs.declared.calls.AnalyzerCall.{AnalyzerCall}
 use Rattle.jb_collect.specs.declared.calls.ReducerCall.{ReducerCall}
 use Rattle.jb_collect.specs.declared.calls.Status.{Status}
-use Rattle.jb_collect.specs.Reduced.{calls_after, calls_before}
+use Rattle.jb_collect.specs.ReducerCalls.{calls_after, calls_before, run_end}
 use Rattle.jb_collect.specs.Taken.{calls_of, well}
 use Rattle.jb_repo.specs.declared.snapshot.Snapshot.{Snapshot}
 use Rattle.jb_saved.specs.SavedRows.{SavedRows}
-use Rattle.jb_step.specs.declared.notes.PlanNote.{PlanNote}
-use Rattle.jb_step.specs.Ending.{IsRunOfStep, tasks_left}
+use Rattle.jb_cert.specs.declared.notes.PlanNote.{PlanNote}
+use Rattle.jb_step.specs.Answers.{IsRunOfStep, tasks_left}
 use Rattle.jb_step.specs.Prepare.{DoFit}
 use Rattle.jb_step.specs.Setup.{IsSetup, Setup, discards, first_tasks, gone_on, row_now, rows_now, saved_faults}
-use Rattle.jb_step.specs.Statuses.{status_of, went_well}
-use Rattle.jb_step.specs.Ways.{AreOnTheWay}
+use Rattle.jb_step.specs.Statuses.{status_of}
+use Rattle.jb_step.specs.Alone.{AreOnTheWay}
 use Rattle.jb_documents.specs.declared.restart.resume.Resume.{Resume}
 use Rattle.jb_documents.specs.declared.run.step_data.StepData.{StepData}
 use Rattle.jb_program.specs.declared.run.settings.StepSettings.{StepSettings}
@@ -31,9 +31,10 @@ use Rattle.jb_program.specs.inside.Below.{LawsBelow}
 use Rattle.jb_program.specs.JobRun.{IsStepRefused, IsStepRun, kept_of, plan_for, plan_of_step, settings_of, setup_of, works_of}
 use Rattle.jb_program.specs.Refusals.{IsBroken}
 use Rattle.jb_program.specs.StepRun.{AreHeld, IsNotBegun, gone_on_from, outputs_of, partitions_left, saved_of, setup_with, works_for}
-use Rattle.jb_program.proofs.Callbacks.{well-calls}
+use Rattle.jb_program.proofs.Callbacks.{reducer-calls, well-calls}
 use Rattle.jb_program.proofs.Opening.{AreOpening, IsPreparedWith, opening, within-rows}
 use Rattle.jb_program.proofs.PartitionRuns.{AreKept, partition-runs}
+use Rattle.jb_program.proofs.Rounds.{run_with}
 use Rattle.jb_program.proofs.Unfinished.{works-fit}
 
 -- ---- what a step begins with
@@ -71,7 +72,7 @@ pub within-prepared : (step : StepRecord) (resume : Option Resume) (count : ℕ)
 within-prepared step resume count prepared records outputs given = within-rows (length records) outputs 0 prepared.rows (opens step resume count prepared records outputs given)
 
 -- the artifacts serve the rows
-pub works-serve : (step : StepRecord) (resume : Option Resume) (count : ℕ) (prepared : Setup) (records : List (List ℕ)) (outputs : List (List (List ℕ))) (settings : StepSettings) (works : List Workplace)
+pub works-serve : (step : StepRecord) (resume : Option Resume) (count : ℕ) (prepared : Setup) (records : List (List ℕ)) (outputs : List (List (List ℕ))) (settings : StepSettings) (works : List ArtifactsMeaning)
     → AreGiven step resume count prepared records outputs → works ≡ works_for settings records outputs prepared.rows → DoFit prepared works
 works-serve step resume count prepared records outputs settings works given are =
     subst (λ ws. DoFit prepared ws) (sym are) (works-fit settings records outputs 0 prepared.rows (opens step resume count prepared records outputs given))
@@ -94,10 +95,10 @@ few-rows prepared table rows setup are =
 
 -- the report that is written has the partitions, plans, calls and status of a run
 pub step-run : LawsBelow → (step : StepRecord) (supply : StepData) (round_limit : Option ℕ) (resume : Option Resume) (count : ℕ) (prepared : Setup) (records : List (List ℕ)) (outputs : List (List (List ℕ))) (settings : StepSettings)
-    (works : List Workplace) (snapshot : Snapshot) (left : List (ℕ × Workplace)) (id : List ℕ) (status : Status) (plans : List PlanNote) (heard silent listened : List AnalyzerCall) (reducer begun recorded : List ReducerCall)
+    (works : List ArtifactsMeaning) (snapshot : Snapshot) (left : List (ℕ × ArtifactsMeaning)) (id : List ℕ) (status : Status) (plans : List PlanNote) (heard silent listened : List AnalyzerCall) (reducer begun recorded : List ReducerCall)
     → AreGiven step resume count prepared records outputs → records ≡ supply.records → settings ≡ settings_of step supply → AreKept settings → works ≡ works_for settings records outputs prepared.rows
-    → silent ≡ [] → IsRunOfStep prepared works round_limit (map well silent) (map well listened) plans snapshot left → AreOnTheWay (first_tasks prepared works) (tasks_left prepared snapshot left)
-    → status ≡ status_of snapshot.rows.items false → begun ≡ calls_before (discards step.spec.replace (saved_of resume)) false → recorded ≡ begun ++ calls_after (went_well snapshot.rows.items false) false
+    → silent ≡ [] → IsRunOfStep (run_with prepared works round_limit (map well silent) (map well listened) plans snapshot left) → AreOnTheWay (first_tasks prepared works) (tasks_left prepared snapshot left)
+    → status ≡ status_of snapshot.rows.items false → begun ≡ calls_before (discards step.spec.replace (saved_of resume)) → recorded ≡ begun ++ calls_after (run_end (status_of snapshot.rows.items false) false)
     → id ≡ step.id → heard ≡ calls_of (map well listened) → reducer ≡ calls_of (map well recorded)
     → IsStepRun step supply round_limit resume (record { id = id; status = status; partitions = partitions_left outputs snapshot.rows.items left; heard = heard; plans = plans; reducer = reducer })
 step-run below step supply round_limit resume count prepared records outputs settings works snapshot left id status plans heard silent listened reducer begun recorded given records-are settings-are kept are quiet run way stands begins calls id-is heard-is reducer-is =
@@ -107,8 +108,8 @@ step-run below step supply round_limit resume count prepared records outputs set
     let prepares : IsPreparedWith step (length supply.records) (plan_of_step step supply) resume prepared = subst (λ n. IsPreparedWith step n (plan_for step.spec n) resume prepared) all given.prepares in
     let setup : prepared ≡ s = prepares.is in
     let works-are : works ≡ works_of step supply resume = are ∙ (λ i. works_for (settings-are i) (records-are i) (given.outputs_are i) (setup i).rows) in
-    let ran : IsRunOfStep s (works_of step supply resume) round_limit [] (map well listened) plans snapshot left =
-    subst (λ (t : Setup). IsRunOfStep t (works_of step supply resume) round_limit [] (map well listened) plans snapshot left) setup (subst (λ ws. IsRunOfStep prepared ws round_limit [] (map well listened) plans snapshot left) works-are (subst (λ cs. IsRunOfStep prepared works round_limit (map well cs) (map well listened) plans snapshot left) quiet run)) in
+    let ran : IsRunOfStep (run_with s (works_of step supply resume) round_limit [] (map well listened) plans snapshot left) =
+    subst (λ (t : Setup). IsRunOfStep (run_with t (works_of step supply resume) round_limit [] (map well listened) plans snapshot left)) setup (subst (λ ws. IsRunOfStep (run_with prepared ws round_limit [] (map well listened) plans snapshot left)) works-are (subst (λ cs. IsRunOfStep (run_with prepared works round_limit (map well cs) (map well listened) plans snapshot left)) quiet run)) in
     let on : AreOnTheWay (first_tasks s (works_of step supply resume)) (tasks_left s snapshot left) =
     subst (λ (t : Setup). AreOnTheWay (first_tasks t (works_of step supply resume)) (tasks_left t snapshot left)) setup (subst (λ ws. AreOnTheWay (first_tasks prepared ws) (tasks_left prepared snapshot left)) works-are way) in
     let keeps : AreKept (settings_of step supply) = subst (λ (t : StepSettings). AreKept t) settings-are kept in
@@ -123,10 +124,12 @@ step-run below step supply round_limit resume count prepared records outputs set
       told = record {
         snapshot = snapshot;
         left = left;
-        run = subst (λ cs. IsRunOfStep s (works_of step supply resume) round_limit [] (map well cs) plans snapshot left) (sym heard-all) ran;
+        run = subst (λ cs. IsRunOfStep (run_with s (works_of step supply resume) round_limit [] (map well cs) plans snapshot left)) (sym heard-all) ran;
         partitions = sym whole;
         status = stands;
-        reducer = reducer-is ∙ well-calls recorded ∙ calls ∙ ap (λ cs. cs ++ calls_after (went_well snapshot.rows.items false) false) begins;
+        reducer =
+            reducer-is ∙ well-calls recorded ∙ calls ∙ ap (λ cs. cs ++ calls_after (run_end (status_of snapshot.rows.items false) false)) begins
+            ∙ reducer-calls (discards step.spec.replace (saved_of resume)) (status_of snapshot.rows.items false);
       };
     }
 

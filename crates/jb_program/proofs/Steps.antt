@@ -1,11 +1,11 @@
 -- The ranges of a step's partitions, and the steps of a job, one after another.
 use Rattle.std.proofs.Common.{◌≡◌, ℕ, zero, suc, ◌+◌, ◌-◌, ◌<◌, List, [], ◌∷◌, ◌++◌, drop, flat_map, get_or, length, slice_get, cond, Bool, true, false, Option, None, inl, inr, ◌⊎◌, refl, ap, sym, subst, ◌∙◌, arith, append_assoc, append-nil}
-use Rattle.std.specs.List.{remove}
+use Rattle.std.specs.List.{remove, zip}
 use Rattle.std.specs.Prelude.{bytes_eq}
 use Rattle.std.proofs.Math.Seq.{drop-nil}
 use Rattle.std.proofs.lemmas.List.{nil_from_length}
 use Rattle.json.specs.Token.{Token}
-use Rattle.jb_job.specs.declared.job.Range.{Range}
+use Rattle.jb_base.specs.declared.range.Range.{Range}
 use Rattle.jb_job.specs.Records.{StepRecord}
 use Rattle.jb_plan.specs.Ranges.{AreDisjoint, HaveNoneInCommon}
 use Rattle.jb_documents.specs.declared.restart.resume.Resume.{Resume}
@@ -33,9 +33,12 @@ apart-at ranges disjoint i j d e before within =
 -- ---- steps
 
 -- what these steps leave, where so many tokens were written before and so many behind them
+abbrev pub LeftOf : List (StepRecord × StepData) → Option ℕ → Option Resume → Status → List Token → List Token → Type 0
+LeftOf steps round_limit resume ended before after =
+    (reports : List StepReport) × AreStepRuns steps round_limit resume reports × (ended ≡ status_in (slice_get reports (length reports - 1))) × (after ≡ before ++ flat_map step_tokens reports)
+
 abbrev pub Left : List StepRecord → List StepData → Option ℕ → Option Resume → Status → List Token → List Token → Type 0
-Left steps supplies round_limit resume ended before after =
-    (reports : List StepReport) × AreStepRuns steps supplies round_limit resume reports × (ended ≡ status_in (slice_get reports (length reports - 1))) × (after ≡ before ++ flat_map step_tokens reports)
+Left steps supplies = LeftOf (zip steps supplies)
 
 pub head-removed : (supplies : List StepData) (supply : StepData) → (length supplies ≡ 0 → ⊥) → supply ≡ get_or supplies 0 supply → supplies ≡ supply ∷ remove supplies 0
 head-removed [] supply some is = absurd (some refl)
@@ -52,7 +55,7 @@ pub completed-more : (round_limit : Option ℕ) (resume : Option Resume) (steps 
     → steps ≡ step ∷ rest → supplies ≡ supply ∷ others → IsStepRun step supply round_limit resume report → report.status ≡ status.Completed → between ≡ before ++ step_tokens report
     → Left rest others round_limit None ended between after → Left steps supplies round_limit resume ended before after
 completed-more round_limit resume steps rest step supplies others supply report ended before between after steps-are supplies-are run completed written left =
-    let P : List StepRecord → List StepData → Type 0 = λ ss ds. AreStepRuns ss ds round_limit resume (report ∷ left.0) in
+    let P : List StepRecord → List StepData → Type 0 = λ ss ds. AreStepRuns (zip ss ds) round_limit resume (report ∷ left.0) in
     let failed : (report.status ≡ status.Completed → ⊥) → left.0 ≡ [] = λ other. absurd (other completed) in
     let own : P (step ∷ rest) (supply ∷ others) = (run, (λ _. left.1), failed) in (
       report ∷ left.0,
@@ -66,7 +69,7 @@ pub other-last : (round_limit : Option ℕ) (resume : Option Resume) (steps rest
     → steps ≡ step ∷ rest → supplies ≡ supply ∷ others → IsStepRun step supply round_limit resume report → ended ≡ report.status → (report.status ≡ status.Completed → ⊥) → between ≡ before ++ step_tokens report
     → Left steps supplies round_limit resume ended before between
 other-last round_limit resume steps rest step supplies others supply report ended before between steps-are supplies-are run same other written =
-    let P : List StepRecord → List StepData → Type 0 = λ ss ds. AreStepRuns ss ds round_limit resume (report ∷ []) in
+    let P : List StepRecord → List StepData → Type 0 = λ ss ds. AreStepRuns (zip ss ds) round_limit resume (report ∷ []) in
     let own : P (step ∷ rest) (supply ∷ others) = (run, (λ completed. absurd (other completed)), (λ _. refl)) in (
       report ∷ [],
       subst (λ ss. P ss supplies) (sym steps-are) (subst (λ ds. P (step ∷ rest) ds) (sym supplies-are) own),
@@ -78,24 +81,23 @@ other-last round_limit resume steps rest step supplies others supply report ende
 
 -- a step is refused, or one behind it
 pub first-refused : (round_limit : Option ℕ) (resume : Option Resume) (steps rest : List StepRecord) (step : StepRecord) (supplies others : List StepData) (supply : StepData) (e : Failure)
-    → steps ≡ step ∷ rest → supplies ≡ supply ∷ others → IsBroken e ⊎ IsStepRefused step supply resume e → IsBroken e ⊎ IsRefusedAtStep steps supplies round_limit resume e
+    → steps ≡ step ∷ rest → supplies ≡ supply ∷ others → IsBroken e ⊎ IsStepRefused step supply resume e → IsBroken e ⊎ IsRefusedAtStep (zip steps supplies) round_limit resume e
 first-refused round_limit resume steps rest step supplies others supply e steps-are supplies-are (inl broken) = inl broken
 first-refused round_limit resume steps rest step supplies others supply e steps-are supplies-are (inr refused) =
-    inr (subst (λ ss. IsRefusedAtStep ss supplies round_limit resume e) (sym steps-are) (subst (λ ds. IsRefusedAtStep (step ∷ rest) ds round_limit resume e) (sym supplies-are) (inl refused)))
+    inr (subst (λ ss. IsRefusedAtStep (zip ss supplies) round_limit resume e) (sym steps-are) (subst (λ ds. IsRefusedAtStep (zip (step ∷ rest) ds) round_limit resume e) (sym supplies-are) (inl refused)))
 
 pub later-refused : (round_limit : Option ℕ) (resume : Option Resume) (steps rest : List StepRecord) (step : StepRecord) (supplies others : List StepData) (supply : StepData) (report : StepReport) (e : Failure)
     → steps ≡ step ∷ rest → supplies ≡ supply ∷ others → IsStepRun step supply round_limit resume report → report.status ≡ status.Completed
-    → IsBroken e ⊎ IsRefusedAtStep rest others round_limit None e → IsBroken e ⊎ IsRefusedAtStep steps supplies round_limit resume e
+    → IsBroken e ⊎ IsRefusedAtStep (zip rest others) round_limit None e → IsBroken e ⊎ IsRefusedAtStep (zip steps supplies) round_limit resume e
 later-refused round_limit resume steps rest step supplies others supply report e steps-are supplies-are run completed (inl broken) = inl broken
 later-refused round_limit resume steps rest step supplies others supply report e steps-are supplies-are run completed (inr refused) =
-    inr (subst (λ ss. IsRefusedAtStep ss supplies round_limit resume e) (sym steps-are) (subst (λ ds. IsRefusedAtStep (step ∷ rest) ds round_limit resume e) (sym supplies-are) (inr (report, run, completed, refused))))
+    inr (subst (λ ss. IsRefusedAtStep (zip ss supplies) round_limit resume e) (sym steps-are) (subst (λ ds. IsRefusedAtStep (zip (step ∷ rest) ds) round_limit resume e) (sym supplies-are) (inr (report, run, completed, refused))))
 
 -- a step that begins anew isn't refused for saved rows
-pub never-saved : (steps : List StepRecord) (supplies : List StepData) (round_limit : Option ℕ) (place : SavedPlace) → IsRefusedAtStep steps supplies round_limit None (failure.Saved place) → ⊥
-never-saved [] supplies round_limit place refused = refused
-never-saved (step ∷ steps) [] round_limit place refused = refused
-never-saved (step ∷ steps) (supply ∷ supplies) round_limit place (inl refused) = let none = refused.1 in cc
-never-saved (step ∷ steps) (supply ∷ supplies) round_limit place (inr later) = never-saved steps supplies round_limit place later.3
+pub never-saved : (steps : List (StepRecord × StepData)) (round_limit : Option ℕ) (place : SavedPlace) → IsRefusedAtStep steps round_limit None (failure.Saved place) → ⊥
+never-saved [] round_limit place refused = refused
+never-saved ((step, supply) ∷ steps) round_limit place (inl refused) = let none = refused.1 in cc
+never-saved ((step, supply) ∷ steps) round_limit place (inr later) = never-saved steps round_limit place later.3
 
 -- ---- the steps that were done before
 
@@ -116,35 +118,35 @@ pub none-out : (id : List ℕ) (step : StepRecord) (steps : List StepRecord) →
 none-out id step steps is = first-by (bytes_eq step.id id) (earlier id steps + 1) is
 
 -- the steps from the one of this id on are those behind a step of another id
-pub from-later : (P : List StepRecord → List StepData → Type 0) (id : List ℕ) (steps rest : List StepRecord) (step : StepRecord) (supplies others : List StepData) (supply : StepData)
+pub from-later : (P : List (StepRecord × StepData) → Type 0) (id : List ℕ) (steps rest : List StepRecord) (step : StepRecord) (supplies others : List StepData) (supply : StepData)
     → steps ≡ step ∷ rest → supplies ≡ supply ∷ others → bytes_eq step.id id ≡ false
-    → P (drop (earlier id rest) rest) (drop (earlier id rest) others) → P (drop (earlier id steps) steps) (drop (earlier id steps) supplies)
+    → P (drop (earlier id rest) (zip rest others)) → P (drop (earlier id steps) (zip steps supplies))
 from-later P id steps rest step supplies others supply steps-are supplies-are is later =
-    let n = earlier id rest in
-    let there : P (drop (earlier id (step ∷ rest)) (step ∷ rest)) (drop (earlier id (step ∷ rest)) (supply ∷ others)) =
-    subst (λ k. P (drop k (step ∷ rest)) (drop k (supply ∷ others))) (sym (left-out id step rest is)) later in
-    subst (λ (ss : List StepRecord). P (drop (earlier id ss) ss) (drop (earlier id ss) supplies)) (sym steps-are)
-    (subst (λ (ds : List StepData). P (drop (earlier id (step ∷ rest)) (step ∷ rest)) (drop (earlier id (step ∷ rest)) ds)) (sym supplies-are) there)
+    let there : P (drop (earlier id (step ∷ rest)) (zip (step ∷ rest) (supply ∷ others))) =
+    subst (λ k. P (drop k (zip (step ∷ rest) (supply ∷ others)))) (sym (left-out id step rest is)) later in
+    subst (λ (ss : List StepRecord). P (drop (earlier id ss) (zip ss supplies))) (sym steps-are)
+    (subst (λ (ds : List StepData). P (drop (earlier id (step ∷ rest)) (zip (step ∷ rest) ds))) (sym supplies-are) there)
 
 -- or they begin with the first
-pub from-here : (P : List StepRecord → List StepData → Type 0) (id : List ℕ) (steps rest : List StepRecord) (step : StepRecord) (supplies : List StepData) → steps ≡ step ∷ rest → bytes_eq step.id id ≡ true
-    → P steps supplies → P (drop (earlier id steps) steps) (drop (earlier id steps) supplies)
+pub from-here : (P : List (StepRecord × StepData) → Type 0) (id : List ℕ) (steps rest : List StepRecord) (step : StepRecord) (supplies : List StepData) → steps ≡ step ∷ rest → bytes_eq step.id id ≡ true
+    → P (zip steps supplies) → P (drop (earlier id steps) (zip steps supplies))
 from-here P id steps rest step supplies steps-are is here =
     let none : earlier id steps ≡ 0 = ap (earlier id) steps-are ∙ none-out id step rest is in
-    subst (λ k. P (drop k steps) (drop k supplies)) (sym none) here
+    subst (λ k. P (drop k (zip steps supplies))) (sym none) here
 
 -- where there are no steps, or no data, none runs
-none-run : (steps : List StepRecord) (round_limit : Option ℕ) (resume : Option Resume) → AreStepRuns steps [] round_limit resume []
-none-run [] round_limit resume = refl
-none-run (step ∷ steps) round_limit resume = refl
+no-pairs : (steps : List StepRecord) → zip {X = StepData} steps [] ≡ []
+no-pairs [] = refl
+no-pairs (step ∷ steps) = refl
 
-none-steps : (supplies : List StepData) (round_limit : Option ℕ) (resume : Option Resume) → AreStepRuns [] supplies round_limit resume []
-none-steps supplies round_limit resume = refl
+none-runs : (n : ℕ) (steps : List (StepRecord × StepData)) (round_limit : Option ℕ) (resume : Option Resume) → steps ≡ [] → AreStepRuns (drop n steps) round_limit resume []
+none-runs n steps round_limit resume none =
+    subst (λ (ss : List (StepRecord × StepData)). AreStepRuns ss round_limit resume []) (sym (ap (drop n) none ∙ drop-nil n)) refl
 
-pub no-data : (n : ℕ) (steps : List StepRecord) (supplies : List StepData) (round_limit : Option ℕ) (resume : Option Resume) → length supplies ≡ 0 → AreStepRuns (drop n steps) (drop n supplies) round_limit resume []
+pub no-data : (n : ℕ) (steps : List StepRecord) (supplies : List StepData) (round_limit : Option ℕ) (resume : Option Resume) → length supplies ≡ 0 → AreStepRuns (drop n (zip steps supplies)) round_limit resume []
 no-data n steps supplies round_limit resume none =
-    subst (λ (ds : List StepData). AreStepRuns (drop n steps) ds round_limit resume []) (sym (ap (drop n) (nil_from_length supplies none) ∙ drop-nil n)) (none-run (drop n steps) round_limit resume)
+    none-runs n (zip steps supplies) round_limit resume (ap (zip steps) (nil_from_length supplies none) ∙ no-pairs steps)
 
-pub no-steps : (id : List ℕ) (steps : List StepRecord) (supplies : List StepData) (round_limit : Option ℕ) (resume : Option Resume) → length steps ≡ 0 → AreStepRuns (drop (earlier id steps) steps) (drop (earlier id steps) supplies) round_limit resume []
+pub no-steps : (id : List ℕ) (steps : List StepRecord) (supplies : List StepData) (round_limit : Option ℕ) (resume : Option Resume) → length steps ≡ 0 → AreStepRuns (drop (earlier id steps) (zip steps supplies)) round_limit resume []
 no-steps id steps supplies round_limit resume none =
-    subst (λ (ss : List StepRecord). AreStepRuns (drop (earlier id ss) ss) (drop (earlier id ss) supplies) round_limit resume []) (sym (nil_from_length steps none)) (none-steps supplies round_limit resume)
+    none-runs (earlier id steps) (zip steps supplies) round_limit resume (ap (λ (ss : List StepRecord). zip ss supplies) (nil_from_length steps none))

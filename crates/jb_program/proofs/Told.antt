@@ -4,47 +4,47 @@ use Rattle.std.specs.List.{enumerate_from}
 use Rattle.std.specs.Str.Lossy.{utf8_lossy}
 use Rattle.json.specs.Token.{Token}
 use Rattle.jb_rules.specs.declared.row.Row.{Row}
-use Rattle.jb_artifacts.specs.Meaning.{Workplace}
+use Rattle.jb_artifacts.specs.Meaning.{ArtifactsMeaning}
 use Rattle.jb_collect.specs.declared.calls.AnalyzerCall.{AnalyzerCall}
 use Rattle.jb_collect.specs.declared.calls.ReducerCall.{ReducerCall}
 use Rattle.jb_collect.specs.declared.calls.Status.{Status}
 use Rattle.jb_saved.specs.SavedTree.{tokens_of}
-use Rattle.jb_step.specs.Ending.{given_back}
-use Rattle.jb_step.specs.declared.notes.PlanNote.{PlanNote}
+use Rattle.jb_step.specs.Answers.{given_back}
+use Rattle.jb_cert.specs.declared.notes.PlanNote.{PlanNote}
 use Rattle.jb_texts.specs.Report.{PartitionReport, texts_tree}
 use Rattle.jb_texts.specs.ReportTokens.{outputs_tokens, step_head, step_tail, step_tokens}
 use Rattle.jb_program.specs.StepRun.{committed_of, outputs_in, partitions_left}
 
 -- ---- what came back of a partition
 
-found-by : {A : Type 0} (b : Bool) (a : ℕ × A) (workplace : A → Workplace) (found : Option (ℕ × A)) (rest : Option (ℕ × Workplace))
-    → option_map (λ one. (one.0, workplace one.1)) found ≡ rest
-    → option_map (λ one. (one.0, workplace one.1)) (cond b (Some a) found) ≡ cond b (Some (a.0, workplace a.1)) rest
-found-by true a workplace found rest same = refl
-found-by false a workplace found rest same = same
+found-by : {A : Type 0} (b : Bool) (a : ℕ × A) (meaning : A → ArtifactsMeaning) (found : Option (ℕ × A)) (rest : Option (ℕ × ArtifactsMeaning))
+    → option_map (λ one. (one.0, meaning one.1)) found ≡ rest
+    → option_map (λ one. (one.0, meaning one.1)) (cond b (Some a) found) ≡ cond b (Some (a.0, meaning a.1)) rest
+found-by true a meaning found rest same = refl
+found-by false a meaning found rest same = same
 
 -- the artifacts of a partition, looked for among those that came back
-find-given_back : {A : Type 0} (workplace : A → Workplace) (left : List (ℕ × A)) (p : ℕ)
-    → option_map (λ one. (one.0, workplace one.1)) (find (λ one. one.0 == p) left) ≡ find (λ one. one.0 == p) (given_back workplace left)
-find-given_back workplace [] p = refl
-find-given_back workplace (a ∷ left) p =
-    found-by (a.0 == p) a workplace (find (λ one. one.0 == p) left) (find (λ one. one.0 == p) (given_back workplace left)) (find-given_back workplace left p)
+find-given_back : {A : Type 0} (meaning : A → ArtifactsMeaning) (left : List (ℕ × A)) (p : ℕ)
+    → option_map (λ one. (one.0, meaning one.1)) (find (λ one. one.0 == p) left) ≡ find (λ one. one.0 == p) (given_back meaning left)
+find-given_back meaning [] p = refl
+find-given_back meaning (a ∷ left) p =
+    found-by (a.0 == p) a meaning (find (λ one. one.0 == p) left) (find (λ one. one.0 == p) (given_back meaning left)) (find-given_back meaning left p)
 
 -- its outputs, where they are found and where they aren't
-pub outputs-found : {A : Type 0} (workplace : A → Workplace) (left : List (ℕ × A)) (p : ℕ) (a : ℕ × A) (before : List (List ℕ)) → find (λ one. one.0 == p) left ≡ Some a
-    → map utf8_lossy (workplace a.1).writer.written ≡ outputs_in before (find (λ one. one.0 == p) (given_back workplace left))
-outputs-found workplace left p a before found =
-    sym (ap (λ one. outputs_in before (option_map (λ b. (b.0, workplace b.1)) one)) found) ∙ ap (outputs_in before) (find-given_back workplace left p)
+pub outputs-found : {A : Type 0} (meaning : A → ArtifactsMeaning) (left : List (ℕ × A)) (p : ℕ) (a : ℕ × A) (before : List (List ℕ)) → find (λ one. one.0 == p) left ≡ Some a
+    → map utf8_lossy (meaning a.1).writer.written ≡ outputs_in before (find (λ one. one.0 == p) (given_back meaning left))
+outputs-found meaning left p a before found =
+    sym (ap (λ one. outputs_in before (option_map (λ b. (b.0, meaning b.1)) one)) found) ∙ ap (outputs_in before) (find-given_back meaning left p)
 
-pub outputs-missing : {A : Type 0} (workplace : A → Workplace) (left : List (ℕ × A)) (p : ℕ) (before : List (List ℕ)) → find (λ one. one.0 == p) left ≡ None
-    → map utf8_lossy before ≡ outputs_in before (find (λ one. one.0 == p) (given_back workplace left))
-outputs-missing workplace left p before missing =
-    sym (ap (λ one. outputs_in before (option_map (λ b. (b.0, workplace b.1)) one)) missing) ∙ ap (outputs_in before) (find-given_back workplace left p)
+pub outputs-missing : {A : Type 0} (meaning : A → ArtifactsMeaning) (left : List (ℕ × A)) (p : ℕ) (before : List (List ℕ)) → find (λ one. one.0 == p) left ≡ None
+    → map utf8_lossy before ≡ outputs_in before (find (λ one. one.0 == p) (given_back meaning left))
+outputs-missing meaning left p before missing =
+    sym (ap (λ one. outputs_in before (option_map (λ b. (b.0, meaning b.1)) one)) missing) ∙ ap (outputs_in before) (find-given_back meaning left p)
 
 -- ---- what is written of the partitions
 
 -- the outputs of a partition, of all that came back
-abbrev pub outputs_at : (outputs : List (List (List ℕ))) → List (ℕ × Workplace) → ℕ × Row → List Token
+abbrev pub outputs_at : (outputs : List (List (List ℕ))) → List (ℕ × ArtifactsMeaning) → ℕ × Row → List Token
 outputs_at outputs left n = tokens_of (texts_tree (outputs_in (committed_of outputs n) (find (λ one. one.0 == n.0) left)))
 
 more-from : (f : ℕ × Row → List Token) (n : ℕ) (rows : List Row) (k : ℕ) (d : Row) → k < length rows → flat_map f (enumerate_from n (take (suc k) rows)) ≡ flat_map f (enumerate_from n (take k rows)) ++ f (n + k, get_or rows k d)
@@ -62,23 +62,23 @@ outputs-more f rows k d below =
     ap (λ n. flat_map f (enumerate_from 0 (take n rows))) (add-one k) ∙ more-from f 0 rows k d below ∙ ap (λ i. flat_map f (enumerate_from 0 (take k rows)) ++ f (i, get_or rows k d)) none
 
 -- the partitions from this number on
-abbrev pub left-from : (outputs : List (List (List ℕ))) → (first : ℕ) → List Row → List (ℕ × Workplace) → List PartitionReport
+abbrev pub left-from : (outputs : List (List (List ℕ))) → (first : ℕ) → List Row → List (ℕ × ArtifactsMeaning) → List PartitionReport
 left-from outputs first rows left = map (λ n. record { row = n.1; outputs = outputs_in (committed_of outputs n) (find (λ one. one.0 == n.0) left) }) (enumerate_from first rows)
 
-rows-left : (outputs : List (List (List ℕ))) (first : ℕ) (rows : List Row) (left : List (ℕ × Workplace)) → map (λ p. p.row) (left-from outputs first rows left) ≡ rows
+rows-left : (outputs : List (List (List ℕ))) (first : ℕ) (rows : List Row) (left : List (ℕ × ArtifactsMeaning)) → map (λ p. p.row) (left-from outputs first rows left) ≡ rows
 rows-left outputs first [] left = refl
 rows-left outputs first (row ∷ rows) left = ap (λ rs. row ∷ rs) (rows-left outputs (first + 1) rows left)
 
-outputs-left : (outputs : List (List (List ℕ))) (first : ℕ) (rows : List Row) (left : List (ℕ × Workplace)) → outputs_tokens (left-from outputs first rows left) ≡ flat_map (outputs_at outputs left) (enumerate_from first rows)
+outputs-left : (outputs : List (List (List ℕ))) (first : ℕ) (rows : List Row) (left : List (ℕ × ArtifactsMeaning)) → outputs_tokens (left-from outputs first rows left) ≡ flat_map (outputs_at outputs left) (enumerate_from first rows)
 outputs-left outputs first [] left = refl
 outputs-left outputs first (row ∷ rows) left = ap (λ ts. outputs_at outputs left (first, row) ++ ts) (outputs-left outputs (first + 1) rows left)
 
-count-left : (outputs : List (List (List ℕ))) (first : ℕ) (rows : List Row) (left : List (ℕ × Workplace)) → length (left-from outputs first rows left) ≡ length rows
+count-left : (outputs : List (List (List ℕ))) (first : ℕ) (rows : List Row) (left : List (ℕ × ArtifactsMeaning)) → length (left-from outputs first rows left) ≡ length rows
 count-left outputs first [] left = refl
 count-left outputs first (row ∷ rows) left = ap suc (count-left outputs (first + 1) rows left)
 
 -- a step's report, written one part after another
-pub step-written : (id : List ℕ) (status : Status) (outputs : List (List (List ℕ))) (rows : List Row) (left : List (ℕ × Workplace)) (heard : List AnalyzerCall) (plans : List PlanNote) (reducer : List ReducerCall) (old begun passed : List Token)
+pub step-written : (id : List ℕ) (status : Status) (outputs : List (List (List ℕ))) (rows : List Row) (left : List (ℕ × ArtifactsMeaning)) (heard : List AnalyzerCall) (plans : List PlanNote) (reducer : List ReducerCall) (old begun passed : List Token)
     → begun ≡ old ++ step_head (length rows) heard → passed ≡ begun ++ flat_map (outputs_at outputs left) (enumerate_from 0 rows)
     → passed ++ step_tail rows plans reducer status id ≡ old ++ step_tokens (record { id = id; status = status; partitions = partitions_left outputs rows left; heard = heard; plans = plans; reducer = reducer })
 step-written id status outputs rows left heard plans reducer old begun passed begins passes =

@@ -5,7 +5,7 @@ use Rattle.std.specs.List.{enumerate_from, AllByRecursion}
 use Rattle.jb_rules.specs.Rows.{range_of}
 use Rattle.jb_rules.specs.States.{is_finished}
 use Rattle.jb_rules.specs.declared.row.Row.{Row}
-use Rattle.jb_artifacts.specs.Meaning.{Fits, Workplace}
+use Rattle.jb_artifacts.specs.Meaning.{Fits, ArtifactsMeaning}
 use Rattle.jb_step.specs.Prepare.{FitRows}
 use Rattle.jb_program.specs.declared.run.settings.StepSettings.{StepSettings}
 use Rattle.jb_program.specs.PartitionRun.{work_for}
@@ -44,7 +44,7 @@ fits-row settings records outputs k row is =
       count = is.served;
     }
 
-fits-one : (b : Bool) (work : ℕ × Row → Workplace) (n : ℕ × Row) (ns : List (ℕ × Row)) → Fits (work n) n.1 → FitRows ns (map work ns) → FitRows (cond b (n ∷ ns) ns) (map work (cond b (n ∷ ns) ns))
+fits-one : (b : Bool) (work : ℕ × Row → ArtifactsMeaning) (n : ℕ × Row) (ns : List (ℕ × Row)) → Fits (work n) n.1 → FitRows ns (map work ns) → FitRows (cond b (n ∷ ns) ns) (map work (cond b (n ∷ ns) ns))
 fits-one true work n ns here rest = (here, rest)
 fits-one false work n ns here rest = rest
 

@@ -7,8 +7,8 @@ use Rattle.std.proofs.lemmas.List.Elements.{All-filter, recursion_from_All}
 use Rattle.std.proofs.lemmas.List.Kept.{AllPairs-filter}
 use Rattle.std.proofs.lemmas.List.FromFn.{get_or-enumerate_from, length-enumerate_from}
 use Rattle.std.proofs.lemmas.Option.{get_or_from_slice_get, slice_get-get_or, slice_get_within}
-use Rattle.jb_job.specs.declared.job.Range.{Range}
-use Rattle.jb_artifacts.specs.Meaning.{Workplace}
+use Rattle.jb_base.specs.declared.range.Range.{Range}
+use Rattle.jb_artifacts.specs.Meaning.{ArtifactsMeaning}
 use Rattle.jb_plan.specs.Plans.{IsWithin}
 use Rattle.jb_plan.specs.Ranges.{AreDisjoint, HaveNoneInCommon}
 use Rattle.jb_rules.specs.Rows.{range_of}
@@ -82,7 +82,7 @@ works-more settings outputs rows records k p row next =
     ap (map (work_for settings records outputs)) (drop_more ns k n inside ∙ ap (λ m. m ∷ drop (k + 1) ns) here)
 
 -- one partition's artifacts more, before those of the later ones
-pub works-added : {A : Type 0} (work : A → Workplace) (all pushed : List A) (own : A) (rest whole : List Workplace) → pushed ≡ all ++ own ∷ [] → whole ≡ work own ∷ rest
+pub works-added : {A : Type 0} (work : A → ArtifactsMeaning) (all pushed : List A) (own : A) (rest whole : List ArtifactsMeaning) → pushed ≡ all ++ own ∷ [] → whole ≡ work own ∷ rest
     → map work pushed ++ rest ≡ map work all ++ whole
 works-added work all pushed own rest whole adds is =
     ap (λ list. map work list ++ rest) adds ∙ ap (λ ws. ws ++ rest) (map-append work all (own ∷ [])) ∙ append_assoc (map work all) (work own ∷ []) rest ∙ ap (λ ws. map work all ++ ws) (sym is)

@@ -6,7 +6,7 @@ use Rattle.clap.specs.Words.{App, IsAmong, Row, Rule, Shape, Text, fault_of, fir
 use Rattle.clap.specs.declared.builder.action.ArgAction.TheVariants.{Set}
 use Rattle.clap.specs.declared.error.kind.ErrorKind.{ErrorKind}
 use Rattle.clap.specs.declared.error.kind.ErrorKind.TheVariants.{DisplayHelp, DisplayVersion}
-use Rattle.jb_job.specs.Limits.{max_rounds}
+use Rattle.jb_base.specs.Limits.{max_rounds}
 use Rattle.jb_program.specs.declared.words.fault.UsageFault.{UsageFault}
 use Rattle.jb_program.specs.declared.words.fault.UsageFault.TheVariants as usage
 use Rattle.jb_program.specs.declared.words.request.Request.{Request}

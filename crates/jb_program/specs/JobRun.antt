@@ -1,8 +1,9 @@
 -- The run of a job, and its restart: its steps in order, up to the first that isn't completed (Jakarta Batch 2.1: the steps
 -- of a job run one after another; that such a one ends the job, and all else here, is this project's choice).
 use Rattle.std.specs.Prelude.{ℕ, ◌≡◌, ◌-◌, ◌+◌, ◌⊎◌, if◌then◌else◌, List, [], ◌∷◌, drop, length, slice_get, bytes_eq, Option, Some, None}
+use Rattle.std.specs.List.{zip}
 use Rattle.jb_job.specs.Records.{SpecRecord, StepRecord}
-use Rattle.jb_job.specs.declared.job.Range.{Range}
+use Rattle.jb_base.specs.declared.range.Range.{Range}
 use Rattle.jb_plan.specs.declared.plan.PartitionPlan.{PartitionPlan}
 use Rattle.jb_plan.specs.Plans.{IsRunnable}
 use Rattle.jb_mapper.specs.EvenCover.{even_ranges}
@@ -10,7 +11,7 @@ use Rattle.jb_documents.specs.declared.run.step_data.StepData.{StepData}
 use Rattle.jb_documents.specs.declared.run.document.Document.{Document}
 use Rattle.jb_documents.specs.declared.restart.document.RestartDocument.{RestartDocument}
 use Rattle.jb_documents.specs.declared.restart.resume.Resume.{Resume}
-use Rattle.jb_artifacts.specs.Meaning.{Workplace}
+use Rattle.jb_artifacts.specs.Meaning.{ArtifactsMeaning}
 use Rattle.jb_collect.specs.declared.calls.Status.{Status}
 use Rattle.jb_collect.specs.declared.calls.Status.TheVariants.{Completed}
 use Rattle.jb_step.specs.Setup.{Setup, discards, saved_faults}
@@ -48,7 +49,7 @@ abbrev pub setup_of : StepRecord → StepData → Option Resume → Setup
 setup_of step supply resume = setup_with step (plan_of_step step supply) (saved_of (kept_of step resume))
 
 -- what the partitions work with that aren't finished
-abbrev pub works_of : StepRecord → StepData → Option Resume → List Workplace
+abbrev pub works_of : StepRecord → StepData → Option Resume → List ArtifactsMeaning
 works_of step supply resume = works_for (settings_of step supply) supply.records (outputs_of (kept_of step resume)) (setup_of step supply resume).rows
 
 -- The step's plan can be run, nothing is wrong with the rows that it goes on from or discards, and its report tells of a run of it: each
@@ -66,24 +67,22 @@ IsStepRefused step supply resume e = IsNotBegun step (length supply.records) (pl
 
 -- ---- the steps
 
--- These are the reports of the steps: each step runs that follows on completed ones alone. The first may go on from what the
--- run before left, the others begin anew; the limit is that of each step by itself.
-abbrev pub AreStepRuns : List StepRecord → List StepData → (round_limit : Option ℕ) → Option Resume → List StepReport → Type 0
-AreStepRuns [] supplies round_limit resume reports = reports ≡ []
-AreStepRuns (step ∷ steps) [] round_limit resume reports = reports ≡ []
-AreStepRuns (step ∷ steps) (supply ∷ supplies) round_limit resume [] = ⊥
-AreStepRuns (step ∷ steps) (supply ∷ supplies) round_limit resume (report ∷ reports) =
+-- These are the reports of the steps, each of which comes with its data: each step runs that follows on completed ones
+-- alone. The first may go on from what the run before left, the others begin anew; the limit is that of each step by itself.
+abbrev pub AreStepRuns : List (StepRecord × StepData) → (round_limit : Option ℕ) → Option Resume → List StepReport → Type 0
+AreStepRuns [] round_limit resume reports = reports ≡ []
+AreStepRuns ((step, supply) ∷ steps) round_limit resume [] = ⊥
+AreStepRuns ((step, supply) ∷ steps) round_limit resume (report ∷ reports) =
     IsStepRun step supply round_limit resume report
-    × (report.status ≡ Completed → AreStepRuns steps supplies round_limit None reports)
+    × (report.status ≡ Completed → AreStepRuns steps round_limit None reports)
     × ((report.status ≡ Completed → ⊥) → reports ≡ [])
 
 -- A step that follows on completed ones is refused so.
-abbrev pub IsRefusedAtStep : List StepRecord → List StepData → (round_limit : Option ℕ) → Option Resume → Failure → Type 0
-IsRefusedAtStep [] supplies round_limit resume e = ⊥
-IsRefusedAtStep (step ∷ steps) [] round_limit resume e = ⊥
-IsRefusedAtStep (step ∷ steps) (supply ∷ supplies) round_limit resume e =
+abbrev pub IsRefusedAtStep : List (StepRecord × StepData) → (round_limit : Option ℕ) → Option Resume → Failure → Type 0
+IsRefusedAtStep [] round_limit resume e = ⊥
+IsRefusedAtStep ((step, supply) ∷ steps) round_limit resume e =
     IsStepRefused step supply resume e
-    ⊎ ((report : StepReport) × IsStepRun step supply round_limit resume report × (report.status ≡ Completed) × IsRefusedAtStep steps supplies round_limit None e)
+    ⊎ ((report : StepReport) × IsStepRun step supply round_limit resume report × (report.status ≡ Completed) × IsRefusedAtStep steps round_limit None e)
 
 -- ---- the job
 
@@ -94,7 +93,7 @@ status_in (Some report) = report.status
 -- The job's status is that of its last step that ran.
 pub record IsJobRun (document : Document) (round_limit : Option ℕ) (report : Report) : Type 0 where
   pub job : report.job ≡ document.job.id
-  pub steps : AreStepRuns document.job.steps document.steps round_limit None report.steps
+  pub steps : AreStepRuns (zip document.job.steps document.steps) round_limit None report.steps
   pub ended : report.status ≡ status_in (slice_get report.steps (length report.steps - 1))
 
 -- ---- its restart
@@ -112,10 +111,10 @@ done_before document = earlier document.resume.saved.step document.job.steps
 -- before left, and the later ones run as ever.
 pub record IsRestartRun (document : RestartDocument) (round_limit : Option ℕ) (report : Report) : Type 0 where
   pub job : report.job ≡ document.job.id
-  pub steps : AreStepRuns (drop (done_before document) document.job.steps) (drop (done_before document) document.steps) round_limit (Some document.resume) report.steps
+  pub steps : AreStepRuns (drop (done_before document) (zip document.job.steps document.steps)) round_limit (Some document.resume) report.steps
   pub ended : report.status ≡ status_in (slice_get report.steps (length report.steps - 1))
 
 -- A step that comes to its turn is refused so.
 abbrev pub IsRestartRefused : RestartDocument → (round_limit : Option ℕ) → Failure → Type 0
 IsRestartRefused document round_limit e =
-    IsRefusedAtStep (drop (done_before document) document.job.steps) (drop (done_before document) document.steps) round_limit (Some document.resume) e
+    IsRefusedAtStep (drop (done_before document) (zip document.job.steps document.steps)) round_limit (Some document.resume) e

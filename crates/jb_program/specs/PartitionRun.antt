@@ -2,14 +2,14 @@
 -- of the step's records).
 use Rattle.std.specs.Prelude.{ℕ, ◌≡◌, ◌+◌, ◌-◌, ◌∷◌, ◌==◌, ◌&&◌, nat_le, nat_lt, Bool, true, List, [], map, slice_index_or, take, drop, filter, find, reverse, Option, Some, None}
 use Rattle.std.specs.Str.Lossy.{utf8_lossy}
-use Rattle.jb_job.specs.declared.job.Range.{Range}
+use Rattle.jb_base.specs.declared.range.Range.{Range}
 use Rattle.jb_rules.specs.Rows.{range_of}
 use Rattle.jb_rules.specs.declared.row.Row.{Row}
 use Rattle.jb_rules.specs.States.{has_ended}
 use Rattle.jb_artifacts.specs.declared.faults.FaultPlan.{FaultPlan}
 use Rattle.jb_artifacts.specs.declared.faults.FaultPlan.TheVariants as plan
-use Rattle.jb_artifacts.specs.Faults.{Plans}
-use Rattle.jb_artifacts.specs.Meaning.{Workplace}
+use Rattle.jb_artifacts.specs.Faults.{FaultTable}
+use Rattle.jb_artifacts.specs.Meaning.{ArtifactsMeaning}
 use Rattle.jb_artifacts.specs.Prefix.{prefixed}
 use Rattle.jb_artifacts.specs.Collected.{count_text}
 use Rattle.jb_documents.specs.declared.run.faults.FaultKind.{FaultKind}
@@ -37,21 +37,21 @@ fault_plan_by None = plan.Sound
 fault_plan_by (Some fault) = fault_plan_of fault.kind
 
 -- the plan of each record: the fault that the list has for its number
-abbrev pub fault_plans : List PlannedFault → Plans
+abbrev pub fault_plans : List PlannedFault → FaultTable
 fault_plans faults = λ k. fault_plan_by (find (λ fault. k == fault.number) (reverse faults))
 
 abbrev pub is_of_range : Range → PlannedFault → Bool
 is_of_range range fault = nat_le range.lo fault.number && nat_lt fault.number range.hi
 
 -- An artifact gets the plans of its own range's records.
-unfoldable pub plans_in : List PlannedFault → Range → Plans
+unfoldable pub plans_in : List PlannedFault → Range → FaultTable
 plans_in faults range = fault_plans (filter (is_of_range range) faults)
 
 -- ---- the partition's task
 
 -- what a partition works with before it begins: its records, the prefix, the results that its writer holds, and the counts
 -- as texts
-abbrev pub workplace_of : StepSettings → (records held : List (List ℕ)) → Range → Workplace
+abbrev pub workplace_of : StepSettings → (records held : List (List ℕ)) → Range → ArtifactsMeaning
 workplace_of step records held range = record {
   reader = record { first = range.lo; records = records; place = range.lo; faults = plans_in step.faults.read range };
   processor = record { answer = λ _ item. prefixed step.prefix step.drop item; faults = plans_in step.faults.process range };
@@ -64,7 +64,7 @@ abbrev pub held_by : (outputs : List (List (List ℕ))) → (partition : ℕ) �
 held_by outputs partition = slice_index_or outputs partition []
 
 -- what a partition with this row works with: it has the records of its own range
-abbrev pub work_for : StepSettings → (records : List (List ℕ)) → (outputs : List (List (List ℕ))) → ℕ × Row → Workplace
+abbrev pub work_for : StepSettings → (records : List (List ℕ)) → (outputs : List (List (List ℕ))) → ℕ × Row → ArtifactsMeaning
 work_for step records outputs n = workplace_of step (records_in records (range_of n.1)) (held_by outputs n.0) (range_of n.1)
 
 -- The task of a partition that begins with this row, or goes on from it: what its writer holds past the results that were

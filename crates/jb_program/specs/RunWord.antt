@@ -1,5 +1,6 @@
 -- What `run` leaves.
 use Rattle.std.specs.Prelude.{◌≡◌, ℕ, List, Option, None, IfSome}
+use Rattle.std.specs.List.{zip}
 use Rattle.std.specs.Io.KnownBytes.{Appends}
 use Rattle.jb_plan.specs.declared.fault.PlanError.{PlanError}
 use Rattle.jb_documents.specs.declared.run.document.Document.{Document}
@@ -31,4 +32,4 @@ IsRunFront round_limit input old new = (report : Report) × AppendsFront old new
 pub record IsRefusedPlan (round_limit : Option ℕ) (fault : PlanError) (bytes : List ℕ) : Type 0 where
   pub document : Document
   pub read : IsDocument bytes document
-  pub refused : IsRefusedAtStep document.job.steps document.steps round_limit None (failure.Plan fault)
+  pub refused : IsRefusedAtStep (zip document.job.steps document.steps) round_limit None (failure.Plan fault)

@@ -8,14 +8,14 @@ use Rattle.jb_plan.specs.Plans.{IsRunnable, threads_of}
 use Rattle.jb_plan.specs.Faults.{IsFirst, plan_errors}
 use Rattle.jb_plan.specs.declared.plan.PartitionPlan.{PartitionPlan}
 use Rattle.jb_rules.specs.declared.row.Row.{Row}
-use Rattle.jb_artifacts.specs.Meaning.{Workplace}
+use Rattle.jb_artifacts.specs.Meaning.{ArtifactsMeaning}
 use Rattle.jb_repo.specs.declared.snapshot.Snapshot.{Snapshot}
-use Rattle.jb_collect.specs.Reduced.{reducer_calls}
+use Rattle.jb_collect.specs.ReducerCalls.{reducer_calls, run_end}
 use Rattle.jb_collect.specs.Taken.{well}
 use Rattle.jb_saved.specs.SavedRows.{SavedRows}
-use Rattle.jb_step.specs.Ending.{IsRunOfStep}
+use Rattle.jb_step.specs.Answers.{IsRunOfStep}
 use Rattle.jb_step.specs.Setup.{Setup, opening_rows, saved_faults, unfinished}
-use Rattle.jb_step.specs.Statuses.{status_of, went_well}
+use Rattle.jb_step.specs.Statuses.{status_of}
 use Rattle.jb_documents.specs.ResumeFields.{held_at}
 use Rattle.jb_documents.specs.declared.restart.resume.Resume.{Resume}
 use Rattle.jb_texts.specs.Report.{PartitionReport, StepReport}
@@ -65,13 +65,13 @@ IsNotBegun step records plan saved (failure.Saved place) =
 IsNotBegun step records plan saved _ = ⊥
 
 -- what the partitions work with that aren't finished
-abbrev pub works_for : StepSettings → (records : List (List ℕ)) → (outputs : List (List (List ℕ))) → List Row → List Workplace
+abbrev pub works_for : StepSettings → (records : List (List ℕ)) → (outputs : List (List (List ℕ))) → List Row → List ArtifactsMeaning
 works_for settings records outputs rows = map (work_for settings records outputs) (unfinished rows)
 
 -- ---- what its report tells
 
 -- the results in a writer as texts, or those that were committed before where the partition needed none
-abbrev pub outputs_in : (before : List (List ℕ)) → Option (ℕ × Workplace) → List (List ℕ)
+abbrev pub outputs_in : (before : List (List ℕ)) → Option (ℕ × ArtifactsMeaning) → List (List ℕ)
 outputs_in before None = map utf8_lossy before
 outputs_in before (Some left) = map utf8_lossy left.1.writer.written
 
@@ -80,17 +80,28 @@ abbrev pub committed_of : (outputs : List (List (List ℕ))) → ℕ × Row → 
 committed_of outputs n = take n.1.written (held_by outputs n.0)
 
 -- each partition with its row, and what is in the writer that came back from it; from a finished one none did
-abbrev pub partitions_left : (outputs : List (List (List ℕ))) → List Row → (left : List (ℕ × Workplace)) → List PartitionReport
+abbrev pub partitions_left : (outputs : List (List (List ℕ))) → List Row → (left : List (ℕ × ArtifactsMeaning)) → List PartitionReport
 partitions_left outputs rows left =
     map (λ n. record { row = n.1; outputs = outputs_in (committed_of outputs n) (find (λ one. one.0 == n.0) left) }) (enumerate_from 0 rows)
 
 -- Some run of the step in no more rounds than the limit: the report has its partitions, its plans and its status, all that
 -- its analyzer heard, and all calls of its reducer, the rollback of an earlier run's results among them where these are
 -- discarded. Each call of the two was answered well.
-pub record IsToldOf (discards : Bool) (s : Setup) (works : List Workplace) (outputs : List (List (List ℕ))) (round_limit : Option ℕ) (report : StepReport) : Type 0 where
+pub record IsToldOf (discards : Bool) (s : Setup) (works : List ArtifactsMeaning) (outputs : List (List (List ℕ))) (round_limit : Option ℕ) (report : StepReport) : Type 0 where
   pub snapshot : Snapshot
-  pub left : List (ℕ × Workplace)
-  pub run : IsRunOfStep s works round_limit [] (map well report.heard) report.plans snapshot left
+  pub left : List (ℕ × ArtifactsMeaning)
+  pub run :
+      IsRunOfStep
+      (record {
+        setup = s;
+        works = works;
+        round_limit = round_limit;
+        heard_before = [];
+        heard_after = map well report.heard;
+        notes = report.plans;
+        snapshot = snapshot;
+        left = left;
+      })
   pub partitions : report.partitions ≡ partitions_left outputs snapshot.rows.items left
   pub status : report.status ≡ status_of snapshot.rows.items false
-  pub reducer : report.reducer ≡ reducer_calls discards false (went_well snapshot.rows.items false) false
+  pub reducer : report.reducer ≡ reducer_calls discards (run_end (status_of snapshot.rows.items false) false)

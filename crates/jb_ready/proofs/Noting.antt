@@ -1,8 +1,8 @@
 -- Calls that are noted.
 use Rattle.std.proofs.Common.{◌≡◌, Result, Err, [], ◌∷◌, ◌++◌, ap, sym, subst, ◌∙◌, inl, inr}
-use Rattle.jb_job.specs.declared.class.ClassId.{ClassId}
-use Rattle.jb_job.specs.declared.artifact_error.ArtifactError.{ArtifactError}
-use Rattle.jb_job.specs.declared.artifact_error.ArtifactError.TheVariants.{Fault}
+use Rattle.jb_base.specs.declared.class.ClassId.{ClassId}
+use Rattle.jb_base.specs.declared.artifact_error.ArtifactError.{ArtifactError}
+use Rattle.jb_base.specs.declared.artifact_error.ArtifactError.TheVariants.{Fault}
 use Rattle.jb_ready.specs.Notes.{NotesOf, HasLost, HasNoted, NotesFault}
 
 module _ {A N : Type 0} (Is : ClassId → N → Type 0) (class : ClassId) (result : Result A ArtifactError) (told : result ≡ Err (Fault class)) (old new : NotesOf N) where

@@ -3,9 +3,9 @@ use Rattle.std.proofs.Common.{◌≡◌, ◌≤◌, ◌<◌, ◌+◌, ◌-◌, �
 use Rattle.std.proofs.Math.Path.{fun_ext}
 use Rattle.std.specs.Prelude.{cond, ◌==◌, ◌&&◌, nat_le, nat_lt, slice_index_or}
 use Rattle.std.proofs.lemmas.Bool.Decides.{nat_tests}
-use Rattle.jb_job.specs.declared.class.ClassId.{ClassId}
+use Rattle.jb_base.specs.declared.class.ClassId.{ClassId}
 use Rattle.jb_artifacts.specs.declared.faults.FaultPlan.TheVariants.{Sound}
-use Rattle.jb_artifacts.specs.Faults.{Plans, live, used, used_at}
+use Rattle.jb_artifacts.specs.Faults.{FaultTable, live, used, used_at}
 use Rattle.jb_artifacts.specs.Reader.{Reader, read_fault, after_read}
 use Rattle.jb_ready.specs.Checks.{plan_by, checked_plans}
 
@@ -40,5 +40,5 @@ module _ (check : List ℕ → Option ClassId) (first : ℕ) (items : List (List
       → let r : Reader = record { first = first; records = items; place = k; faults = checked_plans check first items } in
       (read_fault r ≡ refusal) × (record r { place = k + 1 } ≡ after_read r)
   check-reads k item refusal from to is told =
-      let past : Plans → Reader = λ plans. record { first = first; records = items; place = k + 1; faults = plans } in
+      let past : FaultTable → Reader = λ plans. record { first = first; records = items; place = k + 1; faults = plans } in
       (check-decides k item from to is ∙ told, ap past (check-stays k))

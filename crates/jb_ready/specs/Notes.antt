@@ -1,10 +1,10 @@
 -- What an artifact that notes its faults has noted (own choice).
 use Rattle.std.specs.Prelude.{ℕ, ◌≡◌, ◌+◌, ◌-◌, ◌^◌, ◌++◌, ◌∷◌, ◌⊎◌, [], List, Result, Ok, Err, min}
-use Rattle.jb_job.specs.declared.class.ClassId.{ClassId}
-use Rattle.jb_job.specs.declared.artifact_error.ArtifactError.{ArtifactError}
+use Rattle.jb_base.specs.declared.class.ClassId.{ClassId}
+use Rattle.jb_base.specs.declared.artifact_error.ArtifactError.{ArtifactError}
 use Rattle.jb_ready.specs.declared.notes.Note.{Note}
 use Rattle.jb_ready.specs.declared.notes.WriteNote.{WriteNote}
-use Rattle.jb_job.specs.declared.artifact_error.ArtifactError.TheVariants.{Fault, Memory}
+use Rattle.jb_base.specs.declared.artifact_error.ArtifactError.TheVariants.{Fault, Memory}
 
 -- the notes that were kept, the first one first, and the number of those that were lost for want of memory
 pub record NotesOf (N : Type 0) : Type 0 where

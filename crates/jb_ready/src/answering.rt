@@ -4,7 +4,7 @@ ghost use Rattle.std.specs.Prelude.{◌≡◌, ℕ, List, Option, IfOk};
 ghost use Rattle.jb_artifacts.specs.Faults.{plans_of};
 
 use jb_artifacts::{FaultPlans, Item, ItemProcessor};
-use jb_job::ArtifactError;
+use jb_base::ArtifactError;
 use std::alloc::AllocError;
 
 /// A function of a record's number and item. It is all that a processor is made of.

@@ -1,14 +1,13 @@
 //! A reader over items that checks each item as it is read.
 
 ghost use Rattle.std.specs.Prelude.{◌≡◌, ◌≤◌, ◌+◌, ◌<◌, ◌^◌, ℕ, List, Option, length, IfOk, IfErr};
-ghost use Rattle.jb_job.specs.declared.class.ClassId.{ClassId};
+ghost use Rattle.jb_base.specs.declared.class.ClassId.{ClassId};
 ghost use Rattle.jb_ready.specs.Checks.{checked_plans};
 ghost use Rattle.jb_ready.specs.declared.records_error.RecordsError.TheVariants.{Numbers};
 
 use crate::records_error::RecordsError;
 use jb_artifacts::{Item, ItemReader, LendingReader, record_of};
-use jb_base::PackedList;
-use jb_job::{ArtifactError, ClassId};
+use jb_base::{ArtifactError, ClassId, PackedList};
 use std::alloc::{AllocError, Global};
 
 /// A check of items. It has one answer for each item: none, or the class of the fault with which its read fails.

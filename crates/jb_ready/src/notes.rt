@@ -3,7 +3,7 @@
 ghost use Rattle.std.specs.Prelude.{◌≡◌, [], ℕ};
 ghost use Rattle.jb_ready.specs.Notes.{HasLost, HasNoted, NotesCall};
 
-use jb_job::{ArtifactError, ClassId};
+use jb_base::{ArtifactError, ClassId};
 use std::alloc::Global;
 use std::marker::Model;
 

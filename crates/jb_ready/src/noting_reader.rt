@@ -7,7 +7,7 @@ ghost use Rattle.jb_ready.specs.Notes.{NotesCall};
 
 use crate::notes::{Note, Notes};
 use jb_artifacts::{Item, ItemReader, LendingReader};
-use jb_job::ArtifactError;
+use jb_base::ArtifactError;
 
 /// A reader that answers as `inner` does, and notes each fault that it passes on.
 #[derive(Drop)]

@@ -7,7 +7,7 @@ ghost use Rattle.jb_ready.specs.Notes.{NotesWrite};
 
 use crate::notes::{Notes, WriteNote};
 use jb_artifacts::{Item, ItemWriter};
-use jb_job::ArtifactError;
+use jb_base::ArtifactError;
 use std::alloc::{AllocError, Global};
 
 /// A writer that answers as `inner` does, and notes each fault that it passes on, with the numbers of the call.

@@ -1,6 +1,6 @@
 -- How many events a history has, with the outcomes that are still to come.
 use Rattle.std.proofs.Common.{◌≡◌, ◌+◌, ◌≤◌, List, [], ◌∷◌, length, arith}
-use Rattle.jb_job.specs.Limits.{max_events}
+use Rattle.jb_base.specs.Limits.{max_events}
 use Rattle.jb_repo.specs.declared.events.Event.{Event}
 use Rattle.jb_repo.specs.declared.events.Event.TheVariants.{Plan, Begin, Commit, Roll, Fail, Drop, Round, Stop}
 use Rattle.jb_repo.specs.History.{running, number, is_begin, is_outcome}

@@ -17,9 +17,9 @@ use Rattle.jb_repo.specs.Rows.{replayed_row, repeats_in}
 use Rattle.jb_repo.specs.Table.{Journal, refusal, AcceptedPast, is_good_commit, is_commit_of}
 use Rattle.jb_repo.specs.Openable.{IsOpenable}
 use Rattle.jb_repo.specs.inside.Below.{LawsBelow}
-use Rattle.jb_repo.specs.inside.Steps.{step, CanStep, IsCommit}
-use Rattle.jb_job.specs.Limits.{max_rollbacks, max_retry_limit, max_in_place}
-use Rattle.jb_repo.proofs.RowLemmas.{own-yes, own-no, own-none, owner-yes, owner-no, replayed_row-step, plus_counts-zero}
+use Rattle.jb_repo.specs.inside.Steps.{CanStep, IsCommit}
+use Rattle.jb_base.specs.Limits.{max_rollbacks, max_retry_limit, max_in_place}
+use Rattle.jb_repo.proofs.RowLemmas.{step, own-yes, own-no, own-none, owner-yes, owner-no, replayed_row-step, plus_counts-zero}
 use Rattle.jb_repo.proofs.Stepping.{sound-step, waiting-before-end, running-before-end}
 use Rattle.jb_repo.proofs.Passing.{BeginPasses, begin_passes, commit_passes, roll_passes, fail_passes, drop_passes, round_passes, row_of-is, leb_false, ltb_false, or_false, roll_few, fail_few}
 

@@ -9,10 +9,10 @@ use Rattle.jb_repo.specs.Table.{Journal, refusal, AcceptedPast}
 use Rattle.jb_repo.specs.Openable.{IsOpenable}
 use Rattle.jb_repo.specs.Laws.{CommitsAreCounted}
 use Rattle.jb_repo.specs.inside.Below.{LawsBelow}
-use Rattle.jb_repo.specs.inside.Steps.{step, CanStep}
+use Rattle.jb_repo.specs.inside.Steps.{CanStep}
 use Rattle.jb_repo.proofs.Consistent.{at_past, consistent, about, can, rows-sound}
 use Rattle.jb_repo.proofs.Passing.{row_of-is, commit_passes}
-use Rattle.jb_repo.proofs.RowLemmas.{rows_from-none, rows_from-some}
+use Rattle.jb_repo.proofs.RowLemmas.{step, rows_from-none, rows_from-some}
 use Rattle.jb_repo.proofs.Stepping.{commit_facts}
 use Rattle.jb_repo.proofs.Tables.{at_some}
 use Rattle.jb_repo.proofs.Noting.{rows_from-opening}

@@ -7,7 +7,7 @@ use Rattle.jb_rules.specs.Rows.{row_block}
 use Rattle.jb_cert.specs.declared.certificates.Certificate.{Certificate}
 use Rattle.jb_cert.specs.Laws.{LeastPlanMeans}
 use Rattle.jb_repo.specs.declared.events.Event.TheVariants.{Plan, Commit, Round}
-use Rattle.jb_job.specs.Limits.{max_events, max_retry_limit}
+use Rattle.jb_base.specs.Limits.{max_events, max_retry_limit}
 use Rattle.jb_repo.specs.declared.refused.Refused.TheVariants.{Stopping, LaneRange, NotRunning, BadDelta, StillRunning, BadPlan, Full}
 use Rattle.jb_repo.specs.History.{owner, is_stopping, is_plan_open}
 use Rattle.jb_repo.specs.Rows.{remaining}
@@ -16,7 +16,7 @@ use Rattle.jb_repo.specs.Openable.{IsReplayable}
 use Rattle.jb_repo.specs.Laws.{MayPlan, IsCertified, GoodPlansAreAccepted, BadPlansAreRefused, MayEndRound, GoodRoundsAreAccepted, PlacedStopsAreAccepted, IsCommitOfNext, GoodCommitsAreAccepted, BadCommitsAreRefused, RunningLanesMayEnd}
 use Rattle.jb_repo.specs.inside.Below.{LawsBelow}
 use Rattle.jb_repo.proofs.Consistent.{consistent}
-use Rattle.jb_repo.proofs.Passing.{or_false, plan_passes, round_passes, stop_passes}
+use Rattle.jb_repo.proofs.Passing.{none_below, or_false, plan_passes, round_passes, stop_passes}
 use Rattle.jb_repo.proofs.Stepping.{commit_facts}
 
 -- PLANS
@@ -28,9 +28,6 @@ third false true c d h = absurd cc
 third false false true d h = (refl, refl, refl)
 third false false false true h = absurd cc
 third false false false false h = absurd cc
-
-none_below : (n : ℕ) → nat_lt 0 n ≡ false → n ≡ 0
-none_below n h = grind (arith, nat_tests)
 
 not_true : (a : Bool) → not a ≡ true → a ≡ false
 not_true true h = absurd cc

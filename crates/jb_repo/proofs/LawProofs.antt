@@ -14,14 +14,13 @@ use Rattle.jb_repo.specs.History.{owner, own, partition_of, is_some_of, some, nu
 use Rattle.jb_rules.specs.Rows.{state_at}
 use Rattle.jb_repo.specs.Rows.{replayed_row, rows_from, at_after, advances, remaining}
 use Rattle.jb_repo.specs.inside.Below.{LawsBelow}
-use Rattle.jb_repo.specs.inside.Steps.{step, CanStep}
 use Rattle.jb_cert.specs.Laws.{LeastPlanMeans}
 use Rattle.jb_rules.specs.Rows.{row_block}
 use Rattle.jb_repo.specs.Table.{Journal, refusal, after, AcceptedPast, row_of, rows_of, reserved}
 use Rattle.jb_repo.specs.Openable.{IsOpenable, IsReplayable}
 use Rattle.jb_repo.specs.Laws.{with_past, RunsOn, OneLane, OnePartition, RowsShowLanes, LanesAreKnown, RowsAreSound, next_row, RowsLiveOn, committed_blocks, AreConsecutive, CommitsAreConsecutive, without_lane, OrderIsFree, PlansAreLeast, RoundsArePlanned, goes_well, PlansAreRunWhole}
-use Rattle.jb_repo.proofs.RowLemmas.{replayed_row-step}
-use Rattle.jb_repo.proofs.Stepping.{and_parts, commit_facts, passed-block, commit-is, running-before-end}
+use Rattle.jb_repo.proofs.RowLemmas.{step, replayed_row-step}
+use Rattle.jb_repo.proofs.Stepping.{and_parts, commit_facts, passed-block, next-is, running-before-end}
 use Rattle.jb_repo.proofs.Passing.{row_of-is, commit_passes, plan_passes, round_passes, or_false, ltb_false}
 use Rattle.jb_repo.proofs.Consistent.{Consistent, consistent, at_past, none_owns, commit_of_row, rows-sound, some_of}
 use Rattle.jb_repo.proofs.Tables.{at_some, inside, row_sound, has_opening, can_step}
@@ -122,17 +121,6 @@ pub commits_are_consecutive : LawsBelow → CommitsAreConsecutive
 commits_are_consecutive laws j law p opening opens = consecutive laws j law.ready p opening opens j.past law.accepted
 
 -- THE LIFE OF A ROW
-
-next-is : (laws : LawsBelow) (c : ℕ) (row : Row) (e : Event) → 1 ≤ c → CanStep c row e → step c row e ≡ next_row c row e
-next-is laws c row (Plan n k) some can = refl
-next-is laws c row (Begin l p) some can = refl
-next-is laws c row (Commit l d w a) some can =
-    commit-is laws c row some can.sound can.unfinished l d w a (commit_facts laws c row d w can.commit)
-next-is laws c row (Roll l k a) some can = refl
-next-is laws c row (Fail l k a) some can = refl
-next-is laws c row (Drop l) some can = refl
-next-is laws c row Round some can = refl
-next-is laws c row Stop some can = refl
 
 module _ (laws : LawsBelow) (j : Journal) (law : IsReplayable j) (e : Event) (passes : refusal j e ≡ None) (p : ℕ) (row : Row) (is : row_of j p ≡ Some row) where
   changed : (r : Row) (mine : Bool) → row ≡ replayed_row j.item_count r (own p j.past) → is_some_of (partition_of e j.past) p ≡ mine

@@ -3,7 +3,7 @@ pub mod Consistent
 pub mod Counting
 pub mod FirstBlocks
 pub mod Judging
-pub mod Keeping
+pub mod Representing
 pub mod LawProofs
 pub mod Loads
 pub mod Noting

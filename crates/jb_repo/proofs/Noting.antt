@@ -1,6 +1,6 @@
 -- What is kept beside a history, after one more event.
 use Rattle.std.proofs.Common.{◌≡◌, ℕ, zero, suc, ◌+◌, ◌<◌, ◌≤◌, true, false, cond, Bool, List, [], ◌∷◌, length, Option, Some, None, refl, sym, arith}
-use Rattle.jb_job.specs.Limits.{max_threads}
+use Rattle.jb_base.specs.Limits.{max_threads}
 use Rattle.jb_rules.specs.declared.row.Row.{Row}
 use Rattle.jb_rules.specs.declared.row.RowState.TheVariants.{Finished}
 use Rattle.jb_rules.specs.Counts.{plus_counts, no_counts, SumsFit}
@@ -12,7 +12,7 @@ use Rattle.jb_repo.specs.Table.{Journal, Accepted, refusal, after, rows_of}
 use Rattle.jb_repo.specs.Openable.{IsOpenable}
 use Rattle.jb_repo.specs.inside.Below.{LawsBelow}
 use Rattle.jb_repo.specs.inside.Fit.{CountsFit}
-use Rattle.jb_repo.specs.inside.Standing.{IsWithin}
+use Rattle.jb_repo.specs.inside.Projection.{IsWithin}
 use Rattle.jb_repo.proofs.RowLemmas.{own-yes, own-no, rows_from-none, rows_from-before, plus_counts-swap, plus_counts-zero, plus_counts_assoc}
 use Rattle.jb_repo.proofs.Consistent.{row_eq_opening}
 use Rattle.jb_repo.proofs.Opened.{still_openable}

@@ -4,9 +4,9 @@ use Rattle.std.proofs.lemmas.Bool.Decides.{nat_tests}
 use Rattle.jb_rules.specs.declared.counts.Counts.{Counts}
 use Rattle.jb_rules.specs.declared.row.Row.{Row}
 use Rattle.jb_cert.specs.declared.certificates.Certificate.{Certificate}
-use Rattle.jb_job.specs.declared.class.ClassId.{ClassId}
+use Rattle.jb_base.specs.declared.class.ClassId.{ClassId}
 use Rattle.jb_repo.specs.declared.events.Event.TheVariants.{Plan, Begin, Commit, Roll, Fail, Drop, Round, Stop}
-use Rattle.jb_job.specs.Limits.{max_events, max_retry_limit}
+use Rattle.jb_base.specs.Limits.{max_events, max_retry_limit}
 use Rattle.jb_repo.specs.History.{own, owner, is_lane_marked, is_partition_marked, is_plan_open, is_stopping}
 use Rattle.jb_repo.specs.Rows.{replayed_row}
 use Rattle.jb_repo.specs.Table.{Journal, Condition, conditions, first_refusal, refusal, row_of, reserved, is_full, is_good_plan, is_good_commit, is_ended, is_at_limit}
@@ -84,7 +84,7 @@ pub record PlanPasses (j : Journal) (n : ℕ) (k : Certificate) : Type 0 where
   pub good : is_good_plan j n k ≡ true
   pub room : length j.past + reserved j + 1 ≤ max_events
 
-none_below : (n : ℕ) → nat_lt 0 n ≡ false → n ≡ 0
+pub none_below : (n : ℕ) → nat_lt 0 n ≡ false → n ≡ 0
 none_below n h = grind (arith, nat_tests)
 
 pub plan_passes : (j : Journal) (n : ℕ) (k : Certificate) → refusal j (Plan n k) ≡ None → PlanPasses j n k

@@ -1,7 +1,7 @@
 -- The places that are reserved for outcomes.
 use Rattle.std.proofs.Common.{◌≡◌, ◌≢◌, ℕ, zero, suc, ◌+◌, ◌<◌, ◌≤◌, Bool, false, cond, nat_eq, is_some, inl, inr, List, ◌∷◌, length, Option, Some, None, refl, ◌∙◌, ap, eq-eqb, arith}
 use Rattle.std.proofs.lemmas.Bool.{ne_eqb, cases_eq}
-use Rattle.jb_job.specs.Limits.{max_events}
+use Rattle.jb_base.specs.Limits.{max_events}
 use Rattle.jb_repo.specs.declared.events.Event.{Event}
 use Rattle.jb_repo.specs.declared.events.Event.TheVariants.{Plan, Begin, Commit, Roll, Fail, Drop, Round, Stop}
 use Rattle.jb_repo.specs.History.{owner, names_lane, begun_by, running, runs}

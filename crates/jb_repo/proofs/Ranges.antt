@@ -6,17 +6,17 @@ use Rattle.jb_rules.specs.declared.row.RowState.TheVariants.{Waiting, Running, F
 use Rattle.jb_repo.specs.declared.events.Event.{Event}
 use Rattle.jb_rules.specs.Sound.{IsSoundRow}
 use Rattle.std.specs.Prelude.{sum, map}
-use Rattle.jb_job.specs.declared.job.Range.{Range}
+use Rattle.jb_base.specs.declared.range.Range.{Range}
 use Rattle.std.proofs.Common.{get_or, ap, length}
 use Rattle.std.proofs.lemmas.List.{length-map}
 use Rattle.std.proofs.lemmas.Option.{slice_get_within}
 use Rattle.std.proofs.lemmas.List.Sums.{sum_by-cons}
 use Rattle.jb_repo.specs.inside.Below.{LawsBelow}
-use Rattle.jb_job.specs.Limits.{max_records}
+use Rattle.jb_base.specs.Limits.{max_records}
 use Rattle.jb_plan.specs.Ranges.{HaveNoneInCommon, AreDisjoint}
-use Rattle.jb_rules.specs.Rows.{range_of}
+use Rattle.jb_rules.specs.Rows.{range_of, remaining_of}
 use Rattle.jb_repo.specs.History.{own}
-use Rattle.jb_repo.specs.Rows.{replayed_row, rows_from, remaining, remaining_of}
+use Rattle.jb_repo.specs.Rows.{replayed_row, rows_from, remaining}
 
 abbrev pub Apart : List Row → Type 0
 Apart rows = (i k : ℕ) (r s : Row) → i < k → slice_get rows i ≡ Some r → slice_get rows k ≡ Some s → HaveNoneInCommon (range_of r) (range_of s)

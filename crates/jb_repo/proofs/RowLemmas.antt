@@ -9,7 +9,14 @@ use Rattle.jb_repo.specs.declared.events.Event.TheVariants.{Plan, Begin, Commit,
 use Rattle.jb_rules.specs.Counts.{plus_counts, no_counts, rolled_counts}
 use Rattle.jb_repo.specs.History.{own, owner, names_lane, begun_by, partition_of, is_some_of}
 use Rattle.jb_repo.specs.Rows.{replayed_row, rows_from, gains, advances, one_rollback}
-use Rattle.jb_repo.specs.inside.Steps.{step}
+use Rattle.jb_rules.specs.Rows.{repeated_row, committed_row}
+use Rattle.jb_repo.specs.Laws.{next_row}
+
+-- the row after one more own event, whether or not the table accepts it: a Commit is taken at its word
+abbrev pub step : ℕ → Row → Event → Row
+step c row (Commit l d w a) =
+    record (committed_row (repeated_row row a) (row.at + (d.read + d.read_skip)) d) { written = w }
+step c row e = next_row c row e
 
 -- COUNTS
 

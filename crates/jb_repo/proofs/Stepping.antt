@@ -4,7 +4,7 @@ use Rattle.std.proofs.lemmas.Bool.Decides.{nat_tests}
 use Rattle.jb_rules.specs.declared.counts.Counts.{Counts}
 use Rattle.jb_rules.specs.declared.row.Row.{Row}
 use Rattle.jb_rules.specs.declared.row.RowState.TheVariants.{Running, Finished}
-use Rattle.jb_job.specs.Limits.{max_in_place}
+use Rattle.jb_base.specs.Limits.{max_in_place}
 use Rattle.jb_rules.specs.Counts.{IsDelta}
 use Rattle.jb_rules.specs.Rows.{row_block, repeated_row, committed_row, rolled_row}
 use Rattle.jb_rules.specs.Sound.{IsSoundRow}
@@ -13,7 +13,9 @@ use Rattle.jb_repo.specs.declared.events.Event.{Event}
 use Rattle.jb_repo.specs.declared.events.Event.TheVariants.{Plan, Begin, Commit, Roll, Fail, Drop, Round, Stop}
 use Rattle.jb_repo.specs.Table.{is_commit_of}
 use Rattle.jb_repo.specs.inside.Below.{LawsBelow}
-use Rattle.jb_repo.specs.inside.Steps.{step, CanStep}
+use Rattle.jb_repo.specs.Laws.{next_row}
+use Rattle.jb_repo.specs.inside.Steps.{CanStep}
+use Rattle.jb_repo.proofs.RowLemmas.{step}
 
 -- a true conjunction has true parts
 pub and_parts : (a b : Bool) → (a && b) ≡ true → (a ≡ true) × (b ≡ true)
@@ -82,3 +84,15 @@ sound-step laws c row some (Fail l k a) can = laws.rows.failed (repeated_row row
 sound-step laws c row some (Drop l) can = laws.rows.dropped row can.sound can.unfinished
 sound-step laws c row some Round can = can.sound
 sound-step laws c row some Stop can = can.sound
+
+-- where the row can take the step, the event does to it what it says of a row's life
+pub next-is : (laws : LawsBelow) (c : ℕ) (row : Row) (e : Event) → 1 ≤ c → CanStep c row e → step c row e ≡ next_row c row e
+next-is laws c row (Plan n k) some can = refl
+next-is laws c row (Begin l p) some can = refl
+next-is laws c row (Commit l d w a) some can =
+    commit-is laws c row some can.sound can.unfinished l d w a (commit_facts laws c row d w can.commit)
+next-is laws c row (Roll l k a) some can = refl
+next-is laws c row (Fail l k a) some can = refl
+next-is laws c row (Drop l) some can = refl
+next-is laws c row Round some can = refl
+next-is laws c row Stop some can = refl

@@ -7,22 +7,23 @@ use Rattle.jb_rules.specs.declared.row.Row.{Row}
 use Rattle.jb_rules.specs.declared.row.RowState.TheVariants.{Waiting}
 use Rattle.jb_repo.specs.declared.events.Event.{Event}
 use Rattle.jb_rules.specs.Sound.{IsSoundRow}
-use Rattle.jb_rules.specs.Rows.{range_of}
+use Rattle.jb_rules.specs.Rows.{range_of, remaining_of}
 use Rattle.jb_plan.specs.Ranges.{AreDisjoint}
-use Rattle.jb_job.specs.Limits.{max_partitions, max_records}
+use Rattle.jb_base.specs.Limits.{max_partitions, max_records}
 use Rattle.jb_rules.specs.Counts.{no_counts}
 use Rattle.std.specs.Prelude.{sum, map}
-use Rattle.jb_job.specs.declared.job.Range.{Range}
+use Rattle.jb_base.specs.declared.range.Range.{Range}
 use Rattle.jb_repo.specs.History.{own, owner, partition_of}
-use Rattle.jb_repo.specs.Rows.{replayed_row, rows_from, remaining, remaining_of, total_counts}
+use Rattle.jb_repo.specs.Rows.{replayed_row, rows_from, remaining, total_counts}
 use Rattle.jb_repo.specs.Table.{Journal, Accepted, refusal, after, rows_of, row_of}
 use Rattle.jb_repo.specs.Openable.{IsOpenable}
+use Rattle.jb_repo.specs.Laws.{next_row}
 use Rattle.jb_repo.specs.Sound.{IsTable}
 use Rattle.jb_repo.specs.inside.Below.{LawsBelow}
-use Rattle.jb_repo.specs.inside.Steps.{step, stepped_rows, CanStep}
+use Rattle.jb_repo.specs.inside.Steps.{stepped_rows, CanStep}
 use Rattle.jb_repo.proofs.RowLemmas.{length-rows_from, slice_get-rows_from, rows_from-none, rows_from-some}
 use Rattle.jb_repo.proofs.Consistent.{consistent, about, can, rows-sound}
-use Rattle.jb_repo.proofs.Stepping.{running-before-end}
+use Rattle.jb_repo.proofs.Stepping.{running-before-end, next-is}
 use Rattle.jb_repo.proofs.Passing.{row_of-is}
 use Rattle.jb_repo.proofs.Ranges.{remaining-small}
 
@@ -100,15 +101,17 @@ module _ (j : Journal) (ready : IsOpenable j) (ok : Accepted j) (e : Event) (pas
       subst (λ (x : Row). CanStep j.item_count x e) (sym o.becomes)
       (can j j.past (consistent j ready j.past ok) p o.opening o.opens (rows-sound laws j ready p o.opening o.opens j.past ok) e passes part)
 
-  pub table_after : (rows : List Row) (d : Row) (o : Option ℕ) → take (length j.opening) rows ≡ rows_of j → partition_of e j.past ≡ o → take (length j.opening) (stepped_rows j.item_count rows o e d) ≡ rows_of (after j e)
-  table_after rows d None table part = table ∙ sym (rows_from-none j.item_count e j.past 0 j.opening part)
-  table_after rows d (Some p) table part =
+  pub table_after : LawsBelow → (rows : List Row) (d : Row) (o : Option ℕ) → take (length j.opening) rows ≡ rows_of j → partition_of e j.past ≡ o → take (length j.opening) (stepped_rows j.item_count rows o e d) ≡ rows_of (after j e)
+  table_after laws rows d None table part = table ∙ sym (rows_from-none j.item_count e j.past 0 j.opening part)
+  table_after laws rows d (Some p) table part =
       let lt : p < length j.opening = about_row p part in
       let is = kept_row j rows p d table lt in
       let z : p ≡ 0 + p = omega arith in
       let r = rows_from-some j.item_count e j.past p p 0 j.opening (get_or rows p d) part z is in
-      take-set-lt (length j.opening) rows p (step j.item_count (get_or rows p d) e) lt
-      ∙ ap (λ (x : List Row). set x p (step j.item_count (get_or rows p d) e)) table
+      let n = next-is laws j.item_count (get_or rows p d) e ready.some_items (can_step laws p (get_or rows p d) part is) in
+      take-set-lt (length j.opening) rows p (next_row j.item_count (get_or rows p d) e) lt
+      ∙ ap (λ (x : List Row). set x p (next_row j.item_count (get_or rows p d) e)) table
+      ∙ ap (λ (row : Row). set (rows_of j) p row) (sym n)
       ∙ sym r
 
 -- WHAT THE CODE NEEDS

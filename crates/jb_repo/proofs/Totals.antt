@@ -5,7 +5,7 @@ use Rattle.jb_rules.specs.declared.row.Row.{Row}
 use Rattle.jb_rules.specs.Sound.{IsSoundRow}
 use Rattle.jb_repo.specs.inside.Fit.{CountsFit}
 use Rattle.jb_repo.specs.Rows.{total_counts}
-use Rattle.jb_job.specs.Limits.{max_partitions, max_rollbacks}
+use Rattle.jb_base.specs.Limits.{max_partitions, max_rollbacks}
 
 -- each of the eight numbers is at most n
 record UpTo (c : Counts) (n : ℕ) : Type 0 where

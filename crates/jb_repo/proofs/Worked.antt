@@ -1,7 +1,7 @@
 -- The worked lists of events, computed.
 use Rattle.std.proofs.Common.{◌≡◌, [], ◌∷◌, Some, None, refl}
 use Rattle.jb_cert.specs.declared.certificates.Certificate.TheVariants.{Longest}
-use Rattle.jb_job.specs.declared.class.ClassId.{ClassId}
+use Rattle.jb_base.specs.declared.class.ClassId.{ClassId}
 use Rattle.jb_repo.specs.declared.events.Event.TheVariants.{Plan, Begin}
 use Rattle.jb_repo.specs.declared.refused.Refused.TheVariants.{NotIdle, LaneBusy, BadDelta, PastPlan, BadPlan, Full}
 use Rattle.jb_plan.specs.Blocks.{blocks}

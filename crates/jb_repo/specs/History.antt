@@ -1,6 +1,7 @@
 -- Questions about a history. A history is a list of events, the newest first: in `e ∷ past` the event e comes after past.
 -- (What a job repository keeps is left open by Jakarta Batch 2.1, "Job Repository"; the events are this project's own.)
 use Rattle.std.specs.Prelude.{ℕ, zero, suc, ◌+◌, nat_eq, nat_lt, Bool, true, false, not, ◌&&◌, ◌||◌, if◌then◌else◌, List, [], ◌∷◌, Option, Some, None, is_some}
+use Rattle.jb_base.specs.declared.class.ClassId.{ClassId}
 use Rattle.jb_repo.specs.declared.events.Event.{Event}
 use Rattle.jb_repo.specs.declared.events.Event.TheVariants.{Plan, Begin, Commit, Roll, Fail, Drop, Round, Stop}
 
@@ -151,3 +152,9 @@ abbrev pub own : ℕ → List Event → List Event
 own partition [] = []
 own partition (e ∷ past) =
     if is_some_of (partition_of e past) partition then e ∷ own partition past else own partition past
+
+-- the class of the last Fail among the events
+abbrev pub failure_in : List Event → Option ClassId
+failure_in [] = None
+failure_in (Fail lane class again ∷ events) = Some class
+failure_in (_ ∷ events) = failure_in events

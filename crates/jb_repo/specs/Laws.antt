@@ -4,22 +4,22 @@ use Rattle.std.specs.List.{list_all}
 use Rattle.jb_rules.specs.declared.counts.Counts.{Counts}
 use Rattle.jb_rules.specs.declared.row.Row.{Row}
 use Rattle.jb_rules.specs.declared.row.RowState.TheVariants.{Waiting, Running}
-use Rattle.jb_job.specs.declared.class.ClassId.{ClassId}
+use Rattle.jb_base.specs.declared.class.ClassId.{ClassId}
 use Rattle.jb_cert.specs.declared.certificates.Certificate.{Certificate}
 use Rattle.jb_repo.specs.declared.events.Event.{Event}
 use Rattle.jb_repo.specs.declared.events.Event.TheVariants.{Plan, Begin, Commit, Roll, Fail, Drop, Round, Stop}
-use Rattle.jb_job.specs.Limits.{max_retry_limit, max_events}
+use Rattle.jb_base.specs.Limits.{max_retry_limit, max_events}
 use Rattle.jb_repo.specs.declared.refused.Refused.TheVariants.{BadDelta, BadPlan}
 use Rattle.jb_plan.specs.Blocks.{blocks}
 use Rattle.jb_rules.specs.Counts.{IsDelta}
 use Rattle.jb_rules.specs.Sound.{IsSoundRow}
-use Rattle.jb_rules.specs.Rows.{row_block, begun_row, repeated_row, committed_row, rolled_row, failed_row, dropped_row}
-use Rattle.jb_job.specs.declared.job.Range.{Range}
+use Rattle.jb_rules.specs.Rows.{row_block, remaining_of, begun_row, repeated_row, committed_row, rolled_row, failed_row, dropped_row}
+use Rattle.jb_base.specs.declared.range.Range.{Range}
 use Rattle.jb_cert.specs.Load.{IsWithinLimits}
 use Rattle.jb_cert.specs.Lawful.{IsLeastNumber}
 use Rattle.jb_cert.specs.Certificates.{Holds}
 use Rattle.jb_repo.specs.History.{owner, own, partition_of, is_some_of, some, number, is_begin, is_commit, is_outcome, is_plan, is_plan_open, is_round, is_stop, is_stopping}
-use Rattle.jb_repo.specs.Rows.{replayed_row, at_after, remaining, remaining_of, total_counts}
+use Rattle.jb_repo.specs.Rows.{replayed_row, at_after, remaining, total_counts}
 use Rattle.jb_repo.specs.Table.{Journal, refusal, after, rows_of, row_of, reserved}
 use Rattle.jb_repo.specs.Openable.{IsOpenable, IsReplayable, opened_journal}
 

@@ -6,6 +6,6 @@ pub mod Openable
 pub mod Sound
 pub mod Shown
 pub mod Laws
-pub mod Kept
+pub mod Representation
 pub mod Worked
 pub mod inside

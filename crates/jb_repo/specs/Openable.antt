@@ -1,7 +1,7 @@
 -- What a repository may be opened with.
 use Rattle.std.specs.Prelude.{◌≡◌, ℕ, ◌≤◌, false, List, [], length, map, slice_get, Some}
 use Rattle.jb_plan.specs.Ranges.{AreDisjoint}
-use Rattle.jb_job.specs.Limits.{max_item_count, max_partitions, max_threads}
+use Rattle.jb_base.specs.Limits.{max_item_count, max_partitions, max_threads}
 use Rattle.jb_rules.specs.declared.row.Row.{Row}
 use Rattle.jb_rules.specs.Rows.{range_of}
 use Rattle.jb_rules.specs.Sound.{IsSoundRow}

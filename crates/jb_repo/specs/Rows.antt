@@ -8,8 +8,8 @@ use Rattle.jb_rules.specs.declared.row.RowState.TheVariants.{Waiting, Running, F
 use Rattle.jb_repo.specs.declared.events.Event.{Event}
 use Rattle.jb_repo.specs.declared.events.Event.TheVariants.{Begin, Commit, Roll, Fail, Drop}
 use Rattle.jb_rules.specs.Counts.{plus_counts, no_counts}
-use Rattle.jb_plan.specs.Blocks.{next_block, left}
-use Rattle.jb_rules.specs.Rows.{state_at}
+use Rattle.jb_plan.specs.Blocks.{next_block}
+use Rattle.jb_rules.specs.Rows.{state_at, remaining_of}
 use Rattle.jb_repo.specs.History.{own, number}
 
 abbrev pub one_rollback : Counts
@@ -97,11 +97,7 @@ rows_from item_count past first [] = []
 rows_from item_count past first (opening ∷ others) =
     replayed_row item_count opening (own first past) ∷ rows_from item_count past (first + 1) others
 
--- how many blocks a row has left: those of a waiting partition alone
-abbrev pub remaining_of : ℕ → Row → RowState → ℕ
-remaining_of item_count row Waiting = left row.at row.redo row.hi item_count
-remaining_of item_count row _ = 0
-
+-- how many chunks each row has left
 abbrev pub remaining : ℕ → List Row → List ℕ
 remaining item_count [] = []
 remaining item_count (row ∷ rows) = remaining_of item_count row row.state ∷ remaining item_count rows

@@ -1,7 +1,7 @@
 -- What every table of rows keeps.
 use Rattle.std.specs.Prelude.{◌≡◌, ℕ, ◌≤◌, List, length, map, slice_get, Some}
 use Rattle.jb_plan.specs.Ranges.{AreDisjoint}
-use Rattle.jb_job.specs.Limits.{max_partitions}
+use Rattle.jb_base.specs.Limits.{max_partitions}
 use Rattle.jb_rules.specs.declared.counts.Counts.{Counts}
 use Rattle.jb_rules.specs.declared.row.Row.{Row}
 use Rattle.jb_rules.specs.Rows.{range_of}

@@ -3,6 +3,7 @@ use Rattle.std.specs.Prelude.{◌≡◌, ℕ, ◌+◌, ◌-◌, nat_eq, nat_lt, 
 use Rattle.jb_rules.specs.declared.counts.Counts.{Counts}
 use Rattle.jb_rules.specs.declared.row.Row.{Row}
 use Rattle.jb_cert.specs.declared.certificates.Certificate.{Certificate}
+use Rattle.jb_base.specs.declared.class.ClassId.{ClassId}
 use Rattle.jb_repo.specs.declared.events.Event.{Event}
 use Rattle.jb_repo.specs.declared.events.Event.TheVariants.{Plan, Begin, Commit, Roll, Fail, Drop, Round, Stop}
 use Rattle.jb_repo.specs.declared.refused.Refused.{Refused}
@@ -11,8 +12,8 @@ use Rattle.jb_rules.specs.States.{has_ended}
 use Rattle.jb_rules.specs.Counts.{is_delta}
 use Rattle.jb_rules.specs.Rows.{row_block}
 use Rattle.jb_cert.specs.Certificates.{is_least_plan}
-use Rattle.jb_job.specs.Limits.{max_events, max_rollbacks, max_retry_limit, max_in_place}
-use Rattle.jb_repo.specs.History.{own, owner, running, is_lane_marked, is_partition_marked, is_plan_open, is_stopping}
+use Rattle.jb_base.specs.Limits.{max_events, max_rollbacks, max_retry_limit, max_in_place}
+use Rattle.jb_repo.specs.History.{own, failure_in, owner, running, is_lane_marked, is_partition_marked, is_plan_open, is_stopping}
 use Rattle.jb_repo.specs.Rows.{rows_from, remaining}
 
 -- what a repository holds: what it was opened with, its events, the newest first, and its room: how many events there is
@@ -34,6 +35,10 @@ row_of j partition = slice_get (rows_of j) partition
 -- how many events are the partition's own; none where there is no such partition
 abbrev pub own_events : Journal → ℕ → ℕ
 own_events j partition = if nat_lt partition (length j.opening) then length (own partition j.past) else 0
+
+-- the class by which the partition failed, if it has a Fail; none where there is no such partition
+abbrev pub failure : Journal → ℕ → Option ClassId
+failure j partition = if nat_lt partition (length j.opening) then failure_in (own partition j.past) else None
 
 -- the places that are reserved for outcomes
 abbrev pub reserved : Journal → ℕ

@@ -2,10 +2,10 @@
 use Rattle.std.specs.Prelude.{ℕ, List, [], ◌∷◌, ◌++◌, replicate, ◌≡◌, Option, Some, None, is_none, if◌then◌else◌}
 use Rattle.jb_rules.specs.declared.counts.Counts.{Counts}
 use Rattle.jb_rules.specs.declared.row.Row.{Row}
-use Rattle.jb_job.specs.Limits.{max_rollbacks}
+use Rattle.jb_base.specs.Limits.{max_rollbacks}
 use Rattle.jb_rules.specs.declared.row.RowState.TheVariants.{Waiting, Finished, Failed}
 use Rattle.jb_cert.specs.declared.certificates.Certificate.TheVariants.{Nothing, Longest, FullLoad}
-use Rattle.jb_job.specs.declared.class.ClassId.{ClassId}
+use Rattle.jb_base.specs.declared.class.ClassId.{ClassId}
 use Rattle.jb_repo.specs.declared.events.Event.{Event}
 use Rattle.jb_repo.specs.declared.events.Event.TheVariants.{Plan, Begin, Commit, Roll, Fail, Drop, Round, Stop}
 use Rattle.jb_repo.specs.declared.refused.Refused.{Refused}
@@ -62,6 +62,10 @@ rollback class =
 -- a chunk that is given up: the plan is closed after its round, and the row waits where it was
 abbrev pub given_up : List Event
 given_up = Plan 1 (Longest 0) ∷ Begin 0 0 ∷ Begin 1 1 ∷ Commit 0 two_records 2 0 ∷ Drop 1 ∷ Round ∷ []
+
+-- partition 0 is rolled back, and partition 1 fails
+abbrev pub one_failed : (rolled failed : ClassId) → List Event
+one_failed rolled failed = Plan 1 (Longest 0) ∷ Begin 0 0 ∷ Begin 1 1 ∷ Roll 0 rolled 0 ∷ Fail 1 failed 0 ∷ []
 
 -- PLANS THAT ARE ENDED WITH ROUNDS LEFT
 

@@ -1,5 +1,5 @@
 pub mod Below
 pub mod Fit
 pub mod Sized
-pub mod Standing
+pub mod Projection
 pub mod Steps

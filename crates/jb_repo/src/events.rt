@@ -5,11 +5,11 @@ ghost use Rattle.jb_repo.specs.History.{lane_of, begun_by};
 ghost use Rattle.jb_repo.specs.Answers.{places_of};
 ghost use Rattle.jb_repo.specs.Rows.{gain};
 
+use jb_base::ClassId;
 use jb_cert::Certificate;
-use jb_job::ClassId;
 use jb_rules::Counts;
 
-/// An event of a step. Lanes and partitions are numbered from 0; a lane stands for a thread of the step.
+/// An event of a step. Owners and partitions are numbered from 0; a lane stands for a thread of the step.
 #[derive(Clone, Copy, Debug, PartialEq, Eq)]
 pub enum Event {
     /// A plan of so many rounds is opened, with the certificate that no plan has fewer.

@@ -7,20 +7,21 @@
 //! - `repository`: the repository itself; `snapshot`: what it shows of itself; `opening`: what it may be opened with.
 //! - `laws`: what holds of every list of events.
 //! - `run`: the answers to a whole list of events.
-//! - `standing`: what the history says now, kept beside it: `lanes`, `marks`, `plans`, and the rows by `table` and `steps`.
+//! - `projection`: what the history says now, kept beside it: `owners`, `marks`, `plan_progress`, `failures`, and the rows by `table` and `steps`.
 #![tactic(auto)]
 
 mod events;
-mod lanes;
+mod failures;
 mod laws;
 mod marks;
 mod opening;
-mod plans;
+mod owners;
+mod plan_progress;
+mod projection;
 mod refused;
 mod repository;
 mod run;
 mod snapshot;
-mod standing;
 mod steps;
 mod table;
 

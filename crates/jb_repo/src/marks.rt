@@ -1,13 +1,13 @@
 //! What was begun in this round.
 
 ghost use Rattle.std.specs.Prelude.{◌≡◌, ◌<◌, List, [], ◌∷◌};
-ghost use Rattle.jb_job.specs.Limits.{max_partitions, max_threads};
+ghost use Rattle.jb_base.specs.Limits.{max_partitions, max_threads};
 ghost use Rattle.jb_repo.specs.History.{is_lane_marked, is_partition_marked};
-ghost use Rattle.jb_repo.specs.inside.Standing.{ShowMarks, IsWithin};
+ghost use Rattle.jb_repo.specs.inside.Projection.{ShowMarks, IsWithin};
 
 use crate::events::Event;
-use crate::lanes::LANES;
-use jb_job::MAX_PARTITIONS;
+use crate::owners::LANES;
+use jb_base::MAX_PARTITIONS;
 
 /// The lanes and the partitions that a Begin named after the last Round.
 #[derive(Drop)]

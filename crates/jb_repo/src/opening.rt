@@ -7,7 +7,7 @@ ghost use Rattle.jb_rules.specs.States.{is_running};
 ghost use Rattle.jb_repo.specs.Openable.{IsOpenable, AreIdle, opened_journal};
 ghost use Rattle.jb_repo.specs.inside.Sized.{IsSized};
 
-use jb_job::{MAX_ITEM_COUNT, MAX_PARTITIONS, MAX_THREADS, Range};
+use jb_base::{MAX_ITEM_COUNT, MAX_PARTITIONS, MAX_THREADS, Range};
 use jb_plan::are_disjoint;
 use jb_rules::Row;
 

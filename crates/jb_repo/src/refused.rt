@@ -36,7 +36,7 @@ pub enum Refused {
     #[error("BadPlan")]
     BadPlan,
     /// There was no memory for the event.
-    #[error("Memory")]
+    #[error("no memory")]
     Memory,
     /// The history would pass 1,000,000,000 events, or the partition is at its limit of rollbacks.
     #[error("Full")]

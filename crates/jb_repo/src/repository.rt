@@ -2,15 +2,16 @@
 
 ghost use Rattle.std.specs.Prelude.{◌≡◌, ◌+◌, ◌<◌, ◌≤◌, ◌++◌, ◌∷◌, [], None, reverse, IsTrue, OnOk, OnErr, IfOk, IfErr, vec_len, vec_capacity};
 ghost use Rattle.jb_repo.specs.Rows.{total_counts};
-ghost use Rattle.jb_repo.specs.Table.{refusal, after, with_room, rows_of, own_events};
+ghost use Rattle.jb_repo.specs.Table.{refusal, after, with_room, rows_of, own_events, failure};
 ghost use Rattle.jb_repo.specs.Answers.{IsRefusal, HasPlaces, places_of, needed};
 ghost use Rattle.jb_repo.specs.Openable.{IsOpenable, IsReplayable, opened_journal};
 
 use crate::events::Event;
 use crate::laws::laws_below;
+use crate::projection::Projection;
 use crate::refused::Refused;
 use crate::snapshot::Snapshot;
-use crate::standing::Standing;
+use jb_base::ClassId;
 use jb_rules::{Counts, Row};
 use std::alloc::{AllocError, Global};
 use std::marker::Model;
@@ -31,7 +32,7 @@ pub struct Repo {
     threads: u32,
     item_count: u64,
     history: Vec<Event>,
-    standing: Standing,
+    projection: Projection,
 }
 
 impl Model for Repo {
@@ -39,11 +40,11 @@ impl Model for Repo {
 
     ghost Value = { Journal };
 
-    ghost use Rattle.jb_repo.specs.Kept.{journal_of, IsKept};
+    ghost use Rattle.jb_repo.specs.Representation.{journal_of, IsRepresentation};
 
     ghost view = { journal_of };
 
-    ghost invariant = { IsKept };
+    ghost invariant = { IsRepresentation };
 }
 
 impl Repo {
@@ -54,14 +55,14 @@ impl Repo {
         requires { IsOpenable (opened_journal rows.items threads item_count) }
         ensures { result ≡ opened_journal rows.items threads item_count }
     {
-        let standing = Standing::new(rows.as_slice());
+        let projection = Projection::new(rows.as_slice());
         let history = Vec::new(*rows.allocator());
         Repo {
             opening: rows,
             threads,
             item_count,
             history,
-            standing,
+            projection,
         }
     }
 
@@ -78,7 +79,7 @@ impl Repo {
     pub fn totals(&self) -> Counts
         ensures { result ≡ total_counts (rows_of self.now) }
     {
-        self.standing.totals
+        self.projection.totals
     }
 
     /// How many events of the history are the partition's own: its Begins, and the outcomes of the lanes that ran it. 0
@@ -88,9 +89,21 @@ impl Repo {
     {
         let index = partition as usize;
         if index < self.opening.len() {
-            self.standing.own_events[index]
+            self.projection.own_events[index]
         } else {
             0
+        }
+    }
+
+    /// The class of the partition's last Fail in the history. None where it has none, as for a partition that had failed
+    /// when the repository was opened, and where there is no such partition.
+    pub fn failure(&self, partition: u32) -> Option<ClassId>
+        ensures { result ≡ failure self.now partition }
+    {
+        if (partition as usize) < self.opening.len() {
+            self.projection.failures.class_of(partition)
+        } else {
+            None
         }
     }
 
@@ -136,11 +149,11 @@ impl Repo {
         if let Some(refused) = self.refusal(event) {
             return Err(refused);
         }
-        let asked = self.standing.reserved + event.places();
+        let asked = self.projection.reserved + event.places();
         if make_room(&mut self.history, asked).is_err() {
             return Err(Refused::Memory);
         }
-        self.standing.note(event, self.item_count);
+        self.projection.note(event, self.item_count);
         put_last(&mut self.history, event);
         Ok(())
     }

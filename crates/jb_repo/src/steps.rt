@@ -1,9 +1,10 @@
 //! What an event of a partition changes in its row.
 
 ghost use Rattle.std.specs.Prelude.{◌≡◌, ◌<◌, ◌≤◌};
-ghost use Rattle.jb_job.specs.Limits.{max_item_count};
+ghost use Rattle.jb_base.specs.Limits.{max_item_count};
 ghost use Rattle.jb_rules.specs.Sound.{IsSoundRow};
-ghost use Rattle.jb_repo.specs.inside.Steps.{step, CanStep};
+ghost use Rattle.jb_repo.specs.inside.Steps.{CanStep};
+ghost use Rattle.jb_repo.specs.Laws.{next_row};
 ghost use Rattle.jb_repo.specs.Table.{is_commit_of};
 
 use crate::events::Event;
@@ -27,7 +28,7 @@ pub fn stepped(row: Row, event: Event, item_count: u64) -> Row
     requires can { CanStep item_count row event }
     requires some_items { 1 ≤ item_count }
     requires items { item_count ≤ max_item_count }
-    ensures { result ≡ step item_count row event }
+    ensures { result ≡ next_row item_count row event }
 {
     laws_below();
     match event {

@@ -1,15 +1,14 @@
 //! Questions about rows, and counts over the table of rows.
 
 ghost use Rattle.std.specs.Prelude.{◌≡◌, ◌≤◌, ℕ, length, take, slice_get, Some};
-ghost use Rattle.jb_job.specs.Limits.{max_item_count};
+ghost use Rattle.jb_base.specs.Limits.{max_item_count};
 ghost use Rattle.jb_rules.specs.Sound.{IsSoundRow};
 ghost use Rattle.jb_repo.specs.inside.Fit.{CountsFit};
-ghost use Rattle.jb_repo.specs.Rows.{remaining, remaining_of, total_counts};
+ghost use Rattle.jb_repo.specs.Rows.{remaining, total_counts};
 ghost use Rattle.jb_repo.specs.Table.{is_ended, is_at_limit};
 
-use jb_job::{MAX_IN_PLACE, MAX_RETRY_LIMIT, MAX_ROLLBACKS};
-use jb_plan::chunks_left;
-use jb_rules::{Counts, Row, RowState};
+use jb_base::{MAX_IN_PLACE, MAX_RETRY_LIMIT, MAX_ROLLBACKS};
+use jb_rules::{Counts, Row};
 
 /// Whether no chunk of the partition is begun any more.
 pub fn is_ended(row: Option<Row>) -> bool
@@ -33,18 +32,6 @@ pub fn is_at_limit(row: Option<Row>) -> bool
     }
 }
 
-fn remaining_of(row: Row, item_count: u64) -> u64
-    requires sound { IsSoundRow row }
-    requires some_items { 1 ≤ item_count }
-    requires few_items { item_count ≤ max_item_count }
-    ensures { result ≡ remaining_of item_count row row.state }
-{
-    match row.state {
-        RowState::Waiting => chunks_left(row.at, row.redo, row.hi, item_count),
-        RowState::Running(_) | RowState::Finished | RowState::Failed => 0,
-    }
-}
-
 /// Writes how many chunks each row has left.
 pub fn remaining_counts(rows: &[Row], item_count: u64, counts: &mut [u64])
     requires sound { (i : ℕ) (r : Row) → slice_get rows.now i ≡ Some r → IsSoundRow r }
@@ -54,7 +41,7 @@ pub fn remaining_counts(rows: &[Row], item_count: u64, counts: &mut [u64])
     ensures { take (length rows.now) counts.new ≡ remaining item_count rows.now }
 {
     for i in 0..rows.len() {
-        counts[i] = remaining_of(rows[i], item_count);
+        counts[i] = rows[i].remaining(item_count);
     }
 }
 

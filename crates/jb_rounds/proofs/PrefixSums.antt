@@ -3,10 +3,11 @@ use Rattle.std.proofs.Common.{◌≡◌, ℕ, zero, suc, ◌+◌, ◌-◌, ◌<�
 use Rattle.std.specs.List.Sorted.{IsNonDecreasing, IsPartitionPoint}
 use Rattle.std.proofs.lemmas.List.{get_or_default}
 use Rattle.std.proofs.lemmas.Bool.{cases_lt}
-use Rattle.std.proofs.lemmas.List.Sums.{sum_by-cons, sum_by_more, sum_by-take-le}
+use Rattle.std.proofs.lemmas.List.Sums.{sum_by-cons, sum_by-take-le}
 use Rattle.jb_cert.specs.WrapAround.{start_of, partition_at_place, chunk_at_place, pair_at_place}
 use Rattle.jb_cert.specs.Lawful.{Pair}
 use Rattle.jb_cert.specs.Laws.{PlacesLieRound}
+use Rattle.jb_cert.proofs.EndToEnd.{start_of-next}
 use Rattle.jb_rounds.specs.inside.Starts.{LiesBetween, starts_from, counts_after, counts_between}
 
 counts_after-starts_from : (first start : ℕ) (ns : List ℕ) → counts_after first (starts_from start ns) ≡ (start - first) ∷ counts_between (starts_from start ns)
@@ -73,9 +74,6 @@ pub record IsFound (starts : List ℕ) (place p : ℕ) : Type 0 where
   pub end : start_of (counts_between starts) p + slice_index (counts_between starts) p ≤ sum (counts_between starts)
   pub start_is : slice_index starts p ≡ start_of (counts_between starts) p
   pub count_is : slice_index starts (p + 1) ≡ slice_index starts p + slice_index (counts_between starts) p
-
-start_of-next : (counts : List ℕ) (p : ℕ) → p < length counts → start_of counts (p + 1) ≡ start_of counts p + slice_index counts p
-start_of-next counts p known = sum_by_more (λ x. x) counts p 0 known
 
 found_with : (counts starts : List ℕ) (place p : ℕ) → starts ≡ starts_from 0 counts → LiesBetween starts place p → (p < length counts) × (slice_index starts p ≡ start_of counts p) × (slice_index starts (p + 1) ≡ start_of counts p + slice_index counts p)
 found_with counts starts place p is between =

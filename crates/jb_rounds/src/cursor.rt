@@ -4,12 +4,12 @@ ghost use Rattle.jb_cert.specs.Load.{IsWithinLimits, Load, mcnaughton};
 ghost use Rattle.jb_cert.specs.Lawful.{IsLeastNumber};
 ghost use Rattle.jb_cert.specs.Certificates.{Holds, bound_certificate};
 ghost use Rattle.jb_cert.specs.Plans.{StandsForLeast};
-ghost use Rattle.jb_cert.specs.WrapAround.{slot_of, wrapped_rounds};
+ghost use Rattle.jb_cert.specs.WrapAround.{slot_of, slots_of_round, wrapped_rounds};
 ghost use Rattle.jb_rounds.specs.inside.Starts.{counts_between};
 ghost use Rattle.jb_rounds.specs.inside.Index.{IsIndexOf};
 
 use crate::places::{chunk_total, pair_in, starts_of};
-use jb_cert::{Certificate, bound_is_least, least_rounds, wrap_around_is_least};
+use jb_cert::{Certificate, Slot, bound_is_least, least_rounds, wrap_around_is_least};
 use std::alloc::{AllocError, Global};
 use std::marker::Model;
 
@@ -34,7 +34,7 @@ impl Model for RoundCursor {
 
 impl RoundCursor {
     /// The cursor for these counts of chunks, one for each partition, and so many threads. The only error is want of
-    /// memory; no other call takes memory.
+    /// memory; no other call takes memory but `slots`.
     pub fn new(alloc: Global, counts: &[u64], threads: u32) -> Result<Self, AllocError>
         requires { IsWithinLimits counts.now threads }
         ensures counts { IfOk result (λ cursor. cursor.counts ≡ counts.now) }
@@ -129,6 +129,25 @@ impl RoundCursor {
             u64::from(lane) * self.rounds + round,
             near,
         )
+    }
+
+    /// The slots of a round, by rising lane; none past the last round. The only error is want of memory.
+    pub fn slots(&self, alloc: Global, round: u64) -> Result<Vec<Slot>, AllocError>
+        ensures { IfOk result (λ slots. slots.items ≡ slots_of_round self.now.counts self.now.threads round) }
+    {
+        let threads = self.threads();
+        let mut slots = Vec::with_capacity(alloc, self.busy_lanes(round) as usize)?;
+        for lane in 0..threads {
+            let Some((partition, chunk)) = self.slot(round, lane) else {
+                break;
+            };
+            slots.push(Slot {
+                lane,
+                partition,
+                chunk,
+            })?;
+        }
+        Ok(slots)
     }
 }
 

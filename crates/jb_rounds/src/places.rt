@@ -1,7 +1,7 @@
 //! The row of all chunks, partition after partition: where each partition begins, and which chunk stands at a place.
 ghost use Rattle.std.specs.Prelude.{◌≡◌, ◌+◌, ◌-◌, ◌^◌, ◌<◌, ◌≤◌, length, slice_index, IfOk, IsTrue, sum, nat_lt, if◌then◌else◌};
 ghost use Rattle.std.specs.List.Sorted.{IsNonDecreasing};
-ghost use Rattle.jb_job.specs.Limits.{max_chunks, max_load_partitions};
+ghost use Rattle.jb_base.specs.Limits.{max_chunks, max_load_partitions};
 ghost use Rattle.jb_cert.specs.WrapAround.{chunk_at_place, pair_at_place};
 ghost use Rattle.jb_rounds.specs.inside.Starts.{LiesBetween, starts_from, counts_between};
 

@@ -3,7 +3,7 @@ ghost use Rattle.std.specs.Prelude.{◌≡◌, IfOk, length, map};
 ghost use Rattle.jb_cert.specs.Load.{IsWithinLimits, mcnaughton};
 ghost use Rattle.jb_cert.specs.Certificates.{Holds, bound_certificate};
 ghost use Rattle.jb_cert.specs.Plans.{StandsForLeast, rounds_of};
-ghost use Rattle.jb_cert.specs.WrapAround.{slots_of_round, wrapped_rounds};
+ghost use Rattle.jb_cert.specs.WrapAround.{wrapped_rounds};
 
 use crate::cursor::RoundCursor;
 use jb_cert::{Certificate, Plan, Slot, bound_is_least, wrap_around_is_least};
@@ -37,27 +37,8 @@ fn rounds_of_cursor(alloc: Global, cursor: &RoundCursor) -> Result<Vec<Vec<Slot>
     let length = cursor.rounds();
     let mut rounds = Vec::with_capacity(alloc, length as usize)?;
     for round in 0..length {
-        let slots = round_of_cursor(alloc, cursor, round)?;
+        let slots = cursor.slots(alloc, round)?;
         rounds.push(slots)?;
     }
     Ok(rounds)
-}
-
-// The slots of one round.
-fn round_of_cursor(alloc: Global, cursor: &RoundCursor, round: u64) -> Result<Vec<Slot>, AllocError>
-    ensures { IfOk result (λ slots. slots.items ≡ slots_of_round cursor.now.counts cursor.now.threads round) }
-{
-    let threads = cursor.threads();
-    let mut slots = Vec::with_capacity(alloc, cursor.busy_lanes(round) as usize)?;
-    for lane in 0..threads {
-        let Some((partition, chunk)) = cursor.slot(round, lane) else {
-            break;
-        };
-        slots.push(Slot {
-            lane,
-            partition,
-            chunk,
-        })?;
-    }
-    Ok(slots)
 }

@@ -29,7 +29,7 @@ below-from m n e = grind (arith, nat_tests)
 above-from : (m n : ℕ) → nat_le m n ≡ false → n < m
 above-from m n e = grind (arith, nat_tests)
 
-or-cases : (a b : Bool) → (a || b) ≡ true → (a ≡ true) ⊎ (b ≡ true)
+pub or-cases : (a b : Bool) → (a || b) ≡ true → (a ≡ true) ⊎ (b ≡ true)
 or-cases true b e = inl refl
 or-cases false b e = inr e
 

@@ -2,8 +2,8 @@
 use Rattle.std.proofs.Common.{◌≡◌, ℕ, ◌+◌, ◌-◌, ◌<◌, ◌≤◌, Bool, true, false, cond, refl, eq-eqb, arith}
 use Rattle.std.specs.Prelude.{max, ◌==◌, ◌↔◌}
 use Rattle.std.proofs.lemmas.Bool.Decides.{nat_tests}
-use Rattle.jb_job.specs.declared.job.Range.{Range}
-use Rattle.jb_job.specs.Limits.{max_records, max_rollbacks, max_in_place}
+use Rattle.jb_base.specs.declared.range.Range.{Range}
+use Rattle.jb_base.specs.Limits.{max_records, max_rollbacks, max_in_place}
 use Rattle.jb_rules.specs.declared.counts.Counts.{Counts}
 use Rattle.jb_rules.specs.declared.row.Row.{Row}
 use Rattle.jb_rules.specs.declared.row.RowState.{RowState}

@@ -1,7 +1,7 @@
 -- What holds of each step of a row's life, of its numbers, and of the tests of a row and of a chunk's counts.
 use Rattle.std.specs.Prelude.{ℕ, ◌≡◌, ◌+◌, ◌-◌, ◌<◌, ◌≤◌, ◌↔◌, true, List, length, take}
-use Rattle.jb_job.specs.declared.job.Range.{Range}
-use Rattle.jb_job.specs.Limits.{max_records, max_rollbacks, max_in_place}
+use Rattle.jb_base.specs.declared.range.Range.{Range}
+use Rattle.jb_base.specs.Limits.{max_records, max_rollbacks, max_in_place}
 use Rattle.jb_rules.specs.declared.counts.Counts.{Counts}
 use Rattle.jb_rules.specs.declared.row.Row.{Row}
 use Rattle.jb_rules.specs.declared.row.RowState.{RowState}

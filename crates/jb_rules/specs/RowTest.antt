@@ -1,6 +1,6 @@
 -- The row rules as a test.
 use Rattle.std.specs.Prelude.{ℕ, ◌+◌, ◌-◌, ◌==◌, ◌&&◌, ◌||◌, Bool, nat_le, nat_lt, not, if◌then◌else◌}
-use Rattle.jb_job.specs.Limits.{max_records, max_rollbacks, max_in_place}
+use Rattle.jb_base.specs.Limits.{max_records, max_rollbacks, max_in_place}
 use Rattle.jb_rules.specs.declared.row.Row.{Row}
 use Rattle.jb_rules.specs.States.{is_finished}
 

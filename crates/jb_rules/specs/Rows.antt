@@ -1,7 +1,7 @@
 -- The life of a row: how a partition begins, and what each step of it changes in its row.
 use Rattle.std.specs.Prelude.{ℕ, ◌+◌, ◌==◌, if◌then◌else◌, max}
-use Rattle.jb_job.specs.declared.job.Range.{Range}
-use Rattle.jb_plan.specs.Blocks.{next_block}
+use Rattle.jb_base.specs.declared.range.Range.{Range}
+use Rattle.jb_plan.specs.Blocks.{next_block, left}
 use Rattle.jb_rules.specs.declared.counts.Counts.{Counts}
 use Rattle.jb_rules.specs.declared.row.Row.{Row}
 use Rattle.jb_rules.specs.declared.row.RowState.{RowState}
@@ -33,6 +33,11 @@ range_of row = record { lo = row.lo; hi = row.hi }
 -- the row's next chunk
 abbrev pub row_block : (item_count : ℕ) → Row → Range
 row_block item_count row = next_block row.at row.redo row.hi item_count
+
+-- how many chunks a row has left: those of a waiting partition alone
+abbrev pub remaining_of : ℕ → Row → RowState → ℕ
+remaining_of item_count row Waiting = left row.at row.redo row.hi item_count
+remaining_of item_count row _ = 0
 
 -- the row when a lane begins its next chunk
 abbrev pub begun_row : Row → (lane : ℕ) → Row

@@ -1,6 +1,6 @@
 -- The rules that the row of a partition keeps (this project's own choice, but for the meaning of the counts).
 use Rattle.std.specs.Prelude.{◌≡◌, ◌+◌, ◌-◌, ◌≤◌, ◌<◌, ◌↔◌}
-use Rattle.jb_job.specs.Limits.{max_records, max_rollbacks, max_in_place}
+use Rattle.jb_base.specs.Limits.{max_records, max_rollbacks, max_in_place}
 use Rattle.jb_rules.specs.declared.row.Row.{Row}
 use Rattle.jb_rules.specs.declared.row.RowState.TheVariants.{Finished}
 

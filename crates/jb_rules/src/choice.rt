@@ -3,7 +3,7 @@
 ghost use Rattle.std.specs.Prelude.{◌≡◌};
 ghost use Rattle.jb_rules.specs.Decide.{has_class, is_below, choice_of};
 
-use jb_job::{ClassId, Rules};
+use jb_base::{ClassId, Rules};
 
 /// What becomes of a fault.
 #[derive(Clone, Copy, Debug, PartialEq, Eq)]

@@ -1,16 +1,16 @@
 //! The life of a row: its next chunk, and what becomes of it when the chunk is begun and when it ends.
 
 ghost use Rattle.std.specs.Prelude.{◌≡◌, ◌≤◌, ◌+◌, ◌-◌, ◌*◌, ◌<◌};
-ghost use Rattle.jb_job.specs.Limits.{max_item_count, max_records, max_rollbacks, max_in_place};
+ghost use Rattle.jb_base.specs.Limits.{max_item_count, max_records, max_rollbacks, max_in_place};
 ghost use Rattle.jb_rules.specs.Counts.{IsDelta};
 ghost use Rattle.jb_rules.specs.Laws.{RowsStaySound};
-ghost use Rattle.jb_rules.specs.Rows.{row_block, begun_row, repeated_row, committed_row, skips_of, rolled_row, failed_row, dropped_row};
+ghost use Rattle.jb_rules.specs.Rows.{row_block, remaining_of, begun_row, repeated_row, committed_row, skips_of, rolled_row, failed_row, dropped_row};
 ghost use Rattle.jb_rules.specs.Sound.{IsSoundRow};
 
 use crate::counts::Counts;
 use crate::row::{Row, RowState};
-use jb_job::Range;
-use jb_plan::next_chunk;
+use jb_base::Range;
+use jb_plan::{chunks_left, next_chunk};
 
 impl Row {
     /// The row's next chunk; where none is left, no record from its `at` on.
@@ -29,6 +29,19 @@ impl Row {
             hi: self.at,
         };
         next_chunk(self.at, self.redo, self.hi, item_count).unwrap_or(none)
+    }
+
+    /// How many chunks the row has left. Only a partition that waits has one left to begin.
+    pub fn remaining(&self, item_count: u64) -> u64
+        requires sound { IsSoundRow self.now }
+        requires some_items { 1 ≤ item_count }
+        requires few_items { item_count ≤ max_item_count }
+        ensures { result ≡ remaining_of item_count self.now self.now.state }
+    {
+        match self.state {
+            RowState::Waiting => chunks_left(self.at, self.redo, self.hi, item_count),
+            RowState::Running(_) | RowState::Finished | RowState::Failed => 0,
+        }
     }
 
     /// The row when this lane begins its next chunk.

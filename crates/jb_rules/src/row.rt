@@ -8,7 +8,7 @@ ghost use Rattle.jb_rules.specs.States.{is_waiting, is_running, is_finished, is_
 ghost use Rattle.jb_rules.specs.Sound.{IsCounted, IsPlaced, IsSoundRow};
 
 use crate::counts::Counts;
-use jb_job::{MAX_IN_PLACE, MAX_RECORDS, MAX_ROLLBACKS, Range};
+use jb_base::{MAX_IN_PLACE, MAX_RECORDS, MAX_ROLLBACKS, Range};
 
 /// Where a partition stands.
 #[derive(Clone, Copy, Debug, PartialEq, Eq)]

@@ -7,7 +7,7 @@ use Rattle.serde_json.specs.Data.{Data, null, boolean, number, string, array, ob
 use Rattle.serde_json.specs.Events.{items_len}
 use Rattle.serde_json.specs.Find as find
 use Rattle.serde_json.specs.View.{items_of}
-use Rattle.jb_job.specs.Limits.{max_name, max_partitions}
+use Rattle.jb_base.specs.Limits.{max_name, max_partitions}
 use Rattle.jb_job.specs.Reading.{whole_number, member_names}
 use Rattle.jb_rules.specs.Laws.{RowsAreTested, NumbersMakeRows}
 use Rattle.jb_rules.specs.declared.row.Row.{Row}

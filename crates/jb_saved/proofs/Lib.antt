@@ -1,10 +1,10 @@
 mod Trees
 mod TextRead
 mod RoundTrip
-mod Written
+pub mod Written
 mod Numbers
 mod Unfit
-mod Kept
+mod RowByRow
 mod Inverse
-mod Again
+mod GoneOn
 mod Worked

@@ -20,10 +20,10 @@ use Rattle.jb_saved.specs.Laws.{IsSavedTree}
 use Rattle.jb_saved.specs.SavedTree.{number_tree, CanHold, row_tree_in, rows_tree_in, saved_tree}
 use Rattle.jb_saved.specs.inside.Forms.{AreStill}
 use Rattle.jb_saved.specs.SavedForm.{◌>>=◌, row_parts, row_of, rows_from, rows_of, keyed, step_of, saved_of, form_at}
-use Rattle.jb_job.specs.Limits.{max_name, max_partitions}
+use Rattle.jb_base.specs.Limits.{max_name, max_partitions}
 use Rattle.jb_saved.specs.Answers.{AllFit, IsFirstUnfit, form_of, IsAnswer}
 use Rattle.jb_saved.specs.Reading.{GivesSaved}
-use Rattle.jb_saved.proofs.Kept.{apart_of}
+use Rattle.jb_saved.proofs.RowByRow.{apart_of}
 
 -- a state's name is read back
 state-back : (s : RowState) → is_running s ≡ false → state_named (state_name s) ≡ Some s

@@ -10,13 +10,15 @@ use Rattle.std.proofs.lemmas.List.FromFn.{length-enumerate_from, get_or-enumerat
 use Rattle.std.proofs.lemmas.List.Sums.{prefix_len_is, prefix_len_passes, prefix_len_stops}
 use Rattle.std.proofs.lemmas.Option.{get_or_from_slice_get, slice_get-get_or, slice_get_within}
 use Rattle.serde_json.specs.Data.{Data}
-use Rattle.jb_job.specs.declared.job.Range.{Range}
+use Rattle.jb_base.specs.declared.range.Range.{Range}
 use Rattle.jb_plan.specs.Ranges.{HaveNoneInCommon, do_overlap}
+use Rattle.jb_plan.proofs.NoFaults.{apart}
 use Rattle.jb_rules.specs.declared.row.Row.{Row}
 use Rattle.jb_rules.specs.Sound.{IsSoundRow}
 use Rattle.jb_rules.specs.Laws.{RowsAreTested}
 use Rattle.jb_rules.specs.RowTest.{is_sound}
 use Rattle.jb_rules.specs.Rows.{range_of}
+use Rattle.jb_rules.proofs.RowTests.{or-cases}
 use Rattle.jb_saved.specs.declared.place.SavedPlace.{SavedPlace}
 use Rattle.jb_saved.specs.declared.place.SavedPlace.TheVariants.{Shape, Version}
 use Rattle.jb_saved.specs.SavedRows.{SavedRows, IsSaved}
@@ -26,19 +28,12 @@ use Rattle.jb_saved.specs.SavedForm.{form_at, form_by, saved_of, shaped, version
 use Rattle.jb_saved.specs.Answers.{IsApartFromEarlier, Fits, AllFit, IsFirstUnfit, IsAnswer}
 use Rattle.jb_saved.specs.Reading.{is_unfit, first_unfit, checked_by, checked_rows, saved_at, answer_of}
 use Rattle.jb_saved.proofs.RoundTrip.{one-answer, answer-back, written-back}
-use Rattle.jb_saved.proofs.Kept.{past_end}
-
-apart : (r s : Range) → do_overlap r s ≡ false → HaveNoneInCommon r s
-apart r s none x a b c d = let le : min r.hi s.hi ≤ max r.lo s.lo = grind (arith, nat_tests) in omega (arith, le, a, b, c, d)
+use Rattle.jb_saved.proofs.RowByRow.{past_end, some-row}
 
 overlapping : (r s : Range) → do_overlap r s ≡ true → HaveNoneInCommon r s → ⊥
 overlapping r s e disjoint =
     let lt : max r.lo s.lo < min r.hi s.hi = grind (arith, nat_tests) in
     disjoint (max r.lo s.lo) (omega arith) (omega (arith, lt)) (omega arith) (omega (arith, lt))
-
-or-cases : (a b : Bool) → (a || b) ≡ true → (a ≡ true) ⊎ (b ≡ true)
-or-cases true b e = inl refl
-or-cases false b e = inr e
 
 none-left : (a b : Bool) → (a || b) ≡ false → a ≡ false
 none-left true b e = cc
@@ -115,10 +110,6 @@ unfit-there law rows d lt fits =
     let there = subst (λ (x : ℕ × Row). fit rows x ≡ false) (numbered rows n d lt) stops in
     let good = fits (get_or rows n d) (slice_get-get_or rows n d lt) in
     unfit-to law rows n (get_or rows n d) (unnot (is_unfit (take n rows) (get_or rows n d)) there) good.0 good.1
-
-some-row : (rows : List Row) (i : ℕ) → i < length rows → Row
-some-row [] i lt = absurd (omega arith)
-some-row (r ∷ rows) i lt = r
 
 first-of : RowsAreTested → (rows : List Row) → passed rows < length rows → IsFirstUnfit rows (passed rows)
 first-of law rows lt = record {

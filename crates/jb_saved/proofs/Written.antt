@@ -13,14 +13,18 @@ members tree (x ∷ xs) =
     let rest = flat_map (λ y. tokens_of (tree y)) xs in
     ap (λ ts. tokens_of (tree x) ++ ts) (members tree xs) ∙ sym (append_assoc (tokens_of (tree x)) rest (end_array ∷ []))
 
+-- a list's tokens are its members', between brackets
+pub list-tokens : {X : Type 0} (tree : X → Data) (xs : List X) → tokens_of (list_tree (map tree xs)) ≡ begin_array ∷ (flat_map (λ x. tokens_of (tree x)) xs ++ end_array ∷ [])
+list-tokens tree xs = ap (λ ts. begin_array ∷ ts) (members tree xs)
+
 -- a list whose members were written one after another
 pub list-written : {X : Type 0} (tree : X → Data) (xs : List X) (old begun passed new : List Token) → begun ≡ old ++ begin_array ∷ []
     → passed ≡ begun ++ flat_map (λ x. tokens_of (tree x)) xs → new ≡ passed ++ end_array ∷ [] → new ≡ old ++ tokens_of (list_tree (map tree xs))
 list-written tree xs old begun passed new begins passes ends =
-    let passed-by = flat_map (λ x. tokens_of (tree x)) xs in
-    ends ∙ ap (λ ts. ts ++ end_array ∷ []) passes ∙ ap (λ ts. (ts ++ passed-by) ++ end_array ∷ []) begins
-    ∙ append_assoc (old ++ begin_array ∷ []) passed-by (end_array ∷ []) ∙ append_assoc old (begin_array ∷ []) (passed-by ++ end_array ∷ [])
-    ∙ ap (λ ts. old ++ begin_array ∷ ts) (sym (members tree xs))
+    let members = flat_map (λ x. tokens_of (tree x)) xs in
+    ends ∙ ap (λ ts. ts ++ end_array ∷ []) passes ∙ ap (λ ts. (ts ++ members) ++ end_array ∷ []) begins
+    ∙ append_assoc (old ++ begin_array ∷ []) members (end_array ∷ []) ∙ append_assoc old (begin_array ∷ []) (members ++ end_array ∷ [])
+    ∙ ap (λ ts. old ++ ts) (sym (list-tokens tree xs))
 
 -- an object of a list and two other members, written one after another
 pub object-written : (start first second third fourth fifth last : Token) (rows old a b c d e f g new : List Token)

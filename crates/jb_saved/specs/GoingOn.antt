@@ -17,8 +17,8 @@ abbrev pub again : Row → Row
 again row = if is_failed row.state then dropped_row row else row
 
 -- the rows with which the step goes on
-abbrev pub rows_again : SavedRows → List Row
-rows_again s = map again s.rows
+abbrev pub rows_restarted : SavedRows → List Row
+rows_restarted s = map again s.rows
 
 -- no partition has failed
 abbrev pub AreUnfailed : List Row → Type 0

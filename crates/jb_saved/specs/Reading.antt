@@ -2,6 +2,7 @@
 use Rattle.std.specs.Prelude.{◌≡◌, ℕ, ◌||◌, Bool, not, List, position, take, Option, Some, None, Result, Ok, Err}
 use Rattle.std.specs.List.{list_any, enumerate_from}
 use Rattle.serde_json.specs.Data.{Data}
+use Rattle.jb_base.specs.Causes.{Cause, no_memory, of_fault, never, Answers}
 use Rattle.jb_plan.specs.Ranges.{do_overlap}
 use Rattle.jb_rules.specs.declared.row.Row.{Row}
 use Rattle.jb_rules.specs.Rows.{range_of}
@@ -43,9 +44,12 @@ abbrev pub answer_of : Option Data → Result SavedRows SavedPlace
 answer_of None = Err NotJson
 answer_of (Some d) = saved_at d
 
+-- what an error says of a saved text
+abbrev pub cause_of : StepError → Cause SavedPlace
+cause_of (error.Saved place) = of_fault place
+cause_of error.Memory = no_memory
+cause_of _ = never
+
 -- what a function returned is this answer, unless memory ran out
 abbrev pub GivesSaved : Result SavedRows StepError → Result SavedRows SavedPlace → Type 0
-GivesSaved (Ok s) answer = answer ≡ Ok s
-GivesSaved (Err (error.Saved place)) answer = answer ≡ Err place
-GivesSaved (Err error.Memory) answer = Unit {0}
-GivesSaved (Err _) answer = ⊥
+GivesSaved result answer = Answers cause_of (λ s. s) result answer

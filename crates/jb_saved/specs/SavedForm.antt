@@ -5,7 +5,7 @@ use Rattle.std.specs.List.{list_all, list_any}
 use Rattle.serde_json.specs.Data.{Data, Items, no_items, item}
 use Rattle.serde_json.specs.Events.{items_len}
 use Rattle.serde_json.specs.Find as find
-use Rattle.jb_job.specs.Limits.{max_name, max_partitions}
+use Rattle.jb_base.specs.Limits.{max_name, max_partitions}
 use Rattle.jb_job.specs.Reading.{whole_number, member_names}
 use Rattle.jb_rules.specs.declared.row.Row.{Row}
 use Rattle.jb_rules.specs.declared.row.RowState.{RowState}

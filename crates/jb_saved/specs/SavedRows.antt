@@ -1,7 +1,7 @@
 -- Saved rows: what a saved text holds, and what each saved value keeps.
 use Rattle.std.specs.Prelude.{ℕ, ◌≤◌, List, length, map}
-use Rattle.jb_job.specs.Kept.{IsName}
-use Rattle.jb_job.specs.Limits.{max_partitions}
+use Rattle.jb_base.specs.Name.{IsName}
+use Rattle.jb_base.specs.Limits.{max_partitions}
 use Rattle.jb_plan.specs.Ranges.{AreDisjoint}
 use Rattle.jb_rules.specs.declared.row.Row.{Row}
 use Rattle.jb_rules.specs.Rows.{range_of}

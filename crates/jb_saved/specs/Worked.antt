@@ -6,7 +6,7 @@ use Rattle.jb_rules.specs.declared.row.Row.{Row}
 use Rattle.jb_rules.specs.declared.row.RowState.{RowState}
 use Rattle.jb_rules.specs.declared.row.RowState.TheVariants.{Waiting, Finished, Failed}
 use Rattle.jb_saved.specs.declared.place.SavedPlace.TheVariants.{Shape, Version, Rows, Step, Records}
-use Rattle.jb_saved.specs.GoingOn.{other_step, step_faults, rows_again}
+use Rattle.jb_saved.specs.GoingOn.{other_step, step_faults, rows_restarted}
 use Rattle.jb_saved.specs.Reading.{saved_at}
 use Rattle.jb_saved.specs.SavedRows.{SavedRows}
 use Rattle.jb_saved.specs.SavedTree.{rows_tree, rows_tree_in, number_tree, saved_tree, saved_tree_in}
@@ -86,7 +86,7 @@ pub record WorkedSaved : Type 0 where
       saved_at (object (member (codes "rows") (rows_tree stopped.rows) (member (codes "size") (number_tree 3) (member (codes "step") (string (codes "s")) (member (codes "version") (number_tree 2) no_members)))))
       ≡ Err Shape
   -- going on: the failed row waits, and the faults come in their order
-  pub again : rows_again failed ≡ record failed_row { state = Waiting } ∷ row 4 6 6 4 2 1 Finished ∷ []
+  pub again : rows_restarted failed ≡ record failed_row { state = Waiting } ∷ row 4 6 6 4 2 1 Finished ∷ []
   pub faults : step_faults (codes "t") 5 failed ≡ Step ∷ Records ∷ []
   pub none : step_faults (codes "s") 6 failed ≡ []
   pub discarded : other_step (codes "t") failed ≡ Step ∷ []

@@ -4,7 +4,7 @@ ghost use Rattle.std.specs.Prelude.{◌≡◌};
 ghost use Rattle.jb_saved.specs.declared.error.StepError.TheVariants.{Memory};
 
 use crate::place::SavedPlace;
-use jb_job::ClassId;
+use jb_base::ClassId;
 use jb_plan::PlanError;
 use std::alloc::{AllocError, AllocFailed};
 

@@ -6,14 +6,14 @@ ghost use Rattle.std.specs.BTreeMap.{keys};
 ghost use Rattle.serde_json.specs.View.{view, items_view};
 ghost use Rattle.jb_saved.specs.SavedForm.{row_of, rows_from, rows_of, keyed, saved_keys, step_of, version_of, saved_of};
 ghost use Rattle.jb_saved.specs.SavedTree.{is_known, listed};
-ghost use Rattle.jb_job.specs.Kept.{IsName};
-ghost use Rattle.jb_job.specs.Limits.{max_partitions};
+ghost use Rattle.jb_base.specs.Name.{IsName};
+ghost use Rattle.jb_base.specs.Limits.{max_partitions};
 ghost use Rattle.jb_rules.specs.States.{is_running};
 ghost use Rattle.jb_saved.specs.inside.Forms.{AreStill, Finds, padded, whole_numbers, state_in, row_from};
 
 use crate::error::StepError;
 use crate::place::SavedPlace;
-use jb_job::{MAX_NAME, MAX_PARTITIONS, Name};
+use jb_base::{MAX_NAME, MAX_PARTITIONS, Name};
 use jb_rules::{Row, RowState};
 use serde_json::{Map, Value};
 use std::alloc::Global;

@@ -1,7 +1,7 @@
 //! Saved rows as a step goes on from them.
 
 ghost use Rattle.std.specs.Prelude.{◌≡◌, [], map, slice_get, OnOk, IfOk, IfErr};
-ghost use Rattle.jb_saved.specs.GoingOn.{again, is_past, step_faults, rows_again, AreUnfailed, Refuses};
+ghost use Rattle.jb_saved.specs.GoingOn.{again, is_past, step_faults, rows_restarted, AreUnfailed, Refuses};
 ghost use Rattle.jb_saved.specs.SavedRows.{IsSaved};
 
 use crate::error::StepError;
@@ -64,7 +64,7 @@ pub fn rows_to_go_on(
 ) -> Result<Vec<Row>, StepError>
     ensures accepted { OnOk result (step_faults step_id.now records saved.now ≡ []) }
     ensures refused { IfErr result (λ e. Refuses e (step_faults step_id.now records saved.now)) }
-    ensures rows { IfOk result (λ rows. rows.items ≡ rows_again saved.now) }
+    ensures rows { IfOk result (λ rows. rows.items ≡ rows_restarted saved.now) }
     ensures kept { IfOk result (λ rows. IsSaved (record { step = saved.now.step; rows = rows.items })) }
     ensures unfailed { IfOk result (λ rows. AreUnfailed rows.items) }
 {

@@ -1,25 +1,19 @@
 //! The rules that saved rows keep together.
 
 ghost use Rattle.std.specs.Prelude.{◌≡◌};
-ghost use Rattle.jb_plan.specs.Ranges.{do_overlap};
-ghost use Rattle.jb_rules.specs.Rows.{range_of};
 ghost use Rattle.jb_saved.specs.Answers.{first_running};
 ghost use Rattle.jb_saved.specs.Reading.{overlaps_some, is_unfit, first_unfit};
 
+use jb_plan::do_overlap;
 use jb_rules::Row;
-
-/// Whether some record stands in the ranges of both rows.
-fn overlaps(left: &Row, right: &Row) -> bool
-    ensures { result ≡ do_overlap (range_of left.now) (range_of right.now) }
-{
-    left.lo.max(right.lo) < left.hi.min(right.hi)
-}
 
 /// Whether some record stands in the row's range and in an earlier one's.
 fn overlaps_some(earlier: &[Row], row: &Row) -> bool
     ensures { result ≡ overlaps_some earlier.now row.now }
 {
-    earlier.iter().any(|other| overlaps(other, row))
+    earlier
+        .iter()
+        .any(|other| do_overlap(other.range(), row.range()))
 }
 
 /// Whether the row breaks a row rule, or its range overlaps an earlier one's.

@@ -10,7 +10,8 @@ use crate::form::{is_known, saved_of, version_of};
 use crate::place::SavedPlace;
 use crate::rows::{first_running, first_unfit};
 use crate::text::saved_text;
-use jb_job::{JobError, Name, read_tree};
+use jb_base::Name;
+use jb_job::{JobError, read_tree};
 use jb_repo::Snapshot;
 use jb_rules::{Row, rows_are_tested};
 use serde_json::Value;
@@ -39,7 +40,7 @@ impl Model for Saved {
 impl Saved {
     ghost use Rattle.std.specs.Prelude.{◌≡◌, IfOk, IfErr, OnOk, None};
     ghost use Rattle.serde_json.specs.View.{view};
-    ghost use Rattle.jb_job.specs.Kept.{IsName};
+    ghost use Rattle.jb_base.specs.Name.{IsName};
     ghost use Rattle.jb_saved.specs.Answers.{first_running, RefusesRunning};
     ghost use Rattle.jb_saved.specs.Reading.{GivesSaved, saved_at};
     ghost use Rattle.jb_saved.specs.SavedRows.{SavedRows, IsSaved};

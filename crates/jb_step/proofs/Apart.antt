@@ -7,16 +7,16 @@ use Rattle.jb_rules.specs.declared.row.RowState.TheVariants as state
 use Rattle.jb_rules.specs.States.{is_waiting}
 use Rattle.jb_cert.specs.Lawful.{Pair}
 use Rattle.jb_chunk.specs.Alone.{IsRunOf}
-use Rattle.jb_chunk.specs.Attempt.{Ending, attempt_of}
+use Rattle.jb_chunk.specs.Attempt.{AttemptEnd, attempt_of}
 use Rattle.jb_chunk.specs.Standing.{TaskState}
 use Rattle.jb_collect.specs.declared.calls.AnalyzerCall.{AnalyzerCall}
 use Rattle.jb_collect.specs.declared.calls.AnalyzerCall.TheVariants as call
 use Rattle.jb_collect.specs.declared.calls.Status.TheVariants.{Stopped}
-use Rattle.jb_collect.specs.Heard.{heard_first, heard_in, heard_last}
-use Rattle.jb_collect.specs.Laws.{partition_of, PartitionsAreHeardApart}
-use Rattle.jb_step.specs.Parts.{calls_about, attempts_at, tasks_at, OthersDontCount, HeardOfPartition, AttemptsAreAlone}
+use Rattle.jb_collect.specs.Heard.{calls_about, heard_first, heard_in, heard_last, partition_of}
+use Rattle.jb_collect.specs.Laws.{PartitionsAreHeardApart}
+use Rattle.jb_step.specs.OnePartition.{attempts_at, tasks_at, OthersDontCount, HeardOfPartition, AttemptsAreAlone}
 use Rattle.jb_step.specs.Rounds.{has_partition, tasks_in, attempts_in, attempts_of, after_round, after_rounds, CanRun, CanRunAll}
-use Rattle.jb_step.specs.Runs.{PlanRun, ArePlanRuns, all_attempts, table_after, rounds_of}
+use Rattle.jb_step.specs.Runs.{PlanRun, ArePlanRuns, all_attempts, table_after, rounds_of, rounds_run}
 use Rattle.jb_step.specs.Setup.{Setup}
 use Rattle.jb_step.proofs.Adding.{after_rounds-append}
 use Rattle.jb_step.proofs.Steady.{waits, same-partition}
@@ -53,7 +53,7 @@ at-round p set (t ∷ ts) =
 
 attempts-round : (p : ℕ) (set : List Pair) (ts : List TaskState) → attempts_at p (attempts_in set ts) ≡ attempts_in set (tasks_at p ts)
 attempts-round p set ts =
-    pick (λ (e : Ending). nat_eq e.task.partition p) (λ (t : TaskState). has_partition set t.partition) (λ (t : TaskState). nat_eq t.partition p) attempt_of (λ t. ap (λ q. nat_eq q p) (same-partition t)) ts
+    pick (λ (e : AttemptEnd). nat_eq e.task.partition p) (λ (t : TaskState). has_partition set t.partition) (λ (t : TaskState). nat_eq t.partition p) attempt_of (λ t. ap (λ q. nat_eq q p) (same-partition t)) ts
 
 pub at-rounds : (p : ℕ) (rounds : List (List Pair)) (ts : List TaskState) → tasks_at p (after_rounds rounds ts) ≡ after_rounds rounds (tasks_at p ts)
 at-rounds p [] ts = refl
@@ -62,7 +62,7 @@ at-rounds p (set ∷ older) ts = at-round p set (after_rounds older ts) ∙ ap (
 attempts-rounds : (p : ℕ) (rounds : List (List Pair)) (ts : List TaskState) → attempts_at p (attempts_of rounds ts) ≡ attempts_of rounds (tasks_at p ts)
 attempts-rounds p [] ts = refl
 attempts-rounds p (set ∷ older) ts =
-    filter-append (λ (e : Ending). nat_eq e.task.partition p) (attempts_of older ts) (attempts_in set (after_rounds older ts))
+    filter-append (λ (e : AttemptEnd). nat_eq e.task.partition p) (attempts_of older ts) (attempts_in set (after_rounds older ts))
     ∙ ap₂ ◌++◌ (attempts-rounds p older ts) (attempts-round p set (after_rounds older ts) ∙ ap (attempts_in set) (at-rounds p older ts))
 
 pub others_dont_count : OthersDontCount
@@ -125,17 +125,17 @@ waits-at p (set ∷ older) ts can = (
       (all-some row_waits (λ (t : TaskState). has_partition set t.partition) (λ (t : TaskState). nat_eq t.partition p) (after_rounds older ts) can.1.waiting),
 )
 
-pub run-more : (t : TaskState) (es : List Ending) (s : TaskState) → IsRunOf t es s → s.row.state ≡ state.Waiting → IsRunOf t (es ++ attempt_of s ∷ []) (attempt_of s).task
+pub run-more : (t : TaskState) (es : List AttemptEnd) (s : TaskState) → IsRunOf t es s → s.row.state ≡ state.Waiting → IsRunOf t (es ++ attempt_of s ∷ []) (attempt_of s).task
 run-more t [] s run w =
     let P : TaskState → Type 0 = λ u. IsRunOf u (attempt_of s ∷ []) (attempt_of s).task in
     subst P run (w, refl, refl)
 run-more t (e ∷ es) s run w = (run.0, run.1, run-more e.task es s run.2 w)
 
 -- where the round leaves the one task
-abbrev IsLeft : List Pair → TaskState → List Ending → List TaskState → Type 0
+abbrev IsLeft : List Pair → TaskState → List AttemptEnd → List TaskState → Type 0
 IsLeft set t es ts = (left : TaskState) × (after_round set ts ≡ left ∷ []) × IsRunOf t (es ++ attempts_in set ts) left
 
-left-one : (b : Bool) (t u : TaskState) (es : List Ending) → IsRunOf t es u → list_all row_waits (cond b (u ∷ []) []) ≡ true
+left-one : (b : Bool) (t u : TaskState) (es : List AttemptEnd) → IsRunOf t es u → list_all row_waits (cond b (u ∷ []) []) ≡ true
     → (left : TaskState) × (cond b (attempt_of u).task u ∷ [] ≡ left ∷ []) × IsRunOf t (es ++ map attempt_of (cond b (u ∷ []) [])) left
 left-one true t u es run all = ((attempt_of u).task, refl, run-more t es u run (waits u.row.state (left-of (row_waits u) true all)))
 left-one false t u es run all = (u, refl, subst (λ xs. IsRunOf t xs u) (sym (append-nil es)) run)
@@ -154,7 +154,7 @@ can-append (set ∷ newer) older ts new old = (can-append newer older ts new.0 o
 
 pub runs-all : (s : Setup) (start : List TaskState) (plans : List PlanRun) → ArePlanRuns s start plans → CanRunAll (rounds_of plans) start
 runs-all s start [] runs = tt
-runs-all s start (plan ∷ older) runs = can-append plan.rounds (rounds_of older) start runs.2.run (runs-all s start older runs.0)
+runs-all s start (plan ∷ older) runs = can-append (rounds_run plan) (rounds_of older) start runs.2.run (runs-all s start older runs.0)
 
 pub attempts_are_alone : AttemptsAreAlone
 attempts_are_alone s start plans t runs one =

@@ -2,8 +2,8 @@
 use Rattle.std.proofs.Common.{◌≡◌, ◌≢◌, ℕ, suc, zero, ◌<◌, ◌≤◌, Bool, true, false, cond, List, [], ◌∷◌, length, map, Some, refl, ap, sym, subst, arith, inl, inr}
 use Rattle.std.specs.Prelude.{slice_get, slice_index_or, All, ◌⊎◌, ◌==◌}
 use Rattle.std.proofs.lemmas.List.{length-map}
-use Rattle.jb_job.specs.declared.job.Range.{Range}
-use Rattle.jb_job.specs.Limits.{max_records, max_retry_limit, max_threads}
+use Rattle.jb_base.specs.declared.range.Range.{Range}
+use Rattle.jb_base.specs.Limits.{max_records, max_retry_limit, max_threads}
 use Rattle.jb_job.specs.Records.{StepRecord}
 use Rattle.jb_plan.specs.Plans.{CheckedPlan, IsCheckedPlan, IsWithin}
 use Rattle.jb_plan.specs.Ranges.{AreDisjoint}

@@ -9,22 +9,22 @@ use Rattle.jb_cert.specs.Lawful.{IsLeast}
 use Rattle.jb_cert.specs.Laws.{WrapAroundIsLeast}
 use Rattle.jb_cert.specs.Plans.{sets_of as slots_sets}
 use Rattle.jb_cert.specs.WrapAround.{wrapped_rounds}
-use Rattle.jb_chunk.specs.Attempt.{end_of, asks_repeat, repeated_up_to, after_repeats, work_with}
+use Rattle.jb_chunk.specs.Attempt.{end_of, asks_repeat, repeated_up_to, all_repeated, work_left}
 use Rattle.jb_chunk.specs.Block.{entry, results, count_of, settles, settling, used_between}
 use Rattle.jb_chunk.specs.Worked.{class_e}
 use Rattle.jb_collect.specs.declared.calls.ReducerCall.{ReducerCall}
 use Rattle.jb_collect.specs.declared.calls.ReducerCall.TheVariants.{Begin, Before, Rollback, After}
 use Rattle.jb_collect.specs.declared.calls.PartitionStatus.TheVariants as end
-use Rattle.jb_collect.specs.Reduced.{rolled_back}
+use Rattle.jb_collect.specs.ReducerCalls.{is_before, rolled_back}
 use Rattle.jb_collect.specs.Taken.{Taken, well, faulted, calls_of}
-use Rattle.jb_step.specs.Reduced.{AreSome, has_fault, is_before}
+use Rattle.jb_step.specs.Callbacks.{AreSome, has_fault}
 use Rattle.jb_step.specs.Worked.{SevenRecords, SevenOnOneThread, StoppedAndRestarted, OneRoundEach, OneFailed, NoRecord, Retried, Skipped, Refused, CallsOfPrepare, CallsOfOverride, Overridden, CallsWithoutMemory, AfterMapper, AfterReducer, WithoutMemory, WorkedRows, seven, seven_tasks, skipping, skipping_tasks, stopped_seven, plan_run, chunks, faulted_rollback, well_rollback}
-use Rattle.jb_step.specs.Runs.{PlanRun, IsPlanRun, ArePlanRuns, sets_of}
+use Rattle.jb_step.specs.Runs.{PlanRun, IsPlanRun, ArePlanRuns}
 use Rattle.jb_step.specs.Setup.{counts_now}
 use Rattle.jb_step.proofs.Planning.{least-wrapped}
 
 seven_records : WrapAroundIsLeast → SevenRecords
-unfolding end_of asks_repeat repeated_up_to after_repeats settling settles entry results count_of work_with used_between used_at digits blocks
+unfolding end_of asks_repeat repeated_up_to all_repeated settling settles entry results count_of work_left used_between used_at digits blocks
 seven_records law = record {
   gives = record {
     run = (
@@ -34,6 +34,7 @@ seven_records law = record {
         least = least-wrapped law (2 ∷ 1 ∷ 1 ∷ []) 2 (lit≤ tt);
         certified = (lit< tt, refl);
         some = lit≤ tt;
+        among = lit≤ tt;
         run = ((tt, record { tasks = refl; waiting = refl }), record { tasks = refl; waiting = refl });
         quiet = (tt, refl);
       },
@@ -49,7 +50,7 @@ seven_records law = record {
 }
 
 seven_on_one_thread : WrapAroundIsLeast → SevenOnOneThread
-unfolding end_of asks_repeat repeated_up_to after_repeats settling settles entry results count_of work_with used_between used_at digits blocks
+unfolding end_of asks_repeat repeated_up_to all_repeated settling settles entry results count_of work_left used_between used_at digits blocks
 seven_on_one_thread law = record {
   gives = record {
     run = (
@@ -59,6 +60,7 @@ seven_on_one_thread law = record {
         least = least-wrapped law (2 ∷ 1 ∷ 1 ∷ []) 1 (lit≤ tt);
         certified = (lit≤ tt, lit< tt);
         some = lit≤ tt;
+        among = lit≤ tt;
         run = ((((tt, record { tasks = refl; waiting = refl }), record { tasks = refl; waiting = refl }), record { tasks = refl; waiting = refl }), record { tasks = refl; waiting = refl });
         quiet = (((tt, refl), refl), refl);
       },
@@ -74,7 +76,7 @@ seven_on_one_thread law = record {
 }
 
 stopped_and_restarted : WrapAroundIsLeast → StoppedAndRestarted
-unfolding end_of asks_repeat repeated_up_to after_repeats settling settles entry results count_of work_with used_between used_at digits blocks
+unfolding end_of asks_repeat repeated_up_to all_repeated settling settles entry results count_of work_left used_between used_at digits blocks
 stopped_and_restarted law = record {
   stopped = record {
     run = (
@@ -84,6 +86,7 @@ stopped_and_restarted law = record {
         least = least-wrapped law (2 ∷ 1 ∷ 1 ∷ []) 2 (lit≤ tt);
         certified = (lit< tt, refl);
         some = lit≤ tt;
+        among = lit≤ tt;
         run = (tt, record { tasks = refl; waiting = refl });
         quiet = tt;
       },
@@ -103,6 +106,7 @@ stopped_and_restarted law = record {
         least = least-wrapped law (1 ∷ 0 ∷ 1 ∷ []) 2 (lit≤ tt);
         certified = (lit< tt, refl);
         some = lit≤ tt;
+        among = lit≤ tt;
         run = (tt, record { tasks = refl; waiting = refl });
         quiet = tt;
       },
@@ -118,7 +122,7 @@ stopped_and_restarted law = record {
 }
 
 one_round_each : WrapAroundIsLeast → OneRoundEach
-unfolding end_of asks_repeat repeated_up_to after_repeats settling settles entry results count_of work_with used_between used_at digits blocks
+unfolding end_of asks_repeat repeated_up_to all_repeated settling settles entry results count_of work_left used_between used_at digits blocks
 one_round_each law = record {
   first = record {
     run = (
@@ -128,6 +132,7 @@ one_round_each law = record {
         least = least-wrapped law (2 ∷ 1 ∷ 1 ∷ []) 1 (lit≤ tt);
         certified = (lit≤ tt, lit< tt);
         some = lit≤ tt;
+        among = lit≤ tt;
         run = (tt, record { tasks = refl; waiting = refl });
         quiet = tt;
       },
@@ -146,6 +151,7 @@ one_round_each law = record {
         least = least-wrapped law (1 ∷ 1 ∷ 1 ∷ []) 1 (lit≤ tt);
         certified = (lit≤ tt, lit< tt);
         some = lit≤ tt;
+        among = lit≤ tt;
         run = (tt, record { tasks = refl; waiting = refl });
         quiet = tt;
       },
@@ -164,6 +170,7 @@ one_round_each law = record {
         least = least-wrapped law (0 ∷ 1 ∷ 1 ∷ []) 1 (lit≤ tt);
         certified = (lit≤ tt, lit< tt);
         some = lit≤ tt;
+        among = lit≤ tt;
         run = (tt, record { tasks = refl; waiting = refl });
         quiet = tt;
       },
@@ -182,6 +189,7 @@ one_round_each law = record {
         least = least-wrapped law (0 ∷ 0 ∷ 1 ∷ []) 1 (lit≤ tt);
         certified = (lit< tt, refl);
         some = lit≤ tt;
+        among = lit≤ tt;
         run = (tt, record { tasks = refl; waiting = refl });
         quiet = tt;
       },
@@ -195,7 +203,7 @@ one_round_each law = record {
 }
 
 one_failed : WrapAroundIsLeast → OneFailed
-unfolding end_of asks_repeat repeated_up_to after_repeats settling settles entry results count_of work_with used_between used_at digits blocks
+unfolding end_of asks_repeat repeated_up_to all_repeated settling settles entry results count_of work_left used_between used_at digits blocks
 one_failed law = record {
   failed = record {
     run = (
@@ -205,6 +213,7 @@ one_failed law = record {
         least = least-wrapped law (2 ∷ 1 ∷ []) 2 (lit≤ tt);
         certified = (lit< tt, refl);
         some = lit≤ tt;
+        among = lit≤ tt;
         run = ((tt, record { tasks = refl; waiting = refl }), record { tasks = refl; waiting = refl });
         quiet = (tt, refl);
       },
@@ -224,6 +233,7 @@ one_failed law = record {
         least = least-wrapped law (1 ∷ 0 ∷ []) 2 (lit≤ tt);
         certified = (lit< tt, refl);
         some = lit≤ tt;
+        among = lit≤ tt;
         run = (tt, record { tasks = refl; waiting = refl });
         quiet = tt;
       },
@@ -237,7 +247,7 @@ one_failed law = record {
 }
 
 no_record : NoRecord
-unfolding end_of asks_repeat repeated_up_to after_repeats settling settles entry results count_of work_with used_between used_at digits blocks
+unfolding end_of asks_repeat repeated_up_to all_repeated settling settles entry results count_of work_left used_between used_at digits blocks
 no_record = record {
   run = tt;
   notes_are = refl;
@@ -248,7 +258,7 @@ no_record = record {
 }
 
 retried : WrapAroundIsLeast → Retried
-unfolding end_of asks_repeat repeated_up_to after_repeats settling settles entry results count_of work_with used_between used_at digits blocks
+unfolding end_of asks_repeat repeated_up_to all_repeated settling settles entry results count_of work_left used_between used_at digits blocks
 retried law = record {
   gives = record {
     run = (
@@ -259,6 +269,7 @@ retried law = record {
           least = least-wrapped law (1 ∷ []) 1 (lit≤ tt);
           certified = (lit< tt, refl);
           some = lit≤ tt;
+          among = lit≤ tt;
           run = (tt, record { tasks = refl; waiting = refl });
           quiet = tt;
         },
@@ -268,6 +279,7 @@ retried law = record {
         least = least-wrapped law (4 ∷ []) 1 (lit≤ tt);
         certified = (lit< tt, refl);
         some = lit≤ tt;
+        among = lit≤ tt;
         run = ((((tt, record { tasks = refl; waiting = refl }), record { tasks = refl; waiting = refl }), record { tasks = refl; waiting = refl }), record { tasks = refl; waiting = refl });
         quiet = (((tt, refl), refl), refl);
       },
@@ -282,7 +294,7 @@ retried law = record {
 }
 
 skipped : WrapAroundIsLeast → Skipped
-unfolding end_of asks_repeat repeated_up_to after_repeats settling settles entry results count_of work_with used_between used_at digits blocks
+unfolding end_of asks_repeat repeated_up_to all_repeated settling settles entry results count_of work_left used_between used_at digits blocks
 skipped law = record {
   run = (
     (
@@ -292,6 +304,7 @@ skipped law = record {
         least = least-wrapped law (2 ∷ []) 1 (lit≤ tt);
         certified = (lit< tt, refl);
         some = lit≤ tt;
+        among = lit≤ tt;
         run = (tt, record { tasks = refl; waiting = refl });
         quiet = tt;
       },
@@ -301,6 +314,7 @@ skipped law = record {
       least = least-wrapped law (3 ∷ []) 1 (lit≤ tt);
       certified = (lit< tt, refl);
       some = lit≤ tt;
+      among = lit≤ tt;
       run = (((tt, record { tasks = refl; waiting = refl }), record { tasks = refl; waiting = refl }), record { tasks = refl; waiting = refl });
       quiet = ((tt, refl), refl);
     },
@@ -316,18 +330,18 @@ seven_counts : counts_now (seven 2) (seven_tasks 2) ≡ 2 ∷ 1 ∷ 1 ∷ []
 unfolding blocks
 seven_counts = refl
 
-too_slow : WrapAroundIsLeast → (plan : PlanRun) → length (sets_of plan) ≡ 4 → IsPlanRun (seven 2) (seven_tasks 2) plan → ⊥
+too_slow : WrapAroundIsLeast → (plan : PlanRun) → length plan.rounds ≡ 4 → IsPlanRun (seven 2) (seven_tasks 2) plan → ⊥
 too_slow law plan four run =
-    let least = subst (λ counts. IsLeast counts 2 (sets_of plan)) seven_counts run.least in
-    let few : length (sets_of plan) ≤ 2 = least.least (slots_sets (wrapped_rounds (2 ∷ 1 ∷ 1 ∷ []) 2)) (least-wrapped law (2 ∷ 1 ∷ 1 ∷ []) 2 (lit≤ tt)).lawful in
+    let least = subst (λ counts. IsLeast counts 2 plan.rounds) seven_counts run.least in
+    let few : length plan.rounds ≤ 2 = least.least (slots_sets (wrapped_rounds (2 ∷ 1 ∷ 1 ∷ []) 2)) (least-wrapped law (2 ∷ 1 ∷ 1 ∷ []) 2 (lit≤ tt)).lawful in
     absurd (omega (arith, four, few))
 
-goes_on : IsPlanRun skipping skipping_tasks (plan_run (Longest 0) (chunks (1 ∷ 0 ∷ [])) []) → ⊥
-unfolding end_of asks_repeat repeated_up_to after_repeats settling settles entry results count_of work_with used_between used_at digits blocks
+goes_on : IsPlanRun skipping skipping_tasks (plan_run (Longest 0) (chunks (0 ∷ 1 ∷ [])) 2) → ⊥
+unfolding end_of asks_repeat repeated_up_to all_repeated settling settles entry results count_of work_left used_between used_at digits blocks
 goes_on run = let broken : true ≡ false = run.quiet.1 in cc
 
-left_open : ArePlanRuns (seven 2) (seven_tasks 2) (plan_run FullLoad [] [] ∷ stopped_seven) → ⊥
-unfolding end_of asks_repeat repeated_up_to after_repeats settling settles entry results count_of work_with used_between used_at digits blocks
+left_open : ArePlanRuns (seven 2) (seven_tasks 2) (plan_run FullLoad [] 0 ∷ stopped_seven) → ⊥
+unfolding end_of asks_repeat repeated_up_to all_repeated settling settles entry results count_of work_left used_between used_at digits blocks
 left_open runs = elim runs.1 [ inl none ↦ cc | inr broken ↦ cc ]
 
 refused : WrapAroundIsLeast → Refused

@@ -7,12 +7,12 @@ use Rattle.jb_rules.specs.declared.row.Row.{Row}
 use Rattle.jb_rules.specs.declared.row.RowState.{RowState}
 use Rattle.jb_rules.specs.declared.row.RowState.TheVariants as state
 use Rattle.jb_rules.specs.States.{is_finished, has_ended}
-use Rattle.jb_artifacts.specs.Meaning.{Workplace}
+use Rattle.jb_artifacts.specs.Meaning.{ArtifactsMeaning}
 use Rattle.jb_cert.specs.Rising.{RiseFrom}
 use Rattle.jb_chunk.specs.Standing.{TaskState}
 use Rattle.jb_step.specs.StepRuns.{newer, all_newer}
 use Rattle.jb_step.specs.Setup.{row_now}
-use Rattle.jb_step.specs.Ways.{AreOnTheWay, have_ended}
+use Rattle.jb_step.specs.Alone.{AreOnTheWay, have_ended}
 use Rattle.jb_step.specs.inside.Round.{partitions_of}
 use Rattle.jb_step.proofs.Apart.{both, left-of, right-of}
 use Rattle.jb_step.proofs.Splitting.{rise-lower}
@@ -24,7 +24,7 @@ abbrev pub open_tasks : List TaskState → List TaskState
 open_tasks ts = filter is_unfinished ts
 
 -- the artifacts of the tasks, each with its partition
-abbrev pub works_in : List TaskState → List (ℕ × Workplace)
+abbrev pub works_in : List TaskState → List (ℕ × ArtifactsMeaning)
 works_in ts = map (λ (t : TaskState). (t.partition, t.work)) ts
 
 -- the task that stands in this place, and the tasks for the places behind it
@@ -80,21 +80,21 @@ row-none (u ∷ us) k p row lt h =
     ap (λ (b : Bool). cond b u.row (row_now us p row)) (differ-back p u.partition (omega (arith, lt, from)))
     ∙ row-none us (u.partition + 1) p row (omega (arith, lt, from)) h.1
 
-newer-none : (us : List TaskState) (k p : ℕ) (work : Workplace) → p < k → RiseFrom k (partitions_of us) → newer (works_in us) p work ≡ work
+newer-none : (us : List TaskState) (k p : ℕ) (work : ArtifactsMeaning) → p < k → RiseFrom k (partitions_of us) → newer (works_in us) p work ≡ work
 newer-none [] k p work lt h = refl
 newer-none (u ∷ us) k p work lt h =
     let from = h.0 in
     ap (λ (b : Bool). cond b u.work (newer (works_in us) p work)) (differ-back p u.partition (omega (arith, lt, from)))
     ∙ newer-none us (u.partition + 1) p work (omega (arith, lt, from)) h.1
 
-abbrev renewed : List TaskState → List (ℕ × Workplace) → List (ℕ × Workplace)
+abbrev renewed : List TaskState → List (ℕ × ArtifactsMeaning) → List (ℕ × ArtifactsMeaning)
 renewed us left = all_newer (works_in us) left
 
 newer-later : (u : TaskState) (us ts : List TaskState) (k : ℕ) → u.partition < k → RiseFrom k (partitions_of ts) → renewed (u ∷ us) (works_in ts) ≡ renewed us (works_in ts)
 newer-later u us [] k lt h = refl
 newer-later u us (t ∷ ts) k lt h =
     let from = h.0 in
-    ap₂ (λ (b : Bool) (rest : List (ℕ × Workplace)). (t.partition, cond b u.work (newer (works_in us) t.partition t.work)) ∷ rest)
+    ap₂ (λ (b : Bool) (rest : List (ℕ × ArtifactsMeaning)). (t.partition, cond b u.work (newer (works_in us) t.partition t.work)) ∷ rest)
     (differ u.partition t.partition (omega (arith, lt, from)))
     (newer-later u us ts (t.partition + 1) (omega (arith, lt, from)) h.1)
 
@@ -138,7 +138,7 @@ fill-open u t us ts all same rise f = record {
   way = λ w. (w.0, f.way w.1);
   ended = λ e. both (has_ended u.row.state) (have_ended all) (left-of (has_ended u.row.state) (have_ended us) e) (f.ended (right-of (has_ended u.row.state) (have_ended us) e));
   now = λ p row. now-open (nat_eq t.partition p) u t us ts all p row (ap (λ (n : ℕ). nat_eq n p) same) refl (f.now p row);
-  works = ap₂ (λ (w : ℕ × Workplace) (rest : List (ℕ × Workplace)). w ∷ rest)
+  works = ap₂ (λ (w : ℕ × ArtifactsMeaning) (rest : List (ℕ × ArtifactsMeaning)). w ∷ rest)
       (ap (λ (b : Bool). (t.partition, cond b u.work (newer (works_in us) t.partition t.work))) (ap (λ (n : ℕ). nat_eq n t.partition) same ∙ itself t.partition)
       ∙ (λ i. (sym same i, u.work)))
       (newer-later u us ts (t.partition + 1) (omega (arith, same)) rise ∙ f.works);
@@ -154,7 +154,7 @@ fill-closed t us ts all closed rise f = record {
   now = λ p row. now-closed (nat_eq t.partition p) t us ts all p row refl
       (λ e. let is = same-eq t.partition p e in row-none us (t.partition + 1) p t.row (omega (arith, is)) rise)
       (f.now p row);
-  works = ap₂ (λ (work : Workplace) (rest : List (ℕ × Workplace)). (t.partition, work) ∷ rest)
+  works = ap₂ (λ (work : ArtifactsMeaning) (rest : List (ℕ × ArtifactsMeaning)). (t.partition, work) ∷ rest)
       (newer-none us (t.partition + 1) t.partition t.work (omega arith) rise) f.works;
 }
 

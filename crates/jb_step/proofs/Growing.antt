@@ -3,10 +3,10 @@ use Rattle.std.proofs.Common.{◌≡◌, List, [], ◌∷◌, ◌++◌, length, 
 use Rattle.std.proofs.lemmas.List.{append-nil}
 use Rattle.std.proofs.Math.Seq.{drop-append_seam}
 use Rattle.std.specs.Prelude.{Result, Ok, Err}
-use Rattle.jb_job.specs.declared.artifact_error.ArtifactError.{ArtifactError}
-use Rattle.jb_job.specs.declared.artifact_error.ArtifactError.TheVariants.{Fault, Memory}
+use Rattle.jb_base.specs.declared.artifact_error.ArtifactError.{ArtifactError}
+use Rattle.jb_base.specs.declared.artifact_error.ArtifactError.TheVariants.{Fault, Memory}
 use Rattle.jb_collect.specs.Taken.{Taken, TakesCall, TakesCalls, well, faulted}
-use Rattle.jb_step.specs.Reduced.{Grew, since}
+use Rattle.jb_step.specs.Callbacks.{Grew, since}
 
 pub grew-by : {C : Type 0} (before after next : List (Taken C)) → after ≡ before ++ next → Grew before after
 grew-by before after next e = e ∙ ap (λ xs. before ++ xs) (sym (ap (λ xs. drop (length before) xs) e ∙ drop-append_seam before next))

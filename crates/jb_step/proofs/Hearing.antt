@@ -1,9 +1,9 @@
 -- Calls one after another, up to the first fault.
 use Rattle.std.proofs.Common.{◌≡◌, true, false, Option, Some, None, List, [], ◌∷◌, ◌++◌, refl, sym, subst}
 use Rattle.std.specs.Prelude.{Result, Ok, Err, is_some}
-use Rattle.jb_job.specs.declared.artifact_error.ArtifactError.{ArtifactError}
-use Rattle.jb_job.specs.declared.artifact_error.ArtifactError.TheVariants.{Fault, Memory}
-use Rattle.jb_job.specs.declared.class.ClassId.{ClassId}
+use Rattle.jb_base.specs.declared.artifact_error.ArtifactError.{ArtifactError}
+use Rattle.jb_base.specs.declared.artifact_error.ArtifactError.TheVariants.{Fault, Memory}
+use Rattle.jb_base.specs.declared.class.ClassId.{ClassId}
 use Rattle.jb_collect.specs.declared.calls.AnalyzerCall.{AnalyzerCall}
 use Rattle.jb_collect.specs.Laws.{TakenOneAfterAnother, NoneAfterAFault}
 use Rattle.jb_collect.specs.Taken.{Taken, HasTaken, TakesCall, TakesCalls, well, faulted}

@@ -9,11 +9,11 @@ use Rattle.jb_rules.specs.declared.row.RowState.{RowState}
 use Rattle.jb_rules.specs.declared.row.RowState.TheVariants as state
 use Rattle.jb_rules.specs.Sound.{IsSoundRow}
 use Rattle.jb_rules.specs.States.{is_waiting, is_finished}
-use Rattle.jb_job.specs.Limits.{max_retry_limit}
-use Rattle.jb_artifacts.specs.Meaning.{Workplace, Fits}
+use Rattle.jb_base.specs.Limits.{max_retry_limit}
+use Rattle.jb_artifacts.specs.Meaning.{ArtifactsMeaning, Fits}
 use Rattle.jb_chunk.specs.Standing.{TaskState, IsReady, HasItemCount, started}
-use Rattle.jb_step.specs.Going.{IsTable, AreTasksOf, BeginsWithTable, PartitionsStay}
-use Rattle.jb_step.specs.Parts.{tasks_at}
+use Rattle.jb_step.specs.PlanLaws.{IsTable, AreTasksOf, BeginsWithTable, PartitionsStay}
+use Rattle.jb_step.specs.OnePartition.{tasks_at}
 use Rattle.jb_step.specs.Prepare.{FitRows}
 use Rattle.jb_step.specs.Rounds.{has_partition}
 use Rattle.jb_step.specs.Setup.{Setup, IsSetup, row_now, unfinished}
@@ -131,16 +131,16 @@ partitions_stay set (t ∷ ts) = let more = partitions_stay set ts in λ i. stay
 
 -- THE FIRST TABLE
 
-abbrev pub first_from : Setup → List (ℕ × Row) → List Workplace → List TaskState
+abbrev pub first_from : Setup → List (ℕ × Row) → List ArtifactsMeaning → List TaskState
 first_from s ns works = map (λ n. started n.0.0 n.0.1 s.rules s.item_count n.1) (zip ns works)
 
-first-names : (s : Setup) (ns : List (ℕ × Row)) (works : List Workplace) → FitRows ns works → map (λ (u : TaskState). u.partition) (first_from s ns works) ≡ map (λ (n : ℕ × Row). n.0) ns
+first-names : (s : Setup) (ns : List (ℕ × Row)) (works : List ArtifactsMeaning) → FitRows ns works → map (λ (u : TaskState). u.partition) (first_from s ns works) ≡ map (λ (n : ℕ × Row). n.0) ns
 first-names s [] [] fits = refl
 first-names s [] (w ∷ ws) fits = absurd fits
 first-names s (n ∷ ns) [] fits = absurd fits
 first-names s (n ∷ ns) (w ∷ ws) fits = ap (λ ms. n.0 ∷ ms) (first-names s ns ws fits.1)
 
-ready-first : (s : Setup) (n : ℕ × Row) (w : Workplace) → IsSoundRow n.1 → HasItemCount s.item_count → s.rules.retry_limit ≤ max_retry_limit → Fits w n.1 → IsReady (started n.0 n.1 s.rules s.item_count w)
+ready-first : (s : Setup) (n : ℕ × Row) (w : ArtifactsMeaning) → IsSoundRow n.1 → HasItemCount s.item_count → s.rules.retry_limit ≤ max_retry_limit → Fits w n.1 → IsReady (started n.0 n.1 s.rules s.item_count w)
 ready-first s n w sound count retried fits =
     let few = fits.count in
     let cut : length (take n.1.written w.writer.written) ≡ n.1.written = omega (arith, few, length-take n.1.written w.writer.written) in
@@ -153,7 +153,7 @@ ready-first s n w sound count retried fits =
       count = cut;
     }
 
-first-ready : (s : Setup) (ns : List (ℕ × Row)) (works : List Workplace) → AllByRecursion (λ (n : ℕ × Row). IsSoundRow n.1) ns → HasItemCount s.item_count → s.rules.retry_limit ≤ max_retry_limit → FitRows ns works → AreTasksOf s (first_from s ns works)
+first-ready : (s : Setup) (ns : List (ℕ × Row)) (works : List ArtifactsMeaning) → AllByRecursion (λ (n : ℕ × Row). IsSoundRow n.1) ns → HasItemCount s.item_count → s.rules.retry_limit ≤ max_retry_limit → FitRows ns works → AreTasksOf s (first_from s ns works)
 first-ready s [] [] sound count retried fits = tt
 first-ready s [] (w ∷ ws) sound count retried fits = absurd fits
 first-ready s (n ∷ ns) [] sound count retried fits = absurd fits

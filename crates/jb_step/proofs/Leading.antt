@@ -1,17 +1,18 @@
 -- Rounds lead each partition along its own attempts.
-use Rattle.std.proofs.Common.{◌≡◌, Bool, true, false, cond, List, [], ◌∷◌, ◌++◌, refl, ap₂, sym, subst, inl}
+use Rattle.std.proofs.Common.{◌≡◌, Bool, true, false, cond, List, [], ◌∷◌, ◌++◌, refl, sym, subst, inl}
 use Rattle.std.specs.List.{list_all}
+use Rattle.jb_base.proofs.Pairwise.{pairwise-itself, pairwise-one}
 use Rattle.jb_rules.specs.declared.row.RowState.TheVariants as state
 use Rattle.jb_rules.specs.States.{is_waiting, has_ended}
 use Rattle.jb_cert.specs.Lawful.{Pair}
-use Rattle.jb_chunk.specs.Alone.{IsOnTheWay}
+use Rattle.jb_chunk.specs.Alone.{IsAlone, IsOnTheWay}
 use Rattle.jb_chunk.specs.Attempt.{attempt_of}
 use Rattle.jb_chunk.specs.Laws.{OneEnd, CalmRunsArePlain, WaysEnd}
 use Rattle.jb_chunk.specs.Standing.{TaskState}
 use Rattle.jb_step.specs.Laws.{StepsAreOnTheWay, StepsEndAlone, AloneIsOnePlace, CalmStepsArePlain}
 use Rattle.jb_step.specs.Rounds.{has_partition, tasks_in, after_round, after_rounds, CanRunAll}
-use Rattle.jb_step.specs.Runs.{table_after, rounds_of}
-use Rattle.jb_step.specs.Ways.{AreOnTheWay, AreAlone, AreReady, have_ended}
+use Rattle.jb_step.specs.Runs.{table_after, rounds_of, rounds_run}
+use Rattle.jb_step.specs.Alone.{AreOnTheWay, AreAlone, AreReady, have_ended}
 use Rattle.jb_step.proofs.Adding.{after_rounds-append}
 use Rattle.jb_step.proofs.Apart.{left-of, right-of, run-more}
 use Rattle.jb_step.proofs.Steady.{waits}
@@ -41,8 +42,7 @@ way-round set (t ∷ ts) (s ∷ ss) way waiting =
     (way-one b t s way.0 (first-waits b s (tasks_in set ss) waiting), way-round set ts ss way.1 (others-wait b s (tasks_in set ss) waiting))
 
 way-none : (ts : List TaskState) → AreOnTheWay ts ts
-way-none [] = tt
-way-none (t ∷ ts) = (record { attempts = []; run = refl }, way-none ts)
+way-none ts = pairwise-itself IsOnTheWay (λ t. record { attempts = []; run = refl }) ts
 
 way-rounds : (rounds : List (List Pair)) (ts ss : List TaskState) → AreOnTheWay ts ss → CanRunAll rounds ss → AreOnTheWay ts (after_rounds rounds ss)
 way-rounds [] ts ss way can = way
@@ -52,8 +52,8 @@ pub steps_are_on_the_way : StepsAreOnTheWay
 steps_are_on_the_way s start [] runs = way-none start
 steps_are_on_the_way s start (plan ∷ older) runs =
     let before = steps_are_on_the_way s start older runs.0 in
-    subst (λ ts. AreOnTheWay start ts) (sym (after_rounds-append plan.rounds (rounds_of older) start))
-    (way-rounds plan.rounds start (table_after older start) before runs.2.run)
+    subst (λ ts. AreOnTheWay start ts) (sym (after_rounds-append (rounds_run plan) (rounds_of older) start))
+    (way-rounds (rounds_run plan) start (table_after older start) before runs.2.run)
 
 -- WHERE THEY END
 
@@ -68,12 +68,7 @@ pub steps_end_alone : WaysEnd → StepsEndAlone
 steps_end_alone law s start plans ready runs ended = alone-all law start (table_after plans start) ready (steps_are_on_the_way s start plans runs) ended
 
 pub alone_is_one_place : OneEnd → AloneIsOnePlace
-alone_is_one_place law [] [] [] one other = refl
-alone_is_one_place law [] (s ∷ ss) us one other = absurd one
-alone_is_one_place law [] [] (u ∷ us) one other = absurd other
-alone_is_one_place law (t ∷ ts) [] us one other = absurd one
-alone_is_one_place law (t ∷ ts) (s ∷ ss) [] one other = absurd other
-alone_is_one_place law (t ∷ ts) (s ∷ ss) (u ∷ us) one other = ap₂ ◌∷◌ (law t s u one.0 other.0) (alone_is_one_place law ts ss us one.1 other.1)
+alone_is_one_place law start one other = pairwise-one IsAlone law start one other
 
 pub calm_steps_are_plain : CalmRunsArePlain → CalmStepsArePlain
 calm_steps_are_plain law [] [] ready waiting calm alone = tt

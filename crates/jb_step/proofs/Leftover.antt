@@ -6,14 +6,14 @@ use Rattle.std.proofs.lemmas.Bool.Decides.{nat_tests}
 use Rattle.jb_rules.specs.declared.row.Row.{Row}
 use Rattle.jb_rules.specs.Rows.{fresh_row}
 use Rattle.jb_rules.specs.States.{is_finished}
-use Rattle.jb_artifacts.specs.Meaning.{Workplace}
+use Rattle.jb_artifacts.specs.Meaning.{ArtifactsMeaning}
 use Rattle.jb_cert.specs.Lawful.{Pair}
 use Rattle.jb_cert.specs.Rising.{RiseFrom}
 use Rattle.jb_chunk.specs.Attempt.{attempt_of}
 use Rattle.jb_chunk.specs.Standing.{TaskState}
 use Rattle.jb_repo.specs.declared.snapshot.Snapshot.{Snapshot}
-use Rattle.jb_step.specs.Ending.{tasks_left}
-use Rattle.jb_step.specs.Going.{IsTable, AreTasksOf}
+use Rattle.jb_step.specs.Answers.{tasks_left}
+use Rattle.jb_step.specs.PlanLaws.{IsTable, AreTasksOf}
 use Rattle.jb_step.specs.Rounds.{has_partition, after_round, after_rounds}
 use Rattle.jb_step.specs.Runs.{PlanRun, rounds_of, table_after}
 use Rattle.jb_step.specs.Setup.{Setup, first_tasks, row_now, rows_now, unfinished}
@@ -45,12 +45,12 @@ rules-rounds : (s : Setup) (rounds : List (List Pair)) (ts : List TaskState) →
 rules-rounds s [] ts h = h
 rules-rounds s (set ∷ older) ts h = rules-round s set (after_rounds older ts) (rules-rounds s older ts h)
 
-rules-first : (s : Setup) (ns : List (ℕ × Row)) (works : List Workplace) → HaveRules s (first_from s ns works)
+rules-first : (s : Setup) (ns : List (ℕ × Row)) (works : List ArtifactsMeaning) → HaveRules s (first_from s ns works)
 rules-first s [] works = tt
 rules-first s (n ∷ ns) [] = tt
 rules-first s (n ∷ ns) (w ∷ ws) = (refl, rules-first s ns ws)
 
-rules-after : (s : Setup) (works : List Workplace) (plans : List PlanRun) → HaveRules s (table_after plans (first_tasks s works))
+rules-after : (s : Setup) (works : List ArtifactsMeaning) (plans : List PlanRun) → HaveRules s (table_after plans (first_tasks s works))
 rules-after s works plans = rules-rounds s (rounds_of plans) (first_tasks s works) (rules-first s (unfinished s.rows) works)
 
 -- EACH TASK'S ROW
@@ -121,7 +121,7 @@ row-at s ts u lt is =
     there.1 ∙ (ap (λ m. row_now ts m there.0) zero_add ∙ is there.0)
 
 pub all-again : (s : Setup) (rows : List Row) (ts us : List TaskState) → rows ≡ rows_now s.rows ts → AllByRecursion (λ (t : TaskState). t.partition < length s.rows) us → AreRowsIn ts us → HaveRules s us → HaveCounts s us
-    → map (λ (a : ℕ × Workplace). record { partition = a.0; row = slice_index_or rows a.0 no_row; rules = s.rules; item_count = s.item_count; work = a.1 }) (map (λ (t : TaskState). (t.partition, t.work)) us) ≡ us
+    → map (λ (a : ℕ × ArtifactsMeaning). record { partition = a.0; row = slice_index_or rows a.0 no_row; rules = s.rules; item_count = s.item_count; work = a.1 }) (map (λ (t : TaskState). (t.partition, t.work)) us) ≡ us
 all-again s rows ts [] is below rows_are rules tasks = refl
 all-again s rows ts (u ∷ us) is below rows_are rules tasks =
     let row = ap (λ (rs : List Row). slice_index_or rs u.partition no_row) is ∙ row-at s ts u below.0 rows_are.0 in
@@ -131,11 +131,11 @@ all-again s rows ts (u ∷ us) is below rows_are rules tasks =
     ap₂ ◌∷◌ one (all-again s rows ts us is below.1 rows_are.1 rules.1 tasks.1)
 
 -- what comes back is the table that the plans left
-pub left-again : (s : Setup) (works : List Workplace) (plans : List PlanRun) (snapshot : Snapshot) (left : List (ℕ × Workplace)) (table : List TaskState)
+pub left-again : (s : Setup) (works : List ArtifactsMeaning) (plans : List PlanRun) (snapshot : Snapshot) (left : List (ℕ × ArtifactsMeaning)) (table : List TaskState)
     → table ≡ table_after plans (first_tasks s works) → IsTable s table → RiseFrom 0 (partitions_of table) → snapshot.rows.items ≡ rows_now s.rows table
     → left ≡ map (λ (t : TaskState). (t.partition, t.work)) table → tasks_left s snapshot left ≡ table_after plans (first_tasks s works)
 left-again s works plans snapshot left table is holds rise rows e =
     let below = below-named (length s.rows) table (subst (λ (ns : List ℕ). AreBelow (length s.rows) ns) (sym holds.partitions) (needs-in (length s.rows) 0 s.rows (omega arith))) in
     let rules = subst (λ (ts : List TaskState). HaveRules s ts) (sym is) (rules-after s works plans) in
-    ap (λ (xs : List (ℕ × Workplace)). tasks_left s snapshot xs) e
+    ap (λ (xs : List (ℕ × ArtifactsMeaning)). tasks_left s snapshot xs) e
     ∙ (all-again s snapshot.rows.items table table rows below (rows-are table 0 rise) rules (counts-of s table holds.tasks) ∙ is)

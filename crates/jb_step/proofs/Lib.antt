@@ -4,7 +4,7 @@ mod Beginning
 mod Computed
 mod Filling
 mod Finishing
-mod Going
+mod ChunksInOrder
 mod Growing
 mod Hearing
 mod Holding
@@ -15,7 +15,7 @@ mod Looping
 mod Overriding
 mod Placing
 mod Planning
-mod Reduced
+mod CallsInPart
 mod Restarting
 mod Splitting
 mod Starting

@@ -3,18 +3,18 @@ use Rattle.std.proofs.Common.{◌≡◌, ℕ, suc, zero, ◌+◌, ◌<◌, Bool,
 use Rattle.std.specs.Prelude.{nat_eq, slice_get, Contains}
 use Rattle.std.specs.List.{list_all}
 use Rattle.std.proofs.lemmas.List.{get_or_at, length-reverse, drop-drop}
-use Rattle.jb_job.specs.declared.job.Range.{Range}
+use Rattle.jb_base.specs.declared.range.Range.{Range}
 use Rattle.jb_rules.specs.declared.row.RowState.TheVariants as state
 use Rattle.jb_cert.specs.Lawful.{Pair, IsLawful, StandsIn}
 use Rattle.jb_chunk.specs.Attempt.{attempt_of}
 use Rattle.jb_chunk.specs.Standing.{TaskState, IsReady}
-use Rattle.jb_step.specs.Going.{IsTable, ChunksAreBlocks}
-use Rattle.jb_step.specs.Parts.{tasks_at}
+use Rattle.jb_step.specs.PlanLaws.{IsTable, ChunksAreBlocks}
+use Rattle.jb_step.specs.OnePartition.{tasks_at}
 use Rattle.jb_step.specs.Rounds.{has_partition, tasks_in, after_round, after_rounds, CanRunAll, AreQuiet}
 use Rattle.jb_step.specs.Setup.{Setup, counts_now}
 use Rattle.jb_step.specs.inside.Below.{ChunkLaws}
 use Rattle.jb_step.proofs.Apart.{all-some, at-rounds, left-of}
-use Rattle.jb_step.proofs.Going.{AllIn, row_waits, commits, one_if, runs_of, runs-cnt, chunk-has, cnt-is, waits-in, commits-in, member, named, next_can_run}
+use Rattle.jb_step.proofs.ChunksInOrder.{AllIn, row_waits, commits, one_if, runs_of, runs-cnt, chunk-has, cnt-is, waits-in, commits-in, member, named, next_can_run}
 use Rattle.jb_step.proofs.Steady.{IsSteady, steady, next-steady, waits, listing, next-list, drops-one, same-partition}
 
 record IsDropped (rounds : List (List Pair)) (t u : TaskState) : Type 0 where

@@ -1,7 +1,7 @@
 -- A restart whose plan discards what was saved.
 use Rattle.std.proofs.Common.{◌≡◌, Bool, true, false, Result, Ok, Err, Option, None, refl, ap, sym, ◌∙◌}
 use Rattle.std.specs.Prelude.{is_none}
-use Rattle.jb_job.specs.declared.class.ClassId.{ClassId}
+use Rattle.jb_base.specs.declared.class.ClassId.{ClassId}
 use Rattle.jb_plan.specs.declared.plan.PartitionPlan.{PartitionPlan}
 use Rattle.jb_step.specs.Restarts.{OverridesBeginAnew}
 use Rattle.jb_step.specs.Setup.{gone_on, opening_rows}

@@ -4,24 +4,24 @@ use Rattle.std.specs.Prelude.{nat_eq, slice_index_or, slice_set}
 use Rattle.std.specs.List.{cons_option}
 use Rattle.std.proofs.lemmas.Bool.Decides.{nat_tests}
 use Rattle.std.proofs.lemmas.List.{drop_more, at_drop_all}
-use Rattle.jb_artifacts.specs.Meaning.{Workplace}
+use Rattle.jb_artifacts.specs.Meaning.{ArtifactsMeaning}
 use Rattle.jb_cert.specs.Lawful.{Pair}
 use Rattle.jb_cert.specs.Plans.{slot_pair}
 use Rattle.jb_cert.specs.declared.plans.Slot.{Slot}
 use Rattle.jb_cert.specs.Rising.{RiseFrom}
-use Rattle.jb_chunk.specs.Attempt.{Ending, attempt_of}
+use Rattle.jb_chunk.specs.Attempt.{AttemptEnd, attempt_of}
 use Rattle.jb_chunk.specs.Standing.{TaskState}
 use Rattle.jb_chunk.specs.declared.outcome.Done.{Done}
 use Rattle.jb_rules.specs.Sound.{IsSoundRow}
 use Rattle.jb_rules.specs.declared.row.Row.{Row}
-use Rattle.jb_step.specs.Going.{AreTasksOf}
+use Rattle.jb_step.specs.PlanLaws.{AreTasksOf}
 use Rattle.jb_step.specs.Rounds.{has_partition, after_round}
 use Rattle.jb_step.specs.Prepare.{FitRows}
 use Rattle.jb_step.specs.Setup.{Setup, row_now}
 use Rattle.jb_step.specs.inside.Starting.{IsBegun, AreBegun, tasks_from, unfinished_from}
-use Rattle.jb_step.specs.Ways.{AreReady}
+use Rattle.jb_step.specs.Alone.{AreReady}
 use Rattle.jb_step.specs.inside.Places.{held_in, ArePlaced, picked, emptied, filled}
-use Rattle.jb_step.specs.inside.Round.{partitions_of, AreDonesOf, AreWhole, taken}
+use Rattle.jb_step.specs.inside.Round.{partitions_of, AreDonesOf, AreWhole, tasks_of_set}
 use Rattle.jb_step.proofs.Holding.{now-sound}
 use Rattle.jb_step.proofs.Splitting.{attempted, rise-lower, works-rise}
 use Rattle.jb_step.proofs.Steady.{same-partition}
@@ -179,13 +179,13 @@ module _ {T : Type 0} (standing : T → TaskState) where
   has-here : (p : ℕ) (pair : Pair) (set : List Pair) → pair.0 ≡ p → has_partition (pair ∷ set) p ≡ true
   has-here p pair set e = ap (λ (b : Bool). b || has_partition set p) (same pair.0 p e)
 
-  taken-skip : (set : List Pair) (t : T) (ts : List T) → has_partition set (standing t).partition ≡ false → taken standing set (t ∷ ts) ≡ taken standing set ts
-  taken-skip set t ts e = ap (λ (b : Bool). cond b (t ∷ taken standing set ts) (taken standing set ts)) e
+  taken-skip : (set : List Pair) (t : T) (ts : List T) → has_partition set (standing t).partition ≡ false → tasks_of_set standing set (t ∷ ts) ≡ tasks_of_set standing set ts
+  taken-skip set t ts e = ap (λ (b : Bool). cond b (t ∷ tasks_of_set standing set ts) (tasks_of_set standing set ts)) e
 
-  taken-keep : (set : List Pair) (t : T) (ts : List T) → has_partition set (standing t).partition ≡ true → taken standing set (t ∷ ts) ≡ t ∷ taken standing set ts
-  taken-keep set t ts e = ap (λ (b : Bool). cond b (t ∷ taken standing set ts) (taken standing set ts)) e
+  taken-keep : (set : List Pair) (t : T) (ts : List T) → has_partition set (standing t).partition ≡ true → tasks_of_set standing set (t ∷ ts) ≡ t ∷ tasks_of_set standing set ts
+  taken-keep set t ts e = ap (λ (b : Bool). cond b (t ∷ tasks_of_set standing set ts) (tasks_of_set standing set ts)) e
 
-  taken-none : (ts : List T) → taken standing [] ts ≡ []
+  taken-none : (ts : List T) → tasks_of_set standing [] ts ≡ []
   taken-none [] = refl
   taken-none (t ∷ ts) = taken-none ts
 
@@ -194,7 +194,7 @@ module _ {T : Type 0} (standing : T → TaskState) where
   after-none (t ∷ ts) = ap (λ (us : List TaskState). t ∷ us) (after-none ts)
 
   -- a pair of a lower partition counts for nothing
-  taken-later : (pair : Pair) (set : List Pair) (ts : List T) → Above (pair.0 + 1) (partitions_of (map standing ts)) → taken standing (pair ∷ set) ts ≡ taken standing set ts
+  taken-later : (pair : Pair) (set : List Pair) (ts : List T) → Above (pair.0 + 1) (partitions_of (map standing ts)) → tasks_of_set standing (pair ∷ set) ts ≡ tasks_of_set standing set ts
   taken-later pair set [] h = refl
   taken-later pair set (t ∷ ts) h =
       ap₂ (λ (b : Bool) (rest : List T). cond (b || has_partition set (standing t).partition) (t ∷ rest) rest)
@@ -210,8 +210,8 @@ module _ {T : Type 0} (standing : T → TaskState) where
 
   works-by : (b : Bool) (k : ℕ) (o : Option T) (os : List (Option T)) (pair : Pair) (set : List Pair) → nat_eq k pair.0 ≡ b
       → RiseFrom k (firsts (pair ∷ set)) → ArePlaced standing k (o ∷ os)
-      → ((more : List Pair) → RiseFrom (k + 1) (firsts more) → ArePlaced standing (k + 1) os → picked_from (k + 1) more os ≡ taken standing more (held_in os))
-      → picked_from k (pair ∷ set) (o ∷ os) ≡ taken standing (pair ∷ set) (held_in (o ∷ os))
+      → ((more : List Pair) → RiseFrom (k + 1) (firsts more) → ArePlaced standing (k + 1) os → picked_from (k + 1) more os ≡ tasks_of_set standing more (held_in os))
+      → picked_from k (pair ∷ set) (o ∷ os) ≡ tasks_of_set standing (pair ∷ set) (held_in (o ∷ os))
   works-by true k None os pair set e rise placed more =
       let is : k ≡ pair.0 = same-of k pair.0 e in
       let up : RiseFrom (k + 1) (firsts set) = subst (λ (j : ℕ). RiseFrom (j + 1) (firsts set)) (sym is) rise.1 in
@@ -234,7 +234,7 @@ module _ {T : Type 0} (standing : T → TaskState) where
       picked-later k (Some t) (pair ∷ set) os (rise-above (k + 1) (firsts (pair ∷ set)) up)
       ∙ (more (pair ∷ set) up placed.1 ∙ sym (taken-skip (pair ∷ set) t (held_in os) none))
 
-  works-are : (k : ℕ) (os : List (Option T)) (set : List Pair) → RiseFrom k (firsts set) → ArePlaced standing k os → picked_from k set os ≡ taken standing set (held_in os)
+  works-are : (k : ℕ) (os : List (Option T)) (set : List Pair) → RiseFrom k (firsts set) → ArePlaced standing k os → picked_from k set os ≡ tasks_of_set standing set (held_in os)
   works-are k [] set rise placed = picked-none k set
   works-are k (o ∷ os) [] rise placed = sym (taken-none (held_in (o ∷ os)))
   works-are k (o ∷ os) (pair ∷ set) rise placed =
@@ -253,12 +253,12 @@ module _ {T : Type 0} (standing : T → TaskState) where
   parts-are [] (d ∷ ds) h m = absurd h
   parts-are (t ∷ ts) [] h m = absurd h
   parts-are (t ∷ ts) (d ∷ ds) h m =
-      ap₂ ◌∷◌ (ap (λ (e : Ending). e.task.partition) (attempted standing t d h.0 m.0) ∙ same-partition (standing t)) (parts-are ts ds h.1 m.1)
+      ap₂ ◌∷◌ (ap (λ (e : AttemptEnd). e.task.partition) (attempted standing t d h.0 m.0) ∙ same-partition (standing t)) (parts-are ts ds h.1 m.1)
 
   -- the parts of a round's Dones are as high as the places
-  parts-above : (k : ℕ) (set : List Pair) (os : List (Option T)) (ds : List (Done T)) → ArePlaced standing k os → AreDonesOf standing (taken standing set (held_in os)) ds → AreWhole ds → Above k (parts ds)
+  parts-above : (k : ℕ) (set : List Pair) (os : List (Option T)) (ds : List (Done T)) → ArePlaced standing k os → AreDonesOf standing (tasks_of_set standing set (held_in os)) ds → AreWhole ds → Above k (parts ds)
   parts-above k set os ds placed h m =
-      subst (λ (ns : List ℕ). Above k ns) (sym (parts-are (taken standing set (held_in os)) ds h m))
+      subst (λ (ns : List ℕ). Above k ns) (sym (parts-are (tasks_of_set standing set (held_in os)) ds h m))
       (rise-above k _ (works-rise standing set k (held_in os) (placed-rise k os placed)))
 
   round-none : (k : ℕ) (set : List Pair) (ds : List (Done T)) → AreDonesOf standing [] ds → IsRound set k [] (filled_from k ds [])
@@ -274,13 +274,13 @@ module _ {T : Type 0} (standing : T → TaskState) where
   round-some k t set ts os before all (d ∷ ds) is has same_after h m more =
       let rest = more ds h.1 m.1 in
       let ended = attempted standing t d h.0 m.0 in
-      let here : part d ≡ k = ap (λ (e : Ending). e.task.partition) ended ∙ (same-partition (standing t) ∙ is) in
+      let here : part d ≡ k = ap (λ (e : AttemptEnd). e.task.partition) ended ∙ (same-partition (standing t) ∙ is) in
       let now : filled_from k (d ∷ ds) (None ∷ os) ≡ Some d.task ∷ filled_from (k + 1) ds os =
       ap (filled_from k ds) (put-here k (part d) (Some d.task) None os (sym here)) ∙ filled-later k (Some d.task) ds os rest.0 in
       subst (λ (xs : List (Option T)). IsRound all k (Some t ∷ before) xs) (sym now)
       (record {
         table = ap₂ ◌∷◌
-            (ap (λ (e : Ending). e.task) ended ∙ sym (ap (λ (b : Bool). cond b (attempt_of (standing t)).task (standing t)) (ap (has_partition all) is ∙ has)))
+            (ap (λ (e : AttemptEnd). e.task) ended ∙ sym (ap (λ (b : Bool). cond b (attempt_of (standing t)).task (standing t)) (ap (has_partition all) is ∙ has)))
             (rest.1.table ∙ sym same_after);
         ready = λ r. (h.0.ready, rest.1.ready r.1);
         placed = (here, rest.1.placed);
@@ -288,15 +288,15 @@ module _ {T : Type 0} (standing : T → TaskState) where
 
   round-by : (b : Bool) (k : ℕ) (o : Option T) (os : List (Option T)) (pair : Pair) (set : List Pair) (ds : List (Done T)) → nat_eq k pair.0 ≡ b
       → RiseFrom k (firsts (pair ∷ set)) → ArePlaced standing k (o ∷ os)
-      → AreDonesOf standing (taken standing (pair ∷ set) (held_in (o ∷ os))) ds → AreWhole ds
-      → ((more : List Pair) (es : List (Done T)) → RiseFrom (k + 1) (firsts more) → ArePlaced standing (k + 1) os → AreDonesOf standing (taken standing more (held_in os)) es → AreWhole es
+      → AreDonesOf standing (tasks_of_set standing (pair ∷ set) (held_in (o ∷ os))) ds → AreWhole ds
+      → ((more : List Pair) (es : List (Done T)) → RiseFrom (k + 1) (firsts more) → ArePlaced standing (k + 1) os → AreDonesOf standing (tasks_of_set standing more (held_in os)) es → AreWhole es
       → IsRound more (k + 1) os (filled_from (k + 1) es (emptied_from (k + 1) more os)))
       → IsRound (pair ∷ set) k (o ∷ os) (filled_from k ds (emptied_from k (pair ∷ set) (o ∷ os)))
   round-by true k None os pair set ds e rise placed h m more =
       let is : k ≡ pair.0 = same-of k pair.0 e in
       let up : RiseFrom (k + 1) (firsts set) = subst (λ (j : ℕ). RiseFrom (j + 1) (firsts set)) (sym is) rise.1 in
       let high : Above (pair.0 + 1) (partitions_of (map standing (held_in os))) = subst (λ (j : ℕ). Above (j + 1) (partitions_of (map standing (held_in os)))) is (rise-above (k + 1) _ (placed-rise (k + 1) os placed)) in
-      let own : AreDonesOf standing (taken standing set (held_in os)) ds = subst (λ (us : List T). AreDonesOf standing us ds) (taken-later pair set (held_in os) high) h in
+      let own : AreDonesOf standing (tasks_of_set standing set (held_in os)) ds = subst (λ (us : List T). AreDonesOf standing us ds) (taken-later pair set (held_in os) high) h in
       let rest = more set ds up placed own m in
       let now : filled_from k ds (emptied_from k (pair ∷ set) (None ∷ os)) ≡ None ∷ filled_from (k + 1) ds (emptied_from (k + 1) set os) =
       ap (λ (xs : List (Option T)). filled_from k ds (emptied_from k set xs)) (put-here k pair.0 None None os is)
@@ -308,12 +308,12 @@ module _ {T : Type 0} (standing : T → TaskState) where
       let is : k ≡ pair.0 = same-of k pair.0 e in
       let up : RiseFrom (k + 1) (firsts set) = subst (λ (j : ℕ). RiseFrom (j + 1) (firsts set)) (sym is) rise.1 in
       let high : Above (pair.0 + 1) (partitions_of (map standing (held_in os))) = subst (λ (j : ℕ). Above (j + 1) (partitions_of (map standing (held_in os)))) is (rise-above (k + 1) _ (placed-rise (k + 1) os placed.1)) in
-      let own : AreDonesOf standing (t ∷ taken standing set (held_in os)) ds = subst (λ (us : List T). AreDonesOf standing us ds) (taken-keep (pair ∷ set) t (held_in os) (has-here (standing t).partition pair set (sym is ∙ sym placed.0)) ∙ ap (λ (us : List T). t ∷ us) (taken-later pair set (held_in os) high)) h in
+      let own : AreDonesOf standing (t ∷ tasks_of_set standing set (held_in os)) ds = subst (λ (us : List T). AreDonesOf standing us ds) (taken-keep (pair ∷ set) t (held_in os) (has-here (standing t).partition pair set (sym is ∙ sym placed.0)) ∙ ap (λ (us : List T). t ∷ us) (taken-later pair set (held_in os) high)) h in
       let now : filled_from k ds (emptied_from k (pair ∷ set) (Some t ∷ os)) ≡ filled_from k ds (None ∷ emptied_from (k + 1) set os) =
       ap (λ (xs : List (Option T)). filled_from k ds (emptied_from k set xs)) (put-here k pair.0 None (Some t) os is)
       ∙ ap (filled_from k ds) (emptied-later k None set os (rise-above (k + 1) (firsts set) up)) in
       subst (λ (xs : List (Option T)). IsRound (pair ∷ set) k (Some t ∷ os) xs) (sym now)
-      (round-some k t set (taken standing set (held_in os)) (emptied_from (k + 1) set os) os (pair ∷ set) ds placed.0 (has-here k pair set (sym is)) (after-later pair set (map standing (held_in os)) high) own m
+      (round-some k t set (tasks_of_set standing set (held_in os)) (emptied_from (k + 1) set os) os (pair ∷ set) ds placed.0 (has-here k pair set (sym is)) (after-later pair set (map standing (held_in os)) high) own m
       (λ es h2 m2. (parts-above (k + 1) set os es placed.1 h2 m2, more set es up placed.1 h2 m2)))
   round-by false k None os pair set ds e rise placed h m more =
       let up : RiseFrom (k + 1) (firsts (pair ∷ set)) = (below-of k pair.0 e rise.0, rise.1) in
@@ -326,7 +326,7 @@ module _ {T : Type 0} (standing : T → TaskState) where
   round-by false k (Some t) os pair set ds e rise placed h m more =
       let up : RiseFrom (k + 1) (firsts (pair ∷ set)) = (below-of k pair.0 e rise.0, rise.1) in
       let none : has_partition (pair ∷ set) (standing t).partition ≡ false = ap (has_partition (pair ∷ set)) placed.0 ∙ has-none k (pair ∷ set) (rise-above (k + 1) (firsts (pair ∷ set)) up) in
-      let own : AreDonesOf standing (taken standing (pair ∷ set) (held_in os)) ds = subst (λ (us : List T). AreDonesOf standing us ds) (taken-skip (pair ∷ set) t (held_in os) none) h in
+      let own : AreDonesOf standing (tasks_of_set standing (pair ∷ set) (held_in os)) ds = subst (λ (us : List T). AreDonesOf standing us ds) (taken-skip (pair ∷ set) t (held_in os) none) h in
       let rest = more (pair ∷ set) ds up placed.1 own m in
       let now : filled_from k ds (emptied_from k (pair ∷ set) (Some t ∷ os)) ≡ Some t ∷ filled_from (k + 1) ds (emptied_from (k + 1) (pair ∷ set) os) =
       ap (filled_from k ds) (emptied-later k (Some t) (pair ∷ set) os (rise-above (k + 1) (firsts (pair ∷ set)) up))
@@ -339,7 +339,7 @@ module _ {T : Type 0} (standing : T → TaskState) where
       })
 
   round-is : (k : ℕ) (os : List (Option T)) (set : List Pair) (ds : List (Done T)) → RiseFrom k (firsts set) → ArePlaced standing k os
-      → AreDonesOf standing (taken standing set (held_in os)) ds → AreWhole ds → IsRound set k os (filled_from k ds (emptied_from k set os))
+      → AreDonesOf standing (tasks_of_set standing set (held_in os)) ds → AreWhole ds → IsRound set k os (filled_from k ds (emptied_from k set os))
   round-is k [] set ds rise placed h m = subst (λ (xs : List (Option T)). IsRound set k [] (filled_from k ds xs)) (sym (emptied-none k set)) (round-none k set ds h)
   round-is k (o ∷ os) [] ds rise placed h m = quiet ds (subst (λ (us : List T). AreDonesOf standing us ds) (taken-none (held_in (o ∷ os))) h)
     where
@@ -350,7 +350,7 @@ module _ {T : Type 0} (standing : T → TaskState) where
       round-by (nat_eq k pair.0) k o os pair set ds refl rise placed h m (λ more es up p own w. round-is (k + 1) os more es up p own w)
 
   the-round : (os : List (Option T)) (set : List Pair) (ds : List (Done T)) → RiseFrom 0 (firsts set) → ArePlaced standing 0 os
-      → AreDonesOf standing (taken standing set (held_in os)) ds → AreWhole ds → IsRound set 0 os (filled standing ds (emptied set os))
+      → AreDonesOf standing (tasks_of_set standing set (held_in os)) ds → AreWhole ds → IsRound set 0 os (filled standing ds (emptied set os))
   the-round os set ds rise placed h m =
       subst (λ (xs : List (Option T)). IsRound set 0 os xs) (sym (ap (filled standing ds) (emptied-is set os) ∙ filled-is ds (emptied_from 0 set os))) (round-is 0 os set ds rise placed h m)
 
@@ -365,20 +365,20 @@ pub in-turn : (slots : List Slot) → RiseFrom 0 (map (λ (slot : Slot). slot.pa
 in-turn slots rise = subst (λ (ns : List ℕ). RiseFrom 0 ns) (sym (firsts-are slots)) rise
 
 -- the works are the set's tasks
-pub picked-taken : {T : Type 0} (standing : T → TaskState) (set : List Pair) (os : List (Option T)) → RiseFrom 0 (map (λ (pair : Pair). pair.0) set) → ArePlaced standing 0 os → picked set os ≡ taken standing set (held_in os)
+pub picked-taken : {T : Type 0} (standing : T → TaskState) (set : List Pair) (os : List (Option T)) → RiseFrom 0 (map (λ (pair : Pair). pair.0) set) → ArePlaced standing 0 os → picked set os ≡ tasks_of_set standing set (held_in os)
 picked-taken standing set os rise placed = picked-is standing set os ∙ works-are standing 0 os set rise placed
 
 -- the tasks after the round stand in the table after it
 pub filled-table : {T : Type 0} (standing : T → TaskState) (set : List Pair) (os : List (Option T)) (ds : List (Done T)) → RiseFrom 0 (map (λ (pair : Pair). pair.0) set) → ArePlaced standing 0 os
-    → AreDonesOf standing (taken standing set (held_in os)) ds → AreWhole ds → map standing (held_in (filled standing ds (emptied set os))) ≡ after_round set (map standing (held_in os))
+    → AreDonesOf standing (tasks_of_set standing set (held_in os)) ds → AreWhole ds → map standing (held_in (filled standing ds (emptied set os))) ≡ after_round set (map standing (held_in os))
 filled-table standing set os ds rise placed h m = (the-round standing os set ds rise placed h m).table
 
 pub filled-ready : {T : Type 0} (standing : T → TaskState) (set : List Pair) (os : List (Option T)) (ds : List (Done T)) → RiseFrom 0 (map (λ (pair : Pair). pair.0) set) → ArePlaced standing 0 os
-    → AreDonesOf standing (taken standing set (held_in os)) ds → AreWhole ds → AreReady (map standing (held_in os)) → AreReady (map standing (held_in (filled standing ds (emptied set os))))
+    → AreDonesOf standing (tasks_of_set standing set (held_in os)) ds → AreWhole ds → AreReady (map standing (held_in os)) → AreReady (map standing (held_in (filled standing ds (emptied set os))))
 filled-ready standing set os ds rise placed h m r = (the-round standing os set ds rise placed h m).ready r
 
 pub filled-placed : {T : Type 0} (standing : T → TaskState) (set : List Pair) (os : List (Option T)) (ds : List (Done T)) → RiseFrom 0 (map (λ (pair : Pair). pair.0) set) → ArePlaced standing 0 os
-    → AreDonesOf standing (taken standing set (held_in os)) ds → AreWhole ds → ArePlaced standing 0 (filled standing ds (emptied set os))
+    → AreDonesOf standing (tasks_of_set standing set (held_in os)) ds → AreWhole ds → ArePlaced standing 0 (filled standing ds (emptied set os))
 filled-placed standing set os ds rise placed h m = (the-round standing os set ds rise placed h m).placed
 
 -- ONE MORE PLACE
@@ -429,7 +429,7 @@ row-at standing p os row h = ap (λ (q : ℕ). row_now (map standing (held_in os
 -- ROW BY ROW
 
 -- the artifacts for the rows from the i-th on are for that row and those behind it
-pub fit-at : (rows : List Row) (i : ℕ) (d : Row) (len : ℕ) (works : List Workplace) → i < length rows → len ≡ i → FitRows (unfinished_from i (drop i rows)) works → (rest : List Row) × FitRows (unfinished_from len (get_or rows i d ∷ rest)) works
+pub fit-at : (rows : List Row) (i : ℕ) (d : Row) (len : ℕ) (works : List ArtifactsMeaning) → i < length rows → len ≡ i → FitRows (unfinished_from i (drop i rows)) works → (rest : List Row) × FitRows (unfinished_from len (get_or rows i d ∷ rest)) works
 fit-at rows i d len works lt e h = (
   drop (i + 1) rows,
   subst (λ (k : ℕ). FitRows (unfinished_from k (get_or rows i d ∷ drop (i + 1) rows)) works) (sym e)
@@ -446,5 +446,5 @@ pub now-sound-at : (s : Setup) (ts : List TaskState) (rows : List Row) (i : ℕ)
 now-sound-at s ts rows i d row lt begun tasks is = subst IsSoundRow (sym is) (now-sound s ts i (get_or rows i d) tasks (begun-at rows i d lt begun).sound)
 
 -- past the last row there are no more tasks
-pub all-started : (s : Setup) (ts all : List TaskState) (rows : List Row) (i : ℕ) (works : List Workplace) → length rows ≤ i → ts ++ tasks_from s i (drop i rows) works ≡ all → ts ≡ all
+pub all-started : (s : Setup) (ts all : List TaskState) (rows : List Row) (i : ℕ) (works : List ArtifactsMeaning) → length rows ≤ i → ts ++ tasks_from s i (drop i rows) works ≡ all → ts ≡ all
 all-started s ts all rows i works le e = sym (append-nil ts) ∙ (sym (at_drop_all (λ (rs : List Row). ts ++ tasks_from s i rs works) rows i le) ∙ e)

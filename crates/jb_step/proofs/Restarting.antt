@@ -3,7 +3,9 @@ use Rattle.std.proofs.Common.{◌≡◌, ◌≢◌, ℕ, suc, zero, ◌+◌, ◌
 use Rattle.std.specs.Prelude.{slice_get, filter, slice_index_or, nat_eq}
 use Rattle.std.specs.List.{enumerate_from, zip, AllByRecursion}
 use Rattle.std.proofs.lemmas.Bool.Decides.{nat_tests}
-use Rattle.jb_job.specs.Records.{RulesRecord, StepRecord}
+use Rattle.jb_base.proofs.Pairwise.{pairwise-join}
+use Rattle.jb_base.specs.Rules.{RulesRecord}
+use Rattle.jb_job.specs.Records.{StepRecord}
 use Rattle.jb_rules.specs.declared.row.Row.{Row}
 use Rattle.jb_rules.specs.declared.row.RowState.{RowState}
 use Rattle.jb_rules.specs.declared.row.RowState.TheVariants as state
@@ -11,9 +13,10 @@ use Rattle.jb_rules.specs.declared.row.RowState.TheVariants.{Failed}
 use Rattle.jb_rules.specs.Rows.{dropped_row}
 use Rattle.jb_rules.specs.Sound.{IsSoundRow}
 use Rattle.jb_rules.specs.States.{is_finished, is_failed}
-use Rattle.jb_artifacts.specs.Meaning.{Workplace, Fits}
+use Rattle.jb_artifacts.specs.Meaning.{ArtifactsMeaning, Fits}
 use Rattle.jb_cert.specs.Lawful.{Pair}
 use Rattle.jb_cert.specs.Rising.{RiseFrom}
+use Rattle.jb_chunk.specs.Alone.{IsOnTheWay}
 use Rattle.jb_chunk.specs.Laws.{SamePlace, WaysJoin, WaysEnd, OneEnd, TasksStayReady}
 use Rattle.jb_chunk.specs.Standing.{TaskState, started}
 use Rattle.jb_saved.specs.GoingOn.{again, AreUnfailed}
@@ -21,21 +24,20 @@ use Rattle.jb_saved.specs.Laws.{TreeIsRead}
 use Rattle.jb_saved.specs.Reading.{answer_of}
 use Rattle.jb_saved.specs.SavedRows.{SavedRows}
 use Rattle.jb_saved.specs.declared.place.SavedPlace.{SavedPlace}
-use Rattle.jb_step.specs.Ending.{tasks_left}
-use Rattle.jb_step.specs.Going.{AreTasksOf}
+use Rattle.jb_step.specs.Answers.{StepRun, tasks_after, tasks_before, tasks_left}
 use Rattle.jb_step.specs.Prepare.{FitRows}
 use Rattle.jb_step.specs.Restarts.{IsPreparedFor, IsRestart, AreRestarts, RestartsFit, RestartsAreOnTheWay, RestartsEndAlone, RestartsEndAsUnstopped}
 use Rattle.jb_step.specs.Rounds.{after_rounds}
 use Rattle.jb_step.specs.Runs.{rounds_of}
 use Rattle.jb_step.specs.Setup.{Setup, IsSetup, first_tasks, gone_on, needs, opening_rows, row_now, rows_now, unfinished}
-use Rattle.jb_step.specs.StepRuns.{StepRun, IsAnswered, tasks_before, tasks_after, works_again, newest, all_newer, artifacts_left, tasks_at_last, StandOnTheWay, StandAtTheEnd}
-use Rattle.jb_step.specs.Ways.{AreAlone, AreOnTheWay, AreReady, have_ended}
+use Rattle.jb_step.specs.StepRuns.{IsAnswered, works_restarted, newest, all_newer, artifacts_left, tasks_at_last, StandOnTheWay, StandAtTheEnd}
+use Rattle.jb_step.specs.Alone.{AreAlone, AreOnTheWay, AreReady, have_ended}
 use Rattle.jb_step.specs.inside.Round.{partitions_of}
 use Rattle.jb_step.proofs.Filling.{is_unfinished, open_tasks, works_in, filled, filled-all, fill, row-none}
 use Rattle.jb_step.proofs.Holding.{begins_with_table, is_open, partitions_stay}
 use Rattle.jb_step.proofs.Leading.{steps_are_on_the_way, alone-all, alone_is_one_place}
 use Rattle.jb_step.proofs.Leftover.{HaveRules, HaveCounts, AreBelow, no_row, all-again, below-named, needs-in, rows-are}
-use Rattle.jb_step.proofs.Turning.{rise-needs}
+use Rattle.jb_step.proofs.Turning.{ready-of, rise-needs}
 
 -- WHAT ONE RUN GIVES
 
@@ -45,10 +47,6 @@ pub record GivesTable (r : StepRun) : Type 0 where
   pub after : partitions_of (tasks_after r) ≡ needs r.setup.rows
   pub way : AreOnTheWay (tasks_before r) (tasks_after r)
   pub rows : r.snapshot.rows.items ≡ rows_now r.setup.rows (tasks_after r)
-
-ready-of : (s : Setup) (ts : List TaskState) → AreTasksOf s ts → AreReady ts
-ready-of s [] h = tt
-ready-of s (t ∷ ts) h = (h.0.0, ready-of s ts h.1)
 
 rounds-stay : (rounds : List (List Pair)) (ts : List TaskState) → partitions_of (after_rounds rounds ts) ≡ partitions_of ts
 rounds-stay [] ts = refl
@@ -134,18 +132,18 @@ unfinished-now k [] (t ∷ ts) e = let never : ⊥ = cc in absurd never
 unfinished-now k (row ∷ rows) ts e = now-by (not (is_finished row.state)) k row rows ts refl e (λ us q. unfinished-now (k + 1) rows us q)
 
 -- the artifacts that are handed in again are those tasks'
-abbrev task_of : Setup → List Row → ℕ × Workplace → TaskState
+abbrev task_of : Setup → List Row → ℕ × ArtifactsMeaning → TaskState
 task_of s rows a = record { partition = a.0; row = slice_index_or rows a.0 no_row; rules = s.rules; item_count = s.item_count; work = a.1 }
 
-abbrev is_again : List Row → ℕ × Workplace → Bool
+abbrev is_again : List Row → ℕ × ArtifactsMeaning → Bool
 is_again rows a = not (is_finished (slice_index_or rows a.0 no_row).state)
 
-again-one : (b : Bool) (s : Setup) (rows : List Row) (a : ℕ × Workplace) (xs : List (ℕ × Workplace)) (ts : List TaskState) → map (λ (x : ℕ × Workplace). x.1) xs ≡ map (λ (t : TaskState). t.work) ts
-    → map (λ (x : ℕ × Workplace). x.1) (cond b (a ∷ xs) xs) ≡ map (λ (t : TaskState). t.work) (cond b (task_of s rows a ∷ ts) ts)
-again-one true s rows a xs ts e = ap (λ (ws : List Workplace). a.1 ∷ ws) e
+again-one : (b : Bool) (s : Setup) (rows : List Row) (a : ℕ × ArtifactsMeaning) (xs : List (ℕ × ArtifactsMeaning)) (ts : List TaskState) → map (λ (x : ℕ × ArtifactsMeaning). x.1) xs ≡ map (λ (t : TaskState). t.work) ts
+    → map (λ (x : ℕ × ArtifactsMeaning). x.1) (cond b (a ∷ xs) xs) ≡ map (λ (t : TaskState). t.work) (cond b (task_of s rows a ∷ ts) ts)
+again-one true s rows a xs ts e = ap (λ (ws : List ArtifactsMeaning). a.1 ∷ ws) e
 again-one false s rows a xs ts e = e
 
-again-works : (s : Setup) (rows : List Row) (left : List (ℕ × Workplace)) → map (λ (x : ℕ × Workplace). x.1) (filter (is_again rows) left) ≡ map (λ (t : TaskState). t.work) (open_tasks (map (task_of s rows) left))
+again-works : (s : Setup) (rows : List Row) (left : List (ℕ × ArtifactsMeaning)) → map (λ (x : ℕ × ArtifactsMeaning). x.1) (filter (is_again rows) left) ≡ map (λ (t : TaskState). t.work) (open_tasks (map (task_of s rows) left))
 again-works s rows [] = refl
 again-works s rows (a ∷ left) =
     again-one (is_again rows a) s rows a (filter (is_again rows) left) (open_tasks (map (task_of s rows) left)) (again-works s rows left)
@@ -154,7 +152,7 @@ again-works s rows (a ∷ left) =
 abbrev begun_again : Setup → TaskState → TaskState
 begun_again s t = started t.partition t.row s.rules s.item_count t.work
 
-abbrev begin : Setup → (ℕ × Row) × Workplace → TaskState
+abbrev begin : Setup → (ℕ × Row) × ArtifactsMeaning → TaskState
 begin s n = started n.0.0 n.0.1 s.rules s.item_count n.1
 
 zipped : (s : Setup) (ts : List TaskState) → map (begin s) (zip (map numbered ts) (map (λ (t : TaskState). t.work) ts)) ≡ map (begun_again s) ts
@@ -164,20 +162,20 @@ zipped s (t ∷ ts) = ap (λ (us : List TaskState). begun_again s t ∷ us) (zip
 -- a run that takes up what the run before it left
 pub record TakesUp (r n : StepRun) : Type 0 where
   pub rows : n.setup.rows ≡ r.snapshot.rows.items
-  pub tasks : tasks_before n ≡ first_tasks n.setup (works_again r.snapshot.rows.items r.left)
+  pub tasks : tasks_before n ≡ first_tasks n.setup (works_restarted r.snapshot.rows.items r.left)
 
 begins-again : (r n : StepRun) → GivesTable r → TakesUp r n → tasks_before n ≡ map (begun_again n.setup) (open_tasks (tasks_after r))
 begins-again r n g u =
     let open_rows : unfinished n.setup.rows ≡ map numbered (open_tasks (tasks_after r)) =
     ap unfinished (u.rows ∙ g.rows) ∙ unfinished-now 0 r.setup.rows (tasks_after r) g.after in
-    let works : works_again r.snapshot.rows.items r.left ≡ map (λ (t : TaskState). t.work) (open_tasks (tasks_after r)) = again-works r.setup r.snapshot.rows.items r.left in
+    let works : works_restarted r.snapshot.rows.items r.left ≡ map (λ (t : TaskState). t.work) (open_tasks (tasks_after r)) = again-works r.setup r.snapshot.rows.items r.left in
     u.tasks
-    ∙ (ap₂ (λ (ns : List (ℕ × Row)) (ws : List Workplace). map (begin n.setup) (zip ns ws)) open_rows works
+    ∙ (ap₂ (λ (ns : List (ℕ × Row)) (ws : List ArtifactsMeaning). map (begin n.setup) (zip ns ws)) open_rows works
     ∙ zipped n.setup (open_tasks (tasks_after r)))
 
 -- WHERE SOME RUNS LEFT THE PARTITIONS
 
-pub record IsLeftBy (first r : StepRun) (left : List (ℕ × Workplace)) (table : List TaskState) : Type 0 where
+pub record IsLeftBy (first r : StepRun) (left : List (ℕ × ArtifactsMeaning)) (table : List TaskState) : Type 0 where
   pub way : AreOnTheWay (tasks_before first) table
   pub names : partitions_of table ≡ needs first.setup.rows
   pub rows : r.snapshot.rows.items ≡ rows_now first.setup.rows table
@@ -187,15 +185,15 @@ pub record IsLeftBy (first r : StepRun) (left : List (ℕ × Workplace)) (table 
   pub counts : HaveCounts first.setup table
   pub ended : have_ended (tasks_after r) ≡ true → have_ended table ≡ true
 
-works-back : (s : Setup) (rows : List Row) (left : List (ℕ × Workplace)) → works_in (map (task_of s rows) left) ≡ left
+works-back : (s : Setup) (rows : List Row) (left : List (ℕ × ArtifactsMeaning)) → works_in (map (task_of s rows) left) ≡ left
 works-back s rows [] = refl
-works-back s rows (a ∷ left) = ap (λ (xs : List (ℕ × Workplace)). a ∷ xs) (works-back s rows left)
+works-back s rows (a ∷ left) = ap (λ (xs : List (ℕ × ArtifactsMeaning)). a ∷ xs) (works-back s rows left)
 
-rules-back : (s : Setup) (rules : RulesRecord) (rows : List Row) (left : List (ℕ × Workplace)) → s.rules ≡ rules → AllByRecursion (λ (t : TaskState). t.rules ≡ rules) (map (task_of s rows) left)
+rules-back : (s : Setup) (rules : RulesRecord) (rows : List Row) (left : List (ℕ × ArtifactsMeaning)) → s.rules ≡ rules → AllByRecursion (λ (t : TaskState). t.rules ≡ rules) (map (task_of s rows) left)
 rules-back s rules rows [] e = tt
 rules-back s rules rows (a ∷ left) e = (e, rules-back s rules rows left e)
 
-counts-back : (s : Setup) (count : ℕ) (rows : List Row) (left : List (ℕ × Workplace)) → s.item_count ≡ count → AllByRecursion (λ (t : TaskState). t.item_count ≡ count) (map (task_of s rows) left)
+counts-back : (s : Setup) (count : ℕ) (rows : List Row) (left : List (ℕ × ArtifactsMeaning)) → s.item_count ≡ count → AllByRecursion (λ (t : TaskState). t.item_count ≡ count) (map (task_of s rows) left)
 counts-back s count rows [] e = tt
 counts-back s count rows (a ∷ left) e = (e, counts-back s count rows left e)
 
@@ -229,12 +227,7 @@ same-places law s (t ∷ ts) (u ∷ us) ready way rules counts =
     same-one (is_unfinished u) s u (open_tasks us) here (same-places law s ts us ready.1 way.1 rules.1 counts.1)
 
 join-ways : WaysJoin → (ts us vs : List TaskState) → AreOnTheWay ts us → AreOnTheWay us vs → AreOnTheWay ts vs
-join-ways law [] [] [] a b = tt
-join-ways law [] [] (v ∷ vs) a b = absurd b
-join-ways law [] (u ∷ us) vs a b = absurd a
-join-ways law (t ∷ ts) [] vs a b = absurd a
-join-ways law (t ∷ ts) (u ∷ us) [] a b = absurd b
-join-ways law (t ∷ ts) (u ∷ us) (v ∷ vs) a b = (law t u v a.0 b.0, join-ways law ts us vs a.1 b.1)
+join-ways law ts us vs a b = pairwise-join IsOnTheWay IsOnTheWay IsOnTheWay law ts us vs a b
 
 -- rows of two runs, one after another
 rows-twice : (ts us all : List TaskState) → ((p : ℕ) (row : Row) → row_now us p (row_now ts p row) ≡ row_now all p row) → (k : ℕ) (rows : List Row)
@@ -245,7 +238,7 @@ rows-twice ts us all now k (row ∷ rows) = ap₂ (λ (r : Row) (rs : List Row).
 abbrev HaveSame : StepRun → StepRun → Type 0
 HaveSame first n = (n.setup.rules ≡ first.setup.rules) × (n.setup.item_count ≡ first.setup.item_count)
 
-pub left-by-more : SamePlace → WaysJoin → (first r n : StepRun) (left : List (ℕ × Workplace)) (table : List TaskState)
+pub left-by-more : SamePlace → WaysJoin → (first r n : StepRun) (left : List (ℕ × ArtifactsMeaning)) (table : List TaskState)
     → AreReady (tasks_before first) → GivesTable r → GivesTable n → TakesUp r n → HaveSame first n → IsLeftBy first r left table
     → IsLeftBy first n (all_newer n.left left) (filled table (tasks_after n))
 left-by-more place join first r n left table ready g h u same l =
@@ -268,12 +261,12 @@ left-by-more place join first r n left table ready g h u same l =
     }
 
 -- what is put together of the rows and the artifacts is the table
-pub at-last : (first r : StepRun) (left : List (ℕ × Workplace)) (table : List TaskState) → IsLeftBy first r left table → tasks_left first.setup r.snapshot left ≡ table
+pub at-last : (first r : StepRun) (left : List (ℕ × ArtifactsMeaning)) (table : List TaskState) → IsLeftBy first r left table → tasks_left first.setup r.snapshot left ≡ table
 at-last first r left table l =
     let s = first.setup in
     let below = below-named (length s.rows) table (subst (λ (ns : List ℕ). AreBelow (length s.rows) ns) (sym l.names) (needs-in (length s.rows) 0 s.rows (omega arith))) in
     let rise = subst (λ (ns : List ℕ). RiseFrom 0 ns) (sym l.names) (rise-needs 0 s.rows) in
-    ap (λ (xs : List (ℕ × Workplace)). tasks_left s r.snapshot xs) l.left_is
+    ap (λ (xs : List (ℕ × ArtifactsMeaning)). tasks_left s r.snapshot xs) l.left_is
     ∙ all-again s r.snapshot.rows.items table table l.rows below (rows-are table 0 rise) l.rules l.counts
 
 -- CHAINS OF RUNS
@@ -424,8 +417,8 @@ restarts-fit law place join stay step first later saved s c unfailed kept saved_
     let sound = sound-back (open_tasks (tasks_after r))
     (subst (λ (ns : List (ℕ × Row)). AllByRecursion IsSoundAt ns) (ap unfinished (saved_is ∙ sym same) ∙ open_rows)
     (sound-open 0 saved.rows (λ i row e. (kept.idle i row e).0))) in
-    subst (λ (ns : List (ℕ × Row)). FitRows ns (works_again r.snapshot.rows.items r.left)) (sym open_rows)
-    (subst (λ (ws : List Workplace). FitRows (map numbered (open_tasks (tasks_after r))) ws) (sym works) (fit-rows (open_tasks (tasks_after r)) fit sound))
+    subst (λ (ns : List (ℕ × Row)). FitRows ns (works_restarted r.snapshot.rows.items r.left)) (sym open_rows)
+    (subst (λ (ws : List ArtifactsMeaning). FitRows (map numbered (open_tasks (tasks_after r))) ws) (sym works) (fit-rows (open_tasks (tasks_after r)) fit sound))
 
 -- THE LAWS
 
@@ -439,7 +432,7 @@ restarts-end-alone law place join end step first later c unstopped =
     (are-taken-up law step c.saved first later c.prepared c.restarts)
     (newest-ends step first later c.answered c.restarts unstopped)
 
-works-left : (s : Setup) (rows : List Row) (left : List (ℕ × Workplace)) (ts : List TaskState) → map (task_of s rows) left ≡ ts → left ≡ works_in ts
+works-left : (s : Setup) (rows : List Row) (left : List (ℕ × ArtifactsMeaning)) (ts : List TaskState) → map (task_of s rows) left ≡ ts → left ≡ works_in ts
 works-left s rows left ts e = sym (works-back s rows left) ∙ ap works_in e
 
 pub restarts-end-as-unstopped : TreeIsRead → SamePlace → WaysJoin → WaysEnd → OneEnd → RestartsEndAsUnstopped

@@ -5,7 +5,7 @@ use Rattle.std.proofs.lemmas.List.{length-map}
 use Rattle.std.specs.List.{list_all}
 use Rattle.jb_cert.specs.Lawful.{Pair}
 use Rattle.jb_cert.specs.Rising.{RiseFrom}
-use Rattle.jb_chunk.specs.Attempt.{Ending, attempt_of, ending_of, IsAttemptBy}
+use Rattle.jb_chunk.specs.Attempt.{AttemptEnd, attempt_of, ending_of, IsAttemptBy}
 use Rattle.jb_chunk.specs.Standing.{TaskState, IsReady}
 use Rattle.jb_chunk.specs.declared.outcome.Done.{Done}
 use Rattle.jb_chunk.specs.declared.outcome.Outcome.{Outcome}
@@ -17,12 +17,12 @@ use Rattle.jb_workers.specs.declared.worker.lane_work.Work.{Work}
 use Rattle.jb_step.specs.Rounds.{has_partition, tasks_in, attempts_in, breaks}
 use Rattle.jb_collect.specs.Heard.{endings_of, heard_in}
 use Rattle.jb_step.specs.inside.Adding.{heard_in_round}
-use Rattle.jb_step.specs.inside.Round.{tasks_of, partitions_of, AreDonesOf, AreWhole, had_memory, taken, breaks_in}
-use Rattle.jb_step.specs.Ways.{AreReady}
+use Rattle.jb_step.specs.inside.Round.{tasks_of, partitions_of, AreDonesOf, AreWhole, had_memory, tasks_of_set, breaks_in}
+use Rattle.jb_step.specs.Alone.{AreReady}
 use Rattle.jb_step.proofs.Apart.{left-of, right-of}
 use Rattle.jb_step.proofs.Steady.{waits}
 
-attempt_by : (o : Outcome) (t : TaskState) (e : Ending) → IsAttemptBy o t e → had_memory o ≡ true → e ≡ attempt_of t
+attempt_by : (o : Outcome) (t : TaskState) (e : AttemptEnd) → IsAttemptBy o t e → had_memory o ≡ true → e ≡ attempt_of t
 attempt_by (Committed delta) t e h m = h
 attempt_by (Rolled class) t e h m = h
 attempt_by (Failed class) t e h m = h
@@ -42,20 +42,20 @@ module _ {T : Type 0} (standing : T → TaskState) where
   taken-one false t us ss e = e
   taken-one true t us ss e = ap (λ xs. standing t ∷ xs) e
 
-  taken-is : (set : List Pair) (ts : List T) → map standing (taken standing set ts) ≡ tasks_in set (map standing ts)
+  taken-is : (set : List Pair) (ts : List T) → map standing (tasks_of_set standing set ts) ≡ tasks_in set (map standing ts)
   taken-is set [] = refl
-  taken-is set (t ∷ ts) = taken-one (has_partition set (standing t).partition) t (taken standing set ts) (tasks_in set (map standing ts)) (taken-is set ts)
+  taken-is set (t ∷ ts) = taken-one (has_partition set (standing t).partition) t (tasks_of_set standing set ts) (tasks_in set (map standing ts)) (taken-is set ts)
 
-  round-endings : (set : List Pair) (ts : List T) (ds : List (Done T)) → AreDonesOf standing (taken standing set ts) ds → AreWhole ds → endings_of standing ds ≡ attempts_in set (map standing ts)
-  round-endings set ts ds h m = endings-are (taken standing set ts) ds h m ∙ ap (map attempt_of) (taken-is set ts)
+  round-endings : (set : List Pair) (ts : List T) (ds : List (Done T)) → AreDonesOf standing (tasks_of_set standing set ts) ds → AreWhole ds → endings_of standing ds ≡ attempts_in set (map standing ts)
+  round-endings set ts ds h m = endings-are (tasks_of_set standing set ts) ds h m ∙ ap (map attempt_of) (taken-is set ts)
 
-pub breaks-are : {T : Type 0} (standing : T → TaskState) (set : List Pair) (ts : List T) (ds : List (Done T)) → AreDonesOf standing (taken standing set ts) ds → AreWhole ds → breaks_in (endings_of standing ds) ≡ breaks set (map standing ts)
+pub breaks-are : {T : Type 0} (standing : T → TaskState) (set : List Pair) (ts : List T) (ds : List (Done T)) → AreDonesOf standing (tasks_of_set standing set ts) ds → AreWhole ds → breaks_in (endings_of standing ds) ≡ breaks set (map standing ts)
 breaks-are standing set ts ds h m = ap breaks_in (round-endings standing set ts ds h m)
 
-pub heard-is : {T : Type 0} (standing : T → TaskState) (set : List Pair) (ts : List T) (ds : List (Done T)) → AreDonesOf standing (taken standing set ts) ds → AreWhole ds → heard_in (endings_of standing ds) ≡ heard_in_round set (map standing ts)
+pub heard-is : {T : Type 0} (standing : T → TaskState) (set : List Pair) (ts : List T) (ds : List (Done T)) → AreDonesOf standing (tasks_of_set standing set ts) ds → AreWhole ds → heard_in (endings_of standing ds) ≡ heard_in_round set (map standing ts)
 heard-is standing set ts ds h m = ap heard_in (round-endings standing set ts ds h m)
 
-pub attempts-are : {T : Type 0} (standing : T → TaskState) (set : List Pair) (ts : List T) (ds : List (Done T)) → AreDonesOf standing (taken standing set ts) ds → AreWhole ds → length ds ≡ length (attempts_in set (map standing ts))
+pub attempts-are : {T : Type 0} (standing : T → TaskState) (set : List Pair) (ts : List T) (ds : List (Done T)) → AreDonesOf standing (tasks_of_set standing set ts) ds → AreWhole ds → length ds ≡ length (attempts_in set (map standing ts))
 attempts-are standing set ts ds h m = sym (length-map ds (λ (d : Done _). ending_of (standing d.task) d.outcome d.values.items d.again)) ∙ ap length (round-endings standing set ts ds h m)
 
 -- THE WORKS
@@ -80,13 +80,13 @@ ready-in : (set : List Pair) (ts : List TaskState) → AreReady ts → AreReady 
 ready-in set [] h = tt
 ready-in set (t ∷ ts) h = are-ready-one (has_partition set t.partition) t (tasks_in set ts) h.0 (ready-in set ts h.1)
 
-pub works-rise : {T : Type 0} (standing : T → TaskState) (set : List Pair) (k : ℕ) (ts : List T) → RiseFrom k (partitions_of (map standing ts)) → RiseFrom k (partitions_of (map standing (taken standing set ts)))
+pub works-rise : {T : Type 0} (standing : T → TaskState) (set : List Pair) (k : ℕ) (ts : List T) → RiseFrom k (partitions_of (map standing ts)) → RiseFrom k (partitions_of (map standing (tasks_of_set standing set ts)))
 works-rise standing set k ts h = subst (λ (us : List TaskState). RiseFrom k (partitions_of us)) (sym (taken-is standing set ts)) (rise-in set k (map standing ts) h)
 
-pub works-ready : {T : Type 0} (standing : T → TaskState) (set : List Pair) (ts : List T) → AreReady (map standing ts) → AreReady (map standing (taken standing set ts))
+pub works-ready : {T : Type 0} (standing : T → TaskState) (set : List Pair) (ts : List T) → AreReady (map standing ts) → AreReady (map standing (tasks_of_set standing set ts))
 works-ready standing set ts h = subst AreReady (sym (taken-is standing set ts)) (ready-in set (map standing ts) h)
 
-pub works-wait : {T : Type 0} (standing : T → TaskState) (set : List Pair) (ts : List T) → list_all (λ (t : TaskState). is_waiting t.row.state) (tasks_in set (map standing ts)) ≡ true → list_all (λ (t : TaskState). is_waiting t.row.state) (map standing (taken standing set ts)) ≡ true
+pub works-wait : {T : Type 0} (standing : T → TaskState) (set : List Pair) (ts : List T) → list_all (λ (t : TaskState). is_waiting t.row.state) (tasks_in set (map standing ts)) ≡ true → list_all (λ (t : TaskState). is_waiting t.row.state) (map standing (tasks_of_set standing set ts)) ≡ true
 works-wait standing set ts h = subst (λ (us : List TaskState). list_all (λ (t : TaskState). is_waiting t.row.state) us ≡ true) (sym (taken-is standing set ts)) h
 
 -- WHAT THE DESK IS GIVEN
@@ -123,18 +123,18 @@ module _ {T : Type 0} (standing : T → TaskState) where
   done-by (w ∷ ws) (d ∷ ds) h = (h.0.attempted, done-by ws ds h.1)
 
 -- the works that were taken can be begun
-pub taken-can : {T : Type 0} (standing : T → TaskState) (set : List Pair) (ts : List T) (ws : List (Work T)) → tasks_of ws ≡ taken standing set ts → AreReady (map standing ts) → list_all (λ (t : TaskState). is_waiting t.row.state) (tasks_in set (map standing ts)) ≡ true → AllCanBegin standing ws
+pub taken-can : {T : Type 0} (standing : T → TaskState) (set : List Pair) (ts : List T) (ws : List (Work T)) → tasks_of ws ≡ tasks_of_set standing set ts → AreReady (map standing ts) → list_all (λ (t : TaskState). is_waiting t.row.state) (tasks_in set (map standing ts)) ≡ true → AllCanBegin standing ws
 taken-can standing set ts ws e ready waiting =
     let r = subst (λ (us : List _). AreReady (map standing us)) (sym e) (works-ready standing set ts ready) in
     let w = subst (λ (us : List _). list_all (λ (t : TaskState). is_waiting t.row.state) (map standing us) ≡ true) (sym e) (works-wait standing set ts waiting) in
     λ k d lt. can-begin standing ws r w k d lt
 
 -- they come by rising partition
-pub taken-rise : {T : Type 0} (standing : T → TaskState) (set : List Pair) (ts : List T) (ws : List (Work T)) → tasks_of ws ≡ taken standing set ts → RiseFrom 0 (partitions_of (map standing ts)) → Rise standing ws
+pub taken-rise : {T : Type 0} (standing : T → TaskState) (set : List Pair) (ts : List T) (ws : List (Work T)) → tasks_of ws ≡ tasks_of_set standing set ts → RiseFrom 0 (partitions_of (map standing ts)) → Rise standing ws
 taken-rise standing set ts ws e h =
     let r = subst (λ (us : List _). RiseFrom 0 (partitions_of (map standing us))) (sym e) (works-rise standing set 0 ts h) in
     λ i j d le lt. rises standing 0 ws r i j d le lt
 
 -- and what comes of them are the attempts of these tasks
-pub taken-done : {T : Type 0} (standing : T → TaskState) (set : List Pair) (ts : List T) (ws : List (Work T)) (ds : List (Done T)) → tasks_of ws ≡ taken standing set ts → AreDones standing ws ds → AreDonesOf standing (taken standing set ts) ds
+pub taken-done : {T : Type 0} (standing : T → TaskState) (set : List Pair) (ts : List T) (ws : List (Work T)) (ds : List (Done T)) → tasks_of ws ≡ tasks_of_set standing set ts → AreDones standing ws ds → AreDonesOf standing (tasks_of_set standing set ts) ds
 taken-done standing set ts ws ds e h = subst (λ (us : List _). AreDonesOf standing us ds) e (done-by standing ws ds h)

@@ -3,12 +3,12 @@ use Rattle.std.proofs.Common.{◌≡◌, ℕ, suc, zero, ◌+◌, Bool, true, fa
 use Rattle.std.specs.Prelude.{filter, slice_get}
 use Rattle.std.specs.List.{enumerate_from, AllByRecursion}
 use Rattle.jb_rules.specs.declared.row.Row.{Row}
-use Rattle.jb_artifacts.specs.Meaning.{Workplace}
+use Rattle.jb_artifacts.specs.Meaning.{ArtifactsMeaning}
 use Rattle.jb_chunk.specs.Standing.{TaskState}
-use Rattle.jb_step.specs.Going.{BeginsWithRows}
-use Rattle.jb_step.specs.Parts.{tasks_at}
+use Rattle.jb_step.specs.PlanLaws.{BeginsWithRows}
+use Rattle.jb_step.specs.OnePartition.{tasks_at}
 use Rattle.jb_step.specs.Setup.{Setup, first_tasks, row_now, unfinished}
-use Rattle.jb_step.proofs.Going.{first-now, none-now, named, member}
+use Rattle.jb_step.proofs.ChunksInOrder.{first-now, none-now, named, member}
 use Rattle.jb_step.proofs.Holding.{first_from, is_open}
 
 abbrev IsRowAt : List Row → ℕ × Row → Type 0
@@ -29,7 +29,7 @@ some-listed : (P : ℕ × Row → Type 0) (ns : List (ℕ × Row)) → AllByRecu
 some-listed P [] all = tt
 some-listed P (n ∷ ns) all = some-one P (is_open n) n (filter is_open ns) all.0 (some-listed P ns all.1)
 
-tasks-listed : (s : Setup) (rows : List Row) (ns : List (ℕ × Row)) (works : List Workplace) → AllByRecursion (IsRowAt rows) ns → AllByRecursion (λ (t : TaskState). slice_get rows t.partition ≡ Some t.row) (first_from s ns works)
+tasks-listed : (s : Setup) (rows : List Row) (ns : List (ℕ × Row)) (works : List ArtifactsMeaning) → AllByRecursion (IsRowAt rows) ns → AllByRecursion (λ (t : TaskState). slice_get rows t.partition ≡ Some t.row) (first_from s ns works)
 tasks-listed s rows [] works all = tt
 tasks-listed s rows (n ∷ ns) [] all = tt
 tasks-listed s rows (n ∷ ns) (w ∷ ws) all = (all.0, tasks-listed s rows ns ws all.1)

@@ -2,19 +2,19 @@
 use Rattle.std.proofs.Common.{◌≡◌, ℕ, suc, ◌+◌, ◌≤◌, ◌<◌, Bool, true, false, cond, List, ◌∷◌, length, drop, refl, ap, sym, subst, ◌∙◌, arith}
 use Rattle.std.specs.Prelude.{◌==◌}
 use Rattle.std.proofs.lemmas.Bool.Decides.{nat_tests}
-use Rattle.jb_job.specs.declared.job.Range.{Range}
+use Rattle.jb_base.specs.declared.range.Range.{Range}
 use Rattle.jb_plan.specs.Blocks.{blocks, left}
 use Rattle.jb_rules.specs.declared.row.Row.{Row}
 use Rattle.jb_rules.specs.declared.row.RowState.{RowState}
 use Rattle.jb_rules.specs.declared.row.RowState.TheVariants as state
 use Rattle.jb_rules.specs.Sound.{IsSoundRow}
 use Rattle.jb_rules.specs.States.{is_waiting}
-use Rattle.jb_chunk.specs.declared.end.End.{End}
-use Rattle.jb_chunk.specs.declared.end.End.TheVariants.{Written, Unwritten, Rolled, Failed}
-use Rattle.jb_chunk.specs.Attempt.{attempt_of, trial_of, block_of, end_of, ending_by, task_after_repeats, again_of}
+use Rattle.jb_chunk.specs.declared.chunk_end.ChunkEnd.{ChunkEnd}
+use Rattle.jb_chunk.specs.declared.chunk_end.ChunkEnd.TheVariants.{Committed, Rolled, Failed}
+use Rattle.jb_chunk.specs.Attempt.{attempt_of, block_of, end_of, ending_by, after_repeats, again_of}
 use Rattle.jb_chunk.specs.Laws.{RepeatsAreRetries}
 use Rattle.jb_chunk.specs.Standing.{TaskState, IsReady, HasItemCount}
-use Rattle.jb_repo.specs.Rows.{remaining_of}
+use Rattle.jb_rules.specs.Rows.{remaining_of}
 use Rattle.jb_step.specs.Rounds.{is_commit}
 use Rattle.jb_step.specs.inside.Below.{ChunkLaws}
 
@@ -24,33 +24,30 @@ waits (state.Running lane) e = cc
 waits state.Finished e = cc
 waits state.Failed e = cc
 
-partition-by : (t : TaskState) (again : ℕ) (e : End) → (ending_by t again e).task.partition ≡ t.partition
-partition-by t again Written = refl
-partition-by t again Unwritten = refl
+partition-by : (t : TaskState) (again : ℕ) (e : ChunkEnd) → (ending_by t again e).task.partition ≡ t.partition
+partition-by t again (Committed delta) = refl
 partition-by t again (Rolled class) = refl
 partition-by t again (Failed class) = refl
 
-count-by : (t : TaskState) (again : ℕ) (e : End) → (ending_by t again e).task.item_count ≡ t.item_count
-count-by t again Written = refl
-count-by t again Unwritten = refl
+count-by : (t : TaskState) (again : ℕ) (e : ChunkEnd) → (ending_by t again e).task.item_count ≡ t.item_count
+count-by t again (Committed delta) = refl
 count-by t again (Rolled class) = refl
 count-by t again (Failed class) = refl
 
-rules-by : (t : TaskState) (again : ℕ) (e : End) → (ending_by t again e).task.rules ≡ t.rules
-rules-by t again Written = refl
-rules-by t again Unwritten = refl
+rules-by : (t : TaskState) (again : ℕ) (e : ChunkEnd) → (ending_by t again e).task.rules ≡ t.rules
+rules-by t again (Committed delta) = refl
 rules-by t again (Rolled class) = refl
 rules-by t again (Failed class) = refl
 
 -- an attempt leaves the partition's number, the item count and the rules as they are
 pub same-partition : (t : TaskState) → (attempt_of t).task.partition ≡ t.partition
-same-partition t = partition-by (task_after_repeats t) (again_of t) (end_of (trial_of (task_after_repeats t)))
+same-partition t = partition-by (after_repeats t) (again_of t) (end_of (after_repeats t))
 
 pub same-rules : (t : TaskState) → (attempt_of t).task.rules ≡ t.rules
-same-rules t = rules-by (task_after_repeats t) (again_of t) (end_of (trial_of (task_after_repeats t)))
+same-rules t = rules-by (after_repeats t) (again_of t) (end_of (after_repeats t))
 
 pub same-count : (t : TaskState) → (attempt_of t).task.item_count ≡ t.item_count
-same-count t = count-by (task_after_repeats t) (again_of t) (end_of (trial_of (task_after_repeats t)))
+same-count t = count-by (after_repeats t) (again_of t) (end_of (after_repeats t))
 
 -- what is left of a task's being ready when only its row counts
 pub record IsSteady (t : TaskState) : Type 0 where
@@ -88,11 +85,8 @@ state-below : (b : Bool) (at hi : ℕ) → (at == hi) ≡ b → at ≤ hi → co
 state-below true at hi e le waiting = let never : ⊥ = cc in absurd never
 state-below false at hi e le waiting = differ-of at hi e le
 
-next-by : ChunkLaws → (t : TaskState) (again : ℕ) (e : End) → IsSteady t → t.row.state ≡ state.Waiting → IsSteady (ending_by t again e).task
-next-by law t again Written st w =
-    let next = law.follow.next t.row.at t.row.redo t.row.hi t.item_count (st.waiting w) st.redo_to st.count.some in
-    record { at_to = next.within; redo_to = st.redo_to; waiting = state-below ((block_of t).hi == t.row.hi) (block_of t).hi t.row.hi refl next.within; count = st.count }
-next-by law t again Unwritten st w =
+next-by : ChunkLaws → (t : TaskState) (again : ℕ) (e : ChunkEnd) → IsSteady t → t.row.state ≡ state.Waiting → IsSteady (ending_by t again e).task
+next-by law t again (Committed delta) st w =
     let next = law.follow.next t.row.at t.row.redo t.row.hi t.item_count (st.waiting w) st.redo_to st.count.some in
     record { at_to = next.within; redo_to = st.redo_to; waiting = state-below ((block_of t).hi == t.row.hi) (block_of t).hi t.row.hi refl next.within; count = st.count }
 next-by law t again (Rolled class) st w =
@@ -105,17 +99,17 @@ next-by law t again (Failed class) st w =
     record { at_to = st.at_to; redo_to = st.redo_to; waiting = λ e. let never : ⊥ = cc in absurd never; count = st.count }
 
 -- the repeats of a task's next block leave its place and its chunks as they are
-steady-after : RepeatsAreRetries → (t : TaskState) → IsSteady t → IsSteady (task_after_repeats t)
+steady-after : RepeatsAreRetries → (t : TaskState) → IsSteady t → IsSteady (after_repeats t)
 steady-after law t st =
-    subst (λ (r : Row). IsSteady (record t { row = r; work = (task_after_repeats t).work })) (sym (law t))
+    subst (λ (r : Row). IsSteady (record (after_repeats t) { row = r })) (sym (law t))
     (record { at_to = st.at_to; redo_to = st.redo_to; waiting = st.waiting; count = st.count })
 
-waits-after : RepeatsAreRetries → (t : TaskState) → t.row.state ≡ state.Waiting → (task_after_repeats t).row.state ≡ state.Waiting
+waits-after : RepeatsAreRetries → (t : TaskState) → t.row.state ≡ state.Waiting → (after_repeats t).row.state ≡ state.Waiting
 waits-after law t w = ap (λ (r : Row). r.state) (law t) ∙ w
 
 -- after an attempt the task is steady too
 pub next-steady : ChunkLaws → (t : TaskState) → IsSteady t → t.row.state ≡ state.Waiting → IsSteady (attempt_of t).task
-next-steady law t st w = next-by law (task_after_repeats t) (again_of t) (end_of (trial_of (task_after_repeats t))) (steady-after law.repeats t st) (waits-after law.repeats t w)
+next-steady law t st w = next-by law (after_repeats t) (again_of t) (end_of (after_repeats t)) (steady-after law.repeats t st) (waits-after law.repeats t w)
 
 -- THE CHUNKS THAT ARE LEFT
 
@@ -125,20 +119,19 @@ listing t = blocks t.row.at t.row.redo t.row.hi t.item_count
 pub next-list : ChunkLaws → (t : TaskState) → IsSteady t → t.row.at < t.row.hi → listing t ≡ block_of t ∷ blocks (block_of t).hi t.row.redo t.row.hi t.item_count
 next-list law t st lt = (law.follow.next t.row.at t.row.redo t.row.hi t.item_count lt st.redo_to st.count.some).others
 
-drops-by : ChunkLaws → (t : TaskState) (again : ℕ) (e : End) → IsSteady t → t.row.state ≡ state.Waiting → is_commit (ending_by t again e).outcome ≡ true → drop 1 (listing t) ≡ listing (ending_by t again e).task
-drops-by law t again Written st w commit = ap (drop 1) (next-list law t st (st.waiting w))
-drops-by law t again Unwritten st w commit = ap (drop 1) (next-list law t st (st.waiting w))
+drops-by : ChunkLaws → (t : TaskState) (again : ℕ) (e : ChunkEnd) → IsSteady t → t.row.state ≡ state.Waiting → is_commit (ending_by t again e).outcome ≡ true → drop 1 (listing t) ≡ listing (ending_by t again e).task
+drops-by law t again (Committed delta) st w commit = ap (drop 1) (next-list law t st (st.waiting w))
 drops-by law t again (Rolled class) st w commit = let never : ⊥ = cc in absurd never
 drops-by law t again (Failed class) st w commit = let never : ⊥ = cc in absurd never
 
-listing-settled : RepeatsAreRetries → (t : TaskState) → listing (task_after_repeats t) ≡ listing t
+listing-settled : RepeatsAreRetries → (t : TaskState) → listing (after_repeats t) ≡ listing t
 listing-settled law t = ap (λ (r : Row). blocks r.at r.redo r.hi t.item_count) (law t)
 
 -- a chunk that is committed is no longer among them
 pub drops-one : ChunkLaws → (t : TaskState) → IsSteady t → t.row.state ≡ state.Waiting → is_commit (attempt_of t).outcome ≡ true → drop 1 (listing t) ≡ listing (attempt_of t).task
 drops-one law t st w commit =
     ap (drop 1) (sym (listing-settled law.repeats t))
-    ∙ drops-by law (task_after_repeats t) (again_of t) (end_of (trial_of (task_after_repeats t))) (steady-after law.repeats t st) (waits-after law.repeats t w) commit
+    ∙ drops-by law (after_repeats t) (again_of t) (end_of (after_repeats t)) (steady-after law.repeats t st) (waits-after law.repeats t w) commit
 
 abbrev pub rem : ℕ → Row → ℕ
 rem c row = remaining_of c row row.state
@@ -150,25 +143,20 @@ rem-by law false c row e redo = refl
 left-falls : ChunkLaws → (t : TaskState) → IsSteady t → t.row.at < t.row.hi → left t.row.at t.row.redo t.row.hi t.item_count ≡ suc (left (block_of t).hi t.row.redo t.row.hi t.item_count)
 left-falls law t st lt = ap length (next-list law t st lt)
 
-falls-by : ChunkLaws → (t : TaskState) (again : ℕ) (e : End) → IsSteady t → t.row.state ≡ state.Waiting → is_commit (ending_by t again e).outcome ≡ true → rem t.item_count (ending_by t again e).task.row + 1 ≡ rem t.item_count t.row
-falls-by law t again Written st w commit =
+falls-by : ChunkLaws → (t : TaskState) (again : ℕ) (e : ChunkEnd) → IsSteady t → t.row.state ≡ state.Waiting → is_commit (ending_by t again e).outcome ≡ true → rem t.item_count (ending_by t again e).task.row + 1 ≡ rem t.item_count t.row
+falls-by law t again (Committed delta) st w commit =
     let less = left-falls law t st (st.waiting w) in
-    let now = rem-by law ((block_of t).hi == t.row.hi) t.item_count (ending_by t again Written).task.row refl st.redo_to in
-    let was = ap (remaining_of t.item_count t.row) w in
-    omega (arith, less, now, was)
-falls-by law t again Unwritten st w commit =
-    let less = left-falls law t st (st.waiting w) in
-    let now = rem-by law ((block_of t).hi == t.row.hi) t.item_count (ending_by t again Unwritten).task.row refl st.redo_to in
+    let now = rem-by law ((block_of t).hi == t.row.hi) t.item_count (ending_by t again (Committed delta)).task.row refl st.redo_to in
     let was = ap (remaining_of t.item_count t.row) w in
     omega (arith, less, now, was)
 falls-by law t again (Rolled class) st w commit = let never : ⊥ = cc in absurd never
 falls-by law t again (Failed class) st w commit = let never : ⊥ = cc in absurd never
 
-rem-settled : RepeatsAreRetries → (t : TaskState) → rem t.item_count (task_after_repeats t).row ≡ rem t.item_count t.row
+rem-settled : RepeatsAreRetries → (t : TaskState) → rem t.item_count (after_repeats t).row ≡ rem t.item_count t.row
 rem-settled law t = ap (rem t.item_count) (law t)
 
 -- and they are one less
 pub falls-one : ChunkLaws → (t : TaskState) → IsSteady t → t.row.state ≡ state.Waiting → is_commit (attempt_of t).outcome ≡ true → rem t.item_count (attempt_of t).task.row + 1 ≡ rem t.item_count t.row
 falls-one law t st w commit =
-    falls-by law (task_after_repeats t) (again_of t) (end_of (trial_of (task_after_repeats t))) (steady-after law.repeats t st) (waits-after law.repeats t w) commit
+    falls-by law (after_repeats t) (again_of t) (end_of (after_repeats t)) (steady-after law.repeats t st) (waits-after law.repeats t w) commit
     ∙ rem-settled law.repeats t

@@ -1,19 +1,20 @@
 -- Plans that are run whole, and the head of a step's loop.
-use Rattle.std.proofs.Common.{◌≡◌, ℕ, ◌+◌, ◌≤◌, ◌<◌, Bool, true, false, List, [], ◌∷◌, ◌++◌, length, get_or, reverse, refl, sym, subst, arith, inl, inr, length-append}
+use Rattle.std.proofs.Common.{◌≡◌, ℕ, ◌+◌, ◌≤◌, ◌<◌, Bool, true, false, List, [], ◌∷◌, ◌++◌, length, get_or, reverse, drop, take, refl, ap, sym, ◌∙◌, subst, arith, inl, inr, length-append}
 use Rattle.std.specs.Prelude.{Contains}
 use Rattle.std.proofs.lemmas.Bool.{cases_lt}
-use Rattle.std.proofs.lemmas.List.{get_or_append_left, length-reverse}
-use Rattle.jb_cert.specs.Lawful.{Pair, IsLawful, StandsIn, HasOnePerPartition}
+use Rattle.std.proofs.lemmas.List.{get_or_append_left, length-drop, length-reverse, reverse-reverse, take-append-drop}
+use Rattle.jb_cert.specs.Lawful.{Pair, IsLawful, IsLeast, StandsIn, HasOnePerPartition}
 use Rattle.jb_chunk.specs.Standing.{TaskState}
-use Rattle.jb_step.specs.Going.{IsTable, EndsWhole}
+use Rattle.jb_step.specs.PlanLaws.{IsTable, EndsWhole}
+use Rattle.jb_step.specs.inside.Adding.{next_round, unrun}
 use Rattle.jb_step.specs.inside.Loop.{OpenPlanGoesOn, NewPlanBegins, LastPlanIsOver}
 use Rattle.jb_step.specs.Rounds.{CanRun, last_breaks}
-use Rattle.jb_step.specs.Runs.{PlanRun, ArePlanRuns, IsOver, table_after, rounds_of}
+use Rattle.jb_step.specs.Runs.{PlanRun, ArePlanRuns, IsOver, table_after, rounds_of, rounds_run}
 use Rattle.jb_step.specs.Setup.{Setup, counts_now}
-use Rattle.jb_step.specs.Ways.{have_ended}
+use Rattle.jb_step.specs.Alone.{have_ended}
 use Rattle.jb_step.specs.inside.Below.{ChunkLaws}
-use Rattle.jb_step.proofs.Adding.{after_rounds-append, quiet-more}
-use Rattle.jb_step.proofs.Going.{next_can_run, cnt-le, runs-cnt, runs-from-ended, length-counts}
+use Rattle.jb_step.proofs.Adding.{after_rounds-append, parted, quiet-more}
+use Rattle.jb_step.proofs.ChunksInOrder.{next_can_run, cnt-le, runs-cnt, runs-from-ended, length-counts}
 
 -- the first sets of a lawful list of sets are lawful, if each chunk stands in one of them
 module _ (counts : List ℕ) (threads : ℕ) (one more : List (List Pair)) (lawful : IsLawful counts threads (one ++ more)) where
@@ -65,24 +66,32 @@ ends_whole law s before rounds left table least can quiet ended =
     none-left left (omega (arith, short, length-append one left))
 
 pub open_plan_goes_on : ChunkLaws → OpenPlanGoesOn
-open_plan_goes_on law s start plan older set left runs table next quiet =
+open_plan_goes_on law s start plan older runs table lt quiet =
     let before = table_after older start in
     let one = runs.2 in
-    let lawful = subst (λ xs. IsLawful (counts_now s before) s.threads (reverse plan.rounds ++ xs)) next one.least.lawful in
-    subst (λ ts. CanRun set ts) (sym (after_rounds-append plan.rounds (rounds_of older) start))
-    (next_can_run law s before plan.rounds set left table lawful one.run (quiet-more plan.rounds before one.quiet quiet))
+    let lawful = subst (λ xs. IsLawful (counts_now s before) s.threads xs) (parted plan lt) one.least.lawful in
+    subst (λ ts. CanRun (next_round plan) ts) (sym (after_rounds-append (rounds_run plan) (rounds_of older) start))
+    (next_can_run law s before (rounds_run plan) (next_round plan) (drop (plan.ran + 1) plan.rounds) table lawful one.run (quiet-more (rounds_run plan) before one.quiet quiet))
 
 pub new_plan_begins : ChunkLaws → NewPlanBegins
-new_plan_begins law s before set left table least = next_can_run law s before [] set left table least.lawful tt tt
+new_plan_begins law s before certificate rounds table some least =
+    let plan : PlanRun = unrun certificate rounds in
+    next_can_run law s before [] (next_round plan) (drop (0 + 1) rounds) table (subst (λ xs. IsLawful (counts_now s before) s.threads xs) (parted plan some) least.lawful) tt tt
 
-over-by : ChunkLaws → (b : Bool) (s : Setup) (start : List TaskState) (plan : PlanRun) (older : List PlanRun) → last_breaks plan.rounds (table_after older start) ≡ b
+all-run : (plan : PlanRun) → plan.ran ≤ length plan.rounds → drop plan.ran plan.rounds ≡ [] → plan.ran ≡ length plan.rounds
+all-run plan among none = let long = length-drop plan.ran plan.rounds in let no_more = ap length none in omega (arith, among, long, no_more)
+
+over-by : ChunkLaws → (b : Bool) (s : Setup) (start : List TaskState) (plan : PlanRun) (older : List PlanRun) → last_breaks (rounds_run plan) (table_after older start) ≡ b
     → ArePlanRuns s start (plan ∷ older) → IsTable s (table_after older start) → have_ended (table_after (plan ∷ older) start) ≡ true → IsOver (table_after older start) plan
 over-by law true s start plan older e runs table ended = inr e
 over-by law false s start plan older e runs table ended =
     let before = table_after older start in
     let one = runs.2 in
-    inl (ends_whole law s before plan.rounds plan.left table one.least one.run (quiet-more plan.rounds before one.quiet e)
-    (subst (λ ts. have_ended ts ≡ true) (after_rounds-append plan.rounds (rounds_of older) start) ended))
+    let halves : plan.rounds ≡ reverse (rounds_run plan) ++ drop plan.ran plan.rounds =
+    sym (take-append-drop plan.ran plan.rounds) ∙ ap (λ xs. xs ++ drop plan.ran plan.rounds) (sym (reverse-reverse (take plan.ran plan.rounds))) in
+    inl (all-run plan one.among
+    (ends_whole law s before (rounds_run plan) (drop plan.ran plan.rounds) table (subst (λ xs. IsLeast (counts_now s before) s.threads xs) halves one.least) one.run (quiet-more (rounds_run plan) before one.quiet e)
+    (subst (λ ts. have_ended ts ≡ true) (after_rounds-append (rounds_run plan) (rounds_of older) start) ended)))
 
 pub last_plan_is_over : ChunkLaws → LastPlanIsOver
-last_plan_is_over law s start plan older runs table ended = over-by law (last_breaks plan.rounds (table_after older start)) s start plan older refl runs table ended
+last_plan_is_over law s start plan older runs table ended = over-by law (last_breaks (rounds_run plan) (table_after older start)) s start plan older refl runs table ended

@@ -1,7 +1,7 @@
 -- Heard: what the analyzer is called with in a whole step (Jakarta Batch 2.1, "Partition Analyzer"; the number, order and
 -- place of the calls are this project's choice).
 use Rattle.std.specs.Prelude.{List, Option}
-use Rattle.jb_job.specs.declared.class.ClassId.{ClassId}
+use Rattle.jb_base.specs.declared.class.ClassId.{ClassId}
 use Rattle.jb_chunk.specs.Standing.{TaskState}
 use Rattle.jb_collect.specs.declared.calls.AnalyzerCall.{AnalyzerCall}
 use Rattle.jb_collect.specs.Heard.{heard_by}

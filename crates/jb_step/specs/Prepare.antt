@@ -1,21 +1,22 @@
 -- What `prepare` answers, and what it refuses.
 use Rattle.std.specs.Prelude.{◌≡◌, ◌⊎◌, ℕ, Bool, true, false, Result, Ok, Err, List, [], ◌∷◌, Option, Some, is_none, map, slice_get}
-use Rattle.jb_job.specs.declared.class.ClassId.{ClassId}
+use Rattle.jb_base.specs.Pairwise.{Pairwise}
+use Rattle.jb_base.specs.declared.class.ClassId.{ClassId}
 use Rattle.jb_job.specs.Records.{StepRecord}
 use Rattle.jb_plan.specs.declared.plan.PartitionPlan.{PartitionPlan}
 use Rattle.jb_plan.specs.Plans.{IsRunnable, threads_of}
 use Rattle.jb_plan.specs.Faults.{IsFirst, plan_errors}
 use Rattle.jb_rules.specs.declared.row.Row.{Row}
-use Rattle.jb_artifacts.specs.Meaning.{Workplace, Fits}
+use Rattle.jb_artifacts.specs.Meaning.{ArtifactsMeaning, Fits}
 use Rattle.jb_collect.specs.declared.calls.ReducerCall.{ReducerCall}
 use Rattle.jb_collect.specs.declared.calls.ReducerCall.TheVariants.{Begin, Rollback, After}
 use Rattle.jb_collect.specs.declared.calls.PartitionStatus.TheVariants as status
-use Rattle.jb_collect.specs.Reduced.{calls_before, rolled_back}
+use Rattle.jb_collect.specs.ReducerCalls.{calls_before, rolled_back}
 use Rattle.jb_collect.specs.Taken.{Taken, calls_of, faulted, well}
 use Rattle.jb_saved.specs.SavedRows.{SavedRows}
 use Rattle.jb_saved.specs.declared.error.StepError.{StepError}
 use Rattle.jb_saved.specs.declared.error.StepError.TheVariants.{Plan, Mapper, Reducer, Saved, Memory}
-use Rattle.jb_step.specs.Reduced.{AreSome}
+use Rattle.jb_step.specs.Callbacks.{AreSome}
 use Rattle.jb_step.specs.Setup.{Setup, discards, fresh_rows, gone_on, opening_rows, saved_faults, unfinished}
 
 -- The mapper's plan can be run, and nothing is wrong with the saved rows. The partitions begin anew on the plan's ranges; or,
@@ -87,15 +88,12 @@ AreCallsAtRefusal _ taken = ⊥
 
 -- what it took: where `prepare` didn't refuse, `begin`, and the rollback of what is discarded, all answered well
 abbrev pub AreCallsBefore : {A : Type 0} → (discards : Bool) → Result A StepError → List (Taken ReducerCall) → Type 0
-AreCallsBefore discards (Ok p) taken = taken ≡ map well (calls_before discards false)
+AreCallsBefore discards (Ok p) taken = taken ≡ map well (calls_before discards)
 AreCallsBefore discards (Err e) taken = AreCallsAtRefusal e taken
 
 -- as many artifacts as unfinished partitions, and each serves its partition's row, in this order
-abbrev pub FitRows : List (ℕ × Row) → List Workplace → Type 0
-FitRows [] [] = Unit {0}
-FitRows [] (w ∷ ws) = ⊥
-FitRows (n ∷ ns) [] = ⊥
-FitRows (n ∷ ns) (w ∷ ws) = Fits w n.1 × FitRows ns ws
+abbrev pub FitRows : List (ℕ × Row) → List ArtifactsMeaning → Type 0
+FitRows = Pairwise (λ n work. Fits work n.1)
 
-abbrev pub DoFit : Setup → List Workplace → Type 0
+abbrev pub DoFit : Setup → List ArtifactsMeaning → Type 0
 DoFit s works = FitRows (unfinished s.rows) works

@@ -2,15 +2,16 @@
 use Rattle.std.specs.Prelude.{◌≡◌, ℕ, true, false, Result, Ok, Option, Some, None, List, [], ◌∷◌}
 use Rattle.jb_job.specs.Reading.{tree_of}
 use Rattle.jb_job.specs.Records.{StepRecord}
-use Rattle.jb_job.specs.declared.class.ClassId.{ClassId}
+use Rattle.jb_base.specs.declared.class.ClassId.{ClassId}
 use Rattle.jb_plan.specs.declared.plan.PartitionPlan.{PartitionPlan}
-use Rattle.jb_saved.specs.GoingOn.{AreUnfailed, rows_again}
+use Rattle.jb_saved.specs.GoingOn.{AreUnfailed, rows_restarted}
 use Rattle.jb_saved.specs.Reading.{answer_of}
 use Rattle.jb_saved.specs.SavedRows.{SavedRows, IsSaved}
 use Rattle.jb_saved.specs.SavedTree.{saved_tree}
+use Rattle.jb_step.specs.Answers.{StepRun, tasks_before}
 use Rattle.jb_step.specs.Prepare.{DoFit, IsPreparation}
 use Rattle.jb_step.specs.Setup.{IsSetup, Setup, first_tasks}
-use Rattle.jb_step.specs.StepRuns.{StepRun, IsAnswered, StandAtTheEnd, StandOnTheWay, artifacts_left, newest, tasks_before, works_again}
+use Rattle.jb_step.specs.StepRuns.{IsAnswered, StandAtTheEnd, StandOnTheWay, artifacts_left, newest, works_restarted}
 
 -- what `prepare` says of what the run began with, whatever its mapper was
 pub record IsPreparedFor (step : StepRecord) (saved : Option SavedRows) (r : StepRun) : Type 0 where
@@ -38,7 +39,7 @@ pub record IsRestart (step : StepRecord) (before next : StepRun) : Type 0 where
   pub prepared : IsPreparedFor step (Some read) next
   pub goes_on : prepared.prepared.plan.replace ≡ false
   -- what `run_step` takes
-  pub tasks : tasks_before next ≡ first_tasks next.setup (works_again before.snapshot.rows.items before.left)
+  pub tasks : tasks_before next ≡ first_tasks next.setup (works_restarted before.snapshot.rows.items before.left)
 
 -- each later run is a restart from what the run before it left, and `run_step` answered
 abbrev pub AreRestarts : StepRecord → StepRun → List StepRun → Type 0
@@ -59,8 +60,8 @@ abbrev pub RestartsFit : Type 0
 RestartsFit =
     (step : StepRecord) (first : StepRun) (later : List StepRun) (saved : SavedRows) (s : Setup)
     → IsChain step first later → AreUnfailed (newest first later).snapshot.rows.items
-    → IsSaved saved → saved.rows ≡ (newest first later).snapshot.rows.items → s.rows ≡ rows_again saved
-    → DoFit s (works_again (newest first later).snapshot.rows.items (newest first later).left)
+    → IsSaved saved → saved.rows ≡ (newest first later).snapshot.rows.items → s.rows ≡ rows_restarted saved
+    → DoFit s (works_restarted (newest first later).snapshot.rows.items (newest first later).left)
 
 -- wherever the runs left a partition, some of its attempts alone from the first start lead there
 abbrev pub RestartsAreOnTheWay : Type 0

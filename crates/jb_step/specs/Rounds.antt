@@ -6,7 +6,7 @@ use Rattle.jb_rules.specs.States.{is_waiting}
 use Rattle.jb_cert.specs.Lawful.{Pair}
 use Rattle.jb_chunk.specs.declared.outcome.Outcome.{Outcome}
 use Rattle.jb_chunk.specs.declared.outcome.Outcome.TheVariants.{Committed}
-use Rattle.jb_chunk.specs.Attempt.{Ending, attempt_of}
+use Rattle.jb_chunk.specs.Attempt.{AttemptEnd, attempt_of}
 use Rattle.jb_chunk.specs.Standing.{TaskState}
 
 abbrev pub is_commit : Outcome → Bool
@@ -22,7 +22,7 @@ abbrev pub tasks_in : List Pair → List TaskState → List TaskState
 tasks_in set ts = filter (λ t. has_partition set t.partition) ts
 
 -- the attempts of a round, by rising partition
-abbrev pub attempts_in : List Pair → List TaskState → List Ending
+abbrev pub attempts_in : List Pair → List TaskState → List AttemptEnd
 attempts_in set ts = map attempt_of (tasks_in set ts)
 
 -- the table after a round: one attempt for each partition of the set, and for no other
@@ -50,7 +50,7 @@ after_rounds [] ts = ts
 after_rounds (set ∷ older) ts = after_round set (after_rounds older ts)
 
 -- their attempts, the first one first
-abbrev pub attempts_of : List (List Pair) → List TaskState → List Ending
+abbrev pub attempts_of : List (List Pair) → List TaskState → List AttemptEnd
 attempts_of [] ts = []
 attempts_of (set ∷ older) ts = attempts_of older ts ++ attempts_in set (after_rounds older ts)
 

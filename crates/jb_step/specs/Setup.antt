@@ -1,18 +1,19 @@
 -- What a step begins with: the rows of all its partitions, and tasks for those that aren't finished.
 use Rattle.std.specs.Prelude.{ℕ, ◌≡◌, ◌≤◌, ◌⊎◌, nat_eq, Bool, true, false, not, ◌&&◌, is_some, if◌then◌else◌, List, [], ◌∷◌, map, filter, slice_get, Option, Some, None}
 use Rattle.std.specs.List.{enumerate_from, zip}
-use Rattle.jb_job.specs.declared.job.Range.{Range}
-use Rattle.jb_job.specs.Limits.{max_retry_limit}
-use Rattle.jb_job.specs.Records.{RulesRecord, StepRecord}
+use Rattle.jb_base.specs.declared.range.Range.{Range}
+use Rattle.jb_base.specs.Limits.{max_retry_limit}
+use Rattle.jb_base.specs.Rules.{RulesRecord}
+use Rattle.jb_job.specs.Records.{StepRecord}
 use Rattle.jb_rules.specs.declared.row.Row.{Row}
 use Rattle.jb_rules.specs.declared.row.RowState.TheVariants.{Waiting, Finished}
 use Rattle.jb_rules.specs.Rows.{fresh_row}
-use Rattle.jb_artifacts.specs.Meaning.{Workplace}
+use Rattle.jb_artifacts.specs.Meaning.{ArtifactsMeaning}
 use Rattle.jb_chunk.specs.Standing.{TaskState, started}
 use Rattle.jb_repo.specs.Openable.{IsOpenable, opened_journal}
 use Rattle.jb_repo.specs.Rows.{remaining}
 use Rattle.jb_rules.specs.States.{is_finished}
-use Rattle.jb_saved.specs.GoingOn.{other_step, rows_again, step_faults}
+use Rattle.jb_saved.specs.GoingOn.{other_step, rows_restarted, step_faults}
 use Rattle.jb_saved.specs.SavedRows.{SavedRows}
 use Rattle.jb_saved.specs.declared.place.SavedPlace.{SavedPlace}
 
@@ -31,7 +32,7 @@ fresh_rows ranges = map fresh_row ranges
 
 abbrev pub opening_rows : List Range → Option SavedRows → List Row
 opening_rows ranges None = fresh_rows ranges
-opening_rows ranges (Some saved) = rows_again saved
+opening_rows ranges (Some saved) = rows_restarted saved
 
 -- the earlier run's rows from which a run goes on: none where the plan begins all partitions anew
 abbrev pub gone_on : (replace : Bool) → Option SavedRows → Option SavedRows
@@ -64,7 +65,7 @@ abbrev pub needs : List Row → List ℕ
 needs rows = map (λ n. n.0) (unfinished rows)
 
 -- their tasks, each with its artifacts
-abbrev pub first_tasks : Setup → List Workplace → List TaskState
+abbrev pub first_tasks : Setup → List ArtifactsMeaning → List TaskState
 first_tasks s works = map (λ n. started n.0.0 n.0.1 s.rules s.item_count n.1) (zip (unfinished s.rows) works)
 
 -- the row of a partition now: its task's, or the prepared one where it has no task

@@ -1,5 +1,5 @@
 -- How a step stands at its end (this project's choice).
-use Rattle.std.specs.Prelude.{Bool, true, false, not, ◌||◌, if◌then◌else◌, List}
+use Rattle.std.specs.Prelude.{Bool, not, ◌||◌, if◌then◌else◌, List}
 use Rattle.std.specs.List.{list_any}
 use Rattle.jb_rules.specs.declared.row.Row.{Row}
 use Rattle.jb_rules.specs.States.{is_finished, is_failed}
@@ -11,11 +11,3 @@ abbrev pub status_of : List Row → (callback_failed : Bool) → Status
 status_of rows callback_failed =
     if callback_failed || list_any (λ row. is_failed row.state) rows then Failed
     else (if list_any (λ row. not (is_finished row.state)) rows then Stopped else Completed)
-
-abbrev pub is_completed : Status → Bool
-is_completed Completed = true
-is_completed _ = false
-
--- each partition is completed and no callback failed
-abbrev pub went_well : List Row → (callback_failed : Bool) → Bool
-went_well rows callback_failed = is_completed (status_of rows callback_failed)

@@ -1,11 +1,11 @@
 -- Worked rows: what the definitions give for whole steps, computed apart from any code. Records are the letters a, b, c,
 -- .., the processor puts an x before each, and faults are of the class E.
 use Rattle.std.specs.Prelude.{◌≡◌, ℕ, true, false, Ok, List, [], ◌∷◌, Some, None, codes, length, map}
-use Rattle.jb_job.specs.declared.job.Range.{Range}
-use Rattle.jb_job.specs.Records.{RulesRecord}
+use Rattle.jb_base.specs.declared.range.Range.{Range}
+use Rattle.jb_base.specs.Rules.{RulesRecord}
 use Rattle.jb_artifacts.specs.declared.faults.FaultPlan.TheVariants.{Bad, Shaky}
-use Rattle.jb_artifacts.specs.Faults.{Plans}
-use Rattle.jb_artifacts.specs.Meaning.{Workplace}
+use Rattle.jb_artifacts.specs.Faults.{FaultTable}
+use Rattle.jb_artifacts.specs.Meaning.{ArtifactsMeaning}
 use Rattle.jb_cert.specs.declared.certificates.Certificate.{Certificate}
 use Rattle.jb_cert.specs.declared.certificates.Certificate.TheVariants.{Longest, FullLoad}
 use Rattle.jb_cert.specs.Lawful.{Pair}
@@ -18,18 +18,18 @@ use Rattle.jb_collect.specs.declared.calls.AnalyzerCall.TheVariants as call
 use Rattle.jb_collect.specs.declared.calls.ReducerCall.{ReducerCall}
 use Rattle.jb_collect.specs.declared.calls.ReducerCall.TheVariants.{Begin, Before, Rollback, After}
 use Rattle.jb_collect.specs.declared.calls.PartitionStatus.TheVariants as end
-use Rattle.jb_collect.specs.Reduced.{reducer_calls, rolled_back}
+use Rattle.jb_collect.specs.ReducerCalls.{reducer_calls, rolled_back, run_end}
 use Rattle.jb_collect.specs.Taken.{Taken, well, faulted}
 use Rattle.jb_saved.specs.SavedRows.{SavedRows}
 use Rattle.jb_saved.specs.declared.error.StepError.TheVariants as step_error
-use Rattle.jb_step.specs.declared.notes.PlanNote.{PlanNote}
-use Rattle.jb_step.specs.Ending.{AreCallsInPart}
+use Rattle.jb_cert.specs.declared.notes.PlanNote.{PlanNote}
+use Rattle.jb_step.specs.Answers.{AreCallsInPart}
 use Rattle.jb_step.specs.Heard.{heard}
 use Rattle.jb_step.specs.Prepare.{AreCallsAtRefusal, AreCallsBefore}
-use Rattle.jb_step.specs.Runs.{PlanRun, IsPlanRun, sets_of, notes_of, table_after, events_of, ArePlanRuns, IsLastOver}
+use Rattle.jb_step.specs.Runs.{PlanRun, IsPlanRun, notes_of, table_after, events_of, ArePlanRuns, IsLastOver}
 use Rattle.jb_step.specs.Setup.{Setup, discards, needs, first_tasks, fresh_rows, gone_on, opening_rows, rows_now}
-use Rattle.jb_step.specs.Statuses.{status_of, went_well}
-use Rattle.jb_step.specs.StepRuns.{all_newer, works_again}
+use Rattle.jb_step.specs.Statuses.{status_of}
+use Rattle.jb_step.specs.StepRuns.{all_newer, works_restarted}
 
 -- THE STEPS
 
@@ -54,22 +54,22 @@ restarted s start plans = record s {
 }
 
 -- the artifacts as the run hands them back
-abbrev pub handed_back : List TaskState → List PlanRun → List (ℕ × Workplace)
+abbrev pub handed_back : List TaskState → List PlanRun → List (ℕ × ArtifactsMeaning)
 handed_back start plans = map (λ t. (t.partition, t.work)) (table_after plans start)
 
-abbrev pub outputs_of : List (ℕ × Workplace) → List (ℕ × List (List ℕ))
+abbrev pub outputs_of : List (ℕ × ArtifactsMeaning) → List (ℕ × List (List ℕ))
 outputs_of left = map (λ a. (a.0, a.1.writer.written)) left
 
 -- the tasks that it begins with then, with the artifacts that were handed back
 abbrev pub restarted_tasks : Setup → List TaskState → List PlanRun → List TaskState
 restarted_tasks s start plans =
-    first_tasks (restarted s start plans) (works_again (rows_now s.rows (table_after plans start)) (handed_back start plans))
+    first_tasks (restarted s start plans) (works_restarted (rows_now s.rows (table_after plans start)) (handed_back start plans))
 
 -- the artifacts of a partition that an earlier run wrote this of
-abbrev pub works_with : (lo : ℕ) → (processes : Plans) → (written : List (List ℕ)) → Workplace
+abbrev pub works_with : (lo : ℕ) → (processes : FaultTable) → (written : List (List ℕ)) → ArtifactsMeaning
 works_with lo processes written = record (works lo sound processes sound) { writer = record { written = written; faults = sound } }
 
-abbrev pub clean : ℕ → Workplace
+abbrev pub clean : ℕ → ArtifactsMeaning
 clean lo = works_with lo sound []
 
 -- seven records in three partitions, item count 2
@@ -106,19 +106,19 @@ skipping_tasks = first_tasks skipping (works_with 0 (only 1 (Bad class_e)) [] �
 
 -- THEIR RUNS
 
-abbrev pub plan_run : Certificate → (rounds left : List (List Pair)) → PlanRun
-plan_run certificate rounds left = record { certificate = certificate; rounds = rounds; left = left }
+abbrev pub plan_run : Certificate → (rounds : List (List Pair)) → (ran : ℕ) → PlanRun
+plan_run certificate rounds ran = record { certificate = certificate; rounds = rounds; ran = ran }
 
 -- on two threads, and on one
 abbrev pub whole_seven : List PlanRun
-whole_seven = plan_run (Longest 0) (((0, 1) ∷ (2, 0) ∷ []) ∷ ((0, 0) ∷ (1, 0) ∷ []) ∷ []) [] ∷ []
+whole_seven = plan_run (Longest 0) (((0, 0) ∷ (1, 0) ∷ []) ∷ ((0, 1) ∷ (2, 0) ∷ []) ∷ []) 2 ∷ []
 
 abbrev pub single_seven : List PlanRun
-single_seven = plan_run FullLoad (((2, 0) ∷ []) ∷ ((1, 0) ∷ []) ∷ ((0, 1) ∷ []) ∷ ((0, 0) ∷ []) ∷ []) [] ∷ []
+single_seven = plan_run FullLoad (((0, 0) ∷ []) ∷ ((0, 1) ∷ []) ∷ ((1, 0) ∷ []) ∷ ((2, 0) ∷ []) ∷ []) 4 ∷ []
 
 -- stopped after one round, and taken up again
 abbrev pub stopped_seven : List PlanRun
-stopped_seven = plan_run (Longest 0) (((0, 0) ∷ (1, 0) ∷ []) ∷ []) (((0, 1) ∷ (2, 0) ∷ []) ∷ []) ∷ []
+stopped_seven = plan_run (Longest 0) (((0, 0) ∷ (1, 0) ∷ []) ∷ ((0, 1) ∷ (2, 0) ∷ []) ∷ []) 1 ∷ []
 
 abbrev pub rest_of_seven : Setup
 rest_of_seven = restarted (seven 2) (seven_tasks 2) stopped_seven
@@ -127,23 +127,23 @@ abbrev pub rest_tasks : List TaskState
 rest_tasks = first_tasks rest_of_seven (works_with 0 sound (codes "xa" ∷ codes "xb" ∷ []) ∷ clean 5 ∷ [])
 
 abbrev pub rest_run : List PlanRun
-rest_run = plan_run (Longest 0) (((0, 0) ∷ (2, 0) ∷ []) ∷ []) [] ∷ []
+rest_run = plan_run (Longest 0) (((0, 0) ∷ (2, 0) ∷ []) ∷ []) 1 ∷ []
 
 -- on one thread, stopped after each round and taken up again
 abbrev pub rounds_of_one : List ℕ → List (List Pair)
 rounds_of_one partitions = map (λ p. (p, 0) ∷ []) partitions
 
 abbrev pub first_round : List PlanRun
-first_round = plan_run FullLoad (rounds_of_one (0 ∷ [])) (((0, 1) ∷ []) ∷ rounds_of_one (1 ∷ 2 ∷ [])) ∷ []
+first_round = plan_run FullLoad (((0, 0) ∷ []) ∷ ((0, 1) ∷ []) ∷ rounds_of_one (1 ∷ 2 ∷ [])) 1 ∷ []
 
 abbrev pub second_round : List PlanRun
-second_round = plan_run FullLoad (rounds_of_one (0 ∷ [])) (rounds_of_one (1 ∷ 2 ∷ [])) ∷ []
+second_round = plan_run FullLoad (rounds_of_one (0 ∷ 1 ∷ 2 ∷ [])) 1 ∷ []
 
 abbrev pub third_round : List PlanRun
-third_round = plan_run FullLoad (rounds_of_one (1 ∷ [])) (rounds_of_one (2 ∷ [])) ∷ []
+third_round = plan_run FullLoad (rounds_of_one (1 ∷ 2 ∷ [])) 1 ∷ []
 
 abbrev pub fourth_round : List PlanRun
-fourth_round = plan_run (Longest 2) (rounds_of_one (2 ∷ [])) [] ∷ []
+fourth_round = plan_run (Longest 2) (rounds_of_one (2 ∷ [])) 1 ∷ []
 
 abbrev pub second_step : Setup
 second_step = restarted (seven 1) (seven_tasks 1) first_round
@@ -165,7 +165,7 @@ fourth_tasks = restarted_tasks third_step third_tasks third_round
 
 -- the partition that fails, and its restart with no faults
 abbrev pub whole_six : List PlanRun
-whole_six = plan_run (Longest 0) (((0, 1) ∷ []) ∷ ((0, 0) ∷ (1, 0) ∷ []) ∷ []) [] ∷ []
+whole_six = plan_run (Longest 0) (((0, 0) ∷ (1, 0) ∷ []) ∷ ((0, 1) ∷ []) ∷ []) 2 ∷ []
 
 abbrev pub rest_of_six : Setup
 rest_of_six = restarted six six_tasks whole_six
@@ -174,20 +174,20 @@ abbrev pub six_again : List TaskState
 six_again = first_tasks rest_of_six (works_with 0 sound (codes "xb" ∷ []) ∷ [])
 
 abbrev pub six_rest_run : List PlanRun
-six_rest_run = plan_run (Longest 0) (((0, 0) ∷ []) ∷ []) [] ∷ []
+six_rest_run = plan_run (Longest 0) (((0, 0) ∷ []) ∷ []) 1 ∷ []
 
 abbrev pub chunks : List ℕ → List (List Pair)
 chunks numbers = map (λ n. (0, n) ∷ []) numbers
 
 abbrev pub retried_run : List PlanRun
 retried_run =
-    plan_run (Longest 0) (chunks (3 ∷ 2 ∷ 1 ∷ 0 ∷ [])) []
-    ∷ plan_run (Longest 0) (chunks (0 ∷ [])) [] ∷ []
+    plan_run (Longest 0) (chunks (0 ∷ 1 ∷ 2 ∷ 3 ∷ [])) 4
+    ∷ plan_run (Longest 0) (chunks (0 ∷ [])) 1 ∷ []
 
 abbrev pub skipped_run : List PlanRun
 skipped_run =
-    plan_run (Longest 0) (chunks (2 ∷ 1 ∷ 0 ∷ [])) []
-    ∷ plan_run (Longest 0) (chunks (0 ∷ [])) (chunks (1 ∷ [])) ∷ []
+    plan_run (Longest 0) (chunks (0 ∷ 1 ∷ 2 ∷ [])) 3
+    ∷ plan_run (Longest 0) (chunks (0 ∷ 1 ∷ [])) 1 ∷ []
 
 -- WHAT THE DEFINITIONS GIVE
 
@@ -213,7 +213,7 @@ pub record Gives (s : Setup) (start : List TaskState) (plans : List PlanRun) (no
   pub rows_are : map numbers (rows_now s.rows (table_after plans start)) ≡ rows
   pub calls_are : heard s start plans ≡ calls
   pub status_is : status_of (rows_now s.rows (table_after plans start)) false ≡ status
-  pub reduced_is : reducer_calls false false (went_well (rows_now s.rows (table_after plans start)) false) false ≡ reduced
+  pub reduced_is : reducer_calls false (run_end (status_of (rows_now s.rows (table_after plans start)) false) false) ≡ reduced
 
 abbrev pub committed : List ReducerCall
 committed = Begin ∷ Before ∷ After end.Commit ∷ []
@@ -327,11 +327,11 @@ Skipped =
 
 pub record Refused : Type 0 where
   -- four rounds where two are enough: one chunk in each
-  pub slow : (plan : PlanRun) → length (sets_of plan) ≡ 4 → IsPlanRun (seven 2) (seven_tasks 2) plan → ⊥
+  pub slow : (plan : PlanRun) → length plan.rounds ≡ 4 → IsPlanRun (seven 2) (seven_tasks 2) plan → ⊥
   -- a plan that goes on after a rollback
-  pub kept : IsPlanRun skipping skipping_tasks (plan_run (Longest 0) (chunks (1 ∷ 0 ∷ [])) []) → ⊥
+  pub kept : IsPlanRun skipping skipping_tasks (plan_run (Longest 0) (chunks (0 ∷ 1 ∷ [])) 2) → ⊥
   -- a plan that was left with a round to run, and another after it
-  pub dropped : ArePlanRuns (seven 2) (seven_tasks 2) (plan_run FullLoad [] [] ∷ stopped_seven) → ⊥
+  pub dropped : ArePlanRuns (seven 2) (seven_tasks 2) (plan_run FullLoad [] 0 ∷ stopped_seven) → ⊥
 
 -- THE REDUCER'S CALLS WHERE THERE IS NO ANSWER
 

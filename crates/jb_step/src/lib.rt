@@ -3,33 +3,32 @@
 //! - `preparing`: the plan of a step's partitions, and `prepared`: the rows that it begins with, new ones or those of a stopped
 //!   run; `start`: their tasks.
 //! - `step`: the step from its artifacts to its end; `run`: all its rounds, `plan`: the plan whose rounds are run, `round`: one
-//!   of them, `lanes`: the desk that runs it, and `finish`: the rows compared at the end.
+//!   of them, `runner`: the desk that runs it, and `finish`: the rows compared at the end.
 //! - `tell`: what the analyzer is told, `reduce`: what the reducer is, and how the step stands.
-//! - `notes`, `error`: what a step answers.
+//! - `error`: why its rounds have no end.
 //! - `laws`, `worked`: what holds of every run of a step and of its restarts, and its definitions computed on whole steps.
 #![tactic(auto)]
 
 mod error;
 mod finish;
-mod lanes;
 mod laws;
-mod notes;
 mod plan;
 mod prepared;
 mod preparing;
 mod reduce;
 mod round;
 mod run;
+mod runner;
 mod start;
 mod step;
 mod tell;
 mod worked;
 
+pub use jb_cert::PlanNote;
 pub use jb_saved::{Saved, SavedPlace, StepError, read_saved, saved_text};
 pub use laws::{
     others_dont_count, overrides_begin_anew, partitions_run_alone, plans_can_be_run, restarts_go_on,
 };
-pub use notes::PlanNote;
 pub use prepared::Prepared;
 pub use preparing::prepare;
 pub use step::{StepEnd, run_step};

@@ -2,23 +2,18 @@
 
 ghost use Rattle.std.specs.Prelude.{◌≡◌, ◌+◌, ◌++◌, ◌∷◌, ◌≤◌, [], None, IfOk, OnOk, map};
 ghost use Rattle.jb_cert.specs.Load.{mcnaughton};
-ghost use Rattle.jb_rules.specs.Sound.{IsSoundRow};
-ghost use Rattle.jb_chunk.specs.Standing.{HasItemCount};
-ghost use Rattle.jb_repo.specs.Rows.{remaining_of};
-ghost use Rattle.jb_step.specs.Going.{IsTable};
+ghost use Rattle.jb_step.specs.PlanLaws.{IsTable};
 ghost use Rattle.jb_step.specs.Setup.{row_now, counts_now};
 ghost use Rattle.jb_step.specs.inside.Head.{IsNextPlan, IsAfterRound, note_at};
 ghost use Rattle.jb_step.specs.inside.Places.{ArePlaced, held_in};
 
-use crate::error::{RunError, refusal};
-use crate::lanes::Lanes;
-use crate::notes::PlanNote;
+use crate::error::RunError;
 use crate::prepared::Prepared;
-use jb_cert::fits;
+use crate::runner::RoundRunner;
+use jb_cert::{PlanNote, fits};
 use jb_chunk::PartitionTask;
-use jb_plan::chunks_left;
 use jb_rounds::RoundCursor;
-use jb_rules::{Row, RowState};
+use jb_rules::Row;
 use jb_workers::Gate;
 use std::alloc::Global;
 use std::sync::Wait;
@@ -48,18 +43,6 @@ pub(crate) fn row_of<T: PartitionTask>(held: &[Option<T>], partition: u32, row: 
     }
 }
 
-// How many chunks the row has left.
-fn count_of(row: &Row, item_count: u64) -> u64
-    requires sound { IsSoundRow row.now }
-    requires count { HasItemCount item_count }
-    ensures { result ≡ remaining_of item_count row.now row.now.state }
-{
-    match row.state {
-        RowState::Waiting => chunks_left(row.at, row.redo, row.hi, item_count),
-        RowState::Running(_) | RowState::Finished | RowState::Failed => 0,
-    }
-}
-
 // How many chunks each partition has left.
 fn counts_of<T: PartitionTask>(
     alloc: Global,
@@ -75,9 +58,7 @@ fn counts_of<T: PartitionTask>(
     let item_count = prepared.item_count();
     for (partition, row) in rows.iter().enumerate() {
         let now = row_of(held, partition as u32, *row);
-        if counts.push(count_of(&now, item_count)).is_err() {
-            return Err(RunError::Memory);
-        }
+        counts.push(now.remaining(item_count))?;
     }
     Ok(counts)
 }
@@ -89,7 +70,7 @@ fn new_plan<
     G: Gate + Sync,
     R: Threads + Wait + Sync,
 >(
-    lanes: &Lanes<L, G, R>,
+    runner: &RoundRunner<L, G, R>,
     alloc: Global,
     prepared: &Prepared,
     held: &[Option<T>],
@@ -101,18 +82,14 @@ fn new_plan<
     let counts = counts_of(alloc, prepared, held)?;
     let threads = prepared.threads();
     if !fits(counts.as_slice(), threads) {
-        return Err(RunError::Repository(0));
+        return Err(RunError::Row(0));
     }
-    let Ok(cursor) = RoundCursor::new(alloc, counts.as_slice(), threads) else {
-        return Err(RunError::Memory);
-    };
+    let cursor = RoundCursor::new(alloc, counts.as_slice(), threads)?;
     let rounds = cursor.rounds();
     if rounds < 1 {
-        return Err(RunError::Repository(0));
+        return Err(RunError::Row(0));
     }
-    if let Err(refused) = lanes.plan(rounds, cursor.certificate()) {
-        return Err(refusal(refused, prepared.rows().len() as u32));
-    }
+    runner.plan(rounds, cursor.certificate())?;
     Ok(Open { cursor, ran: 0 })
 }
 
@@ -123,7 +100,7 @@ pub(crate) fn next_plan<
     G: Gate + Sync,
     R: Threads + Wait + Sync,
 >(
-    lanes: &Lanes<L, G, R>,
+    runner: &RoundRunner<L, G, R>,
     alloc: Global,
     prepared: &Prepared,
     held: &[Option<T>],
@@ -135,7 +112,7 @@ pub(crate) fn next_plan<
 {
     match plan {
         Some(plan) => Ok(plan),
-        None => new_plan(lanes, alloc, prepared, held),
+        None => new_plan(runner, alloc, prepared, held),
     }
 }
 
@@ -173,8 +150,6 @@ pub(crate) fn take_note(
         planned: cursor.rounds(),
         ran,
     };
-    if notes.push(note).is_err() {
-        return Err(RunError::Memory);
-    }
+    notes.push(note)?;
     Ok(())
 }

@@ -1,15 +1,16 @@
 //! What a step begins with.
 
 ghost use Rattle.std.specs.Prelude.{◌≡◌, ◌↔◌, ◌≤◌, [], true, false, length, slice_get, option_copied, IfOk, IfErr, IsTrue, OnOk};
-ghost use Rattle.jb_job.specs.Limits.{max_partitions, max_parts};
+ghost use Rattle.jb_base.specs.Limits.{max_partitions, max_parts};
 ghost use Rattle.jb_chunk.specs.Standing.{HasItemCount};
 ghost use Rattle.jb_step.specs.Setup.{IsSetup, fresh_rows, needs};
-ghost use Rattle.jb_saved.specs.GoingOn.{Refuses, rows_again, step_faults};
+ghost use Rattle.jb_saved.specs.GoingOn.{Refuses, rows_restarted, step_faults};
 ghost use Rattle.jb_step.specs.inside.Fresh.{setup_with};
 ghost use Rattle.jb_step.specs.inside.Preparing.{MayOpen};
 ghost use Rattle.jb_step.specs.inside.Starting.{AreBegun};
 
-use jb_job::{Range, Rules, Step};
+use jb_base::{Range, Rules};
+use jb_job::Step;
 use jb_plan::Checked;
 use jb_repo::Repo;
 use jb_rules::{Row, rows_stay_sound};
@@ -66,14 +67,11 @@ impl Prepared {
     ) -> Result<Prepared, StepError>
         ensures accepted { OnOk result (step_faults step.now.id records saved.now ≡ []) }
         ensures refused { IfErr result (λ error. Refuses error (step_faults step.now.id records saved.now)) }
-        ensures value { IfOk result (λ prepared. prepared ≡ setup_with (rows_again saved.now) plan.now step.now false) }
+        ensures value { IfOk result (λ prepared. prepared ≡ setup_with (rows_restarted saved.now) plan.now step.now false) }
         ensures setup { IfOk result (λ prepared. IsSetup prepared) }
     {
         let rows = rows_to_go_on(alloc, step.id(), records, saved)?;
-        match Prepared::with_rows(alloc, rows, plan, step, false) {
-            Ok(prepared) => Ok(prepared),
-            Err(_) => Err(StepError::Memory),
-        }
+        Ok(Prepared::with_rows(alloc, rows, plan, step, false)?)
     }
 
     // These rows, on the threads of a checked plan. The only error is want of memory for the list of the unfinished.

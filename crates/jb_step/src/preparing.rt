@@ -1,19 +1,20 @@
 //! What a step begins with: its reducer, its mapper, its plan of partitions, and the saved rows of a stopped run.
 
 ghost use Rattle.std.specs.Prelude.{◌≡◌, ◌≤◌, ◌++◌, ◌∷◌, [], true, IfOk, IfErr, OnOk};
-ghost use Rattle.jb_job.specs.Limits.{max_records};
+ghost use Rattle.jb_base.specs.Limits.{max_records};
 ghost use Rattle.jb_collect.specs.declared.calls.ReducerCall.TheVariants as act;
 ghost use Rattle.jb_collect.specs.Taken.{well};
 ghost use Rattle.jb_saved.specs.declared.error.StepError.TheVariants.{Memory};
 ghost use Rattle.jb_step.specs.Prepare.{AreCallsBefore, IsAnew, IsPreparation, IsRefusal, discards_by};
-ghost use Rattle.jb_step.specs.Reduced.{Grew, since};
+ghost use Rattle.jb_step.specs.Callbacks.{Grew, since};
 ghost use Rattle.jb_step.specs.Setup.{IsSetup, fresh_rows, saved_faults};
 ghost use Rattle.jb_step.specs.inside.Fresh.{IsDiscardRefused, IsUnopened, IsUnplanned, opened_setup, setup_with};
 
 use crate::prepared::Prepared;
 use crate::reduce::undo;
+use jb_base::ArtifactError;
 use jb_collect::{PartitionStatus, Reducer};
-use jb_job::{ArtifactError, Step};
+use jb_job::Step;
 use jb_mapper::PartitionMapper;
 use jb_plan::{Checked, checked};
 use jb_saved::{Saved, SavedPlace, StepError};
@@ -148,8 +149,5 @@ fn anew(alloc: Global, plan: &Checked, step: &Step) -> Result<Prepared, StepErro
     ensures setup { IfOk result (λ prepared. IsSetup prepared) }
     ensures err { IfErr result (λ error. error ≡ Memory) }
 {
-    match Prepared::fresh(alloc, plan, step) {
-        Ok(prepared) => Ok(prepared),
-        Err(_) => Err(StepError::Memory),
-    }
+    Ok(Prepared::fresh(alloc, plan, step)?)
 }

@@ -4,16 +4,17 @@ ghost use Rattle.std.specs.Prelude.{◌≡◌, ◌||◌, ◌⊎◌, true, false,
 ghost use Rattle.std.specs.List.{list_any};
 ghost use Rattle.jb_rules.specs.States.{is_finished, is_failed};
 ghost use Rattle.jb_collect.specs.declared.calls.ReducerCall.TheVariants as act;
-ghost use Rattle.jb_collect.specs.Reduced.{rolled_back};
-ghost use Rattle.jb_step.specs.Ending.{AreCallsUndone};
-ghost use Rattle.jb_step.specs.Reduced.{Grew, since};
-ghost use Rattle.jb_step.specs.Statuses.{status_of, is_completed, went_well};
+ghost use Rattle.jb_collect.specs.declared.calls.Status.TheVariants.{Completed};
+ghost use Rattle.jb_collect.specs.ReducerCalls.{rolled_back};
+ghost use Rattle.jb_step.specs.Answers.{AreCallsUndone};
+ghost use Rattle.jb_step.specs.Callbacks.{Grew, since};
+ghost use Rattle.jb_step.specs.Statuses.{status_of};
 ghost use Rattle.jb_saved.specs.declared.error.StepError.TheVariants.{Memory};
 ghost use Rattle.jb_step.specs.inside.Reducing.{IsEnding, IsEndingInPart, IsReducing, IsReducingSome, fault_in};
 
 use crate::error::RunError;
+use jb_base::ArtifactError;
 use jb_collect::{PartitionStatus, Reducer, Status};
-use jb_job::ArtifactError;
 use jb_rules::Row;
 use jb_saved::StepError;
 
@@ -42,12 +43,6 @@ fn status_now(rows: &[Row], callback_failed: bool) -> Status
         return Status::Stopped;
     }
     Status::Completed
-}
-
-fn is_completed(status: Status) -> bool
-    ensures { result ≡ is_completed status }
-{
-    matches!(status, Status::Completed)
 }
 
 fn either(one: bool, other: bool) -> bool
@@ -110,23 +105,21 @@ fn begin_completion(reducer: &mut dyn Reducer) -> Result<bool, RunError>
 }
 
 // The calls where each partition is completed and no callback failed.
-fn complete(rows: &[Row], reducer: &mut dyn Reducer) -> Result<Status, RunError>
-    requires { went_well rows.now false ≡ true }
-    ensures ending { IfOk result (λ status. IsEnding rows.now false (reduced reducer.old) status (reduced reducer.new)) }
+fn complete(rows: &[Row], faulted: bool, reducer: &mut dyn Reducer) -> Result<Status, RunError>
+    requires { status_of rows.now faulted ≡ Completed }
+    ensures ending { IfOk result (λ status. IsEnding rows.now faulted (reduced reducer.old) status (reduced reducer.new)) }
     ensures memory { OnErr result (IsEndingInPart (reduced reducer.old) (reduced reducer.new)) }
     ensures grew { Grew (reduced reducer.old) (reduced reducer.new) }
 {
     let before = begin_completion(reducer)?;
     if before {
         let undone = undo(reducer)?;
-        let failed = either(before, undone);
-        let status = status_now(rows, failed);
-        return Ok(status);
+        let failed = either(faulted, either(before, undone));
+        return Ok(status_now(rows, failed));
     }
     let ended = reducer.after(PartitionStatus::Commit);
     let failed = fault_in(ended)?;
-    let status = status_now(rows, failed);
-    Ok(status)
+    Ok(status_now(rows, either(faulted, failed)))
 }
 
 /// The reducer's calls at the step's end, and how the step stands then; `faulted` where the analyzer answered a fault. The
@@ -140,13 +133,12 @@ pub(crate) fn end_step(
     ensures memory { OnErr result (IsEndingInPart (reduced reducer.old) (reduced reducer.new)) }
     ensures grew { Grew (reduced reducer.old) (reduced reducer.new) }
 {
-    let well = is_completed(status_now(rows, faulted));
-    if well {
-        let status = complete(rows, reducer)?;
-        return Ok(status);
+    match status_now(rows, faulted) {
+        Status::Completed => complete(rows, faulted, reducer),
+        Status::Started | Status::Stopped | Status::Failed => {
+            let failed = undo(reducer)?;
+            let any = either(faulted, failed);
+            Ok(status_now(rows, any))
+        }
     }
-    let failed = undo(reducer)?;
-    let any = either(faulted, failed);
-    let status = status_now(rows, any);
-    Ok(status)
 }

@@ -3,25 +3,25 @@
 ghost use Rattle.std.specs.Prelude.{◌≡◌, ◌++◌, [], IfOk, None, OnOk, Some, length, map, slice_index_or, slice_set};
 ghost use Rattle.std.specs.List.{cons_option};
 ghost use Rattle.jb_cert.specs.Plans.{slot_pair};
-ghost use Rattle.jb_cert.specs.WrapAround.{lane_slot, slots_of_round};
+ghost use Rattle.jb_cert.specs.WrapAround.{slots_of_round};
 ghost use Rattle.jb_cert.specs.Rising.{Rise};
-ghost use Rattle.jb_step.specs.Reduced.{Grew};
+ghost use Rattle.jb_step.specs.Callbacks.{Grew};
 ghost use Rattle.jb_step.specs.Rounds.{CanRun, after_round, attempts_in, breaks, is_commit};
 ghost use Rattle.jb_collect.specs.Heard.{endings_of};
 ghost use Rattle.jb_step.specs.inside.Adding.{heard_in_round};
 ghost use Rattle.jb_step.specs.inside.Places.{ArePlaced, emptied, filled, held_in, picked};
-ghost use Rattle.jb_step.specs.inside.Round.{tasks_of, partitions_of, taken, breaks_in};
-ghost use Rattle.jb_step.specs.Ways.{AreReady};
+ghost use Rattle.jb_step.specs.inside.Round.{breaks_in, partitions_of, tasks_of, tasks_of_set};
+ghost use Rattle.jb_step.specs.Alone.{AreReady};
 ghost use Rattle.jb_step.specs.inside.Telling.{IsHearing, moment};
 ghost use Rattle.jb_workers.specs.Works.{AllCanBegin, Rise as AreInOrder};
 
 use crate::error::RunError;
-use crate::lanes::Lanes;
+use crate::runner::RoundRunner;
 use crate::tell::tell_round;
+use jb_base::ClassId;
 use jb_cert::{Slot, lanes_are_found};
 use jb_chunk::{Done, Outcome, PartitionTask};
 use jb_collect::Analyzer;
-use jb_job::ClassId;
 use jb_rounds::RoundCursor;
 use jb_workers::{Gate, Work};
 use std::alloc::Global;
@@ -52,34 +52,7 @@ pub(crate) fn slots_of(
     ensures rise { IfOk result (λ slots. Rise (map (λ slot. slot.partition) slots.items)) }
 {
     lanes_are_found();
-    let threads = cursor.threads();
-    let mut slots = Vec::new(alloc);
-    for lane in 0..threads {
-        add_slot(&mut slots, cursor, round, lane)?;
-    }
-    Ok(slots)
-}
-
-// Adds the lane's slot, if it has one.
-fn add_slot(
-    slots: &mut Vec<Slot>,
-    cursor: &RoundCursor,
-    round: u64,
-    lane: u32,
-) -> Result<(), RunError>
-    ensures { OnOk result (slots.new.items ≡ slots.old.items ++ cons_option (lane_slot cursor.now.counts cursor.now.threads round lane) []) }
-{
-    if let Some((partition, chunk)) = cursor.slot(round, lane) {
-        let slot = Slot {
-            lane,
-            partition,
-            chunk,
-        };
-        if slots.push(slot).is_err() {
-            return Err(RunError::Memory);
-        }
-    }
-    Ok(())
+    Ok(cursor.slots(alloc, round)?)
 }
 
 // Takes the task of the slot's partition out of its place, as a work.
@@ -101,9 +74,7 @@ fn take_work<T: PartitionTask>(
             lane: slot.lane,
             task,
         };
-        if works.push(work).is_err() {
-            return Err(RunError::Memory);
-        }
+        works.push(work)?;
     }
     Ok(())
 }
@@ -176,14 +147,12 @@ fn chosen<T: PartitionTask>(
     requires rise { Rise (partitions_of (map T.standing (held_in held.items))) }
     requires ready { AreReady (map T.standing (held_in held.items)) }
     requires can_run { CanRun (map slot_pair slots.now) (map T.standing (held_in held.items)) }
-    ensures works { IfOk result (λ r. tasks_of r.0.items ≡ taken T.standing (map slot_pair slots.now) (held_in held.items)) }
+    ensures works { IfOk result (λ r. tasks_of r.0.items ≡ tasks_of_set T.standing (map slot_pair slots.now) (held_in held.items)) }
     ensures places { IfOk result (λ r. r.1.items ≡ emptied (map slot_pair slots.now) held.items) }
     ensures can { IfOk result (λ r. AllCanBegin T.standing r.0.items) }
     ensures in_order { IfOk result (λ r. AreInOrder T.standing r.0.items) }
 {
-    let Ok(mut works) = Vec::with_capacity(alloc, slots.len()) else {
-        return Err(RunError::Memory);
-    };
+    let mut works = Vec::with_capacity(alloc, slots.len())?;
     let mut places = held;
     take_works(&mut works, &mut places, slots)?;
     Ok((works, places))
@@ -196,10 +165,9 @@ pub(crate) fn one_round<
     G: Gate + Sync,
     R: Threads + Wait + Sync,
 >(
-    lanes: &Lanes<L, G, R>,
+    runner: &RoundRunner<L, G, R>,
     alloc: Global,
     held: Vec<Option<T>>,
-    rows: u32,
     slots: &[Slot],
     fault: Option<ClassId>,
     analyzer: &mut dyn Analyzer,
@@ -214,11 +182,11 @@ pub(crate) fn one_round<
     ensures ready { IfOk result (λ turn. AreReady (map T.standing (held_in turn.held.items))) }
     ensures attempts { IfOk result (λ turn. turn.attempts ≡ length (attempts_in (map slot_pair slots.now) (map T.standing (held_in held.items)))) }
     ensures breaks { IfOk result (λ turn. turn.breaks ≡ breaks (map slot_pair slots.now) (map T.standing (held_in held.items))) }
-    ensures told { IfOk result (λ turn. IsHearing fault (analyzed analyzer.old) (heard_in_round (map slot_pair slots.now) (map T.standing (held_in held.items))) (moment (analyzed analyzer.new) turn.fault)) }
+    ensures heard { IfOk result (λ turn. IsHearing fault (analyzed analyzer.old) (heard_in_round (map slot_pair slots.now) (map T.standing (held_in held.items))) (moment (analyzed analyzer.new) turn.fault)) }
     ensures grew { Grew (analyzed analyzer.old) (analyzed analyzer.new) }
 {
     let (works, places) = chosen(alloc, held, slots)?;
-    let dones = lanes.run_round(alloc, works, rows)?;
+    let dones = runner.run_round(alloc, works)?;
     let now_fault = tell_round(dones.as_slice(), fault, analyzer)?;
     let breaks = some_breaks(dones.as_slice());
     let attempts = dones.as_slice().len() as u64;

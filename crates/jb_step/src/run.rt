@@ -1,24 +1,24 @@
 //! All rounds of a step.
 
 ghost use Rattle.std.specs.Prelude.{◌≡◌, ◌+◌, ◌≤◌, ◌==◌, true, false, IfOk, OnOk, List, [], ◌∷◌, IsSome, map, filter, length, MatchOption};
-ghost use Rattle.jb_step.specs.Going.{IsTable};
-ghost use Rattle.jb_step.specs.Reduced.{Grew};
-ghost use Rattle.jb_step.specs.Ways.{have_ended};
+ghost use Rattle.jb_step.specs.PlanLaws.{IsTable};
+ghost use Rattle.jb_step.specs.Callbacks.{Grew};
+ghost use Rattle.jb_step.specs.Alone.{have_ended};
 ghost use Rattle.jb_step.specs.inside.Head.{AreRounds, IsFinished};
 ghost use Rattle.jb_step.specs.inside.Places.{ArePlaced, held_in};
 ghost use Rattle.jb_step.specs.inside.Telling.{moment};
 
 use crate::error::RunError;
-use crate::lanes::Lanes;
 use crate::laws::laws_below;
-use crate::notes::PlanNote;
 use crate::plan::{Open, closed, next_plan, take_note};
 use crate::prepared::Prepared;
 use crate::round::{one_round, slots_of};
+use crate::runner::RoundRunner;
 use crate::tell::tell_first;
+use jb_base::ClassId;
+use jb_cert::PlanNote;
 use jb_chunk::PartitionTask;
 use jb_collect::Analyzer;
-use jb_job::ClassId;
 use jb_workers::Gate;
 use std::alloc::Global;
 use std::sync::Wait;
@@ -96,29 +96,28 @@ fn finish_notes(plan: &Option<Open>, notes: &mut Vec<PlanNote>) -> Result<(), Ru
 
 // Asks for a stop where the tasks haven't ended, and notes the plan that is still open.
 fn end_rounds<L: Ledger + Send + Sync + 'static, G: Gate + Sync, R: Threads + Wait + Sync>(
-    lanes: &Lanes<L, G, R>,
+    runner: &RoundRunner<L, G, R>,
     stopped: bool,
-    rows: u32,
     plan: &Option<Open>,
     notes: &mut Vec<PlanNote>,
 ) -> Result<(), RunError>
     ensures { OnOk result (IsFinished plan.now notes.old.items notes.new.items) }
 {
     if stopped {
-        lanes.stop(rows)?;
+        runner.stop()?;
     }
     finish_notes(plan, notes)
 }
 
 // One round more, and so many attempts.
-fn counted(ran: u64, tried: u64, attempts: u64, rows: u32) -> Result<(u64, u64), RunError>
+fn counted(ran: u64, tried: u64, attempts: u64) -> Result<(u64, u64), RunError>
     ensures { IfOk result (λ sums. (sums.0 ≡ ran + 1) × (sums.1 ≡ tried + attempts)) }
 {
     let Some(more) = ran.checked_add(1) else {
-        return Err(RunError::Repository(rows));
+        return Err(RunError::Desk);
     };
     let Some(all) = tried.checked_add(attempts) else {
-        return Err(RunError::Repository(rows));
+        return Err(RunError::Desk);
     };
     Ok((more, all))
 }
@@ -130,7 +129,7 @@ pub(crate) fn run_rounds<
     G: Gate + Sync,
     R: Threads + Wait + Sync,
 >(
-    lanes: &Lanes<L, G, R>,
+    runner: &RoundRunner<L, G, R>,
     alloc: Global,
     prepared: &Prepared,
     tasks: Vec<Option<T>>,
@@ -139,22 +138,22 @@ pub(crate) fn run_rounds<
 ) -> Result<Ran<T>, RunError>
     requires table { IsTable prepared.now (map T.standing (held_in tasks.items)) }
     requires placed { ArePlaced T.standing 0 tasks.items }
-    ensures rounds { IfOk result (λ ran. AreRounds prepared.now (map T.standing (held_in tasks.items)) round_limit (analyzed analyzer.old) (moment (analyzed analyzer.new) ran.fault) ran.notes.items (map T.standing (held_in ran.held.items)) (ran.rounds, ran.attempts) ran.stopped) }
+    ensures rounds { IfOk result (λ ran. AreRounds (record { setup = prepared.now; start = map T.standing (held_in tasks.items); base = analyzed analyzer.old }) round_limit
+        (record { moment = moment (analyzed analyzer.new) ran.fault; table = map T.standing (held_in ran.held.items); ran = (ran.rounds, ran.attempts); notes = ran.notes.items }) ran.stopped) }
     ensures placed { IfOk result (λ ran. ArePlaced T.standing 0 ran.held.items) }
     ensures grew { Grew (analyzed analyzer.old) (analyzed analyzer.new) }
 {
     laws_below();
-    let rows = prepared.rows().len() as u32;
     let mut held = tasks;
     let mut notes = Vec::new(alloc);
     let mut plan: Option<Open> = None;
     let mut ran: u64 = 0;
     let mut tried: u64 = 0;
     let mut fault = tell_first(prepared, analyzer)?;
-    for _ in lanes.rt.forever() {
+    for _ in runner.rt.forever() {
         let stopped = !is_over(&plan, held.as_slice());
-        if !stopped || lanes.is_stopping() || at_limit(round_limit, ran) {
-            end_rounds(lanes, stopped, rows, &plan, &mut notes)?;
+        if !stopped || runner.is_stopping() || at_limit(round_limit, ran) {
+            end_rounds(runner, stopped, &plan, &mut notes)?;
             return Ok(Ran {
                 held,
                 notes,
@@ -164,10 +163,10 @@ pub(crate) fn run_rounds<
                 stopped,
             });
         }
-        let next = next_plan(lanes, alloc, prepared, held.as_slice(), plan)?;
+        let next = next_plan(runner, alloc, prepared, held.as_slice(), plan)?;
         let slots = slots_of(alloc, &next.cursor, next.ran)?;
-        let turn = one_round(lanes, alloc, held, rows, slots.as_slice(), fault, analyzer)?;
-        let sums = counted(ran, tried, turn.attempts, rows)?;
+        let turn = one_round(runner, alloc, held, slots.as_slice(), fault, analyzer)?;
+        let sums = counted(ran, tried, turn.attempts)?;
         plan = closed(next, turn.breaks, &mut notes)?;
         held = turn.held;
         fault = turn.fault;

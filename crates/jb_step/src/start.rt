@@ -2,9 +2,9 @@
 
 ghost use Rattle.std.specs.Prelude.{◌≡◌, ◌↔◌, ◌+◌, ◌<◌, ◌++◌, ◌∷◌, [], List, IfOk, OnOk, IsTrue, length, map};
 ghost use Rattle.std.specs.Vec.Iter.{into_iter_items};
-ghost use Rattle.jb_job.specs.Limits.{max_partitions};
+ghost use Rattle.jb_base.specs.Limits.{max_partitions};
 ghost use Rattle.jb_rules.specs.declared.row.Row.{Row};
-ghost use Rattle.jb_step.specs.Going.{IsTable};
+ghost use Rattle.jb_step.specs.PlanLaws.{IsTable};
 ghost use Rattle.jb_step.specs.Prepare.{DoFit, FitRows};
 ghost use Rattle.jb_step.specs.Setup.{first_tasks, unfinished};
 ghost use Rattle.jb_step.specs.inside.Places.{ArePlaced, held_in};
@@ -21,7 +21,7 @@ use std::vec::IntoIter;
 impl Prepared {
     /// Whether there are artifacts for each unfinished partition, in their order, and each serves its partition's row.
     pub fn fits<T: PartitionTask>(&self, artifacts: &[T::Artifacts]) -> bool
-        ensures { IsTrue result ↔ DoFit self.now (map T.Artifacts.workplace artifacts.now) }
+        ensures { IsTrue result ↔ DoFit self.now (map T.Artifacts.meaning artifacts.now) }
     {
         fit_rows::<T>(self.rows(), artifacts)
     }
@@ -29,7 +29,7 @@ impl Prepared {
 
 // The same for these rows.
 fn fit_rows<T: PartitionTask>(rows: &[Row], artifacts: &[T::Artifacts]) -> bool
-    ensures { IsTrue result ↔ FitRows (unfinished rows.now) (map T.Artifacts.workplace artifacts.now) }
+    ensures { IsTrue result ↔ FitRows (unfinished rows.now) (map T.Artifacts.meaning artifacts.now) }
 {
     let mut left = artifacts;
     for row in rows {
@@ -53,8 +53,8 @@ pub(crate) fn start_all<T: PartitionTask>(
     prepared: &Prepared,
     artifacts: Vec<T::Artifacts>,
 ) -> Result<Vec<Option<T>>, RunError>
-    requires { DoFit prepared.now (map T.Artifacts.workplace artifacts.items) }
-    ensures tasks { IfOk result (λ tasks. map T.standing (held_in tasks.items) ≡ first_tasks prepared.now (map T.Artifacts.workplace artifacts.items)) }
+    requires { DoFit prepared.now (map T.Artifacts.meaning artifacts.items) }
+    ensures tasks { IfOk result (λ tasks. map T.standing (held_in tasks.items) ≡ first_tasks prepared.now (map T.Artifacts.meaning artifacts.items)) }
     ensures placed { IfOk result (λ tasks. ArePlaced T.standing 0 tasks.items) }
     ensures table { IfOk result (λ tasks. IsTable prepared.now (map T.standing (held_in tasks.items))) }
 {
@@ -74,14 +74,14 @@ fn start_row<T: PartitionTask>(
     row: &Row,
     artifacts: &mut IntoIter<T::Artifacts, Global>,
 ) -> Result<(), RunError>
-    requires fit { (rest : List Row) × FitRows (unfinished_from (length tasks.old.items) (row.now ∷ rest)) (map T.Artifacts.workplace (into_iter_items artifacts.old)) }
+    requires fit { (rest : List Row) × FitRows (unfinished_from (length tasks.old.items) (row.now ∷ rest)) (map T.Artifacts.meaning (into_iter_items artifacts.old)) }
     requires begun { IsBegun row.now }
     requires few { length tasks.old.items < max_partitions }
     requires placed { ArePlaced T.standing 0 tasks.old.items }
     ensures placed { OnOk result (ArePlaced T.standing 0 tasks.new.items) }
     ensures length { OnOk result (length tasks.new.items ≡ length tasks.old.items + 1) }
-    ensures fit { (rest : List Row) → FitRows (unfinished_from (length tasks.old.items) (row.now ∷ rest)) (map T.Artifacts.workplace (into_iter_items artifacts.old)) → OnOk result (FitRows (unfinished_from (length tasks.old.items + 1) rest) (map T.Artifacts.workplace (into_iter_items artifacts.new))) }
-    ensures tasks { (rest : List Row) → FitRows (unfinished_from (length tasks.old.items) (row.now ∷ rest)) (map T.Artifacts.workplace (into_iter_items artifacts.old)) → OnOk result (map T.standing (held_in tasks.new.items) ++ tasks_from prepared.now (length tasks.old.items + 1) rest (map T.Artifacts.workplace (into_iter_items artifacts.new)) ≡ map T.standing (held_in tasks.old.items) ++ tasks_from prepared.now (length tasks.old.items) (row.now ∷ rest) (map T.Artifacts.workplace (into_iter_items artifacts.old))) }
+    ensures fit { (rest : List Row) → FitRows (unfinished_from (length tasks.old.items) (row.now ∷ rest)) (map T.Artifacts.meaning (into_iter_items artifacts.old)) → OnOk result (FitRows (unfinished_from (length tasks.old.items + 1) rest) (map T.Artifacts.meaning (into_iter_items artifacts.new))) }
+    ensures tasks { (rest : List Row) → FitRows (unfinished_from (length tasks.old.items) (row.now ∷ rest)) (map T.Artifacts.meaning (into_iter_items artifacts.old)) → OnOk result (map T.standing (held_in tasks.new.items) ++ tasks_from prepared.now (length tasks.old.items + 1) rest (map T.Artifacts.meaning (into_iter_items artifacts.new)) ≡ map T.standing (held_in tasks.old.items) ++ tasks_from prepared.now (length tasks.old.items) (row.now ∷ rest) (map T.Artifacts.meaning (into_iter_items artifacts.old))) }
 {
     let partition = tasks.len() as u32;
     if row.state.is_finished() {
@@ -111,8 +111,6 @@ fn add_place<T: PartitionTask>(
     ensures length { OnOk result (length places.new.items ≡ length places.old.items + 1) }
     ensures placed { ArePlaced T.standing 0 places.old.items → ArePlaced T.standing (length places.old.items) (place ∷ []) → OnOk result (ArePlaced T.standing 0 places.new.items) }
 {
-    if places.push(place).is_err() {
-        return Err(RunError::Memory);
-    }
+    places.push(place)?;
     Ok(())
 }

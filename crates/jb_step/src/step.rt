@@ -3,24 +3,25 @@
 ghost use Rattle.std.specs.Prelude.{◌≡◌, ◌⊎◌, ◌+◌, ◌*◌, ◌++◌, ◌∷◌, [], true, false, IfOk, IfErr, OnOk, is_some, map};
 ghost use Rattle.jb_step.specs.inside.Finish.{works_of};
 ghost use Rattle.jb_step.specs.inside.Places.{held_in};
-ghost use Rattle.jb_step.specs.Ending.{given_back, AreCallsAfter, AreCallsUndone, IsRunError, IsRunOfStep, IsStatus, tasks_left};
+ghost use Rattle.jb_step.specs.Answers.{given_back, AreCallsAfter, AreCallsUndone, IsRunError, IsRunOfStep, IsStatus, tasks_left};
 ghost use Rattle.jb_step.specs.Prepare.{DoFit};
-ghost use Rattle.jb_step.specs.Reduced.{Grew, has_fault, since};
+ghost use Rattle.jb_step.specs.Callbacks.{Grew, has_fault, since};
 ghost use Rattle.jb_step.specs.Setup.{first_tasks};
-ghost use Rattle.jb_step.specs.Ways.{AreAlone, AreOnTheWay};
+ghost use Rattle.jb_step.specs.Alone.{AreAlone, AreOnTheWay};
 ghost use Rattle.jb_saved.specs.declared.error.StepError.TheVariants.{WrongArtifacts, Memory};
 
-use crate::error::{RunError, step_error};
-use crate::finish::{Ended, rows_shown, run_to_end};
-use crate::lanes::Lanes;
-use crate::notes::PlanNote;
+use crate::error::RunError;
+use crate::finish::{rows_shown, run_to_end};
 use crate::prepared::Prepared;
 use crate::reduce::{end_step, undone};
+use crate::run::Ran;
+use crate::runner::RoundRunner;
 use crate::start::start_all;
 use jb_artifacts::Meaning;
+use jb_base::ClassId;
+use jb_cert::PlanNote;
 use jb_chunk::PartitionTask;
 use jb_collect::{Analyzer, Reducer, Status};
-use jb_job::ClassId;
 use jb_repo::Snapshot;
 use jb_saved::StepError;
 use jb_workers::{Desk, Gate};
@@ -56,7 +57,7 @@ fn give_back<T: PartitionTask>(
     alloc: Global,
     held: Vec<Option<T>>,
 ) -> Result<Vec<(u32, T::Artifacts)>, RunError>
-    ensures { IfOk result (λ left. given_back T.Artifacts.workplace left.items ≡ works_of (map T.standing (held_in held.items))) }
+    ensures { IfOk result (λ left. given_back T.Artifacts.meaning left.items ≡ works_of (map T.standing (held_in held.items))) }
 {
     let mut left = Vec::new(alloc);
     for place in held {
@@ -70,13 +71,11 @@ fn give_one<T: PartitionTask>(
     left: &mut Vec<(u32, T::Artifacts)>,
     place: Option<T>,
 ) -> Result<(), RunError>
-    ensures { OnOk result (given_back T.Artifacts.workplace left.new.items ≡ given_back T.Artifacts.workplace left.old.items ++ works_of (map T.standing (held_in (place ∷ [])))) }
+    ensures { OnOk result (given_back T.Artifacts.meaning left.new.items ≡ given_back T.Artifacts.meaning left.old.items ++ works_of (map T.standing (held_in (place ∷ [])))) }
 {
     if let Some(task) = place {
         let partition = task.partition();
-        if left.push((partition, task.into_artifacts())).is_err() {
-            return Err(RunError::Memory);
-        }
+        left.push((partition, task.into_artifacts()))?;
     }
     Ok(())
 }
@@ -98,11 +97,11 @@ fn is_new<
     L: Ledger + Send + Sync + 'static,
     G: Gate + Sync,
     R: Threads + Wait + Sync,
->(lanes: &Lanes<L, G, R>, alloc: Global, prepared: &Prepared) -> Result<(), RunError> {
+>(runner: &RoundRunner<L, G, R>, alloc: Global, prepared: &Prepared) -> Result<(), RunError> {
     let none: Vec<Option<T>> = Vec::new(alloc);
-    let snapshot = rows_shown(lanes, prepared, none.as_slice())?;
+    let snapshot = rows_shown(runner, prepared, none.as_slice())?;
     if snapshot.events != 0 {
-        return Err(RunError::Repository(prepared.rows().len() as u32));
+        return Err(RunError::Desk);
     }
     Ok(())
 }
@@ -114,39 +113,47 @@ fn run_tasks<
     G: Gate + Sync,
     R: Threads + Wait + Sync,
 >(
-    lanes: &Lanes<L, G, R>,
+    runner: &RoundRunner<L, G, R>,
     alloc: Global,
     prepared: &Prepared,
     artifacts: Vec<T::Artifacts>,
     analyzer: &mut dyn Analyzer,
     round_limit: Option<u64>,
 ) -> Result<Left<T::Artifacts>, RunError>
-    requires { DoFit prepared.now (map T.Artifacts.workplace artifacts.items) }
-    ensures run { IfOk result (λ left. let back = given_back T.Artifacts.workplace left.artifacts.items in
-        IsRunOfStep prepared.now (map T.Artifacts.workplace artifacts.items) round_limit (analyzed analyzer.old) (analyzed analyzer.new) left.plans.items left.snapshot back) }
+    requires { DoFit prepared.now (map T.Artifacts.meaning artifacts.items) }
+    ensures run { IfOk result (λ left. IsRunOfStep (record {
+      setup = prepared.now;
+      works = map T.Artifacts.meaning artifacts.items;
+      round_limit = round_limit;
+      heard_before = analyzed analyzer.old;
+      heard_after = analyzed analyzer.new;
+      notes = left.plans.items;
+      snapshot = left.snapshot;
+      left = given_back T.Artifacts.meaning left.artifacts.items;
+    })) }
     ensures alone { IfOk result (λ left. left.snapshot.stopping ≡ false →
-        AreAlone (first_tasks prepared.now (map T.Artifacts.workplace artifacts.items)) (tasks_left prepared.now left.snapshot (given_back T.Artifacts.workplace left.artifacts.items))) }
+        AreAlone (first_tasks prepared.now (map T.Artifacts.meaning artifacts.items)) (tasks_left prepared.now left.snapshot (given_back T.Artifacts.meaning left.artifacts.items))) }
     ensures on_the_way { IfOk result (λ left.
-        AreOnTheWay (first_tasks prepared.now (map T.Artifacts.workplace artifacts.items)) (tasks_left prepared.now left.snapshot (given_back T.Artifacts.workplace left.artifacts.items))) }
+        AreOnTheWay (first_tasks prepared.now (map T.Artifacts.meaning artifacts.items)) (tasks_left prepared.now left.snapshot (given_back T.Artifacts.meaning left.artifacts.items))) }
     ensures fault { IfOk result (λ left. is_some left.fault ≡ has_fault (since (analyzed analyzer.old) (analyzed analyzer.new))) }
     ensures grew { Grew (analyzed analyzer.old) (analyzed analyzer.new) }
 {
-    is_new::<T, L, G, R>(lanes, alloc, prepared)?;
+    is_new::<T, L, G, R>(runner, alloc, prepared)?;
     let tasks = start_all::<T>(alloc, prepared, artifacts)?;
-    let ended = run_to_end(lanes, alloc, prepared, tasks, analyzer, round_limit)?;
-    let Ended {
+    let ended = run_to_end(runner, alloc, prepared, tasks, analyzer, round_limit)?;
+    let (ran, snapshot) = ended;
+    let Ran {
         held,
         notes,
         fault,
         rounds,
         attempts,
         stopped,
-        snapshot,
-    } = ended;
+    } = ran;
     let plans = notes.as_slice().len() as u64;
     let agree = are_numbers(&snapshot, stopped, plans, rounds, attempts);
     if !agree {
-        return Err(RunError::Repository(prepared.rows().len() as u32));
+        return Err(RunError::Desk);
     }
     let artifacts = give_back(alloc, held)?;
     Ok(Left {
@@ -155,69 +162,6 @@ fn run_tasks<
         plans: notes,
         artifacts,
     })
-}
-
-/// A step over whatever runs its rounds.
-pub(crate) fn run_over<
-    T: PartitionTask + Send + 'static,
-    L: Ledger + Send + Sync + 'static,
-    G: Gate + Sync,
-    R: Threads + Wait + Sync,
->(
-    lanes: &Lanes<L, G, R>,
-    alloc: Global,
-    prepared: &Prepared,
-    artifacts: Vec<T::Artifacts>,
-    analyzer: &mut dyn Analyzer,
-    reducer: &mut dyn Reducer,
-    round_limit: Option<u64>,
-) -> Result<StepEnd<T::Artifacts>, StepError>
-    ensures run { IfOk result (λ end. let back = given_back T.Artifacts.workplace end.artifacts.items in
-        IsRunOfStep prepared.now (map T.Artifacts.workplace artifacts.items) round_limit (analyzed analyzer.old) (analyzed analyzer.new) end.plans.items end.snapshot back) }
-    ensures alone { IfOk result (λ end. end.snapshot.stopping ≡ false →
-        AreAlone (first_tasks prepared.now (map T.Artifacts.workplace artifacts.items)) (tasks_left prepared.now end.snapshot (given_back T.Artifacts.workplace end.artifacts.items))) }
-    ensures on_the_way { IfOk result (λ end.
-        AreOnTheWay (first_tasks prepared.now (map T.Artifacts.workplace artifacts.items)) (tasks_left prepared.now end.snapshot (given_back T.Artifacts.workplace end.artifacts.items))) }
-    ensures status { IfOk result (λ end. IsStatus end.snapshot (since (analyzed analyzer.old) (analyzed analyzer.new)) (since (reduced reducer.old) (reduced reducer.new)) end.status) }
-    ensures reducer { IfOk result (λ end. AreCallsAfter end.snapshot (since (analyzed analyzer.old) (analyzed analyzer.new)) (since (reduced reducer.old) (reduced reducer.new))) }
-    ensures undone { IfErr result (λ e. AreCallsUndone e (since (reduced reducer.old) (reduced reducer.new))) }
-    ensures fit { OnOk result (DoFit prepared.now (map T.Artifacts.workplace artifacts.items)) }
-    ensures wrong { IfErr result (λ e. e ≡ WrongArtifacts → DoFit prepared.now (map T.Artifacts.workplace artifacts.items) → ⊥) }
-    ensures fit_first { IfErr result (λ e. (DoFit prepared.now (map T.Artifacts.workplace artifacts.items) → ⊥) → (e ≡ WrongArtifacts) ⊎ (e ≡ Memory)) }
-    ensures causes { IfErr result IsRunError }
-    ensures analyzer_grew { Grew (analyzed analyzer.old) (analyzed analyzer.new) }
-    ensures reducer_grew { Grew (reduced reducer.old) (reduced reducer.new) }
-{
-    if !prepared.fits::<T>(artifacts.as_slice()) {
-        return Err(undone(StepError::WrongArtifacts, reducer));
-    }
-    let left = match run_tasks::<T, L, G, R>(
-        lanes,
-        alloc,
-        prepared,
-        artifacts,
-        analyzer,
-        round_limit,
-    ) {
-        Ok(left) => left,
-        Err(error) => return Err(undone(step_error(error), reducer)),
-    };
-    let Left {
-        fault,
-        snapshot,
-        plans,
-        artifacts,
-    } = left;
-    let faulted = fault.is_some();
-    match end_step(snapshot.rows.as_slice(), faulted, reducer) {
-        Ok(status) => Ok(StepEnd {
-            status,
-            snapshot,
-            plans,
-            artifacts,
-        }),
-        Err(_) => Err(StepError::Memory),
-    }
 }
 
 /// Runs each unfinished partition to its end, in rounds of least plans, each round over the desk's threads. The desk must be
@@ -244,36 +188,65 @@ pub fn run_step<
     round_limit: Option<u64>,
     gate: &G,
 ) -> Result<StepEnd<T::Artifacts>, StepError>
-    ensures run { IfOk result (λ end. let back = given_back T.Artifacts.workplace end.artifacts.items in
-        IsRunOfStep prepared (map T.Artifacts.workplace artifacts.items) round_limit (analyzed analyzer.old) (analyzed analyzer.new) end.plans.items end.snapshot back) }
+    ensures run { IfOk result (λ end. IsRunOfStep (record {
+      setup = prepared;
+      works = map T.Artifacts.meaning artifacts.items;
+      round_limit = round_limit;
+      heard_before = analyzed analyzer.old;
+      heard_after = analyzed analyzer.new;
+      notes = end.plans.items;
+      snapshot = end.snapshot;
+      left = given_back T.Artifacts.meaning end.artifacts.items;
+    })) }
 
     // Where nothing stopped it, each partition ends where it ends alone; else it stands on its way there.
     ensures alone { IfOk result (λ end. end.snapshot.stopping ≡ false →
-        AreAlone (first_tasks prepared (map T.Artifacts.workplace artifacts.items)) (tasks_left prepared end.snapshot (given_back T.Artifacts.workplace end.artifacts.items))) }
+        AreAlone (first_tasks prepared (map T.Artifacts.meaning artifacts.items)) (tasks_left prepared end.snapshot (given_back T.Artifacts.meaning end.artifacts.items))) }
     ensures on_the_way { IfOk result (λ end.
-        AreOnTheWay (first_tasks prepared (map T.Artifacts.workplace artifacts.items)) (tasks_left prepared end.snapshot (given_back T.Artifacts.workplace end.artifacts.items))) }
+        AreOnTheWay (first_tasks prepared (map T.Artifacts.meaning artifacts.items)) (tasks_left prepared end.snapshot (given_back T.Artifacts.meaning end.artifacts.items))) }
 
     // How the step stands, and what the reducer was called with.
     ensures status { IfOk result (λ end. IsStatus end.snapshot (since (analyzed analyzer.old) (analyzed analyzer.new)) (since (reduced reducer.old) (reduced reducer.new)) end.status) }
     ensures reducer { IfOk result (λ end. AreCallsAfter end.snapshot (since (analyzed analyzer.old) (analyzed analyzer.new)) (since (reduced reducer.old) (reduced reducer.new))) }
     ensures undone { IfErr result (λ e. AreCallsUndone e (since (reduced reducer.old) (reduced reducer.new))) }
-    ensures fit { OnOk result (DoFit prepared (map T.Artifacts.workplace artifacts.items)) }
-    ensures wrong { IfErr result (λ e. e ≡ WrongArtifacts → DoFit prepared (map T.Artifacts.workplace artifacts.items) → ⊥) }
-    ensures fit_first { IfErr result (λ e. (DoFit prepared (map T.Artifacts.workplace artifacts.items) → ⊥) → (e ≡ WrongArtifacts) ⊎ (e ≡ Memory)) }
+    ensures fit { OnOk result (DoFit prepared (map T.Artifacts.meaning artifacts.items)) }
+    ensures wrong { IfErr result (λ e. e ≡ WrongArtifacts → DoFit prepared (map T.Artifacts.meaning artifacts.items) → ⊥) }
+    ensures fit_first { IfErr result (λ e. (DoFit prepared (map T.Artifacts.meaning artifacts.items) → ⊥) → (e ≡ WrongArtifacts) ⊎ (e ≡ Memory)) }
     ensures causes { IfErr result IsRunError }
 
     // The calls that were taken before stay.
     ensures analyzer_grew { Grew (analyzed analyzer.old) (analyzed analyzer.new) }
     ensures reducer_grew { Grew (reduced reducer.old) (reduced reducer.new) }
 {
-    let lanes = Lanes { desk, gate, rt };
-    run_over::<T, L, G, R>(
-        &lanes,
+    if !prepared.fits::<T>(artifacts.as_slice()) {
+        return Err(undone(StepError::WrongArtifacts, reducer));
+    }
+    let runner = RoundRunner { desk, gate, rt };
+    let rows = prepared.rows().len() as u32;
+    let left = match run_tasks::<T, L, G, R>(
+        &runner,
         alloc,
         &prepared,
         artifacts,
         analyzer,
-        reducer,
         round_limit,
-    )
+    ) {
+        Ok(left) => left,
+        Err(error) => return Err(undone(error.of_step(rows), reducer)),
+    };
+    let Left {
+        fault,
+        snapshot,
+        plans,
+        artifacts,
+    } = left;
+    match end_step(snapshot.rows.as_slice(), fault.is_some(), reducer) {
+        Ok(status) => Ok(StepEnd {
+            status,
+            snapshot,
+            plans,
+            artifacts,
+        }),
+        Err(_) => Err(StepError::Memory),
+    }
 }

@@ -1,19 +1,19 @@
 //! What the analyzer is told, and the fault that it answers.
 
 ghost use Rattle.std.specs.Prelude.{◌≡◌, ◌≤◌, IfOk, [], ◌∷◌, length, map};
-ghost use Rattle.jb_job.specs.Limits.{max_partitions};
+ghost use Rattle.jb_base.specs.Limits.{max_partitions};
 ghost use Rattle.jb_collect.specs.declared.calls.AnalyzerCall.TheVariants as call;
 ghost use Rattle.jb_collect.specs.Heard.{endings_of, heard_first, heard_in, heard_last};
 ghost use Rattle.jb_collect.specs.Taken.{HasTaken};
-ghost use Rattle.jb_step.specs.Reduced.{Grew};
+ghost use Rattle.jb_step.specs.Callbacks.{Grew};
 ghost use Rattle.jb_step.specs.inside.Places.{held_in};
 ghost use Rattle.jb_step.specs.inside.Telling.{IsAnswer, IsHearing, empties, moment};
 
 use crate::error::RunError;
 use crate::prepared::Prepared;
+use jb_base::{ArtifactError, ClassId};
 use jb_chunk::{Done, PartitionTask};
 use jb_collect::{Analyzer, Status, calls_end_at_a_fault, deliver};
-use jb_job::{ArtifactError, ClassId};
 use jb_rules::Row;
 
 /// The fault that a callback answered, if it did.
@@ -33,7 +33,7 @@ pub(crate) fn tell_round<T: PartitionTask>(
     fault: Option<ClassId>,
     analyzer: &mut dyn Analyzer,
 ) -> Result<Option<ClassId>, RunError>
-    ensures told { IfOk result (λ now. IsHearing fault (analyzed analyzer.old) (heard_in (endings_of T.standing dones.now)) (moment (analyzed analyzer.new) now)) }
+    ensures heard { IfOk result (λ now. IsHearing fault (analyzed analyzer.old) (heard_in (endings_of T.standing dones.now)) (moment (analyzed analyzer.new) now)) }
     ensures grew { Grew (analyzed analyzer.old) (analyzed analyzer.new) }
 {
     if fault.is_some() {
@@ -49,7 +49,7 @@ fn tell_status(
     status: Status,
     analyzer: &mut dyn Analyzer,
 ) -> Result<Option<ClassId>, RunError>
-    ensures told { IfOk result (λ fault. HasTaken (analyzed analyzer.old) (call.Status partition status ∷ []) fault (analyzed analyzer.new)) }
+    ensures heard { IfOk result (λ fault. HasTaken (analyzed analyzer.old) (call.Status partition status ∷ []) fault (analyzed analyzer.new)) }
     ensures grew { Grew (analyzed analyzer.old) (analyzed analyzer.new) }
 {
     let answer = analyzer.status(partition, status);
@@ -61,7 +61,7 @@ pub(crate) fn tell_first(
     prepared: &Prepared,
     analyzer: &mut dyn Analyzer,
 ) -> Result<Option<ClassId>, RunError>
-    ensures told { IfOk result (λ fault. HasTaken (analyzed analyzer.old) (heard_first prepared.now.begun_anew prepared.now.rows) fault (analyzed analyzer.new)) }
+    ensures heard { IfOk result (λ fault. HasTaken (analyzed analyzer.old) (heard_first prepared.now.begun_anew prepared.now.rows) fault (analyzed analyzer.new)) }
     ensures grew { Grew (analyzed analyzer.old) (analyzed analyzer.new) }
 {
     if !prepared.begun_anew() {
@@ -74,7 +74,7 @@ pub(crate) fn tell_first(
 // Tells of the empty ranges.
 fn tell_empties(rows: &[Row], analyzer: &mut dyn Analyzer) -> Result<Option<ClassId>, RunError>
     requires { length rows.now ≤ max_partitions }
-    ensures told { IfOk result (λ fault. HasTaken (analyzed analyzer.old) (empties 0 rows.now) fault (analyzed analyzer.new)) }
+    ensures heard { IfOk result (λ fault. HasTaken (analyzed analyzer.old) (empties 0 rows.now) fault (analyzed analyzer.new)) }
     ensures grew { Grew (analyzed analyzer.old) (analyzed analyzer.new) }
 {
     calls_end_at_a_fault();
@@ -93,7 +93,7 @@ fn tell_empty(
     row: &Row,
     analyzer: &mut dyn Analyzer,
 ) -> Result<Option<ClassId>, RunError>
-    ensures told { IfOk result (λ fault. HasTaken (analyzed analyzer.old) (empties partition (row.now ∷ [])) fault (analyzed analyzer.new)) }
+    ensures heard { IfOk result (λ fault. HasTaken (analyzed analyzer.old) (empties partition (row.now ∷ [])) fault (analyzed analyzer.new)) }
     ensures grew { Grew (analyzed analyzer.old) (analyzed analyzer.new) }
 {
     if row.lo != row.hi {
@@ -108,7 +108,7 @@ pub(crate) fn tell_last<T: PartitionTask>(
     fault: Option<ClassId>,
     analyzer: &mut dyn Analyzer,
 ) -> Result<Option<ClassId>, RunError>
-    ensures told { IfOk result (λ now. IsHearing fault (analyzed analyzer.old) (heard_last (map T.standing (held_in held.now))) (moment (analyzed analyzer.new) now)) }
+    ensures heard { IfOk result (λ now. IsHearing fault (analyzed analyzer.old) (heard_last (map T.standing (held_in held.now))) (moment (analyzed analyzer.new) now)) }
     ensures grew { Grew (analyzed analyzer.old) (analyzed analyzer.new) }
 {
     if fault.is_some() {
@@ -122,7 +122,7 @@ fn tell_stopped<T: PartitionTask>(
     held: &[Option<T>],
     analyzer: &mut dyn Analyzer,
 ) -> Result<Option<ClassId>, RunError>
-    ensures told { IfOk result (λ fault. HasTaken (analyzed analyzer.old) (heard_last (map T.standing (held_in held.now))) fault (analyzed analyzer.new)) }
+    ensures heard { IfOk result (λ fault. HasTaken (analyzed analyzer.old) (heard_last (map T.standing (held_in held.now))) fault (analyzed analyzer.new)) }
     ensures grew { Grew (analyzed analyzer.old) (analyzed analyzer.new) }
 {
     calls_end_at_a_fault();
@@ -140,7 +140,7 @@ fn tell_unfinished<T: PartitionTask>(
     place: &Option<T>,
     analyzer: &mut dyn Analyzer,
 ) -> Result<Option<ClassId>, RunError>
-    ensures told { IfOk result (λ fault. HasTaken (analyzed analyzer.old) (heard_last (map T.standing (held_in (place.now ∷ [])))) fault (analyzed analyzer.new)) }
+    ensures heard { IfOk result (λ fault. HasTaken (analyzed analyzer.old) (heard_last (map T.standing (held_in (place.now ∷ [])))) fault (analyzed analyzer.new)) }
     ensures grew { Grew (analyzed analyzer.old) (analyzed analyzer.new) }
 {
     let Some(task) = place else {

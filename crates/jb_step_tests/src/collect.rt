@@ -3,12 +3,12 @@
 ghost use Rattle.jb_collect.specs.Worked.{FirstRun, OneFailed, StoppedAfterARound, NoRecord, RolledBack, CallsTaken, ListedCalls, ReducerCalls, ReducerFaults};
 
 use crate::workers::most::{OneRecordTask, own_task};
+use jb_base::{ArtifactError, ClassId, MAX_ROLLBACKS};
 use jb_chunk::{Done, PartitionTask};
 use jb_collect::{
     Analyzer, AnalyzerCall, ListAnalyzer, ListReducer, PartitionStatus, Reducer, ReducerCall,
     deliver,
 };
-use jb_job::{ArtifactError, ClassId, MAX_ROLLBACKS};
 use std::alloc::{AllocError, Global};
 use std::test::*;
 

@@ -3,14 +3,14 @@
 ghost use Rattle.std.specs.Prelude.{◌≡◌, ◌<◌, IfSome};
 ghost use denote.Param.Send.{IsSend};
 ghost use Rattle.jb_rules.specs.declared.row.RowState.TheVariants.{Waiting};
-ghost use Rattle.jb_job.specs.Limits.{max_rollbacks};
+ghost use Rattle.jb_base.specs.Limits.{max_rollbacks};
 ghost use Rattle.jb_chunk.specs.Attempt.{IsAttempt, ending_of};
 ghost use Rattle.jb_chunk.specs.Standing.{IsReady, HasRepeats};
 
 use crate::workers::tasks::{RULES, boxes, fresh_rows, task_of};
 use jb_artifacts::{Artifacts, FaultPlans, Item};
+use jb_base::MAX_ROLLBACKS;
 use jb_chunk::{Done, Outcome, PartitionTask, Task};
-use jb_job::MAX_ROLLBACKS;
 use std::alloc::Global;
 use std::snapshot::Snapshot;
 use std::test::*;

@@ -12,8 +12,7 @@ use jb_artifacts::{
     Collector, CountCollector, FaultList, FaultPlan, FaultPlans, Item, ItemProcessor, ItemReader,
     ItemWriter, ListWriter, PrefixProcessor, RowView, TableReader,
 };
-use jb_base::PackedList;
-use jb_job::{ArtifactError, ClassId};
+use jb_base::{ArtifactError, ClassId, PackedList};
 use jb_rules::Counts;
 use std::alloc::{AllocError, Global};
 

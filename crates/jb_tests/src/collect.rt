@@ -1,8 +1,8 @@
 //! A round delivered to the ready analyzer where memory is refused.
 
 use crate::chunk::memory::committed;
+use jb_base::ArtifactError;
 use jb_collect::{Analyzer, AnalyzerCall, ListAnalyzer, Status, deliver};
-use jb_job::ArtifactError;
 
 /// With any one request refused, the analyzer is told all of an attempt, or there is no memory for one of the calls.
 #[test]

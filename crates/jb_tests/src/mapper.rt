@@ -3,7 +3,7 @@
 ghost use Rattle.std.specs.Prelude.{◌≡◌, [], ◌∷◌};
 ghost use Rattle.jb_mapper.specs.EvenCover.{even_ranges};
 
-use jb_job::{ArtifactError, Range, Ranges};
+use jb_base::{ArtifactError, Range, Ranges};
 use jb_mapper::{EvenMapper, FixedMapper, PartitionMapper};
 use jb_plan::{Checked, PartitionPlan, PlanError, checked};
 use std::alloc::{AllocError, Global};

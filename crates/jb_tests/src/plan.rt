@@ -3,7 +3,7 @@ ghost use Rattle.jb_plan.specs.Blocks.{blocks, left};
 ghost use Rattle.jb_plan.specs.Faults.{plan_errors, range_errors};
 ghost use Rattle.jb_plan.specs.Plans.{threads_of};
 
-use jb_job::{MAX_RECORDS, Range, Ranges};
+use jb_base::{MAX_RECORDS, Range, Ranges};
 use jb_plan::*;
 use std::alloc::{AllocError, Global};
 
@@ -95,6 +95,7 @@ fn refusals_in_order(rt: HostRuntime) -> Result<(), AllocError> {
 #[test]
 fn ranges_that_overlap(rt: HostRuntime) {
     let ranges = [Range { lo: 0, hi: 3 }, Range { lo: 2, hi: 7 }];
+    assert!(rt; do_overlap(ranges[0], ranges[1]));
     assert!(rt; ranges_in(&ranges, 7) == Ok(()));
 }
 

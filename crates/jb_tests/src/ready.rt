@@ -6,8 +6,7 @@ use crate::artifacts::{failing_once, fault, fault_of, holds, records};
 use jb_artifacts::{
     FaultPlans, Item, ItemProcessor, ItemReader, ItemWriter, LendingReader, ListWriter,
 };
-use jb_base::PackedList;
-use jb_job::ClassId;
+use jb_base::{ClassId, PackedList};
 use jb_ready::{
     Answer, AnswerProcessor, Check, CheckedReader, Note, Notes, NotingProcessor, NotingReader,
     NotingWriter, RecordsError, csv_rows, json_lines, lines, table_reader,

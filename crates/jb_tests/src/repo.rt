@@ -2,15 +2,15 @@
 
 ghost use Rattle.std.specs.Prelude.{◌≡◌, ◌∷◌, [], Some, None};
 ghost use Rattle.jb_rules.specs.Counts.{no_counts};
-ghost use Rattle.jb_job.specs.declared.class.ClassId.{ClassId};
+ghost use Rattle.jb_base.specs.declared.class.ClassId.{ClassId};
 ghost use Rattle.jb_repo.specs.Rows.{total_counts};
 ghost use Rattle.jb_repo.specs.Table.{rows_of};
 ghost use Rattle.jb_repo.specs.Worked.{table_answers, journal_after};
 ghost use Rattle.jb_repo.specs.Worked.{fresh, two_partitions, two_records, walk, answered, finished, four_records, rollback, given_up, one_record, tries, tried_out, at_limit};
 ghost use Rattle.jb_repo.specs.Worked.{EndedPlans, skipped_writes};
 
+use jb_base::{ClassId, Range};
 use jb_cert::Certificate;
-use jb_job::{ClassId, Range};
 use jb_repo::*;
 use jb_rules::{Counts, Row, RowState};
 use std::alloc::{AllocError, Global};
@@ -254,6 +254,8 @@ fn refusals_of_each_event(rt: HostRuntime) -> Result<(), AllocError> {
     worked_repeats();
     apply_all(&rt, &mut repo, &refusals());
     assert!(rt; has_rows(&repo, &rows_after_refusals())?);
+    let classes = [repo.failure(0), repo.failure(1), repo.failure(2)];
+    assert!(rt; classes == [None, Some(ClassId::new(0)), None]);
     Ok(())
 }
 
@@ -308,59 +310,68 @@ fn accept_all(rt: &impl Abort, repo: &mut Repo, events: &[Event]) {
     }
 }
 
-/// Applies what ends the chunks that run, and ends the round; then a chunk is begun and the next round ended, with these answers.
-fn end_round(
-    rt: &impl Abort,
-    repo: &mut Repo,
-    ends: &[Event],
-    begin: Event,
-    next: [Option<Refused>; 2],
-) {
-    accept_all(rt, repo, ends);
-    assert!(rt; repo.apply(Event::Round).is_ok());
-    assert!(rt; repo.apply(begin).err() == next[0] && repo.apply(Event::Round).err() == next[1]);
-}
-
 const NO_FURTHER: [Option<Refused>; 2] = [Some(Refused::PastPlan), Some(Refused::PastPlan)];
 
 const STOPPING: [Option<Refused>; 2] = [Some(Refused::Stopping), Some(Refused::PastPlan)];
 
 const FURTHER: [Option<Refused>; 2] = [None, Some(Refused::StillRunning)];
 
-/// In the first of two rounds lane 1 has committed its chunk, and lane 0 ends its own by these events.
-fn end_first_round(
-    rt: &impl Abort,
-    alloc: Global,
-    ends: &[Event],
+/// A plan that is ended with rounds left: by lane 0 in the first of its two rounds, or by lane 1 in the second of three.
+#[derive(Clone, Copy)]
+struct Ended {
+    second: bool,
+    /// What ends the lane's chunk, while the other lane has committed its own.
+    ends: [Option<Event>; 2],
+    /// The answers to the Begin and the Round behind that round.
     next: [Option<Refused>; 2],
-) -> Result<(), AllocError> {
+}
+
+fn in_first(ends: [Option<Event>; 2], next: [Option<Refused>; 2]) -> Ended {
+    let second = false;
+    Ended { second, ends, next }
+}
+
+fn in_second(ends: [Option<Event>; 2], next: [Option<Refused>; 2]) -> Ended {
+    let second = true;
+    Ended { second, ends, next }
+}
+
+fn ended_plans() -> [Ended; 10] {
+    let class = ClassId::new(0);
+    let first = Some(Event::Commit(0, TWO_RECORDS, 2, 0));
+    let second = Some(Event::Commit(1, ONE_RECORD, 2, 0));
+    let stop = Some(Event::Stop);
+    [
+        in_first([Some(Event::Roll(0, class, 0)), None], NO_FURTHER),
+        in_first([Some(Event::Fail(0, class, 0)), None], NO_FURTHER),
+        in_first([Some(Event::Drop(0)), None], NO_FURTHER),
+        in_first([first, stop], STOPPING),
+        in_first([first, None], FURTHER),
+        in_second([Some(Event::Roll(1, class, 0)), None], NO_FURTHER),
+        in_second([Some(Event::Fail(1, class, 0)), None], NO_FURTHER),
+        in_second([Some(Event::Drop(1)), None], NO_FURTHER),
+        in_second([stop, second], STOPPING),
+        in_second([second, None], FURTHER),
+    ]
+}
+
+/// The first of two rounds, in which lane 1 has committed its chunk.
+fn in_the_first_round(rt: &impl Abort, alloc: Global) -> Result<Repo, AllocError> {
     let mut repo = opened(rt, rows_of(alloc, &[(0, 4), (4, 8)])?, 2, 2);
-    let begun = [
+    let events = [
         Event::Plan(2, Certificate::FullLoad),
         Event::Begin(0, 0),
         Event::Begin(1, 1),
         Event::Commit(1, TWO_RECORDS, 2, 0),
     ];
-    accept_all(rt, &mut repo, &begun);
-    end_round(rt, &mut repo, ends, Event::Begin(1, 1), next);
-    Ok(())
+    accept_all(rt, &mut repo, &events);
+    Ok(repo)
 }
 
-#[test]
-fn plans_ended_in_the_first_of_two_rounds(rt: HostRuntime) -> Result<(), AllocError> {
-    let class = ClassId::new(0);
-    let commit = Event::Commit(0, TWO_RECORDS, 2, 0);
-    end_first_round(&rt, rt.alloc(), &[Event::Roll(0, class, 0)], NO_FURTHER)?;
-    end_first_round(&rt, rt.alloc(), &[Event::Fail(0, class, 0)], NO_FURTHER)?;
-    end_first_round(&rt, rt.alloc(), &[Event::Drop(0)], NO_FURTHER)?;
-    end_first_round(&rt, rt.alloc(), &[commit, Event::Stop], STOPPING)?;
-    end_first_round(&rt, rt.alloc(), &[commit], FURTHER)?;
-    Ok(())
-}
-
-/// The events up to the second of three rounds, in which lane 0 has committed its chunk.
-fn up_to_the_second_round() -> [Event; 9] {
-    [
+/// The second of three rounds, in which lane 0 has committed its chunk.
+fn in_the_second_round(rt: &impl Abort, alloc: Global) -> Result<Repo, AllocError> {
+    let mut repo = opened(rt, rows_of(alloc, &[(0, 3), (3, 6)])?, 2, 1);
+    let events = [
         Event::Plan(3, Certificate::Longest(1)),
         Event::Begin(0, 0),
         Event::Begin(1, 1),
@@ -370,31 +381,26 @@ fn up_to_the_second_round() -> [Event; 9] {
         Event::Begin(0, 1),
         Event::Begin(1, 0),
         Event::Commit(0, ONE_RECORD, 2, 0),
-    ]
-}
-
-/// In the second of three rounds lane 1 ends its chunk by these events.
-fn end_second_round(
-    rt: &impl Abort,
-    alloc: Global,
-    ends: &[Event],
-    next: [Option<Refused>; 2],
-) -> Result<(), AllocError> {
-    let mut repo = opened(rt, rows_of(alloc, &[(0, 3), (3, 6)])?, 2, 1);
-    accept_all(rt, &mut repo, &up_to_the_second_round());
-    end_round(rt, &mut repo, ends, Event::Begin(0, 1), next);
-    Ok(())
+    ];
+    accept_all(rt, &mut repo, &events);
+    Ok(repo)
 }
 
 #[test]
-fn plans_ended_in_the_second_of_three_rounds(rt: HostRuntime) -> Result<(), AllocError> {
-    let class = ClassId::new(0);
-    let commit = Event::Commit(1, ONE_RECORD, 2, 0);
-    end_second_round(&rt, rt.alloc(), &[Event::Roll(1, class, 0)], NO_FURTHER)?;
-    end_second_round(&rt, rt.alloc(), &[Event::Fail(1, class, 0)], NO_FURTHER)?;
-    end_second_round(&rt, rt.alloc(), &[Event::Drop(1)], NO_FURTHER)?;
-    end_second_round(&rt, rt.alloc(), &[Event::Stop, commit], STOPPING)?;
-    end_second_round(&rt, rt.alloc(), &[commit], FURTHER)?;
+fn plans_ended_with_rounds_left(rt: HostRuntime) -> Result<(), AllocError> {
+    for case in ended_plans() {
+        let (mut repo, begin) = if case.second {
+            (in_the_second_round(&rt, rt.alloc())?, Event::Begin(0, 1))
+        } else {
+            (in_the_first_round(&rt, rt.alloc())?, Event::Begin(1, 1))
+        };
+        for end in case.ends.iter().flatten() {
+            assert!(rt; repo.apply(*end).is_ok());
+        }
+        assert!(rt; repo.apply(Event::Round).is_ok());
+        let next = [repo.apply(begin).err(), repo.apply(Event::Round).err()];
+        assert!(rt; next == case.next);
+    }
     Ok(())
 }
 
@@ -744,7 +750,7 @@ fn names_of_refusals(rt: HostRuntime) -> Result<(), AllocError> {
         (Refused::StillRunning, "StillRunning"),
         (Refused::PastPlan, "PastPlan"),
         (Refused::BadPlan, "BadPlan"),
-        (Refused::Memory, "Memory"),
+        (Refused::Memory, "no memory"),
         (Refused::Full, "Full"),
     ];
     for (refused, name) in names {

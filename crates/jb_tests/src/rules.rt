@@ -4,7 +4,7 @@ ghost use Rattle.jb_rules.specs.Decide.{choice_by, is_below};
 ghost use Rattle.jb_rules.specs.Rows.{fresh_row, begun_row, repeated_row, committed_row, rolled_row, failed_row, dropped_row};
 ghost use Rattle.jb_rules.specs.Sound.{IsSoundRow};
 
-use jb_job::{ClassId, Range, Rules};
+use jb_base::{ClassId, Range, Rules};
 use jb_rules::*;
 
 fn counts_of(numbers: [u64; 8]) -> Counts
@@ -213,7 +213,10 @@ fn rows_of_a_partition(rt: HostRuntime) {
     let running = begun.repeated(1).rolled(2);
     let rolled = running.dropped();
     assert!(rt;
-        fresh.range() == Range { lo: 0, hi: 4 } && fresh.block(2) == Range { lo: 0, hi: 2 }
+        fresh.range() == Range { lo: 0, hi: 4 }
+            && fresh.block(2) == Range { lo: 0, hi: 2 }
+            && fresh.remaining(2) == 2
+            && begun.remaining(2) == 0
     );
     assert!(rt; begun.state == RowState::Running(3) && begun.state.is_running());
     assert!(rt; begun.dropped() == fresh && running.state == RowState::Running(3));

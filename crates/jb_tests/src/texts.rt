@@ -7,9 +7,10 @@ ghost use Rattle.jb_texts.specs.PlanText.{text_of_load};
 ghost use Rattle.jb_texts.specs.Report.{report_text};
 ghost use Rattle.jb_texts.specs.Worked.{nothing, one_long, one_long_text, seven_records, seven_records_text, three_equal, three_equal_text};
 
+use jb_artifacts::{FaultPlans, ListWriter};
+use jb_base::{PackedList, Range};
 use jb_cert::Certificate;
 use jb_collect::{AnalyzerCall, ReducerCall, Status};
-use jb_job::Range;
 use jb_rules::Row;
 use jb_step::PlanNote;
 use jb_texts::{ReportText, StepsText};
@@ -50,7 +51,8 @@ fn report_of(alloc: Global) -> Result<ReportText, AllocError> {
     let row = Row::fresh(Range { lo: 0, hi: 0 });
     let mut steps = StepsText::new(alloc)?;
     steps.begin_step(alloc, 1, &[AnalyzerCall::Status(0, Status::Completed)])?;
-    steps.add_no_outputs()?;
+    let writer = ListWriter::new(PackedList::new(alloc), FaultPlans::new(alloc));
+    steps.add_outputs(alloc, &writer)?;
     steps.end_step(
         alloc,
         &[row],

@@ -8,8 +8,8 @@ use Rattle.std.proofs.lemmas.List.Elements.{filter-append}
 use Rattle.json.specs.Token.{Token, string}
 use Rattle.serde_json.specs.Data.{Data}
 use Rattle.jb_collect.specs.declared.calls.AnalyzerCall.{AnalyzerCall}
-use Rattle.jb_collect.specs.Laws.{partition_of}
-use Rattle.jb_step.specs.Parts.{calls_about}
+use Rattle.jb_collect.specs.Heard.{partition_of}
+use Rattle.jb_collect.specs.Heard.{calls_about}
 use Rattle.jb_saved.specs.SavedTree.{tokens_of}
 use Rattle.jb_texts.specs.Report.{heard_of, heard_text, texts_tree}
 use Rattle.jb_texts.specs.inside.Heard.{placed}

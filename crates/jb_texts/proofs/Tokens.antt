@@ -5,39 +5,19 @@ use Rattle.std.proofs.lemmas.List.Concat.{flat_map_single}
 use Rattle.std.proofs.lemmas.Simd.{map-map}
 use Rattle.std.specs.Str.Lossy.{utf8_lossy}
 use Rattle.serde_json.specs.Data.{Data}
-use Rattle.serde_json.specs.View.{items_of}
-use Rattle.serde_json.specs.Written.{compact_text, items_outline}
+use Rattle.serde_json.specs.Written.{compact_text}
 use Rattle.serde_json.proofs.Texts.{print-outline}
 use Rattle.json.specs.Token.{Token, begin_object, end_object, begin_array, end_array, key, string}
-use Rattle.json.specs.Tree.{items_tokens}
 use Rattle.json.specs.Print.{print, print_from, escape_byte}
 use Rattle.jb_collect.specs.declared.calls.Status.{Status}
 use Rattle.jb_saved.specs.SavedTree.{list_tree, saved_tree, tokens_of}
+use Rattle.jb_saved.proofs.Written.{list-tokens, list-written}
 use Rattle.jb_texts.specs.Statuses.{status_name}
 use Rattle.jb_texts.specs.Report.{StepReport, heard_tree, plans_tree, reducer_tree, texts_tree, step_tree, steps_tree, report_text}
 use Rattle.jb_texts.specs.ReportTokens.{outputs_tokens, step_tokens, steps_tokens}
 use Rattle.jb_texts.specs.inside.Head.{head_text}
 
-members : {X : Type 0} (tree : X → Data) (xs : List X) → items_tokens (items_outline (items_of (map tree xs))) ≡ flat_map (λ x. tokens_of (tree x)) xs ++ end_array ∷ []
-members tree [] = refl
-members tree (x ∷ xs) =
-    let rest = flat_map (λ y. tokens_of (tree y)) xs in
-    ap (λ ts. tokens_of (tree x) ++ ts) (members tree xs) ∙ sym (append_assoc (tokens_of (tree x)) rest (end_array ∷ []))
-
--- a list's tokens are its members', between brackets
-pub list-tokens : {X : Type 0} (tree : X → Data) (xs : List X) → tokens_of (list_tree (map tree xs)) ≡ begin_array ∷ (flat_map (λ x. tokens_of (tree x)) xs ++ end_array ∷ [])
-list-tokens tree xs = ap (λ ts. begin_array ∷ ts) (members tree xs)
-
--- a list whose members were written one after another
-pub list-written : {X : Type 0} (tree : X → Data) (xs : List X) (old begun passed new : List Token) → begun ≡ old ++ begin_array ∷ []
-    → passed ≡ begun ++ flat_map (λ x. tokens_of (tree x)) xs → new ≡ passed ++ end_array ∷ [] → new ≡ old ++ tokens_of (list_tree (map tree xs))
-list-written tree xs old begun passed new begins passes ends =
-    let members = flat_map (λ x. tokens_of (tree x)) xs in
-    ends ∙ ap (λ ts. ts ++ end_array ∷ []) passes ∙ ap (λ ts. (ts ++ members) ++ end_array ∷ []) begins
-    ∙ append_assoc (old ++ begin_array ∷ []) members (end_array ∷ []) ∙ append_assoc old (begin_array ∷ []) (members ++ end_array ∷ [])
-    ∙ ap (λ ts. old ++ ts) (sym (list-tokens tree xs))
-
--- the same of results that stand for texts
+-- a list whose members were written one after another, of results that stand for texts
 pub texts-written : (written : List (List ℕ)) (count place : ℕ) (old begun passed new : List Token) → begun ≡ old ++ begin_array ∷ []
     → passed ≡ begun ++ map (λ bytes. string (utf8_lossy bytes)) (take place written) → count ≡ length written → count ≤ place → new ≡ passed ++ end_array ∷ []
     → new ≡ old ++ tokens_of (texts_tree (map utf8_lossy written))

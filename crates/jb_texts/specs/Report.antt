@@ -13,8 +13,8 @@ use Rattle.jb_collect.specs.declared.calls.ReducerCall.TheVariants.{Begin, Befor
 use Rattle.jb_collect.specs.declared.calls.PartitionStatus.TheVariants as end
 use Rattle.jb_collect.specs.declared.calls.Status.{Status}
 use Rattle.jb_saved.specs.SavedTree.{list_tree, number_tree, saved_tree}
-use Rattle.jb_step.specs.declared.notes.PlanNote.{PlanNote}
-use Rattle.jb_step.specs.Parts.{calls_about}
+use Rattle.jb_cert.specs.declared.notes.PlanNote.{PlanNote}
+use Rattle.jb_collect.specs.Heard.{calls_about}
 use Rattle.jb_texts.specs.Statuses.{status_name}
 
 -- a partition after its step: its row, and the results in its writer as texts

@@ -6,7 +6,7 @@ use Rattle.jb_collect.specs.declared.calls.AnalyzerCall.{AnalyzerCall}
 use Rattle.jb_collect.specs.declared.calls.ReducerCall.{ReducerCall}
 use Rattle.jb_collect.specs.declared.calls.Status.{Status}
 use Rattle.jb_saved.specs.SavedTree.{saved_tree, tokens_of}
-use Rattle.jb_step.specs.declared.notes.PlanNote.{PlanNote}
+use Rattle.jb_cert.specs.declared.notes.PlanNote.{PlanNote}
 use Rattle.jb_texts.specs.Statuses.{status_name}
 use Rattle.jb_texts.specs.Report.{PartitionReport, StepReport, heard_tree, plans_tree, reducer_tree, texts_tree}
 

@@ -1,6 +1,6 @@
 -- What a worker's turns of the lock say of its work: its Begin first, and last the event of what came of it.
 use Rattle.std.specs.Prelude.{◌≡◌, ◌≤◌, ◌<◌, ◌-◌, ◌⊎◌, Result, MatchResult}
-use Rattle.jb_job.specs.Limits.{max_rollbacks, max_retry_limit, max_in_place}
+use Rattle.jb_base.specs.Limits.{max_rollbacks, max_retry_limit, max_in_place}
 use Rattle.jb_chunk.specs.Standing.{TaskState}
 use Rattle.jb_chunk.specs.declared.outcome.Done.{Done}
 use Rattle.jb_repo.specs.declared.events.Event.TheVariants.{Begin}

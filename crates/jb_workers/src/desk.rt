@@ -2,18 +2,18 @@
 
 ghost use Rattle.std.specs.Prelude.{◌≡◌, ◌+◌, ◌<◌, ◌||◌, [], true, false, OnOk, OnErr, IfOk, IfErr, IfSome};
 ghost use Rattle.std.specs.Option.{IfNone};
-ghost use Rattle.jb_job.specs.Limits.{max_parts};
+ghost use Rattle.jb_base.specs.Limits.{max_parts};
 ghost use Rattle.jb_repo.specs.declared.events.Event.TheVariants.{Begin, Round};
 ghost use Rattle.jb_repo.specs.History.{is_plan, is_stop, is_round};
 ghost use Rattle.jb_workers.specs.Events.{commit_in};
-ghost use Rattle.jb_workers.specs.Lock.{IsSeen, IsAccepted, IsRefused};
+ghost use Rattle.jb_workers.specs.Lock.{IsSeen, IsFailure, IsAccepted, IsRefused};
 
-pub(crate) mod kept;
 pub(crate) mod parts;
+pub(crate) mod state;
 
-use crate::desk::kept::Kept;
 use crate::desk::parts::Parts;
-use jb_job::MAX_PARTS;
+use crate::desk::state::DeskState;
+use jb_base::{ClassId, MAX_PARTS};
 use jb_repo::{Event, Refused, Repo, Snapshot};
 use std::alloc::AllocError;
 use std::sync::atomic::{AtomicBool, Ordering};
@@ -26,7 +26,7 @@ use std::sync::{Mutex, Wait};
 /// number of Commits.
 #[derive(Drop)]
 pub struct Desk<L: Ledger> {
-    kept: Mutex<Kept<L>>,
+    state: Mutex<DeskState<L>>,
     stopping: AtomicBool,
 }
 
@@ -41,7 +41,7 @@ impl<L: Ledger> Desk<L> {
         let (book, share) = blank.open::<L>();
         let spare = Parts::new(share, MAX_PARTS);
         Desk {
-            kept: Mutex::new(Kept::new(repo, book, spare)),
+            state: Mutex::new(DeskState::new(repo, book, spare)),
             stopping: AtomicBool::new(false),
         }
     }
@@ -60,7 +60,14 @@ impl<L: Ledger> Desk<L> {
     pub fn status<R: Wait>(&self, rt: &R) -> Result<Snapshot, AllocError>
         ensures { IfOk result (λ snapshot. IsSeen snapshot) }
     {
-        self.kept.lock(rt).snapshot()
+        self.state.lock(rt).snapshot()
+    }
+
+    /// The class of the partition's last Fail, at some moment; none where it has none.
+    pub fn failure<R: Wait>(&self, rt: &R, partition: u32) -> Option<ClassId>
+        ensures { IsFailure partition result }
+    {
+        self.state.lock(rt).failure(partition)
     }
 
     /// Applies a Plan or a Stop.
@@ -69,7 +76,7 @@ impl<L: Ledger> Desk<L> {
         ensures accepted { OnOk result (IsAccepted event) }
         ensures refused { IfErr result (λ refused. IsRefused event refused) }
     {
-        self.kept.lock(rt).apply(event)
+        self.state.lock(rt).apply(event)
     }
 
     /// A part of the book for a worker of the caller's own, who does a `work` with it; `None` where no part is left.
@@ -92,11 +99,11 @@ impl<L: Ledger> Desk<L> {
         ensures taken { IfSome result (λ parts. parts.number ≡ number) }
         ensures few { IfNone result (0 < number) }
     {
-        self.kept.lock(rt).spare.take(number)
+        self.state.lock(rt).spare.take(number)
     }
 
     pub(crate) fn put_back<R: Wait>(&self, rt: &R, parts: Parts<L>) {
-        self.kept.lock(rt).spare.merge(parts);
+        self.state.lock(rt).spare.merge(parts);
     }
 
     /// Begins the partition's next chunk on the lane, and answers the number of the round.
@@ -104,12 +111,12 @@ impl<L: Ledger> Desk<L> {
         ensures accepted { OnOk result (IsAccepted (Begin lane partition)) }
         ensures refused { IfErr result (λ refused. IsRefused (Begin lane partition) refused) }
     {
-        self.kept.lock(rt).begin(lane, partition)
+        self.state.lock(rt).begin(lane, partition)
     }
 
     /// Gives the lane's chunk up.
     pub(crate) fn give_up<R: Wait>(&self, rt: &R, lane: u32) {
-        let _ = self.kept.lock(rt).apply(Event::Drop(lane));
+        let _ = self.state.lock(rt).apply(Event::Drop(lane));
     }
 
     /// Applies the event of the lane's attempt, or Drop where it is refused.
@@ -128,7 +135,7 @@ impl<L: Ledger> Desk<L> {
         ensures accepted { OnOk result (IsAccepted event) }
         ensures refused { IfErr result (λ refused. IsRefused event refused) }
     {
-        self.kept.lock(rt).end(lane, event, mine)
+        self.state.lock(rt).end(lane, event, mine)
     }
 
     /// Applies Round.
@@ -136,6 +143,6 @@ impl<L: Ledger> Desk<L> {
         ensures accepted { OnOk result (IsAccepted Round) }
         ensures refused { IfErr result (λ refused. IsRefused Round refused) }
     {
-        self.kept.lock(rt).close_round()
+        self.state.lock(rt).close_round()
     }
 }

@@ -1,6 +1,6 @@
 //! One round of tasks over threads, and the repository that they report to.
 //!
-//! - `desk`: a repository under one lock, with a stop flag beside it; `desk::kept` is what lies under the lock, and
+//! - `desk`: a repository under one lock, with a stop flag beside it; `desk::state` is what lies under the lock, and
 //!   `desk::parts` counts the parts of a share.
 //! - `gate`: where a worker comes by before and after its attempt.
 //! - `worker`: what one worker of a round does; `worker::lane_work` is what it is given, and `worker::entry` the event by which

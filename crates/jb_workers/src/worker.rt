@@ -1,7 +1,7 @@
 //! What one worker of a round does.
 
 ghost use Rattle.std.specs.Prelude.{◌≡◌, ◌+◌, ◌-◌, ◌≤◌, ◌<◌, ◌⊎◌, true, false, IfOk, IfErr, MatchResult};
-ghost use Rattle.jb_job.specs.Limits.{max_rollbacks, max_retry_limit, max_in_place};
+ghost use Rattle.jb_base.specs.Limits.{max_rollbacks, max_retry_limit, max_in_place};
 ghost use Rattle.jb_workers.specs.Events.{commit_of};
 ghost use Rattle.jb_workers.specs.Works.{CanBegin};
 ghost use Rattle.jb_workers.specs.Turns.{IsDoneOf, IsKeptOut};
@@ -14,8 +14,8 @@ use crate::gate::Gate;
 use crate::round::RoundError;
 use crate::worker::entry::event_of;
 use crate::worker::lane_work::Work;
+use jb_base::{MAX_IN_PLACE, MAX_RETRY_LIMIT, MAX_ROLLBACKS};
 use jb_chunk::{Done, PartitionTask};
-use jb_job::{MAX_IN_PLACE, MAX_RETRY_LIMIT, MAX_ROLLBACKS};
 use jb_repo::Refused;
 use jb_rules::Row;
 use std::alloc::Global;

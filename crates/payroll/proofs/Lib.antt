@@ -1,11 +1,3 @@
-mod Begun
-mod Evenly
-mod Going
-mod Joining
-mod Putting
-mod Reading
+mod Paying
 mod Resuming
-mod Sharing
-mod Steps
-mod Trying
 mod Writing

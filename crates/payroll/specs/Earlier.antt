@@ -1,38 +1,31 @@
 -- What a run takes over from the files of an earlier one.
 use Rattle.std.specs.Prelude.{ℕ, ◌≡◌, List, Option, Some, Ok}
 use Rattle.jb_job.specs.Reading.{tree_of}
+use Rattle.jb_ready.specs.Csv.{AreRowsOf}
+use Rattle.jb_records.specs.Shares.{IsSoFar, joined}
 use Rattle.jb_saved.specs.Reading.{answer_of}
 use Rattle.jb_saved.specs.SavedRows.{SavedRows}
-use Rattle.payroll.specs.Shares.{IsSoFar, joined}
-use Rattle.payroll.specs.Sheets.{AreLinesOf}
+use Rattle.payroll.specs.Payroll.{payroll}
 
 -- the saved rows that the one file is read as, and the pay slips that are the records of the other
 pub record AreHeldBy (rows slips : List ℕ) (saved : Option SavedRows) (lines : List (List ℕ)) : Type 0 where
   pub held : SavedRows
   pub given : saved ≡ Some held
   pub read : answer_of (tree_of rows) ≡ Ok held
-  pub lines_are : AreLinesOf slips lines
+  pub lines_are : AreRowsOf slips lines
 
--- THE SAVED ROWS AND THE PAY SLIPS OF A STOPPED RUN over these very time sheets: the slips are the shares of its partitions, joined
-pub record IsStoppedRun (lines : List (List ℕ)) (saved : Option SavedRows) (earlier : List (List ℕ)) : Type 0 where
-  pub held : SavedRows
-  pub given : saved ≡ Some held
-  pub shares : List (List (List ℕ))
-  pub so_far : IsSoFar lines held.rows shares
-  pub slips : joined shares ≡ earlier
-
--- the same of the two files of an earlier run
+-- THE FILES OF A STOPPED RUN over these very time sheets: the slips are the shares of its partitions, joined
 pub record AreOfStoppedRun (lines : List (List ℕ)) (rows slips : List ℕ) : Type 0 where
   pub held : SavedRows
   pub read : answer_of (tree_of rows) ≡ Ok held
   pub shares : List (List (List ℕ))
-  pub so_far : IsSoFar lines held.rows shares
-  pub written : AreLinesOf slips (joined shares)
+  pub so_far : IsSoFar payroll lines held.rows shares
+  pub written : AreRowsOf slips (joined shares)
 
 -- the same where these are the bytes of the time sheets; nothing is of a stopped run where those aren't known
 pub record AreOfStoppedPayroll (text : Option (List ℕ)) (rows slips : List ℕ) : Type 0 where
   pub bytes : List ℕ
   pub known : text ≡ Some bytes
   pub lines : List (List ℕ)
-  pub sheets : AreLinesOf bytes lines
+  pub sheets : AreRowsOf bytes lines
   pub stopped : AreOfStoppedRun lines rows slips

@@ -1,7 +1,4 @@
 pub mod Earlier
 pub mod Failures
-pub mod Runs
-pub mod Shares
+pub mod Payroll
 pub mod Sheets
-pub mod Steps
-pub mod Works

@@ -2,26 +2,16 @@
 use Rattle.std.specs.Prelude.{ℕ, ◌≡◌, ◌+◌, ◌-◌, ◌*◌, ◌^◌, ◌&&◌, nat_le, nat_lt, Bool, false, if◌then◌else◌, List, [], ◌∷◌, length, map, Option, Some, None, bytes_eq, codes, decimal, option_map, option_and_then}
 use Rattle.std.specs.Char.{is_ascii_digit}
 use Rattle.csv.specs.Machine.{next_record}
-use Rattle.csv.specs.Reading.{AreRecords, default_config, strip_bom}
+use Rattle.csv.specs.Reading.{default_config, strip_bom}
 use Rattle.csv.specs.Records.{field_at}
-use Rattle.csv.specs.Writing.{default_writer, row_text}
 use Rattle.csv.specs.declared.parser.State.TheVariants as st
+use Rattle.jb_ready.specs.Csv.{row_of}
 
 -- ---- lines of CSV
-
--- the line of a record of these fields
-unfoldable pub line_of : List (List ℕ) → List ℕ
-line_of fields = row_text default_writer fields
 
 -- the fields of a line's first record, if it has one
 unfoldable pub fields_in : List ℕ → Option (List (List ℕ))
 fields_in line = option_map (λ p. p.0) (next_record default_config st.StartRecord [] [] (strip_bom line))
-
--- the records of a text, each as a line of its own
-pub record AreLinesOf (text : List ℕ) (lines : List (List ℕ)) : Type 0 where
-  pub records : List (List (List ℕ))
-  pub read : AreRecords default_config st.StartRecord (strip_bom text) records
-  pub are : lines ≡ map line_of records
 
 -- ---- numbers
 
@@ -65,7 +55,7 @@ pay_in fields = named_pay (field_at fields 0) (field_at fields 1) (field_at fiel
 
 abbrev pub slip_with : Option (List ℕ × ℕ) → Option (List ℕ)
 slip_with None = None
-slip_with (Some named) = Some (line_of (named.0 ∷ decimal named.1 ∷ []))
+slip_with (Some named) = Some (row_of (named.0 ∷ decimal named.1 ∷ []))
 
 abbrev pub slip_by : (fields : Option (List (List ℕ))) → Option (List ℕ)
 slip_by None = None

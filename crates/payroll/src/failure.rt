@@ -1,9 +1,11 @@
 //! Why there are no pay slips.
 
 ghost use Rattle.std.specs.Prelude.{◌≡◌};
+ghost use Rattle.jb_records.specs.declared.error.RecordsStepError.TheVariants as step;
 ghost use Rattle.payroll.specs.Failures.{failure_text};
-ghost use Rattle.payroll.specs.declared.failure.Failure.TheVariants.{Csv, Memory, Step, Stream};
+ghost use Rattle.payroll.specs.declared.failure.Failure.TheVariants.{Memory, Step, Stream};
 
+use jb_records::RecordsStepError;
 use jb_step::StepError;
 use std::alloc::{AllocError, AllocFailed};
 use std::{fmt, io};
@@ -13,14 +15,8 @@ use std::{fmt, io};
 pub enum Failure {
     /// The words of the command line ask for nothing.
     Usage,
-    /// The CSV text can't be read.
-    Csv(csv::Error),
-    /// There are more than 10,000,000 time sheets.
-    Sheets,
-    /// The earlier pay slips aren't as many as the saved rows say.
-    Slips,
     /// The step has no end.
-    Step(StepError),
+    Step(RecordsStepError),
     /// A file or a stream failed.
     Stream(io::Error),
     /// There was no memory.
@@ -33,12 +29,20 @@ impl fmt::Display for Failure {
     fn fmt<W: fmt::Write>(&self, f: &mut fmt::Formatter<W>) -> fmt::Result {
         match self {
             Failure::Usage => f.write_str("usage: payroll THREADS ROUNDS [SAVED SLIPS] < SHEETS"),
-            Failure::Csv(error) => write!(f, "no CSV: {error}"),
-            Failure::Sheets => f.write_str("more than 10,000,000 time sheets"),
-            Failure::Slips => f.write_str("the earlier pay slips aren't those of the saved rows"),
-            Failure::Step(error) => write!(f, "the step has no end: {error:?}"),
+            Failure::Step(RecordsStepError::Records) => {
+                f.write_str("more than 10,000,000 time sheets")
+            }
+            Failure::Step(RecordsStepError::Results) => {
+                f.write_str("the earlier pay slips aren't those of the saved rows")
+            }
+            Failure::Step(RecordsStepError::SkippedTry) => {
+                f.write_str("a try that fails is skipped")
+            }
+            Failure::Step(RecordsStepError::Step(error)) => {
+                write!(f, "the step has no end: {error:?}")
+            }
             Failure::Stream(error) => write!(f, "a file or a stream failed: {error}"),
-            Failure::Memory => f.write_str("no memory"),
+            Failure::Step(RecordsStepError::Memory) | Failure::Memory => f.write_str("no memory"),
         }
     }
 }
@@ -68,17 +72,17 @@ impl From<io::Error> for Failure {
 }
 
 impl From<StepError> for Failure {
-    ghost from_gives = { λ error failure. failure ≡ Step error };
+    ghost from_gives = { λ error failure. failure ≡ Step (step.Step error) };
 
     fn from(error: StepError) -> Failure {
-        Failure::Step(error)
+        Failure::Step(RecordsStepError::Step(error))
     }
 }
 
-impl From<csv::Error> for Failure {
-    ghost from_gives = { λ error failure. failure ≡ Csv error };
+impl From<RecordsStepError> for Failure {
+    ghost from_gives = { λ error failure. failure ≡ Step error };
 
-    fn from(error: csv::Error) -> Failure {
-        Failure::Csv(error)
+    fn from(error: RecordsStepError) -> Failure {
+        Failure::Step(error)
     }
 }

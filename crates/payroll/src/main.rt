@@ -1,39 +1,38 @@
-//! A payroll: time sheets in, pay slips out, as a partitioned step over threads. It shows how to use the crates with
-//! artifacts of one's own; docs/ARTIFACTS.md walks through it.
+//! A payroll: time sheets in, pay slips out, as a partitioned step over threads. It shows how a job of one's own is made over
+//! `jb_records`; docs/ARTIFACTS.md walks through it.
 //!
 //! `payroll THREADS ROUNDS [SAVED SLIPS]` reads time sheets, lines `NAME,HOURS,RATE`, on standard input, and writes pay slips,
 //! lines `NAME,PAY`, on standard output. With ROUNDS other than 0 it stops after so many rounds: the last line on standard
 //! error is then the saved rows, which a next run takes from the file SAVED, and the pay slips so far from the file SLIPS.
 //!
-//! - `sheet`: a time sheet and its pay slip. `artifacts`: the reader, the processor and the writer.
-//! - `works`: what the partitions work with, and `step`: the step. `laws`: what comes of it. `progress`: how far it is. `failure`: why there are no pay slips.
+//! - `sheet`: a time sheet and its pay slip. `clerk`: what is done to a time sheet. `progress`: how far the step is. `failure`: why
+//!   there are no pay slips.
 #![tactic(auto)]
 
-ghost use Rattle.std.specs.Prelude.{◌≡◌, ◌≤◌, None, map, IfOk, OnOk, IfSome};
+ghost use Rattle.std.specs.Prelude.{◌≡◌, ◌≤◌, None, IfOk, OnOk, IfSome};
 ghost use Rattle.std.specs.Io.KnownBytes.{Appends};
 ghost use Rattle.std.specs.List.{concat};
-ghost use Rattle.jb_job.specs.Limits.{max_parts, max_threads};
+ghost use Rattle.jb_base.specs.Limits.{max_parts, max_threads};
 ghost use Rattle.jb_collect.specs.declared.calls.Status.TheVariants.{Completed};
-ghost use Rattle.payroll.specs.Earlier.{AreHeldBy, AreOfStoppedPayroll, AreOfStoppedRun, IsStoppedRun};
-ghost use Rattle.payroll.specs.Shares.{IsPaid, IsPaidSoFar, IsSoFar, all_slips, exit_status, joined};
+ghost use Rattle.jb_ready.specs.Csv.{AreRowsOf};
+ghost use Rattle.jb_records.specs.Earlier.{IsStoppedRun};
+ghost use Rattle.jb_records.specs.Shares.{IsSoFar, joined};
+ghost use Rattle.payroll.specs.Earlier.{AreHeldBy, AreOfStoppedPayroll, AreOfStoppedRun};
+ghost use Rattle.payroll.specs.Payroll.{IsPaid, IsPaidSoFar, all_slips, exit_status, payroll};
 
-mod artifacts;
+mod clerk;
 mod failure;
-mod laws;
 mod progress;
 mod sheet;
-mod step;
-mod works;
 
+use clerk::{Clerk, RULES};
 use failure::Failure;
-use jb_artifacts::Item;
-use jb_collect::{ListReducer, Status};
-use jb_job::{MAX_PARTS, MAX_THREADS};
-use jb_repo::Snapshot;
-use jb_step::{Saved, StepEnd, read_saved, saved_text};
-use laws::steps_keep_shares;
-use sheet::lines_of;
-use std::alloc::Global;
+use jb_base::{MAX_PARTS, MAX_THREADS, Name, PackedList};
+use jb_collect::Status;
+use jb_ready::csv_rows;
+use jb_records::{RecordsEnd, RecordsJob, RecordsStep};
+use jb_step::{Saved, read_saved};
+use std::alloc::{AllocError, Global};
 use std::io::{Read, Write};
 use std::marker::Brand;
 use std::process::ExitCode;
@@ -43,8 +42,6 @@ use std::sync::{Arc, Wait};
 use std::thread::Threads;
 use std::time::Clock;
 use std::{env, fs, thread};
-use step::{NAME, prepared_for, put_back, run_rounds};
-use works::shares_of;
 
 /// What the command line asks.
 #[derive(Drop)]
@@ -81,12 +78,9 @@ fn words_of(rt: &HostRuntime) -> Result<Asked, Failure> {
     })
 }
 
-/// What a run left: how the step stands, its rows, and the pay slips of each partition.
-#[derive(Drop)]
-struct Left {
-    status: Status,
-    snapshot: Snapshot,
-    slips: Vec<Vec<Item>>,
+/// The step's name in its saved rows.
+fn name(alloc: Global) -> Result<Name, AllocError> {
+    Ok(Name::new(String::from_str(alloc, "payroll")?))
 }
 
 /// Runs the step over its threads, while another thread tells how far it is.
@@ -97,95 +91,81 @@ fn run<
     rt: &R,
     alloc: Global,
     blank: Blank,
-    lines: &[Item],
+    lines: &PackedList,
     asked: &Asked,
     saved: Option<Saved>,
-    earlier: &[Item],
-) -> Result<Left, Failure>
+    earlier: &PackedList,
+) -> Result<RecordsEnd, Failure>
     requires name { blank.name ≡ L.name }
     requires parts { blank.parts ≡ L.parts }
     requires all { blank.parts ≡ max_parts }
-    ensures so_far { saved ≡ None → IfOk result (λ left. IsSoFar lines.now left.snapshot.rows.items (map (λ share. share.items) left.slips.items)) }
-    ensures all { saved ≡ None → IfOk result (λ left. left.status ≡ Completed → joined (map (λ share. share.items) left.slips.items) ≡ all_slips lines.now) }
-    ensures goes_on { IsStoppedRun lines.now saved earlier.now → IfOk result (λ left. IsSoFar lines.now left.snapshot.rows.items (map (λ share. share.items) left.slips.items)) }
-    ensures goes_on_whole { IsStoppedRun lines.now saved earlier.now → IfOk result (λ left. left.status ≡ Completed → joined (map (λ share. share.items) left.slips.items) ≡ all_slips lines.now) }
+    ensures so_far { saved ≡ None → IfOk result (λ end. IsSoFar payroll lines.now end.snapshot.rows.items end.results.items) }
+    ensures all { saved ≡ None → IfOk result (λ end. end.status ≡ Completed → joined end.results.items ≡ all_slips lines.now) }
+    ensures goes_on { IsStoppedRun payroll lines.now saved earlier.now → IfOk result (λ end. IsSoFar payroll lines.now end.snapshot.rows.items end.results.items) }
+    ensures goes_on_whole { IsStoppedRun payroll lines.now saved earlier.now → IfOk result (λ end. end.status ≡ Completed → joined end.results.items ≡ all_slips lines.now) }
 {
-    steps_keep_shares();
-    let mut reducer = ListReducer::new(alloc, None);
-    let prepared = prepared_for(alloc, lines, asked.threads, &mut reducer, saved)?;
-    let shares = shares_of(alloc, &prepared, earlier)?;
-    let desk = Arc::new(alloc, prepared.desk::<L>(alloc, blank)?)?;
+    let step = RecordsStep {
+        id: name(alloc)?,
+        partitions: 8,
+        threads: asked.threads,
+        item_count: 2,
+        rules: RULES,
+    };
+    let job = RecordsJob::begin(alloc, &step, lines, saved, earlier)?;
+    let desk = Arc::new(alloc, job.prepared.desk::<L>(alloc, blank)?)?;
     let over = Arc::new(alloc, AtomicBool::new(false))?;
     let seen = (Arc::try_clone(&desk)?, Arc::try_clone(&over)?, *rt);
     let teller = thread::spawn(rt, move || progress::tell(&seen.2, &seen.0, &seen.1));
-    let end = run_rounds(
-        rt,
-        alloc,
-        &desk,
-        prepared,
-        lines,
-        &shares,
-        &mut reducer,
-        asked.rounds,
-    );
+    let end = job.run(rt, alloc, &desk, Clerk { alloc }, lines, asked.rounds);
     over.store(true, Ordering::SeqCst);
     if let Ok(teller) = teller {
         teller.join(rt);
     }
-    let StepEnd {
-        status,
-        snapshot,
-        artifacts,
-        ..
-    } = end?;
-    Ok(Left {
-        status,
-        snapshot,
-        slips: put_back(artifacts, shares),
-    })
+    Ok(end?)
 }
 
-fn write_share<W: Write>(writer: &mut W, share: &[Item]) -> Result<(), Failure>
-    ensures { OnOk result (Appends (W.contents writer.old) (W.contents writer.new) (concat share.now)) }
+fn write_slips<W: Write>(writer: &mut W, slips: &PackedList) -> Result<(), Failure>
+    ensures { OnOk result (Appends (W.contents writer.old) (W.contents writer.new) (concat slips.now)) }
 {
-    for slip in share {
-        writer.write_all(slip.as_slice())?;
-    }
-    Ok(())
-}
-
-fn write_slips<W: Write>(writer: &mut W, slips: &[Vec<Item>]) -> Result<(), Failure>
-    ensures { OnOk result (Appends (W.contents writer.old) (W.contents writer.new) (concat (joined (map (λ share. share.items) slips.now)))) }
-{
-    for share in slips {
-        write_share(writer, share.as_slice())?;
+    for index in 0..slips.len() {
+        writer.write_all(slips.at(index))?;
     }
     writer.flush()?;
     Ok(())
 }
 
+/// The time sheets, or the pay slips, of a text.
+fn lines_of(alloc: Global, text: &[u8]) -> Result<PackedList, Failure>
+    ensures { IfOk result (λ lines. AreRowsOf text.now lines) }
+{
+    match csv_rows::flexible_records_of(alloc, text) {
+        Ok(lines) => Ok(lines),
+        Err(_) => Err(Failure::Memory),
+    }
+}
+
 /// The saved rows and the pay slips of an earlier run, if there is one.
-fn earlier_of(alloc: Global, asked: &Asked) -> Result<(Option<Saved>, Vec<Item>), Failure>
+fn earlier_of(alloc: Global, asked: &Asked) -> Result<(Option<Saved>, PackedList), Failure>
     ensures none { asked.now.earlier ≡ None → IfOk result (λ earlier. earlier.0 ≡ None) }
-    ensures some { IfSome asked.now.earlier (λ files. IfOk result (λ earlier. AreHeldBy files.0.items files.1.items earlier.0 earlier.1.items)) }
+    ensures some { IfSome asked.now.earlier (λ files. IfOk result (λ earlier. AreHeldBy files.0.items files.1.items earlier.0 earlier.1)) }
 {
     match &asked.earlier {
-        None => Ok((None, Vec::new(alloc))),
+        None => Ok((None, PackedList::new(alloc))),
         Some((saved, slips)) => Ok((Some(read_saved(alloc, saved)?), lines_of(alloc, slips)?)),
     }
 }
 
-/// What a run leaves of these time sheets, behind the earlier run if there is one.
+/// How the step over these time sheets ends, behind the earlier run if there is one.
 fn left_of<T: Threads + Wait + Clock + Eprint + Copy + Send + Sync + 'static>(
     rt: &T,
     alloc: Global,
     asked: &Asked,
-    lines: &[Item],
-) -> Result<Left, Failure>
-    ensures so_far { asked.now.earlier ≡ None → IfOk result (λ left. IsSoFar lines.now left.snapshot.rows.items (map (λ share. share.items) left.slips.items)) }
-    ensures all { asked.now.earlier ≡ None → IfOk result (λ left. left.status ≡ Completed → joined (map (λ share. share.items) left.slips.items) ≡ all_slips lines.now) }
-    ensures goes_on { IfSome asked.now.earlier (λ files. AreOfStoppedRun lines.now files.0.items files.1.items → IfOk result (λ left. IsSoFar lines.now left.snapshot.rows.items (map (λ share. share.items) left.slips.items))) }
-    ensures goes_on_whole { IfSome asked.now.earlier (λ files. AreOfStoppedRun lines.now files.0.items files.1.items → IfOk result (λ left. left.status ≡ Completed → joined (map (λ share. share.items) left.slips.items) ≡ all_slips lines.now)) }
+    lines: &PackedList,
+) -> Result<RecordsEnd, Failure>
+    ensures so_far { asked.now.earlier ≡ None → IfOk result (λ end. IsSoFar payroll lines.now end.snapshot.rows.items end.results.items) }
+    ensures all { asked.now.earlier ≡ None → IfOk result (λ end. end.status ≡ Completed → joined end.results.items ≡ all_slips lines.now) }
+    ensures goes_on { IfSome asked.now.earlier (λ files. AreOfStoppedRun lines.now files.0.items files.1.items → IfOk result (λ end. IsSoFar payroll lines.now end.snapshot.rows.items end.results.items)) }
+    ensures goes_on_whole { IfSome asked.now.earlier (λ files. AreOfStoppedRun lines.now files.0.items files.1.items → IfOk result (λ end. end.status ≡ Completed → joined end.results.items ≡ all_slips lines.now)) }
 {
     let (saved, earlier) = earlier_of(alloc, asked)?;
     let blank = Blank::new(MAX_PARTS);
@@ -193,15 +173,14 @@ fn left_of<T: Threads + Wait + Clock + Eprint + Copy + Send + Sync + 'static>(
 }
 
 /// The exit status. The rows of a step that was stopped are told on standard error.
-fn told<R: Eprint>(rt: &R, alloc: Global, left: &Left) -> Result<u8, Failure>
-    ensures { IfOk result (λ status. status ≡ exit_status left.now.status) }
+fn told<R: Eprint>(rt: &R, alloc: Global, end: &RecordsEnd) -> Result<u8, Failure>
+    ensures { IfOk result (λ status. status ≡ exit_status end.now.status) }
 {
-    match left.status {
+    match end.status {
         Status::Completed => Ok(0),
         Status::Failed => Ok(1),
         Status::Stopped | Status::Started => {
-            let saved = Saved::of(alloc, NAME, &left.snapshot)?;
-            let text = saved_text(alloc, &saved)?;
+            let text = end.saved_text(alloc, &name(alloc)?)?;
             eprintln!(rt; "{text}")?;
             Ok(2)
         }
@@ -224,9 +203,10 @@ fn answer<T: Threads + Wait + Clock + Eprint + Copy + Send + Sync + 'static, R: 
     let mut text = Vec::new(alloc);
     reader.read_to_end(&mut text)?;
     let lines = lines_of(alloc, &text)?;
-    let left = left_of(rt, alloc, asked, &lines)?;
-    write_slips(writer, &left.slips)?;
-    told(rt, alloc, &left)
+    let end = left_of(rt, alloc, asked, &lines)?;
+    let slips = end.all_results(alloc)?;
+    write_slips(writer, &slips)?;
+    told(rt, alloc, &end)
 }
 
 fn main(rt: HostRuntime) -> ExitCode {

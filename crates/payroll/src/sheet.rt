@@ -2,11 +2,12 @@
 
 ghost use Rattle.std.specs.Prelude.{◌≡◌, map, option_map, IfOk};
 ghost use Rattle.csv.specs.Machine.{next_record};
-ghost use Rattle.csv.specs.Reading.{AreRecords, default_config, strip_bom};
+ghost use Rattle.csv.specs.Reading.{default_config, strip_bom};
 ghost use Rattle.csv.specs.Records.{fields_of};
 ghost use Rattle.csv.specs.Writing.{default_writer, row_text};
 ghost use Rattle.csv.specs.declared.parser.State.TheVariants as st;
-ghost use Rattle.payroll.specs.Sheets.{AreLinesOf, fields_in, is_shaky, line_of, number_from, number_of, pay_by, pay_in, product_of, slip_of, sum_of, with_digit};
+ghost use Rattle.jb_ready.specs.Csv.{row_of};
+ghost use Rattle.payroll.specs.Sheets.{fields_in, is_shaky, number_from, number_of, pay_by, pay_in, product_of, slip_of, sum_of, with_digit};
 
 use csv::{ByteRecord, Error, ReaderBuilder, WriterBuilder};
 use itoa::Buffer;
@@ -18,7 +19,7 @@ const SHAKY: &[u8] = b"shaky";
 
 /// The bytes of the line of a record of these fields.
 fn line_bytes(alloc: Global, fields: &[&[u8]]) -> Result<Vec<u8>, Error>
-    ensures { IfOk result (λ v. v.items ≡ line_of (map (λ f. f.now) fields.now)) }
+    ensures { IfOk result (λ v. v.items ≡ row_of (map (λ f. f.now) fields.now)) }
 {
     let mut wtr = WriterBuilder::new().from_writer(Vec::new(alloc));
     wtr.write_fields(fields)?;
@@ -136,56 +137,4 @@ pub fn is_shaky(alloc: Global, line: &[u8]) -> Result<bool, Error>
         Some(record) => Ok(record.get(3) == Some(SHAKY)),
         None => Ok(false),
     }
-}
-
-/// The records of a CSV text without a header row.
-fn records_of(alloc: Global, text: &[u8]) -> Result<Vec<ByteRecord>, Error>
-    ensures { IfOk result (λ v. AreRecords default_config st.StartRecord (strip_bom text.now) (map fields_of v.items)) }
-{
-    let rdr = ReaderBuilder::new()
-        .has_headers(false)
-        .flexible(true)
-        .from_reader(alloc, text);
-    let mut rows = Vec::new(alloc);
-    for row in rdr.into_byte_records() {
-        if rows.push(row?).is_err() {
-            return Err(Error::out_of_memory());
-        }
-    }
-    Ok(rows)
-}
-
-/// The bytes of the line of this record.
-fn row_bytes(alloc: Global, row: &ByteRecord) -> Result<Vec<u8>, Error>
-    ensures { IfOk result (λ v. v.items ≡ line_of (fields_of row.now)) }
-{
-    let mut wtr = WriterBuilder::new().from_writer(Vec::new(alloc));
-    wtr.write_byte_record(row)?;
-    match wtr.into_inner() {
-        Ok(text) => Ok(text),
-        Err(e) => Err(e.into_error()),
-    }
-}
-
-/// The lines of these records.
-fn all_lines(alloc: Global, records: &[ByteRecord]) -> Result<Vec<Item>, Error>
-    ensures { IfOk result (λ lines. lines.items ≡ map (λ r. line_of (fields_of r)) records.now) }
-{
-    let mut lines = Vec::new(alloc);
-    for row in records {
-        let line = Item::from_vec(row_bytes(alloc, row)?);
-        if lines.push(line).is_err() {
-            return Err(Error::out_of_memory());
-        }
-    }
-    Ok(lines)
-}
-
-/// The records of a CSV text, each as a line of its own.
-pub fn lines_of(alloc: Global, text: &[u8]) -> Result<Vec<Item>, Error>
-    ensures { IfOk result (λ lines. AreLinesOf text.now lines.items) }
-{
-    let records = records_of(alloc, text)?;
-    let lines = all_lines(alloc, &records)?;
-    Ok(lines)
 }

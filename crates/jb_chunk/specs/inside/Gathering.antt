@@ -1,27 +1,28 @@
 -- What the functions that read and process a block keep, record by record.
-use Rattle.std.specs.Prelude.{ℕ, ◌≡◌, ◌+◌, ◌≤◌, ◌++◌, List, length, false, Option, Some, None, option_to_list}
-use Rattle.jb_job.specs.declared.class.ClassId.{ClassId}
-use Rattle.jb_job.specs.Limits.{max_records}
+use Rattle.std.specs.Prelude.{ℕ, ◌≡◌, ◌+◌, ◌-◌, ◌≤◌, ◌++◌, List, false, Option, Some, None, option_to_list}
+use Rattle.jb_base.specs.declared.class.ClassId.{ClassId}
+use Rattle.jb_base.specs.Limits.{max_records}
 use Rattle.jb_rules.specs.declared.row.Row.{Row}
-use Rattle.jb_job.specs.Records.{RulesRecord}
-use Rattle.jb_artifacts.specs.Faults.{Plans, live, used_at}
+use Rattle.jb_base.specs.Rules.{RulesRecord}
+use Rattle.jb_artifacts.specs.Faults.{FaultTable, live, used_at}
 use Rattle.jb_artifacts.specs.Writer.{Numbered}
-use Rattle.jb_artifacts.specs.Meaning.{Workplace}
+use Rattle.jb_artifacts.specs.Meaning.{ArtifactsMeaning}
 use Rattle.jb_chunk.specs.declared.entry.EntryKind.{EntryKind}
 use Rattle.jb_chunk.specs.declared.entry.EntryKind.TheVariants as kind
 use Rattle.jb_chunk.specs.declared.tally.Tally.{Tally}
 use Rattle.jb_rules.specs.declared.choice.Choice.{Choice}
 use Rattle.jb_rules.specs.Rows.{skips_of}
-use Rattle.jb_chunk.specs.Attempt.{BlockTally}
+use Rattle.jb_rules.specs.declared.counts.Counts.{Counts}
+use Rattle.jb_rules.specs.Counts.{no_counts}
 use Rattle.jb_chunk.specs.Block.{results, count_of, choice_at, is_skip, stops, MayBeUsed}
-use Rattle.jb_chunk.specs.Entries.{Entry, ReadFault, ProcessFault, Filtered, Found, fault_in, is_read_fault, is_process_fault, is_filtered, text_in, numbered, one_if}
+use Rattle.jb_chunk.specs.Entries.{Entry, ReadFault, ProcessFault, Filtered, Answered, fault_in, is_read_fault, is_process_fault, is_filtered, text_in, numbered, one_if}
 
 -- the entry of such a kind; where it has a result, this one
 abbrev pub entry_with : EntryKind → (text : List ℕ) → Entry
 entry_with (kind.ReadFault class) text = ReadFault class
 entry_with (kind.ProcessFault class) text = ProcessFault class
 entry_with kind.Filtered text = Filtered
-entry_with kind.Found text = Found text
+entry_with kind.Answered text = Answered text
 
 -- what records came to: their results, and how many were skipped or filtered
 pub record Yield : Type 0 where
@@ -34,36 +35,39 @@ abbrev pub yield_of : Tally → (found : Numbered) → Yield
 yield_of t found = record { found = found; read_skips = t.read_skips; process_skips = t.process_skips; filtered = t.filtered }
 
 -- what the records `lo` to `hi - 1` came to
-pub record IsTally (w : Workplace) (lo hi : ℕ) (t : Yield) : Type 0 where
+pub record IsTally (w : ArtifactsMeaning) (lo hi : ℕ) (t : Yield) : Type 0 where
   pub found : t.found ≡ results w lo hi
   pub read_skips : t.read_skips ≡ count_of is_read_fault w lo hi
   pub process_skips : t.process_skips ≡ count_of is_process_fault w lo hi
   pub filtered : t.filtered ≡ count_of is_filtered w lo hi
 
--- the tally, by its numbers, of a block of so many records
-abbrev pub block_tally : (records : ℕ) → Yield → BlockTally
-block_tally records t = record {
-  records = records;
-  read_skips = t.read_skips;
-  process_skips = t.process_skips;
-  filtered = t.filtered;
-  found = length t.found;
+-- what a chunk of so many records that came to this adds to the counts where it is committed with so many results, and so
+-- many write calls skipped
+abbrev pub counts_with : (records : ℕ) → Yield → (written write_skips : ℕ) → Counts
+counts_with records t written write_skips = record no_counts {
+  read = records - t.read_skips;
+  write = written;
+  commit = 1;
+  read_skip = t.read_skips;
+  process_skip = t.process_skips;
+  filter = t.filtered;
+  write_skip = write_skips;
 }
 
 -- the processor's plans after record `k`: only a record that was read is processed
-abbrev pub processed_at : (read_fault : Option ClassId) → Plans → ℕ → Plans
+abbrev pub processed_at : (read_fault : Option ClassId) → FaultTable → ℕ → FaultTable
 processed_at (Some class) plans k = plans
 processed_at None plans k = used_at plans k
 
 -- reader and processor after record `k`
-abbrev pub passed_one : Workplace → ℕ → Workplace
+abbrev pub passed_one : ArtifactsMeaning → ℕ → ArtifactsMeaning
 passed_one w k = record w {
   reader = record w.reader { place = k + 1; faults = used_at w.reader.faults k };
   processor = record w.processor { faults = processed_at (live (w.reader.faults k)) w.processor.faults k };
 }
 
 -- reader and processor may have worked on the records from `lo` to `hi - 1`, and nothing else
-pub record IsWornTo (lo hi : ℕ) (w now : Workplace) : Type 0 where
+pub record IsWornTo (lo hi : ℕ) (w now : ArtifactsMeaning) : Type 0 where
   pub reader : now.reader ≡ record w.reader { place = now.reader.place; faults = now.reader.faults }
   pub processor : now.processor ≡ record w.processor { faults = now.processor.faults }
   pub writer : now.writer ≡ w.writer

@@ -1,27 +1,27 @@
 -- What the functions keep that repeat a call in place, and what a block is between two of its repeats.
 use Rattle.std.specs.Prelude.{ℕ, zero, suc, ◌≡◌, ◌+◌, ◌≤◌, ◌<◌, ◌⊎◌, Bool, true, false, List, ◌++◌, length, take, option_to_list, is_some, Option, Some, None, Result, Ok, Err, IfOk}
-use Rattle.jb_job.specs.declared.class.ClassId.{ClassId}
-use Rattle.jb_job.specs.declared.artifact_error.ArtifactError.{ArtifactError}
-use Rattle.jb_job.specs.declared.artifact_error.ArtifactError.TheVariants.{Fault, Memory}
-use Rattle.jb_job.specs.Records.{RulesRecord}
+use Rattle.jb_base.specs.declared.class.ClassId.{ClassId}
+use Rattle.jb_base.specs.declared.artifact_error.ArtifactError.{ArtifactError}
+use Rattle.jb_base.specs.declared.artifact_error.ArtifactError.TheVariants.{Fault, Memory}
+use Rattle.jb_base.specs.Rules.{RulesRecord}
 use Rattle.jb_rules.specs.declared.row.Row.{Row}
 use Rattle.jb_rules.specs.Rows.{repeated_row, skips_of}
 use Rattle.jb_artifacts.specs.Answers.{IfFault, IfNoMemory}
-use Rattle.jb_artifacts.specs.Faults.{Plans, live, used_at}
+use Rattle.jb_artifacts.specs.Faults.{FaultTable, live, used_at}
 use Rattle.jb_artifacts.specs.Reader.{record_at, after_read}
 use Rattle.jb_artifacts.specs.Processor.{after_process}
 use Rattle.jb_artifacts.specs.Writer.{Writer, Numbered, failing, used_for, write_fault, after_write, torn_write}
-use Rattle.jb_artifacts.specs.Meaning.{Workplace}
-use Rattle.jb_chunk.specs.declared.end.End.{End}
+use Rattle.jb_artifacts.specs.Meaning.{ArtifactsMeaning}
+use Rattle.jb_chunk.specs.declared.chunk_end.ChunkEnd.{ChunkEnd}
 use Rattle.jb_chunk.specs.declared.entry.EntryKind.{EntryKind}
 use Rattle.jb_chunk.specs.declared.gather.Gathered.{Gathered}
 use Rattle.jb_chunk.specs.declared.gather.Gathered.TheVariants.{Settled, Whole}
-use Rattle.jb_chunk.specs.declared.tried.Tried.{Tried}
-use Rattle.jb_chunk.specs.Attempt.{Trial, after_repeats, settled_at, IsRestored}
+use Rattle.jb_chunk.specs.Attempt.{all_repeated, settled_at, IsRestored, block_of}
+use Rattle.jb_chunk.specs.Standing.{TaskState}
 use Rattle.jb_chunk.specs.Block.{entry, repeats, is_skip, is_again, choice_at, skips_before, settling, passed}
 use Rattle.jb_chunk.specs.Entries.{Entry, fault_in, text_in, numbered}
 use Rattle.jb_chunk.specs.inside.Gathering.{Yield, yield_of, entry_with, IsTally, passed_one}
-use Rattle.jb_chunk.specs.inside.Tried.{IsWriteEnd, IsFinish}
+use Rattle.jb_chunk.specs.inside.TriedChunk.{IsWriteEnd, IsFinish}
 
 -- an answer, by what its value stands for
 abbrev pub seen_as : {A B : Type 0} → (A → B) → Result A ArtifactError → Result B ArtifactError
@@ -38,23 +38,23 @@ fault_answered (Err Memory) = None
 -- where it found no memory.
 pub record Call : Type 0 where
   pub fault : ℕ → Option ClassId
-  pub before : ℕ → Workplace
-  pub behind : ℕ → Workplace
-  pub without_memory : ℕ → (left : Workplace) → Workplace
+  pub before : ℕ → ArtifactsMeaning
+  pub behind : ℕ → ArtifactsMeaning
+  pub without_memory : ℕ → (left : ArtifactsMeaning) → ArtifactsMeaning
 
 -- each of the first calls, so many, failed, and was to be repeated
 abbrev pub AreRepeats : RulesRecord → (skips : ℕ) → Row → (fault : ℕ → Option ClassId) → (again : ℕ) → Type 0
 AreRepeats rules skips row fault again = (j : ℕ) → j < again → repeats rules (repeated_row row j) (fault j) skips ≡ true
 
 -- between two calls
-pub record IsCalling (rules : RulesRecord) (skips : ℕ) (row : Row) (call : Call) (now : Row) (left : Workplace) : Type 0 where
+pub record IsCalling (rules : RulesRecord) (skips : ℕ) (row : Row) (call : Call) (now : Row) (left : ArtifactsMeaning) : Type 0 where
   pub again : ℕ
   pub grown : now ≡ repeated_row row again
   pub asked : AreRepeats rules skips row call.fault again
   pub passes : left ≡ call.before again
 
 -- the call was made, with repeats, and isn't to be repeated any more; where it succeeds, it answers this value
-pub record IsCalled {A : Type 0} (rules : RulesRecord) (skips : ℕ) (row : Row) (call : Call) (value : A) (answer : Result A ArtifactError) (now : Row) (left : Workplace) : Type 0 where
+pub record IsCalled {A : Type 0} (rules : RulesRecord) (skips : ℕ) (row : Row) (call : Call) (value : A) (answer : Result A ArtifactError) (now : Row) (left : ArtifactsMeaning) : Type 0 where
   pub again : ℕ
   pub grown : now ≡ repeated_row row again
   pub asked : AreRepeats rules skips row call.fault again
@@ -64,23 +64,23 @@ pub record IsCalled {A : Type 0} (rules : RulesRecord) (skips : ℕ) (row : Row)
   pub no_memory : IfNoMemory answer (left ≡ call.without_memory again left)
 
 -- the plans after so many calls for record `k`
-abbrev pub called_times : ℕ → Plans → ℕ → Plans
+abbrev pub called_times : ℕ → FaultTable → ℕ → FaultTable
 called_times zero plans k = plans
 called_times (suc m) plans k = used_at (called_times m plans k) k
 
 -- the fault of the call for record `k` after so many others
-abbrev pub next_fault : Plans → (k : ℕ) → ℕ → Option ClassId
+abbrev pub next_fault : FaultTable → (k : ℕ) → ℕ → Option ClassId
 next_fault plans k m = live (called_times m plans k k)
 
 -- reader and processor after so many repeats for record `k`
-abbrev pub called : Workplace → (k reads processes : ℕ) → Workplace
+abbrev pub called : ArtifactsMeaning → (k reads processes : ℕ) → ArtifactsMeaning
 called w k reads processes = record w {
   reader = record w.reader { faults = called_times reads w.reader.faults k };
   processor = record w.processor { faults = called_times processes w.processor.faults k };
 }
 
 -- the read of record `k`, at which the reader stands
-abbrev pub read_call : Workplace → (k : ℕ) → Call
+abbrev pub read_call : ArtifactsMeaning → (k : ℕ) → Call
 read_call w k = record {
   fault = next_fault w.reader.faults k;
   before = λ m. called w k m 0;
@@ -88,11 +88,11 @@ read_call w k = record {
   without_memory = λ m left. called w k m 0;
 }
 
-abbrev pub IsRead : RulesRecord → (skips : ℕ) → Row → Workplace → (k : ℕ) → Result (List ℕ) ArtifactError → (now : Row) → (left : Workplace) → Type 0
+abbrev pub IsRead : RulesRecord → (skips : ℕ) → Row → ArtifactsMeaning → (k : ℕ) → Result (List ℕ) ArtifactError → (now : Row) → (left : ArtifactsMeaning) → Type 0
 IsRead rules skips row w k answer now left = IsCalled rules skips row (read_call w k) (record_at w.reader k) answer now left
 
 -- the process call for record `k`
-abbrev pub process_call : Workplace → (k : ℕ) → Call
+abbrev pub process_call : ArtifactsMeaning → (k : ℕ) → Call
 process_call w k = record {
   fault = next_fault w.processor.faults k;
   before = λ m. called w k 0 m;
@@ -101,7 +101,7 @@ process_call w k = record {
 }
 
 -- it answers whether this item has a result
-abbrev pub IsProcessed : RulesRecord → (skips : ℕ) → Row → Workplace → (k : ℕ) → (item : List ℕ) → Result Bool ArtifactError → (now : Row) → (left : Workplace) → Type 0
+abbrev pub IsProcessed : RulesRecord → (skips : ℕ) → Row → ArtifactsMeaning → (k : ℕ) → (item : List ℕ) → Result Bool ArtifactError → (now : Row) → (left : ArtifactsMeaning) → Type 0
 IsProcessed rules skips row w k item answer now left = IsCalled rules skips row (process_call w k) (is_some (w.processor.answer k item)) answer now left
 
 -- the results behind such a call: the item's is put behind the others, where the call succeeds and there is one
@@ -110,7 +110,7 @@ results_behind (Ok found) k text results = results ++ option_to_list (numbered k
 results_behind (Err e) k text results = results
 
 -- a writer's plans after so many calls with these results
-abbrev pub written_times : ℕ → Plans → Numbered → Plans
+abbrev pub written_times : ℕ → FaultTable → Numbered → FaultTable
 written_times zero plans found = plans
 written_times (suc m) plans found = let p = written_times m plans found in used_for p (failing p found)
 
@@ -119,7 +119,7 @@ abbrev pub rewritten : Writer → Numbered → ℕ → Writer
 rewritten w found m = record w { faults = written_times m w.faults found }
 
 -- the write of these results
-abbrev pub write_call : Workplace → Numbered → Call
+abbrev pub write_call : ArtifactsMeaning → Numbered → Call
 write_call w found = record {
   fault = λ m. write_fault (rewritten w.writer found m) found;
   before = λ m. record w { writer = rewritten w.writer found m };
@@ -127,11 +127,11 @@ write_call w found = record {
   without_memory = λ m left. record w { writer = torn_write (rewritten w.writer found m) found (length left.writer.written) };
 }
 
-abbrev pub IsPut : RulesRecord → (skips : ℕ) → Row → Workplace → Numbered → Result (Unit {0}) ArtifactError → (now : Row) → (left : Workplace) → Type 0
+abbrev pub IsPut : RulesRecord → (skips : ℕ) → Row → ArtifactsMeaning → Numbered → Result (Unit {0}) ArtifactError → (now : Row) → (left : ArtifactsMeaning) → Type 0
 IsPut rules skips row w found answer now left = IsCalled rules skips row (write_call w found) tt answer now left
 
 -- a record was read and processed, with repeats, and this became of it
-pub record IsDone (rules : RulesRecord) (skips : ℕ) (row : Row) (w : Workplace) (k : ℕ) (e : Entry) (now : Row) (left : Workplace) : Type 0 where
+pub record IsDone (rules : RulesRecord) (skips : ℕ) (row : Row) (w : ArtifactsMeaning) (k : ℕ) (e : Entry) (now : Row) (left : ArtifactsMeaning) : Type 0 where
   pub reads : ℕ
   pub processes : ℕ
   pub grown : now ≡ repeated_row (repeated_row row reads) processes
@@ -143,24 +143,23 @@ pub record IsDone (rules : RulesRecord) (skips : ℕ) (row : Row) (w : Workplace
   pub passes : left ≡ passed_one (called w k reads processes) k
 
 -- so it was, its entry is of this kind, and its result, if it has one, is put behind the others
-pub record IsEntered (rules : RulesRecord) (skips : ℕ) (row : Row) (w : Workplace) (k : ℕ) (before : Numbered) (kind : EntryKind) (now : Row) (left : Workplace) (after : Numbered) : Type 0 where
+pub record IsEntered (rules : RulesRecord) (skips : ℕ) (row : Row) (w : ArtifactsMeaning) (k : ℕ) (before : Numbered) (kind : EntryKind) (now : Row) (left : ArtifactsMeaning) (after : Numbered) : Type 0 where
   pub text : List ℕ
   pub done : IsDone rules skips row w k (entry_with kind text) now left
   pub added : after ≡ before ++ option_to_list (numbered k (text_in (entry_with kind text)))
 
 -- the second block is the first after some of its repeats
-pub record IsRepeated (t u : Trial) : Type 0 where
+pub record IsRepeated (t u : TaskState) : Type 0 where
   pub again : ℕ
-  pub rules : u.rules ≡ t.rules
-  pub hi : u.hi ≡ t.hi
+  pub rest : u ≡ record t { row = u.row; work = u.work }
   pub row : u.row ≡ repeated_row t.row again
   pub few : (again ≡ 0) ⊎ (t.row.retries + again ≤ t.rules.retry_limit)
-  pub work : IsRestored t.row.at t.hi t.work u.work
-  pub same : after_repeats u ≡ after_repeats t
+  pub work : IsRestored t.row.at (block_of t).hi t.work u.work
+  pub same : all_repeated u ≡ all_repeated t
 
 -- the records of a block before `n` are done, and each fault of theirs is skipped
-pub record IsGathering (t : Trial) (n : ℕ) (tally : Yield) (now : Row) (left : Workplace) : Type 0 where
-  pub last : Trial
+pub record IsGathering (t : TaskState) (n : ℕ) (tally : Yield) (now : Row) (left : ArtifactsMeaning) : Type 0 where
+  pub last : TaskState
   pub repeated : IsRepeated t last
   pub row : now ≡ last.row
   pub passes : left ≡ passed last.work last.row.at n
@@ -168,17 +167,17 @@ pub record IsGathering (t : Trial) (n : ℕ) (tally : Yield) (now : Row) (left :
   pub none : settling last.rules last.row last.work n ≡ None
 
 -- the records of a block were read and processed, and each fault of theirs is skipped
-abbrev pub IsWhole : Trial → Yield → (now : Row) → (left : Workplace) → Type 0
+abbrev pub IsWhole : TaskState → Yield → (now : Row) → (left : ArtifactsMeaning) → Type 0
 IsWhole t tally now left =
-    (u : Trial) × IsRepeated t u × (now ≡ u.row)
+    (u : TaskState) × IsRepeated t u × (now ≡ u.row)
     × (settled_at u ≡ None)
-    × IsTally u.work u.row.at u.hi tally
-    × (left ≡ passed u.work u.row.at u.hi)
+    × IsTally u.work u.row.at (block_of u).hi tally
+    × (left ≡ passed u.work u.row.at (block_of u).hi)
 
 -- the records of a block were read and processed: a fault settled it, which is neither skipped nor repeated, or there is none
-abbrev pub IsGathered : Trial → Gathered → (found : Numbered) → (now : Row) → (left : Workplace) → Type 0
+abbrev pub IsGathered : TaskState → Gathered → (found : Numbered) → (now : Row) → (left : ArtifactsMeaning) → Type 0
 IsGathered t (Settled number class choice) found now left =
-    (u : Trial) × IsRepeated t u × (now ≡ u.row)
+    (u : TaskState) × IsRepeated t u × (now ≡ u.row)
     × (settled_at u ≡ Some number)
     × (fault_in (entry u.work number) ≡ Some class)
     × (choice ≡ choice_at u.rules u.row class (skips_before u.row u.work number))
@@ -194,7 +193,7 @@ pub record IsRewritten (rules : RulesRecord) (skips : ℕ) (row : Row) (w : Writ
   pub last : repeats rules now (write_fault (rewritten w found again) found) skips ≡ false
 
 -- a write found no memory: it was repeated so often, and some results may be written past what was there
-pub record IsTornWrite (w : Workplace) (found : Numbered) (left : Workplace) : Type 0 where
+pub record IsTornWrite (w : ArtifactsMeaning) (found : Numbered) (left : ArtifactsMeaning) : Type 0 where
   pub again : ℕ
   pub others : left ≡ record w { writer = left.writer }
   pub plans : left.writer.faults ≡ written_times again w.writer.faults found
@@ -202,13 +201,13 @@ pub record IsTornWrite (w : Workplace) (found : Numbered) (left : Workplace) : T
   pub longer : length w.writer.written ≤ length left.writer.written
 
 -- how a block's write ended it, after its repeats
-abbrev pub IsWriteEndAfter : RulesRecord → Row → Yield → Workplace → End → (now : Row) → (left : Workplace) → Type 0
-IsWriteEndAfter rules row tally w end now left =
+abbrev pub IsWriteEndAfter : RulesRecord → Row → (hi : ℕ) → Yield → ArtifactsMeaning → ChunkEnd → (now : Row) → (left : ArtifactsMeaning) → Type 0
+IsWriteEndAfter rules row hi tally w end now left =
     (again : ℕ) × IsRewritten rules (skips_of row + tally.read_skips + tally.process_skips) row w.writer tally.found again now
-    × IsWriteEnd rules now tally (record w { writer = rewritten w.writer tally.found again }) end left
+    × IsWriteEnd rules now hi tally (record w { writer = rewritten w.writer tally.found again }) end left
 
 -- how a block ended that nothing settled before its write, after its repeats
-abbrev pub IsFinishAfter : RulesRecord → Row → (hi : ℕ) → Yield → Workplace → Tried → (now : Row) → (left : Workplace) → Type 0
-IsFinishAfter rules row hi tally w tried now left =
+abbrev pub IsFinishAfter : RulesRecord → Row → (hi : ℕ) → Yield → ArtifactsMeaning → ChunkEnd → (now : Row) → (left : ArtifactsMeaning) → Type 0
+IsFinishAfter rules row hi tally w end now left =
     (again : ℕ) × IsRewritten rules (skips_of row + tally.read_skips + tally.process_skips) row w.writer tally.found again now
-    × IsFinish rules now hi tally (record w { writer = rewritten w.writer tally.found again }) tried left
+    × IsFinish rules now hi tally (record w { writer = rewritten w.writer tally.found again }) end left

@@ -3,7 +3,7 @@ use Rattle.std.specs.Prelude.{ℕ, List, [], length, None, Ok}
 use Rattle.serde_json.specs.Data.{Data}
 use Rattle.jb_job.specs.declared.field.Field.TheVariants as field
 use Rattle.jb_job.specs.Reading.{Read, ◌>>=◌, text_at, optional}
-use Rattle.jb_job.specs.Limits.{max_affix}
+use Rattle.jb_base.specs.Limits.{max_affix}
 use Rattle.jb_documents.specs.FaultLists.{no_faults, step_faults_at}
 use Rattle.jb_documents.specs.StepFields.{drop_at}
 use Rattle.jb_documents.specs.declared.run.step_data.StepData.{StepData}

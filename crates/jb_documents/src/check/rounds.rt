@@ -7,9 +7,10 @@ ghost use Rattle.jb_job.specs.Reading.{Gives, GivesExactly, required};
 ghost use Rattle.jb_cert.specs.Plans.{rounds_of};
 ghost use Rattle.jb_documents.specs.CheckDocument.{certificate_at, named_certificate, round_at, rounds_at, slot_at};
 
+use jb_base::MAX_PLACE;
 use jb_cert::{Certificate, Plan, Slot};
 use jb_job::kinds::{each, number, required, triple, whole};
-use jb_job::{Field, JobError, MAX_PLACE};
+use jb_job::{Field, JobError};
 use serde_json::Value;
 use std::alloc::Global;
 use std::marker::Brand;

@@ -3,12 +3,13 @@
 ghost use Rattle.std.specs.Prelude.{◌≡◌, ◌*◌, ◌≤◌, length, sum, nat_le, IfOk};
 ghost use Rattle.serde_json.specs.View.{view, items_view};
 ghost use Rattle.jb_job.specs.declared.field.Field.TheVariants as field;
-ghost use Rattle.jb_job.specs.Limits.{max_chunks, max_load_partitions, max_threads};
+ghost use Rattle.jb_base.specs.Limits.{max_chunks, max_load_partitions, max_threads};
 ghost use Rattle.jb_job.specs.Reading.{Gives, GivesExactly, each_at, number_at, required};
 ghost use Rattle.jb_documents.specs.PlanDocument.{counts_at};
 
+use jb_base::{MAX_CHUNKS, MAX_LOAD_PARTITIONS, MAX_THREADS};
 use jb_job::kinds::{each, list, number, required};
-use jb_job::{Field, JobError, MAX_CHUNKS, MAX_LOAD_PARTITIONS, MAX_THREADS};
+use jb_job::{Field, JobError};
 use serde_json::Value;
 use std::alloc::Global;
 use std::marker::Brand;

@@ -1,6 +1,6 @@
 //! What the writers of a step held when it stopped.
 
-use jb_base::PackedList;
+use jb_base::{Listed, PackedList};
 use std::marker::Model;
 
 /// The texts that a partition's writer held, in order. Contracts see their bytes.
@@ -44,41 +44,4 @@ impl WriterTexts {
 }
 
 /// The texts of each partition's writer, by place.
-#[derive(Drop)]
-pub struct Outputs {
-    writers: Vec<WriterTexts>,
-}
-
-impl Model for Outputs {
-    ghost use Rattle.std.specs.Prelude.{ℕ, List};
-
-    ghost Value = { List (List (List ℕ)) };
-
-    ghost view = { λ o. o.writers.items };
-}
-
-impl Outputs {
-    ghost use Rattle.std.specs.Prelude.{◌≡◌};
-
-    /// The list of these writers' texts, whose memory it keeps.
-    pub fn new(writers: Vec<WriterTexts>) -> Outputs
-        ensures { result ≡ writers.items }
-    {
-        Outputs { writers }
-    }
-
-    /// The writers' texts, by place.
-    pub fn as_slice(&self) -> &[WriterTexts]
-        ensures { result.now ≡ self.now }
-    {
-        self.writers.as_slice()
-    }
-
-    /// The writers' texts, by value. Takes no memory.
-    pub fn into_vec(self) -> Vec<WriterTexts>
-        ensures { result.items ≡ self }
-    {
-        let Outputs { writers } = self;
-        writers
-    }
-}
+pub type Outputs = Listed<WriterTexts>;

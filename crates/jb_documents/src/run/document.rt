@@ -13,50 +13,15 @@ use super::plain::plain_document;
 use super::step_data::StepData;
 use super::step_fields::step_data;
 use crate::taken::{take_array, take_field, take_object};
+use jb_base::Listed;
 use jb_job::kinds::{each_by_value, required};
 use jb_job::{Field, Job, JobError, job_of, read_tree};
 use serde_json::Value;
 use std::alloc::Global;
-use std::marker::{Brand, Model};
+use std::marker::Brand;
 
 /// The data of a job's steps, in order.
-#[derive(Drop)]
-pub struct DataList {
-    data: Vec<StepData>,
-}
-
-impl Model for DataList {
-    ghost use Rattle.std.specs.Prelude.{List};
-    ghost use Rattle.jb_documents.specs.declared.run.step_data.StepData.{StepData};
-
-    ghost Value = { List StepData };
-
-    ghost view = { λ d. d.data.items };
-}
-
-impl DataList {
-    /// The list of these data, whose memory it keeps.
-    pub fn new(steps: Vec<StepData>) -> DataList
-        ensures { result ≡ steps.items }
-    {
-        DataList { data: steps }
-    }
-
-    /// The data, in the order of the job's steps.
-    pub fn as_slice(&self) -> &[StepData]
-        ensures { result.now ≡ self.now }
-    {
-        self.data.as_slice()
-    }
-
-    /// The data, by value. Takes no memory.
-    pub fn into_vec(self) -> Vec<StepData>
-        ensures { result.items ≡ self }
-    {
-        let DataList { data } = self;
-        data
-    }
-}
+pub type DataList = Listed<StepData>;
 
 /// A job and the data of its steps.
 #[derive(Drop)]

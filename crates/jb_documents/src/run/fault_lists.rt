@@ -8,8 +8,9 @@ ghost use Rattle.jb_documents.specs.FaultLists.{class_named, fault_kind, fault_n
 ghost use Rattle.jb_documents.specs.inside.Forms.{form_of};
 
 use super::faults::{ClassIds, FaultKind, PlannedFault, PlannedFaults, StepFaults};
+use jb_base::{ClassId, MAX_ENTRIES, MAX_ENTRY_CLASSES};
 use jb_job::kinds::{each, list, object, triple, whole};
-use jb_job::{ClassId, Field, Job, JobError, MAX_ENTRIES, MAX_ENTRY_CLASSES};
+use jb_job::{Field, Job, JobError};
 use serde_json::Value;
 use std::alloc::Global;
 use std::marker::Brand;

@@ -3,38 +3,12 @@
 ghost use Rattle.std.specs.Prelude.{◌≡◌, []};
 ghost use Rattle.jb_documents.specs.FaultOrder.{AreInOrder};
 
-use jb_job::ClassId;
+use jb_base::{ClassId, Listed};
 use std::alloc::Global;
 use std::marker::Model;
 
 /// Fault classes, in order.
-#[derive(Drop)]
-pub struct ClassIds {
-    classes: Vec<ClassId>,
-}
-
-impl Model for ClassIds {
-    ghost use Rattle.std.specs.Prelude.{List};
-    ghost use Rattle.jb_job.specs.declared.class.ClassId.{ClassId};
-
-    ghost Value = { List ClassId };
-
-    ghost view = { λ c. c.classes.items };
-}
-
-impl ClassIds {
-    pub fn new(classes: Vec<ClassId>) -> ClassIds
-        ensures { result ≡ classes.items }
-    {
-        ClassIds { classes }
-    }
-
-    pub fn as_slice(&self) -> &[ClassId]
-        ensures { result.now ≡ self.now }
-    {
-        self.classes.as_slice()
-    }
-}
+pub type ClassIds = Listed<ClassId>;
 
 /// How the calls for a record fail.
 #[derive(Drop)]

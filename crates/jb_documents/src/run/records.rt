@@ -12,7 +12,7 @@ pub struct Records {
 
 impl Model for Records {
     ghost use Rattle.std.specs.Prelude.{ℕ, List, ◌≤◌, length};
-    ghost use Rattle.jb_job.specs.Limits.{max_records};
+    ghost use Rattle.jb_base.specs.Limits.{max_records};
 
     ghost Value = { List (List ℕ) };
 
@@ -23,7 +23,7 @@ impl Model for Records {
 
 impl Records {
     ghost use Rattle.std.specs.Prelude.{◌≡◌, ◌≤◌, length};
-    ghost use Rattle.jb_job.specs.Limits.{max_records};
+    ghost use Rattle.jb_base.specs.Limits.{max_records};
 
     /// The list of these records, whose memory it keeps.
     pub fn new(list: PackedList) -> Records

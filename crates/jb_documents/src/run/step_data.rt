@@ -2,7 +2,7 @@
 
 use super::faults::StepFaults;
 use super::records::Records;
-use jb_job::Text;
+use jb_base::Text;
 
 /// What a step works on.
 #[derive(Drop)]

@@ -2,7 +2,7 @@
 
 ghost use Rattle.std.specs.Prelude.{◌≡◌, ◌≤◌, ◌<◌, ◌-◌, ◌+◌, ◌++◌, All, drop, length, map, IfOk, OnOk};
 ghost use Rattle.jb_artifacts.specs.Prefix.{prefixed};
-ghost use Rattle.jb_job.specs.declared.job.Range.{Range};
+ghost use Rattle.jb_base.specs.declared.range.Range.{Range};
 ghost use Rattle.jb_plan.specs.Plans.{IsWithin};
 ghost use Rattle.jb_rules.specs.Rows.{range_of};
 ghost use Rattle.jb_step.specs.Setup.{needs, unfinished};
@@ -16,9 +16,8 @@ use jb_artifacts::{
     CountCollector, Item, ItemProcessor, ItemReader, ItemWriter, ListWriter, Meaning,
     PackedArtifacts, PrefixProcessor, TableReader,
 };
-use jb_base::PackedList;
+use jb_base::{PackedList, Range, Text};
 use jb_documents::WriterTexts;
-use jb_job::{Range, Text};
 use jb_rules::Row;
 use jb_step::Prepared;
 use std::alloc::{AllocError, Global};
@@ -96,7 +95,7 @@ fn artifacts_for(
 ) -> Result<OwnArtifacts, AllocError>
     requires order { range.lo ≤ range.hi }
     requires records { length records ≡ range.hi - range.lo }
-    ensures { IfOk result (λ own. ⟦<OwnArtifacts as Meaning>⟧.workplace own ≡ workplace_of step.now records held range) }
+    ensures { IfOk result (λ own. ⟦<OwnArtifacts as Meaning>⟧.meaning own ≡ workplace_of step.now records held range) }
 {
     Ok(PackedArtifacts {
         reader: reader_for(alloc, step, records, range)?,
@@ -115,7 +114,7 @@ fn artifacts_of_row(
     row: &Row,
 ) -> Result<OwnArtifacts, AllocError>
     requires { IsWithin (length records.now) (range_of row.now) }
-    ensures { IfOk result (λ own. ⟦<OwnArtifacts as Meaning>⟧.workplace own ≡ workplace_of step.now (records_in records.now (range_of row.now)) held (range_of row.now)) }
+    ensures { IfOk result (λ own. ⟦<OwnArtifacts as Meaning>⟧.meaning own ≡ workplace_of step.now (records_in records.now (range_of row.now)) held (range_of row.now)) }
 {
     let range = Range {
         lo: row.lo,
@@ -137,8 +136,8 @@ fn add_artifacts(
 ) -> Result<(), AllocError>
     requires within { All (IsWithin (length records.now)) (map range_of prepared.now.rows) }
     requires place { place < length (needs prepared.now.rows) }
-    ensures { OnOk result (map ⟦<OwnArtifacts as Meaning>⟧.workplace all.new.items ++ map (work_for step.now records.now outputs.now) (drop (place + 1) (unfinished prepared.now.rows))
-        ≡ map ⟦<OwnArtifacts as Meaning>⟧.workplace all.old.items ++ map (work_for step.now records.now outputs.now) (drop place (unfinished prepared.now.rows))) }
+    ensures { OnOk result (map ⟦<OwnArtifacts as Meaning>⟧.meaning all.new.items ++ map (work_for step.now records.now outputs.now) (drop (place + 1) (unfinished prepared.now.rows))
+        ≡ map ⟦<OwnArtifacts as Meaning>⟧.meaning all.old.items ++ map (work_for step.now records.now outputs.now) (drop place (unfinished prepared.now.rows))) }
 {
     let partition = prepared.needs()[place];
     let Some(row) = prepared.row(partition) else {
@@ -159,7 +158,7 @@ pub fn all_artifacts(
     prepared: &Prepared,
 ) -> Result<Vec<OwnArtifacts>, AllocError>
     requires { All (IsWithin (length records)) (map range_of prepared.now.rows) }
-    ensures { IfOk result (λ all. map ⟦<OwnArtifacts as Meaning>⟧.workplace all.items ≡ works_for step.now records outputs.now prepared.now.rows) }
+    ensures { IfOk result (λ all. map ⟦<OwnArtifacts as Meaning>⟧.meaning all.items ≡ works_for step.now records outputs.now prepared.now.rows) }
 {
     let mut all = Vec::new(alloc);
     for place in 0..prepared.needs().len() {

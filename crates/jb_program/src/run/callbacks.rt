@@ -4,40 +4,40 @@ ghost use Rattle.std.specs.Prelude.{◌≡◌, [], map};
 ghost use Rattle.jb_collect.specs.Taken.{well};
 
 use jb_artifacts::Item;
+use jb_base::ArtifactError;
 use jb_collect::{Analyzer, AnalyzerCall, PartitionStatus, Reducer, ReducerCall, Status};
-use jb_job::ArtifactError;
 use std::alloc::Global;
 use std::marker::Model;
 
 /// An analyzer that keeps the list of its calls, and answers each well. Contracts see the list.
 #[derive(Drop)]
-pub struct Listener {
+pub struct FaultlessAnalyzer {
     alloc: Global,
     calls: Vec<AnalyzerCall>,
 }
 
-impl Model for Listener {
+impl Model for FaultlessAnalyzer {
     ghost use Rattle.std.specs.Prelude.{List};
     ghost use Rattle.jb_collect.specs.declared.calls.AnalyzerCall.{AnalyzerCall};
 
     ghost Value = { List AnalyzerCall };
 
-    ghost view = { λ listener. listener.calls.items };
+    ghost view = { λ analyzer. analyzer.calls.items };
 }
 
-impl Listener {
-    /// A listener that has heard nothing.
-    pub fn new(alloc: Global) -> Listener
+impl FaultlessAnalyzer {
+    /// An analyzer that has heard nothing.
+    pub fn new(alloc: Global) -> FaultlessAnalyzer
         ensures { result ≡ [] }
     {
-        Listener {
+        FaultlessAnalyzer {
             alloc,
             calls: Vec::new(alloc),
         }
     }
 }
 
-impl Analyzer for Listener {
+impl Analyzer for FaultlessAnalyzer {
     ghost analyzed = { λ calls. map well calls };
 
     fn collected(&mut self, partition: u32, text: &[u8]) -> Result<(), ArtifactError> {
@@ -58,31 +58,31 @@ impl Analyzer for Listener {
 
 /// A reducer that keeps the list of its calls, and answers each well. Contracts see the list.
 #[derive(Drop)]
-pub struct Recorder {
+pub struct FaultlessReducer {
     calls: Vec<ReducerCall>,
 }
 
-impl Model for Recorder {
+impl Model for FaultlessReducer {
     ghost use Rattle.std.specs.Prelude.{List};
     ghost use Rattle.jb_collect.specs.declared.calls.ReducerCall.{ReducerCall};
 
     ghost Value = { List ReducerCall };
 
-    ghost view = { λ recorder. recorder.calls.items };
+    ghost view = { λ reducer. reducer.calls.items };
 }
 
-impl Recorder {
-    /// A recorder that was called with nothing.
-    pub fn new(alloc: Global) -> Recorder
+impl FaultlessReducer {
+    /// A reducer that was called with nothing.
+    pub fn new(alloc: Global) -> FaultlessReducer
         ensures { result ≡ [] }
     {
-        Recorder {
+        FaultlessReducer {
             calls: Vec::new(alloc),
         }
     }
 }
 
-impl Reducer for Recorder {
+impl Reducer for FaultlessReducer {
     ghost reduced = { λ calls. map well calls };
 
     fn begin(&mut self) -> Result<(), ArtifactError> {

@@ -6,8 +6,8 @@ ghost use Rattle.jb_documents.specs.FaultOrder.{AreInOrder};
 ghost use Rattle.jb_program.specs.PartitionRun.{fault_plan_of, is_of_range, plans_in};
 
 use jb_artifacts::{FaultList, FaultPlan, FaultPlans};
+use jb_base::Range;
 use jb_documents::{ClassIds, FaultKind, PlannedFault, PlannedFaults};
-use jb_job::Range;
 use std::alloc::{AllocError, Global};
 
 fn fault_list(alloc: Global, classes: &ClassIds) -> Result<FaultList, AllocError>

@@ -1,6 +1,7 @@
 //! The steps of a job, one after another.
 
 ghost use Rattle.std.specs.Prelude.{◌≡◌, ◌-◌, ◌⊎◌, ◌++◌, drop, flat_map, length, slice_get, List, None, Some, IfErr, IfOk, IfSome};
+ghost use Rattle.std.specs.List.{zip};
 ghost use Rattle.jb_texts.specs.Report.{Report, StepReport, report_text};
 ghost use Rattle.jb_texts.specs.ReportTokens.{step_tokens};
 ghost use Rattle.jb_program.specs.Refusals.{IsBroken};
@@ -29,9 +30,9 @@ fn run_steps<T: Threads + Wait + Sync>(
     text: &mut StepsText,
 ) -> Result<Status, Failure>
     requires held { IfSome resume AreHeld }
-    ensures ran { IfOk result (λ status. (reports : List StepReport) × AreStepRuns steps.now supplies.items round_limit resume reports
+    ensures ran { IfOk result (λ status. (reports : List StepReport) × AreStepRuns (zip steps.now supplies.items) round_limit resume reports
         × (status ≡ status_in (slice_get reports (length reports - 1))) × (text.new ≡ text.old ++ flat_map step_tokens reports)) }
-    ensures why { IfErr result (λ e. IsBroken e ⊎ IsRefusedAtStep steps.now supplies.items round_limit resume e) }
+    ensures why { IfErr result (λ e. IsBroken e ⊎ IsRefusedAtStep (zip steps.now supplies.items) round_limit resume e) }
 {
     let Some((step, steps)) = steps.split_first() else {
         return Ok(Status::Completed);
@@ -58,10 +59,10 @@ fn run_later_steps<T: Threads + Wait + Sync>(
 ) -> Result<Status, Failure>
     requires held { AreHeld resume }
     ensures ran { IfOk result (λ status. (reports : List StepReport)
-        × AreStepRuns (drop (earlier resume.saved.step steps.now) steps.now) (drop (earlier resume.saved.step steps.now) supplies.items) round_limit (Some resume) reports
+        × AreStepRuns (drop (earlier resume.saved.step steps.now) (zip steps.now supplies.items)) round_limit (Some resume) reports
         × (status ≡ status_in (slice_get reports (length reports - 1))) × (text.new ≡ text.old ++ flat_map step_tokens reports)) }
     ensures why { IfErr result (λ e. IsBroken e
-        ⊎ IsRefusedAtStep (drop (earlier resume.saved.step steps.now) steps.now) (drop (earlier resume.saved.step steps.now) supplies.items) round_limit (Some resume) e) }
+        ⊎ IsRefusedAtStep (drop (earlier resume.saved.step steps.now) (zip steps.now supplies.items)) round_limit (Some resume) e) }
 {
     let Some((step, rest)) = steps.split_first() else {
         return Ok(Status::Completed);
@@ -85,7 +86,7 @@ pub fn run_job<T: Threads + Wait + Sync>(
     round_limit: Option<u64>,
 ) -> Result<(Status, ReportText), Failure>
     ensures ran { IfOk result (λ ran. (report : Report) × IsJobRun document round_limit report × (ran.0 ≡ report.status) × (ran.1 ≡ report_text report)) }
-    ensures why { IfErr result (λ e. IsBroken e ⊎ IsRefusedAtStep document.job.steps document.steps round_limit None e) }
+    ensures why { IfErr result (λ e. IsBroken e ⊎ IsRefusedAtStep (zip document.job.steps document.steps) round_limit None e) }
 {
     let Document { job, steps } = document;
     let mut text = StepsText::new(alloc)?;

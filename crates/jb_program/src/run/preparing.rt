@@ -1,16 +1,17 @@
 //! What a step begins with, by the partition plan that it asks for.
 
-ghost use Rattle.std.specs.Prelude.{◌≡◌, ◌≤◌, ◌⊎◌, ◌++◌, [], Ok, false, IfErr, IfOk, OnOk};
-ghost use Rattle.jb_collect.specs.Reduced.{calls_before};
-ghost use Rattle.jb_job.specs.Limits.{max_records};
+ghost use Rattle.std.specs.Prelude.{◌≡◌, ◌≤◌, ◌⊎◌, ◌++◌, [], Ok, IfErr, IfOk, OnOk};
+ghost use Rattle.jb_collect.specs.ReducerCalls.{calls_before};
+ghost use Rattle.jb_base.specs.Limits.{max_records};
 ghost use Rattle.jb_plan.specs.Plans.{IsRunnable};
 ghost use Rattle.jb_step.specs.Setup.{IsSetup, discards, gone_on, saved_faults};
 ghost use Rattle.jb_program.specs.JobRun.{plan_for};
 ghost use Rattle.jb_program.specs.StepRun.{IsNotBegun, setup_with};
 
-use crate::run::callbacks::Recorder;
+use crate::run::callbacks::FaultlessReducer;
 use crate::streams::Failure;
-use jb_job::{Ranges, Step};
+use jb_base::Ranges;
+use jb_job::Step;
 use jb_mapper::{EvenMapper, FixedMapper, PartitionMapper};
 use jb_plan::PartitionPlan;
 use jb_step::{Prepared, Saved, StepError, prepare};
@@ -30,7 +31,7 @@ fn prepared_by(
     records: u64,
     mapper: &mut dyn PartitionMapper,
     saved: Option<Saved>,
-    reducer: &mut Recorder,
+    reducer: &mut FaultlessReducer,
 ) -> Result<Prepared, Failure>
     requires few { records ≤ max_records }
     requires mapped { mapping mapper.old records ≡ Ok (plan_for step.now.spec records) }
@@ -38,7 +39,7 @@ fn prepared_by(
     ensures accepted { OnOk result (saved_faults step.now records step.now.spec.replace saved ≡ []) }
     ensures prepared { IfOk result (λ prepared. prepared ≡ setup_with step.now (plan_for step.now.spec records) (gone_on step.now.spec.replace saved)) }
     ensures setup { IfOk result (λ prepared. IsSetup prepared) }
-    ensures begun { OnOk result (reducer.new ≡ reducer.old ++ calls_before (discards step.now.spec.replace saved) false) }
+    ensures begun { OnOk result (reducer.new ≡ reducer.old ++ calls_before (discards step.now.spec.replace saved)) }
     ensures why { IfErr result (λ e. (e ≡ Failure.Memory) ⊎ IsNotBegun step.now records (plan_for step.now.spec records) saved e) }
 {
     match prepare(alloc, step, records, mapper, reducer, saved) {
@@ -59,14 +60,14 @@ pub fn prepared_step(
     step: &Step,
     records: u64,
     saved: Option<Saved>,
-    reducer: &mut Recorder,
+    reducer: &mut FaultlessReducer,
 ) -> Result<Prepared, Failure>
     requires few { records ≤ max_records }
     ensures runnable { OnOk result (IsRunnable records (plan_for step.now.spec records)) }
     ensures accepted { OnOk result (saved_faults step.now records step.now.spec.replace saved ≡ []) }
     ensures prepared { IfOk result (λ prepared. prepared ≡ setup_with step.now (plan_for step.now.spec records) (gone_on step.now.spec.replace saved)) }
     ensures setup { IfOk result (λ prepared. IsSetup prepared) }
-    ensures begun { OnOk result (reducer.new ≡ reducer.old ++ calls_before (discards step.now.spec.replace saved) false) }
+    ensures begun { OnOk result (reducer.new ≡ reducer.old ++ calls_before (discards step.now.spec.replace saved)) }
     ensures why { IfErr result (λ e. (e ≡ Failure.Memory) ⊎ IsNotBegun step.now records (plan_for step.now.spec records) saved e) }
 {
     let spec = step.spec();

@@ -1,19 +1,19 @@
 //! The rounds of a step, on a desk of its own.
 
 ghost use Rattle.std.specs.Prelude.{◌≡◌, ◌++◌, false, map, IfErr, IfOk};
-ghost use Rattle.jb_job.specs.Limits.{max_parts};
-ghost use Rattle.jb_collect.specs.Reduced.{calls_after};
+ghost use Rattle.jb_base.specs.Limits.{max_parts};
+ghost use Rattle.jb_collect.specs.ReducerCalls.{calls_after, run_end};
 ghost use Rattle.jb_collect.specs.Taken.{well};
-ghost use Rattle.jb_step.specs.Ending.{IsRunError, IsRunOfStep, given_back, tasks_left};
+ghost use Rattle.jb_step.specs.Answers.{IsRunError, IsRunOfStep, given_back, tasks_left};
 ghost use Rattle.jb_step.specs.Prepare.{DoFit};
 ghost use Rattle.jb_step.specs.Setup.{first_tasks};
-ghost use Rattle.jb_step.specs.Statuses.{status_of, went_well};
-ghost use Rattle.jb_step.specs.Ways.{AreOnTheWay};
+ghost use Rattle.jb_step.specs.Statuses.{status_of};
+ghost use Rattle.jb_step.specs.Alone.{AreOnTheWay};
 ghost use Rattle.jb_saved.specs.declared.error.StepError.TheVariants.{WrongArtifacts};
 ghost use Rattle.jb_program.specs.Refusals.{IsBroken, IsFailureOf};
 
 use crate::run::artifacts::OwnArtifacts;
-use crate::run::callbacks::{Listener, Recorder};
+use crate::run::callbacks::{FaultlessAnalyzer, FaultlessReducer};
 use crate::streams::Failure;
 use jb_artifacts::Meaning;
 use jb_chunk::Task;
@@ -52,19 +52,27 @@ pub fn run_rounds<T: Threads + Wait + Sync, L: Ledger + Send + Sync + 'static>(
     prepared: Prepared,
     artifacts: Vec<OwnArtifacts>,
     round_limit: Option<u64>,
-    listener: &mut Listener,
-    recorder: &mut Recorder,
+    analyzer: &mut FaultlessAnalyzer,
+    reducer: &mut FaultlessReducer,
 ) -> Result<StepEnd<OwnArtifacts>, Failure>
     requires name { blank.name ≡ L.name }
     requires parts { blank.parts ≡ L.parts }
     requires all { blank.parts ≡ max_parts }
-    requires fit { DoFit prepared (map ⟦<OwnArtifacts as Meaning>⟧.workplace artifacts.items) }
-    ensures ran { IfOk result (λ end. IsRunOfStep prepared (map ⟦<OwnArtifacts as Meaning>⟧.workplace artifacts.items) round_limit
-        (map well listener.old) (map well listener.new) end.plans.items end.snapshot (given_back ⟦<OwnArtifacts as Meaning>⟧.workplace end.artifacts.items)) }
-    ensures on_the_way { IfOk result (λ end. AreOnTheWay (first_tasks prepared (map ⟦<OwnArtifacts as Meaning>⟧.workplace artifacts.items))
-        (tasks_left prepared end.snapshot (given_back ⟦<OwnArtifacts as Meaning>⟧.workplace end.artifacts.items))) }
+    requires fit { DoFit prepared (map ⟦<OwnArtifacts as Meaning>⟧.meaning artifacts.items) }
+    ensures ran { IfOk result (λ end. IsRunOfStep (record {
+      setup = prepared;
+      works = map ⟦<OwnArtifacts as Meaning>⟧.meaning artifacts.items;
+      round_limit = round_limit;
+      heard_before = map well analyzer.old;
+      heard_after = map well analyzer.new;
+      notes = end.plans.items;
+      snapshot = end.snapshot;
+      left = given_back ⟦<OwnArtifacts as Meaning>⟧.meaning end.artifacts.items;
+    })) }
+    ensures on_the_way { IfOk result (λ end. AreOnTheWay (first_tasks prepared (map ⟦<OwnArtifacts as Meaning>⟧.meaning artifacts.items))
+        (tasks_left prepared end.snapshot (given_back ⟦<OwnArtifacts as Meaning>⟧.meaning end.artifacts.items))) }
     ensures status { IfOk result (λ end. end.status ≡ status_of end.snapshot.rows.items false) }
-    ensures reducer { IfOk result (λ end. recorder.new ≡ recorder.old ++ calls_after (went_well end.snapshot.rows.items false) false) }
+    ensures reducer { IfOk result (λ end. reducer.new ≡ reducer.old ++ calls_after (run_end (status_of end.snapshot.rows.items false) false)) }
     ensures why { IfErr result IsBroken }
 {
     let desk = prepared.desk::<L>(alloc, blank)?;
@@ -74,8 +82,8 @@ pub fn run_rounds<T: Threads + Wait + Sync, L: Ledger + Send + Sync + 'static>(
         &desk,
         prepared,
         artifacts,
-        listener,
-        recorder,
+        analyzer,
+        reducer,
         round_limit,
         &NoGate,
     ) {

@@ -1,11 +1,12 @@
 //! What the partitions of a step have in common.
 
 ghost use Rattle.std.specs.Prelude.{◌≡◌, ◌≤◌};
-ghost use Rattle.jb_job.specs.Limits.{max_retry_limit};
+ghost use Rattle.jb_base.specs.Limits.{max_retry_limit};
 ghost use Rattle.jb_chunk.specs.Standing.{HasItemCount};
 
+use jb_base::{Rules, Text};
 use jb_documents::StepFaults;
-use jb_job::{Rules, Step, Text};
+use jb_job::Step;
 
 /// What the partitions of a step have in common: the rules of their chunks, and what their artifacts are made from.
 #[derive(Drop)]

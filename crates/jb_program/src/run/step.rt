@@ -8,7 +8,7 @@ ghost use Rattle.jb_program.specs.Refusals.{IsBroken};
 ghost use Rattle.jb_program.specs.StepRun.{AreHeld};
 
 use crate::run::artifacts::all_artifacts;
-use crate::run::callbacks::{Listener, Recorder};
+use crate::run::callbacks::{FaultlessAnalyzer, FaultlessReducer};
 use crate::run::held::taken;
 use crate::run::laws::laws_below;
 use crate::run::preparing::prepared_step;
@@ -16,9 +16,10 @@ use crate::run::rounds::run_rounds;
 use crate::run::settings::settings_for;
 use crate::run::told::write_step;
 use crate::streams::Failure;
+use jb_base::MAX_PARTS;
 use jb_collect::{Analyzer, Reducer, Status};
 use jb_documents::{Resume, StepData};
-use jb_job::{MAX_PARTS, Step};
+use jb_job::Step;
 use jb_texts::StepsText;
 use std::alloc::Global;
 use std::marker::Brand;
@@ -49,14 +50,14 @@ pub fn run_step<T: Threads + Wait + Sync>(
     } = supply;
     laws_below();
     let (saved, outputs) = taken(alloc, resume, step.spec().replace());
-    let mut recorder = Recorder::new(alloc);
+    let mut reducer = FaultlessReducer::new(alloc);
     let count = records.as_list().len() as u64;
-    let prepared = prepared_step(alloc, step, count, saved, &mut recorder)?;
+    let prepared = prepared_step(alloc, step, count, saved, &mut reducer)?;
     let settings = settings_for(step, prefix, drop, faults);
     let outputs = outputs.as_slice();
     let records = records.into_list();
     let artifacts = all_artifacts(alloc, &settings, records, outputs, &prepared)?;
-    let mut listener = Listener::new(alloc);
+    let mut analyzer = FaultlessAnalyzer::new(alloc);
     let blank = Blank::new(MAX_PARTS);
     let end = run_rounds::<T, Brand>(
         rt,
@@ -65,16 +66,16 @@ pub fn run_step<T: Threads + Wait + Sync>(
         prepared,
         artifacts,
         round_limit,
-        &mut listener,
-        &mut recorder,
+        &mut analyzer,
+        &mut reducer,
     )?;
     write_step(
         alloc,
         step.id(),
         &end,
         outputs,
-        listener.calls(),
-        recorder.calls(),
+        analyzer.calls(),
+        reducer.calls(),
         text,
     )?;
     Ok(end.status)

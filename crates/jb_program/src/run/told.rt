@@ -2,9 +2,9 @@
 
 ghost use Rattle.std.specs.Prelude.{◌≡◌, ◌≤◌, ◌++◌, ◌==◌, find, flat_map, length, OnOk};
 ghost use Rattle.std.specs.List.{enumerate_from};
-ghost use Rattle.jb_job.specs.Limits.{max_partitions};
+ghost use Rattle.jb_base.specs.Limits.{max_partitions};
 ghost use Rattle.jb_saved.specs.SavedTree.{tokens_of};
-ghost use Rattle.jb_step.specs.Ending.{given_back};
+ghost use Rattle.jb_step.specs.Answers.{given_back};
 ghost use Rattle.jb_texts.specs.Report.{texts_tree};
 ghost use Rattle.jb_texts.specs.ReportTokens.{step_tokens};
 ghost use Rattle.jb_program.specs.StepRun.{committed_of, outputs_in, partitions_left};
@@ -29,7 +29,7 @@ fn write_outputs_of(
     text: &mut StepsText,
 ) -> Result<(), AllocError>
     ensures { OnOk result (text.new ≡ text.old
-        ++ tokens_of (texts_tree (outputs_in (committed_of outputs.now (partition, row.now)) (find (λ one. one.0 == partition) (given_back ⟦<OwnArtifacts as Meaning>⟧.workplace left.now))))) }
+        ++ tokens_of (texts_tree (outputs_in (committed_of outputs.now (partition, row.now)) (find (λ one. one.0 == partition) (given_back ⟦<OwnArtifacts as Meaning>⟧.meaning left.now))))) }
 {
     match left.iter().find(|one| one.0 == partition) {
         Some((_, own)) => text.add_outputs(alloc, &own.writer),
@@ -50,7 +50,7 @@ fn write_all_outputs(
 ) -> Result<(), AllocError>
     requires { length rows.now ≤ max_partitions }
     ensures { OnOk result (text.new ≡ text.old
-        ++ flat_map (λ n. tokens_of (texts_tree (outputs_in (committed_of outputs.now n) (find (λ one. one.0 == n.0) (given_back ⟦<OwnArtifacts as Meaning>⟧.workplace left.now))))) (enumerate_from 0 rows.now)) }
+        ++ flat_map (λ n. tokens_of (texts_tree (outputs_in (committed_of outputs.now n) (find (λ one. one.0 == n.0) (given_back ⟦<OwnArtifacts as Meaning>⟧.meaning left.now))))) (enumerate_from 0 rows.now)) }
 {
     for place in 0..rows.len() {
         let Some(row) = rows.get(place) else {
@@ -76,7 +76,7 @@ pub fn write_step(
     ensures { OnOk result (text.new ≡ text.old ++ step_tokens (record {
       id = id.now;
       status = end.now.status;
-      partitions = partitions_left outputs.now end.now.snapshot.rows.items (given_back ⟦<OwnArtifacts as Meaning>⟧.workplace end.now.artifacts.items);
+      partitions = partitions_left outputs.now end.now.snapshot.rows.items (given_back ⟦<OwnArtifacts as Meaning>⟧.meaning end.now.artifacts.items);
       heard = heard.now;
       plans = end.now.plans.items;
       reducer = reducer.now;

@@ -26,7 +26,8 @@ standard output. WORD says what is done with it:
   check    prints whether a plan is lawful, and whether its certificate holds
 
 `help WORD` and `WORD --help` tell what a word reads and prints; `--version`
-prints the version.
+prints the version. `run --rounds 0` is a dry run: the document is checked, and
+no record is processed.
 
 The exit status says how it went:
 
@@ -64,11 +65,13 @@ calls of its reducer, its saved rows, and its status:
    \"steps\": [{\"heard\": [..], \"outputs\": [..], \"plans\": [..], \"reducer\": [..],
               \"saved\": {..}, \"status\": status, \"step\": id}, ..]}
 
-With --rounds each step stops after N rounds, 0 to 1000000000. The exit status
-is 0 where the job is completed, 1 where it failed and 2 where it was stopped;
-`batchrun restart` goes on from there. docs/FORMATS.md has every key with its
-range. A document to begin with is examples/three-records.json;
-examples/billing.json has faults, skips and retries.
+With --rounds each step stops after N rounds, 0 to 1000000000; 0 is a dry run:
+the document and the first step's partition plan are checked, and no record is
+processed. The exit status is 0 where the job is completed, 1 where it failed
+and 2 where it was stopped; `batchrun restart` goes on from there.
+docs/FORMATS.md has every key with its range. A document to begin with is
+examples/three-records.json; examples/billing.json has faults, skips and
+retries.
 ";
 
 /// What `restart` reads and prints.

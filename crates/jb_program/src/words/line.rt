@@ -9,7 +9,7 @@ use crate::words::help::VERSION;
 use crate::words::request::{Line, Request, Word};
 use clap::error::ErrorKind;
 use clap::{Arg, ArgAction, ArgMatches, Command};
-use jb_job::MAX_ROUNDS;
+use jb_base::MAX_ROUNDS;
 use std::alloc::{AllocError, Global};
 
 /// The program with no word.

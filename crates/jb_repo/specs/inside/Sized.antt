@@ -1,6 +1,6 @@
 -- The numbers with which a repository may be opened.
 use Rattle.std.specs.Prelude.{ℕ, ◌≤◌}
-use Rattle.jb_job.specs.Limits.{max_item_count, max_partitions, max_threads}
+use Rattle.jb_base.specs.Limits.{max_item_count, max_partitions, max_threads}
 
 pub record IsSized (partitions threads item_count : ℕ) : Type 0 where
   pub some_rows : 1 ≤ partitions

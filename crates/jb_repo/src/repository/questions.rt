@@ -12,8 +12,8 @@ use crate::laws::laws_below;
 use crate::repository::Repo;
 use crate::steps::is_commit;
 use crate::table::remaining_counts;
+use jb_base::{MAX_EVENTS, MAX_PARTITIONS};
 use jb_cert::{Certificate, is_least_plan};
-use jb_job::{MAX_EVENTS, MAX_PARTITIONS};
 use jb_rules::{Counts, Row};
 
 impl Repo {
@@ -24,7 +24,7 @@ impl Repo {
         ensures fit { CountsFit (total_counts result.now) }
     {
         laws_below();
-        &self.standing.rows[..self.opening.len()]
+        &self.projection.rows[..self.opening.len()]
     }
 
     /// The row of a partition now.
@@ -35,7 +35,7 @@ impl Repo {
         laws_below();
         let index = partition as usize;
         if index < self.opening.len() {
-            Some(self.standing.rows[index])
+            Some(self.projection.rows[index])
         } else {
             None
         }
@@ -45,7 +45,7 @@ impl Repo {
     pub(super) fn reserved(&self) -> usize
         ensures { result ≡ reserved self.now }
     {
-        self.standing.reserved
+        self.projection.reserved
     }
 
     /// Whether the history has not so many places left beside the reserved ones.
@@ -53,7 +53,7 @@ impl Repo {
         requires { places ≤ 2 }
         ensures { result ≡ is_full self.now places }
     {
-        MAX_EVENTS < self.history.len() + self.standing.reserved + places
+        MAX_EVENTS < self.history.len() + self.projection.reserved + places
     }
 
     /// Whether the number of rounds is the least one for what is left, and the certificate holds.
@@ -85,21 +85,21 @@ impl Repo {
     pub(super) fn plans(&self) -> u64
         ensures { result ≡ number is_plan self.now.past }
     {
-        self.standing.plans.count
+        self.projection.plan.count
     }
 
     /// Whether a stop was asked for.
     pub(super) fn is_stopping(&self) -> bool
         ensures { result ≡ is_stopping self.now.past }
     {
-        self.standing.plans.stopping
+        self.projection.plan.stopping
     }
 
     /// Whether a plan is open.
     pub(super) fn is_plan_open(&self) -> bool
         ensures { result ≡ is_plan_open self.now.past }
     {
-        self.standing.plans.is_open()
+        self.projection.plan.is_open()
     }
 
     /// The partition that a lane runs, if it runs one.
@@ -107,7 +107,7 @@ impl Repo {
         requires { lane < self.now.threads }
         ensures { result ≡ owner lane self.now.past }
     {
-        self.standing.lanes.owner(lane)
+        self.projection.owners.owner(lane)
     }
 
     /// Whether the lane was begun in this round.
@@ -115,7 +115,7 @@ impl Repo {
         requires { lane < self.now.threads }
         ensures { result ≡ is_lane_marked lane self.now.past }
     {
-        self.standing.marks.has_lane(lane)
+        self.projection.marks.has_lane(lane)
     }
 
     /// Whether the partition was begun in this round.
@@ -123,6 +123,6 @@ impl Repo {
         requires { partition < length self.now.opening }
         ensures { result ≡ is_partition_marked partition self.now.past }
     {
-        self.standing.marks.has_partition(partition)
+        self.projection.marks.has_partition(partition)
     }
 }

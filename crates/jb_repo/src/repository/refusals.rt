@@ -7,8 +7,8 @@ use crate::events::Event;
 use crate::refused::Refused;
 use crate::repository::Repo;
 use crate::table::{is_at_limit, is_ended};
+use jb_base::MAX_RETRY_LIMIT;
 use jb_cert::Certificate;
-use jb_job::MAX_RETRY_LIMIT;
 use jb_rules::Counts;
 
 impl Repo {

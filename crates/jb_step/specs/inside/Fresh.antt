@@ -1,6 +1,6 @@
 -- What a checked plan and saved rows give.
 use Rattle.std.specs.Prelude.{◌≡◌, Bool, Result, Ok, Err, ℕ, List, [], ◌∷◌, ◌++◌, Option, Some, is_none, slice_get}
-use Rattle.jb_job.specs.declared.class.ClassId.{ClassId}
+use Rattle.jb_base.specs.declared.class.ClassId.{ClassId}
 use Rattle.jb_job.specs.Records.{StepRecord}
 use Rattle.jb_plan.specs.Faults.{IsFirst, plan_errors}
 use Rattle.jb_plan.specs.Plans.{CheckedPlan, IsRunnable}
@@ -9,7 +9,7 @@ use Rattle.jb_rules.specs.declared.row.Row.{Row}
 use Rattle.jb_collect.specs.declared.calls.ReducerCall.{ReducerCall}
 use Rattle.jb_collect.specs.declared.calls.ReducerCall.TheVariants.{Rollback, After}
 use Rattle.jb_collect.specs.declared.calls.PartitionStatus.TheVariants as status
-use Rattle.jb_collect.specs.Reduced.{rolled_back}
+use Rattle.jb_collect.specs.ReducerCalls.{rolled_back}
 use Rattle.jb_collect.specs.Taken.{Taken, faulted}
 use Rattle.jb_saved.specs.SavedRows.{SavedRows}
 use Rattle.jb_saved.specs.declared.error.StepError.{StepError}

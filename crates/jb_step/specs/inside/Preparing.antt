@@ -1,6 +1,6 @@
 -- What the fields of prepared rows stand for.
 use Rattle.std.specs.Prelude.{◌≡◌, ℕ, ◌≤◌, ◌⊎◌, List, length, map, slice_get, Some}
-use Rattle.jb_job.specs.Limits.{max_partitions}
+use Rattle.jb_base.specs.Limits.{max_partitions}
 use Rattle.jb_plan.specs.Ranges.{AreDisjoint}
 use Rattle.jb_repo.specs.Openable.{AreIdle}
 use Rattle.jb_rules.specs.Rows.{range_of}

@@ -2,15 +2,15 @@
 //! and the run that begins anew.
 
 ghost use Rattle.std.specs.Prelude.{◌≡◌};
-ghost use Rattle.jb_job.specs.Limits.{max_parts};
+ghost use Rattle.jb_base.specs.Limits.{max_parts};
 
 use crate::step::callbacks::Lacking;
 use crate::step::given::{Given, begun_from};
 use crate::step::restarts::Between;
 use crate::step::rows::{STRICT, add_reduced, assert_text, course_of};
 use crate::step::runs::ended_with;
+use jb_base::{ClassId, MAX_PARTS};
 use jb_collect::{ListAnalyzer, ListReducer, PartitionStatus, Reducer, ReducerCall};
-use jb_job::{ClassId, MAX_PARTS};
 use jb_mapper::FixedMapper;
 use jb_plan::PlanError;
 use jb_rules::Row;

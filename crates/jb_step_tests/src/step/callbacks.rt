@@ -1,14 +1,14 @@
 //! Callbacks that fail at the end of a step, or find no memory there.
 
 ghost use Rattle.std.specs.Prelude.{◌≡◌};
-ghost use Rattle.jb_job.specs.Limits.{max_parts};
+ghost use Rattle.jb_base.specs.Limits.{max_parts};
 
 use crate::step::given::{Letters, all_works, stopped_after};
 use crate::step::restarts::add_answer;
 use crate::step::rows::{PLAIN, assert_text};
 use crate::step::runs::started;
+use jb_base::{ArtifactError, ClassId, MAX_PARTS};
 use jb_collect::{ListAnalyzer, ListReducer, PartitionStatus, Reducer, ReducerCall};
-use jb_job::{ArtifactError, ClassId, MAX_PARTS};
 use std::alloc::Global;
 use std::marker::Brand;
 use std::sync::Wait;

@@ -1,16 +1,16 @@
 //! Four lanes that wait for each other in both rounds of a step, and their processors at each partition's first record.
 
 ghost use Rattle.std.specs.Prelude.{◌≡◌};
-ghost use Rattle.jb_job.specs.Limits.{max_parts};
+ghost use Rattle.jb_base.specs.Limits.{max_parts};
 
 use crate::step::given::{Given, Processor, ended, works};
 use crate::step::rows::{Asked, PLAIN};
 use crate::step::runs::started;
 use crate::workers::meeting::wait_for;
 use jb_artifacts::{ArtifactsOf, CountCollector, Item, ItemProcessor, ListWriter, TableReader};
+use jb_base::{ArtifactError, MAX_PARTS};
 use jb_chunk::Task;
 use jb_collect::{ListAnalyzer, ListReducer, Status};
-use jb_job::{ArtifactError, MAX_PARTS};
 use jb_step::Prepared;
 use jb_workers::{Desk, Gate};
 use std::alloc::Global;

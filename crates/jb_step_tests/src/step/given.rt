@@ -4,12 +4,12 @@ use jb_artifacts::{
     ArtifactsOf, CountCollector, FaultList, FaultPlan, FaultPlans, Item, ItemProcessor, ListWriter,
     PrefixProcessor, TableReader,
 };
-use jb_base::PackedList;
+use jb_base::{
+    ArtifactError, ClassId, MAX_ITEM_COUNT, MAX_RECORDS, Name, PackedList, Range, Ranges, Rules,
+};
 use jb_chunk::{PartitionTask, Task};
 use jb_collect::{Analyzer, Reducer};
-use jb_job::{
-    ArtifactError, ClassId, MAX_ITEM_COUNT, MAX_RECORDS, Name, Range, Ranges, Rules, Spec, Step,
-};
+use jb_job::{Spec, Step};
 use jb_mapper::PartitionMapper;
 use jb_plan::PartitionPlan;
 use jb_repo::Snapshot;

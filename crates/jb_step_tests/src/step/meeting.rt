@@ -1,13 +1,13 @@
 //! Two lanes that wait for each other in a step: they run at once, and each commit stands in the table before the round is over.
 
 ghost use Rattle.std.specs.Prelude.{◌≡◌};
-ghost use Rattle.jb_job.specs.Limits.{max_parts};
+ghost use Rattle.jb_base.specs.Limits.{max_parts};
 
 use crate::step::rows::PLAIN;
 use crate::step::runs::{ended_with, started};
 use crate::workers::meeting::Meeting;
+use jb_base::MAX_PARTS;
 use jb_collect::{ListAnalyzer, ListReducer, Status};
-use jb_job::MAX_PARTS;
 use jb_step::Prepared;
 use jb_workers::Desk;
 use std::alloc::Global;

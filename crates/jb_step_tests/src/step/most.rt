@@ -1,13 +1,13 @@
 //! A step of as many partitions as there may be, on as many threads.
 
 ghost use Rattle.std.specs.Prelude.{◌≡◌};
-ghost use Rattle.jb_job.specs.Limits.{max_parts};
+ghost use Rattle.jb_base.specs.Limits.{max_parts};
 
 use crate::step::rows::{Asked, PLAIN};
 use crate::step::runs::{ended_with, started};
+use jb_base::MAX_PARTS;
 use jb_cert::Certificate;
 use jb_collect::{Analyzer, ListAnalyzer, ListReducer};
-use jb_job::MAX_PARTS;
 use jb_step::PlanNote;
 use jb_workers::NoGate;
 use std::alloc::{AllocError, Global};

@@ -1,15 +1,15 @@
 //! A step whose desk isn't its own, was used before, or refuses what the step does.
 
 ghost use Rattle.std.specs.Prelude.{◌≡◌};
-ghost use Rattle.jb_job.specs.Limits.{max_parts};
+ghost use Rattle.jb_base.specs.Limits.{max_parts};
 
 use crate::step::given::Works;
 use crate::step::restarts::{Between, add_answer, gone_on};
 use crate::step::rows::{Asked, PLAIN, assert_text};
 use crate::step::runs::{ended_with, started};
+use jb_base::MAX_PARTS;
 use jb_cert::Certificate;
 use jb_collect::{ListAnalyzer, ListReducer, Reducer, Status};
-use jb_job::MAX_PARTS;
 use jb_repo::Event;
 use jb_step::{Prepared, StepEnd, StepError, read_saved};
 use jb_workers::{Desk, NoGate};

@@ -2,16 +2,16 @@
 
 ghost use Rattle.std.specs.Prelude.{◌≡◌, Err};
 ghost use Rattle.jb_mapper.specs.Mapping.{Mapping};
-ghost use Rattle.jb_job.specs.Limits.{max_parts};
+ghost use Rattle.jb_base.specs.Limits.{max_parts};
 
 use crate::step::callbacks::Lacking;
 use crate::step::given::{Given, Letters, begun, works};
 use crate::step::rows::{add_reduced, assert_text};
 use crate::step::runs::ended_with;
 use crate::workers::tasks::{RULES, task_of, with_work};
+use jb_base::{ArtifactError, ClassId, MAX_PARTS, Range};
 use jb_cert::Certificate;
 use jb_collect::{ListAnalyzer, PartitionStatus, ReducerCall};
-use jb_job::{ArtifactError, ClassId, MAX_PARTS, Range};
 use jb_mapper::{FixedMapper, PartitionMapper};
 use jb_plan::{PartitionPlan, PlanError};
 use jb_repo::Event;

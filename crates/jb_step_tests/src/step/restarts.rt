@@ -2,7 +2,7 @@
 //! nothing stops.
 
 ghost use Rattle.std.specs.Prelude.{◌≡◌};
-ghost use Rattle.jb_job.specs.Limits.{max_parts};
+ghost use Rattle.jb_base.specs.Limits.{max_parts};
 
 use crate::step::given::{
     Given, Letters, Works, all_works, saved_again, stopped_after, works, works_from,
@@ -13,8 +13,8 @@ use crate::step::rows::{
 };
 use crate::step::runs::started_or_not;
 use jb_artifacts::ArtifactsOf;
+use jb_base::MAX_PARTS;
 use jb_collect::{Analyzer, ListAnalyzer, ListReducer, Reducer, Status};
-use jb_job::MAX_PARTS;
 use jb_repo::Snapshot;
 use jb_rules::Row;
 use jb_step::{Prepared, Saved, StepEnd, StepError, read_saved};
@@ -371,7 +371,7 @@ impl Between {
 }
 
 /// The artifacts that were handed back; or, where a restart has records of its own, new ones with the writers of those.
-pub(crate) fn works_again(
+pub(crate) fn works_restarted(
     alloc: Global,
     unfinished: Vec<(u32, Works)>,
     records: Option<&str>,
@@ -408,7 +408,7 @@ pub(crate) fn gone_on<R: Threads + Wait + Sync>(
 ) -> Result<(Option<Status>, String), Fail> {
     let mut reducer = ListReducer::new(alloc, None);
     let (saved, left) = between.give_up(alloc);
-    let artifacts = works_again(alloc, left, if others { Some(records) } else { None })?;
+    let artifacts = works_restarted(alloc, left, if others { Some(records) } else { None })?;
     match started_or_not(alloc, asked, records, &mut reducer, saved)? {
         Ok(prepared) => {
             let blank = Blank::new(MAX_PARTS);

@@ -1,13 +1,13 @@
 //! A stop that is asked for in the middle of a round.
 
 ghost use Rattle.std.specs.Prelude.{◌≡◌};
-ghost use Rattle.jb_job.specs.Limits.{max_parts};
+ghost use Rattle.jb_base.specs.Limits.{max_parts};
 
 use crate::step::restarts::{Between, gone_on};
 use crate::step::rows::{PLAIN, SEVEN, assert_text, course_of};
 use crate::step::runs::{ended_with, started};
+use jb_base::MAX_PARTS;
 use jb_collect::{ListAnalyzer, ListReducer, Status};
-use jb_job::MAX_PARTS;
 use jb_step::Prepared;
 use jb_workers::{Desk, Gate};
 use std::alloc::Global;

@@ -1,16 +1,16 @@
 //! What comes of whole steps, each beside its partitions run alone.
 
 ghost use Rattle.std.specs.Prelude.{◌≡◌};
-ghost use Rattle.jb_job.specs.Limits.{max_parts};
+ghost use Rattle.jb_base.specs.Limits.{max_parts};
 
 use crate::collect::line_of;
 use crate::step::given::{Given, Letters, Works, works};
 use crate::step::runs::{ended_with, started};
 use crate::workers::tasks::task_of;
 use jb_artifacts::{ItemWriter, ListWriter};
+use jb_base::{ClassId, MAX_PARTS, Range, Rules};
 use jb_chunk::{PartitionTask, run_alone};
 use jb_collect::{Analyzer, ListAnalyzer, ListReducer, Reducer};
-use jb_job::{ClassId, MAX_PARTS, Range, Rules};
 use jb_rules::Row;
 use jb_step::{PlanNote, StepEnd};
 use jb_workers::NoGate;

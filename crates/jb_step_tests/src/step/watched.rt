@@ -1,14 +1,14 @@
 //! Steps at whose table one thread looks while another asks for a stop.
 
 ghost use Rattle.std.specs.Prelude.{◌≡◌};
-ghost use Rattle.jb_job.specs.Limits.{max_parts};
+ghost use Rattle.jb_base.specs.Limits.{max_parts};
 
 use crate::step::given::{Letters, Works, ended};
-use crate::step::restarts::{Between, works_again};
+use crate::step::restarts::{Between, works_restarted};
 use crate::step::rows::{Asked, PLAIN, SEVEN, assert_text};
 use crate::step::runs::started;
+use jb_base::MAX_PARTS;
 use jb_collect::{ListAnalyzer, ListReducer, Status};
-use jb_job::MAX_PARTS;
 use jb_repo::Snapshot;
 use jb_rules::Counts;
 use jb_step::{Prepared, StepEnd, StepError};
@@ -222,7 +222,7 @@ fn run_watched<L: Ledger + Send + Sync + 'static, R: Threads + Wait + Clock + Co
 {
     let mut reducer = ListReducer::new(alloc, None);
     let (saved, left) = between.give_up(alloc);
-    let artifacts = works_again(alloc, left, None)?;
+    let artifacts = works_restarted(alloc, left, None)?;
     let prepared = started(alloc, asked, RECORDS, &mut reducer, saved)?;
     let desk = prepared.desk::<L>(alloc, blank)?;
     let (end, rises) = in_scope(rt, alloc, &desk, prepared, reducer, artifacts, commits);

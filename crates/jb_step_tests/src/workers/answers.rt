@@ -3,7 +3,7 @@
 ghost use Rattle.std.specs.Prelude.{◌≡◌, IfSome};
 ghost use Rattle.jb_chunk.specs.Standing.{IsReady};
 ghost use Rattle.jb_workers.specs.Works.{AllCanBegin};
-ghost use Rattle.jb_job.specs.Limits.{max_parts};
+ghost use Rattle.jb_base.specs.Limits.{max_parts};
 
 use crate::workers::tasks::{
     Processor, RULES, boxes_of, fresh_rows, letters, prefixing, repository, task_of, with_work,
@@ -13,9 +13,9 @@ use jb_artifacts::{
     Artifacts, ArtifactsOf, CountCollector, FaultPlan, FaultPlans, Item, ItemProcessor, ListWriter,
     TableReader,
 };
+use jb_base::{ArtifactError, ClassId, MAX_PARTS, MAX_ROLLBACKS, Rules};
 use jb_cert::Certificate;
 use jb_chunk::{Done, Outcome, PartitionTask, Task};
-use jb_job::{ArtifactError, ClassId, MAX_PARTS, MAX_ROLLBACKS, Rules};
 use jb_repo::{Event, Refused, Snapshot};
 use jb_rules::{Counts, Row};
 use jb_workers::{Desk, NoGate, RoundError, Work, work};
@@ -308,7 +308,17 @@ fn judge<
         Some(history) => left || is_left(alloc, history, &after)?,
         None => left,
     };
-    Some(is_answered(case, &round, &after) && left_so)
+    let classes = (desk.failure(rt, 0), desk.failure(rt, 1));
+    let told = classes == (class_of(&case.answer), None);
+    Some(is_answered(case, &round, &after) && left_so && told)
+}
+
+/// The class by which partition 0 failed.
+fn class_of(answer: &Result<Outcome, RoundError>) -> Option<ClassId> {
+    match answer {
+        Ok(Outcome::Failed(class)) => Some(*class),
+        _ => None,
+    }
 }
 
 /// The same of the work of partition 0 alone, with no round about it.

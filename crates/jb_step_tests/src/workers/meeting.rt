@@ -2,13 +2,13 @@
 
 ghost use Rattle.std.specs.Prelude.{◌≡◌, ◌<◌, IfSome};
 ghost use Rattle.jb_workers.specs.Works.{AllCanBegin};
-ghost use Rattle.jb_job.specs.Limits.{max_parts};
+ghost use Rattle.jb_base.specs.Limits.{max_parts};
 
 use crate::workers::tasks::{RULES, boxes, fresh_rows, repository, task_of, with_work};
 use jb_artifacts::{Artifacts, FaultPlans};
+use jb_base::MAX_PARTS;
 use jb_cert::Certificate;
 use jb_chunk::{Done, PartitionTask, Task};
-use jb_job::MAX_PARTS;
 use jb_repo::{Event, Snapshot};
 use jb_workers::{Desk, Gate, Work};
 use std::alloc::Global;

@@ -3,16 +3,16 @@
 ghost use Rattle.std.specs.Prelude.{◌≡◌, IfSome};
 ghost use Rattle.jb_chunk.specs.Standing.{IsReady};
 ghost use Rattle.jb_workers.specs.Works.{AllCanBegin};
-ghost use Rattle.jb_job.specs.Limits.{max_parts};
+ghost use Rattle.jb_base.specs.Limits.{max_parts};
 
 use crate::workers::most::commits;
 use crate::workers::tasks::{
     Processor, RULES, fresh_rows, letters, prefixing, repository, task_of, with_work, writer,
 };
 use jb_artifacts::{ArtifactsOf, CountCollector, FaultPlans, ListWriter, TableReader};
+use jb_base::MAX_PARTS;
 use jb_cert::Certificate;
 use jb_chunk::{Done, PartitionTask, Task};
-use jb_job::MAX_PARTS;
 use jb_repo::{Event, Refused, Snapshot};
 use jb_workers::{Desk, NoGate, RoundError, Work};
 use std::alloc::{AllocError, Global};

@@ -3,14 +3,13 @@
 ghost use Rattle.std.specs.Prelude.{◌≡◌, [], IfSome, Option};
 ghost use Rattle.jb_chunk.specs.Standing.{IsReady};
 ghost use Rattle.jb_workers.specs.Works.{AllCanBegin};
-ghost use Rattle.jb_job.specs.Limits.{max_parts};
+ghost use Rattle.jb_base.specs.Limits.{max_parts};
 
 use crate::workers::tasks::{Processor, RULES, prefixing, task_of, with_work, writer};
 use jb_artifacts::{ArtifactsOf, CountCollector, FaultPlans, Item, ListWriter, TableReader};
-use jb_base::PackedList;
+use jb_base::{MAX_PARTS, PackedList, Range};
 use jb_cert::Certificate;
 use jb_chunk::{Done, Outcome, PartitionTask, Task};
-use jb_job::{MAX_PARTS, Range};
 use jb_repo::{Event, Repo, can_open};
 use jb_rules::Row;
 use jb_workers::{Desk, NoGate, Work};

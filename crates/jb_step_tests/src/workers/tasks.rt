@@ -8,9 +8,8 @@ ghost use Rattle.jb_workers.specs.Works.{AllCanBegin};
 use jb_artifacts::{
     CountCollector, FaultPlans, Item, ItemProcessor, ListWriter, PrefixProcessor, TableReader,
 };
-use jb_base::PackedList;
+use jb_base::{ArtifactError, MAX_ITEM_COUNT, PackedList, Range, Rules};
 use jb_chunk::PartitionTask;
-use jb_job::{ArtifactError, MAX_ITEM_COUNT, Range, Rules};
 use jb_repo::{Repo, can_open};
 use jb_rules::{Row, RowState};
 use jb_workers::Work;

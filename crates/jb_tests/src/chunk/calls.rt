@@ -2,15 +2,16 @@
 
 ghost use Rattle.std.specs.Prelude.{◌≡◌, ◌+◌, ◌≤◌, ◌<◌, true};
 ghost use Rattle.jb_rules.specs.declared.row.RowState.TheVariants.{Waiting};
-ghost use Rattle.jb_job.specs.Limits.{max_rollbacks, max_retry_limit, max_in_place};
+ghost use Rattle.jb_base.specs.Limits.{max_rollbacks, max_retry_limit, max_in_place};
 
 use jb_artifacts::{
     Artifacts, ArtifactsOf, Collector, CountCollector, FaultList, FaultPlan, FaultPlans, Item,
     ItemProcessor, ItemReader, ItemWriter, ListWriter, PrefixProcessor, RowView, TableReader,
 };
-use jb_base::PackedList;
+use jb_base::{
+    ArtifactError, ClassId, MAX_IN_PLACE, MAX_RETRY_LIMIT, MAX_ROLLBACKS, PackedList, Range, Rules,
+};
 use jb_chunk::{ChunkResults, Outcome, PartitionArtifacts, PartitionTask, Task};
-use jb_job::{ArtifactError, ClassId, MAX_IN_PLACE, MAX_RETRY_LIMIT, MAX_ROLLBACKS, Range, Rules};
 use jb_rules::{Counts, Row};
 use std::alloc::{AllocError, Global};
 use std::sync::Arc;
@@ -636,7 +637,7 @@ fn do_a_record<A: PartitionArtifacts>(alloc: Global, mut artifacts: A) -> Result
     if !artifacts.serves(&row) {
         return Err(Fail::from("a reader"));
     }
-    artifacts.rewind(0);
+    artifacts.open_reader_at(0);
     let Ok(item) = artifacts.read_item() else {
         return Err(Fail::from("an item"));
     };

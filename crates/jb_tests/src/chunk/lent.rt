@@ -5,9 +5,8 @@ use jb_artifacts::{
     ArtifactsOf, CountCollector, FaultList, FaultPlan, FaultPlans, Item, ItemWriter, ListWriter,
     PackedArtifacts, PrefixProcessor, TableReader,
 };
-use jb_base::PackedList;
+use jb_base::{ClassId, PackedList};
 use jb_chunk::{PartitionArtifacts, PartitionTask, Task};
-use jb_job::ClassId;
 use std::alloc::{AllocError, Global};
 use std::test::*;
 

@@ -5,8 +5,8 @@ ghost use Rattle.jb_artifacts.specs.declared.faults.FaultPlan.TheVariants.{Sound
 ghost use Rattle.jb_artifacts.specs.Writer.{Writer, Appends};
 
 use jb_artifacts::{ArtifactsOf, Collector, Item, ItemProcessor, ItemReader, ItemWriter, RowView};
+use jb_base::{ArtifactError, Range, Rules};
 use jb_chunk::{AloneEnd, PartitionTask, Task, run_alone};
-use jb_job::{ArtifactError, Range, Rules};
 use jb_rules::{Row, RowState};
 use std::alloc::{AllocError, Global};
 use std::test::*;

@@ -4,9 +4,8 @@ use jb_artifacts::{
     ArtifactsOf, CountCollector, FaultPlan, FaultPlans, Item, ItemWriter, ListWriter,
     PrefixProcessor, TableReader,
 };
-use jb_base::PackedList;
+use jb_base::{ClassId, MAX_ITEM_COUNT, PackedList, Range, Rules};
 use jb_chunk::{Alone, AloneEnd, PartitionTask, Task, run_alone};
-use jb_job::{ClassId, MAX_ITEM_COUNT, Range, Rules};
 use jb_rules::{Row, RowState};
 use std::alloc::{AllocError, Global};
 use std::test::*;

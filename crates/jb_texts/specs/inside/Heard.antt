@@ -1,7 +1,7 @@
 -- The calls about each partition, put into their lists one after another.
 use Rattle.std.specs.Prelude.{List, [], ◌∷◌, ◌++◌, slice_index_or, slice_set}
 use Rattle.jb_collect.specs.declared.calls.AnalyzerCall.{AnalyzerCall}
-use Rattle.jb_collect.specs.Laws.{partition_of}
+use Rattle.jb_collect.specs.Heard.{partition_of}
 
 -- the call stands behind the others in the list of its partition, if there is one
 abbrev pub placed : AnalyzerCall → (lists : List (List AnalyzerCall)) → List (List AnalyzerCall)

@@ -1,14 +1,14 @@
 //! What the lanes have in a round, written into a line from its end on: the last lane first, and each before the one behind it.
 
 ghost use Rattle.std.specs.Prelude.{◌≡◌, ◌+◌, ◌*◌, ◌≤◌, ◌<◌, ◌++◌, ◌∷◌, decimal, drop, length};
-ghost use Rattle.jb_job.specs.Limits.{max_threads};
+ghost use Rattle.jb_base.specs.Limits.{max_threads};
 ghost use Rattle.jb_cert.specs.WrapAround.{slots_of_round};
 ghost use Rattle.jb_texts.specs.PlanText.{lane_text, lanes_text};
 ghost use Rattle.jb_texts.specs.inside.Idle.{idle_text};
 
 use itoa::write_digits;
+use jb_base::MAX_THREADS;
 use jb_cert::lanes_are_found;
-use jb_job::MAX_THREADS;
 use jb_rounds::RoundCursor;
 
 /// The largest number of lanes.

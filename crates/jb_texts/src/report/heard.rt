@@ -3,9 +3,9 @@
 ghost use Rattle.std.specs.Prelude.{◌≡◌, ◌++◌, ◌∷◌, [], map, flat_map, IfOk, OnOk};
 ghost use Rattle.std.specs.List.{range_with_len};
 ghost use Rattle.json.specs.Token.{string};
-ghost use Rattle.jb_collect.specs.Laws.{partition_of};
+ghost use Rattle.jb_collect.specs.Heard.{partition_of};
 ghost use Rattle.jb_saved.specs.SavedTree.{tokens_of};
-ghost use Rattle.jb_step.specs.Parts.{calls_about};
+ghost use Rattle.jb_collect.specs.Heard.{calls_about};
 ghost use Rattle.jb_texts.specs.Report.{heard_text, heard_tree, texts_tree};
 ghost use Rattle.jb_texts.specs.inside.Heard.{placed};
 

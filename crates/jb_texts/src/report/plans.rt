@@ -4,7 +4,7 @@ ghost use Rattle.std.specs.Prelude.{◌≡◌, ◌++◌, flat_map, OnOk};
 ghost use Rattle.jb_saved.specs.SavedTree.{tokens_of};
 ghost use Rattle.jb_texts.specs.Report.{plan_tree, plans_tree};
 
-use jb_step::PlanNote;
+use jb_cert::PlanNote;
 use json::Writer;
 use std::alloc::{AllocError, Global};
 

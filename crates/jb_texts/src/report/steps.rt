@@ -13,10 +13,10 @@ use crate::report::plans::write_plans;
 use crate::report::reducer::write_reducer;
 use crate::status::status_name;
 use jb_artifacts::ItemWriter;
+use jb_cert::PlanNote;
 use jb_collect::{AnalyzerCall, ReducerCall, Status};
 use jb_rules::Row;
 use jb_saved::write_saved;
-use jb_step::PlanNote;
 use json::Writer;
 use std::alloc::{AllocError, Global};
 use std::marker::Model;
@@ -106,14 +106,6 @@ impl StepsText {
         ensures { OnOk result (self.new ≡ self.old ++ tokens_of (texts_tree (map utf8_lossy (W.writer writer.now).written))) }
     {
         write_outputs(alloc, &mut self.out, writer)
-    }
-
-    /// Adds the outputs of a partition with no record: none.
-    pub fn add_no_outputs(&mut self) -> Result<(), AllocError>
-        ensures { OnOk result (self.new ≡ self.old ++ tokens_of (texts_tree [])) }
-    {
-        self.out.begin_array()?;
-        self.out.end_array()
     }
 
     /// Ends the report of a step, whose partitions left these rows, in these plans, and whose reducer took these calls.

@@ -14,6 +14,6 @@ pub enum RoundError {
     #[error("WorkerNotStarted")]
     WorkerNotStarted,
     /// There was no memory for ordering the works or for gathering what came of them.
-    #[error("Memory")]
+    #[error("no memory")]
     Memory,
 }

@@ -1,6 +1,8 @@
-use Rattle.payroll.proofs.Writing.{share-written}
+use Rattle.std.proofs.Common.{◌<◌, subst}
+use Rattle.payroll.proofs.Writing.{slip-written}
 use Rattle.payroll.proofs.write_slips.Goals as goal
 
-pub loop-share-preserved : goal.loop-share-preserved
-loop-share-preserved g c =
-    share-written (λ share. share.items) c.args.slips.now c.loop-share.share-index _ _ _ _ _ c.loop-share-test.true c.share-item.is c.as_slice.ensures.value c.loop-share.invariant c.in_ok-write_share.ensures
+pub loop-index-preserved : goal.loop-index-preserved
+loop-index-preserved g c =
+    let within = subst (λ n. c.loop-index.index < n) c.len-index-end.ensures c.loop-index-test.true in
+    slip-written c.args.slips.now c.loop-index.index _ _ _ _ within c.at.ensures c.loop-index.invariant c.in_ok-write_all.ensures.bytes

@@ -1,7 +1,7 @@
 use Rattle.std.proofs.Common.{ap, arith}
 use Rattle.jb_rules.specs.declared.row.Row.{Row}
-use Rattle.jb_chunk.proofs.Running.{begun, has-room, commit-ends, commit-next, roll-next, fail-ends, breaks-off}
-use Rattle.jb_chunk.proofs.Following.{plain-alone, never-fails}
+use Rattle.jb_chunk.proofs.RunsAlone.{begun, has-room, commit-ends, commit-next, roll-next, fail-ends, breaks-off}
+use Rattle.jb_chunk.proofs.PlainRuns.{plain-alone, never-fails}
 use Rattle.jb_chunk.proofs.alone.run_alone.Goals as goal
 
 pub loop-task-init : goal.loop-task-init

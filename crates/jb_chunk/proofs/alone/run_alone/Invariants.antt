@@ -2,7 +2,7 @@ use Rattle.std.proofs.Common.{◌≡◌}
 use Rattle.jb_rules.specs.declared.row.RowState.TheVariants.{Waiting}
 use Rattle.jb_chunk.specs.Alone.{attempts_left}
 use Rattle.jb_chunk.specs.Standing.{IsReady}
-use Rattle.jb_chunk.proofs.Running.{HasRoom, IsUnderWay}
+use Rattle.jb_chunk.proofs.RunsAlone.{HasRoom, IsUnderWay}
 use Rattle.jb_chunk.proofs.alone.run_alone.Given as goal
 
 -- the task is to be attempted again

@@ -1,8 +1,13 @@
-use Rattle.std.proofs.Common.{Result, Ok, Err, IfOk, OnErr, arith, refl}
-use Rattle.jb_chunk.specs.Attempt.{Trial}
+use Rattle.std.proofs.Common.{ℕ, Result, Ok, Err, IfOk, OnErr, length, ap, sym, ◌∙◌, subst, arith}
+use Rattle.jb_base.specs.declared.range.Range.{Range}
+use Rattle.jb_artifacts.specs.Meaning.{ArtifactsMeaning}
+use Rattle.jb_rules.specs.declared.row.Row.{Row}
+use Rattle.jb_base.specs.Rules.{RulesRecord}
+use Rattle.jb_chunk.specs.inside.Repeats.{IsFinishAfter}
+use Rattle.jb_chunk.specs.Standing.{TaskState}
 use Rattle.jb_chunk.specs.inside.Gathering.{yield_of}
-use Rattle.jb_chunk.proofs.Trying.{tally-records}
-use Rattle.jb_chunk.proofs.Rewriting.{stopped-tried, settled-not-again, finished-tried, whole-within, whole-tally, whole-torn}
+use Rattle.jb_chunk.proofs.TriedChunk.{tally-records}
+use Rattle.jb_chunk.proofs.WriteRepeats.{stopped-tried, finished-tried, settled-within, whole-within, whole-tally, whole-torn}
 use Rattle.jb_chunk.proofs.block.try_block.Goals as goal
 
 if_ok-map : {T E : Type 0} {P Q : T → Type 0} (r : Result T E) → ((v : T) → P v → Q v) → IfOk r P → IfOk r Q
@@ -13,54 +18,118 @@ on_err-map : {T E : Type 0} {P Q : Type 0} (r : Result T E) → (P → Q) → On
 on_err-map (Ok v) f p = tt
 on_err-map (Err e) f p = f p
 
+abbrev task_at : (partition : ℕ) → Row → RulesRecord → (item_count : ℕ) → ArtifactsMeaning → TaskState
+task_at partition row rules item_count work = record { partition = partition; row = row; rules = rules; item_count = item_count; work = work }
+
 pub finish_block-requires-clause-few : goal.finish_block-requires-clause-few
 finish_block-requires-clause-few g c =
-    let t : Trial = record { rules = c.args.rules.now; row = c.args.row.now; hi = c.args.hi; work = g.A.Meaning.workplace c.args.artifacts.now } in
+    let t = task_at 0 c.args.row.now c.args.rules.now c.args.item_count (g.A.Meaning.meaning c.args.artifacts.now) in
     let came_to = yield_of c.in-Ok-Whole.tally (g.A.Results.ChunkResults.pairs c.gather.new.results) in
     let gathered = rw c.in-Ok-Whole.field-0-is at c.in-Ok-Whole.ensures.ok in
-    let counted = whole-tally t came_to _ _ gathered in
-    let records = tally-records counted.0 c.args.row.now.at c.args.hi came_to (omega arith) counted.1 in
+    let counted = whole-tally t came_to _ _ (gathered 0) in
+    let hi = ap (λ (b : Range). b.hi) c.block-block.ensures.block in
+    let records = tally-records counted.0 c.args.row.now.at _ came_to (omega (arith, hi)) counted.1 in
     record {
-      read_skips = omega (arith, records);
-      process_skips = omega (arith, records);
-      filtered = omega (arith, records);
+      read_skips = omega (arith, records, hi);
+      process_skips = omega (arith, records, hi);
+      filtered = omega (arith, records, hi);
     }
 
 pub finish_block-requires-clause-records : goal.finish_block-requires-clause-records
 finish_block-requires-clause-records g c =
-    let t : Trial = record { rules = c.args.rules.now; row = c.args.row.now; hi = c.args.hi; work = g.A.Meaning.workplace c.args.artifacts.now } in
+    let t = task_at 0 c.args.row.now c.args.rules.now c.args.item_count (g.A.Meaning.meaning c.args.artifacts.now) in
     let came_to = yield_of c.in-Ok-Whole.tally (g.A.Results.ChunkResults.pairs c.gather.new.results) in
     let gathered = rw c.in-Ok-Whole.field-0-is at c.in-Ok-Whole.ensures.ok in
-    let counted = whole-tally t came_to _ _ gathered in
-    let records = tally-records counted.0 c.args.row.now.at c.args.hi came_to (omega arith) counted.1 in
-    let at = (whole-within t came_to _ _ gathered).0.at in
-    omega (arith, records, at)
+    let counted = whole-tally t came_to _ _ (gathered 0) in
+    let hi = ap (λ (b : Range). b.hi) c.block-block.ensures.block in
+    let records = tally-records counted.0 c.args.row.now.at _ came_to (omega (arith, hi)) counted.1 in
+    let at = (whole-within t came_to _ _ (gathered 0)).0.at in
+    omega (arith, records, at, hi)
 
-pub end_by_choice-end-requires : goal.end_by_choice-end-requires
-end_by_choice-end-requires g c =
-    let t : Trial = record { rules = c.args.rules.now; row = c.args.row.now; hi = c.args.hi; work = g.A.Meaning.workplace c.args.artifacts.now } in
-    let gathered = rw c.in-Ok-Settled.field-0-is at c.in-Ok-Settled.ensures.ok in
-    record { last = settled-not-again t _ c.in-Ok-Settled.class c.in-Ok-Settled.choice _ _ (g.A.Results.ChunkResults.pairs c.gather.new.results) gathered }
+pub finish_block-requires-clause-place : goal.finish_block-requires-clause-place
+finish_block-requires-clause-place g c =
+    let t = task_at 0 c.args.row.now c.args.rules.now c.args.item_count (g.A.Meaning.meaning c.args.artifacts.now) in
+    let came_to = yield_of c.in-Ok-Whole.tally (g.A.Results.ChunkResults.pairs c.gather.new.results) in
+    let gathered = rw c.in-Ok-Whole.field-0-is at c.in-Ok-Whole.ensures.ok in
+    let hi = ap (λ (b : Range). b.hi) c.block-block.ensures.block in
+    let place = (whole-within t came_to _ _ (gathered 0)).1 in
+    omega (arith, place, hi)
 
 pub returns-in-Ok-Settled-clause-ok : goal.returns-in-Ok-Settled-clause-ok
-returns-in-Ok-Settled-clause-ok g c =
-    let meaning = g.A.Meaning.workplace in
-    let t : Trial = record { rules = c.args.rules.now; row = c.args.row.now; hi = c.args.hi; work = meaning c.args.artifacts.now } in
+returns-in-Ok-Settled-clause-ok g c = λ partition.
+    let meaning = g.A.Meaning.meaning in
+    let t = task_at partition c.args.row.now c.args.rules.now c.args.item_count (meaning c.args.artifacts.now) in
     let gathered = rw c.in-Ok-Settled.field-0-is at c.in-Ok-Settled.ensures.ok in
-    stopped-tried t _ c.in-Ok-Settled.class c.in-Ok-Settled.choice c.gather.new.row (meaning c.gather.new.artifacts) _ _ (g.A.Results.ChunkResults.pairs c.gather.new.results) gathered c.end_by_choice-end.ensures refl c.rewind.ensures
+    stopped-tried t _ c.in-Ok-Settled.class c.in-Ok-Settled.choice c.gather.new.row (meaning c.gather.new.artifacts) _ _ (g.A.Results.ChunkResults.pairs c.gather.new.results) (gathered partition) c.end_by_choice.ensures c.open_reader_at.ensures
 
 pub returns-in-Ok-Whole-clause-ok : goal.returns-in-Ok-Whole-clause-ok
-returns-in-Ok-Whole-clause-ok g c =
-    let meaning = g.A.Meaning.workplace in
-    let t : Trial = record { rules = c.args.rules.now; row = c.args.row.now; hi = c.args.hi; work = meaning c.args.artifacts.now } in
+returns-in-Ok-Whole-clause-ok g c = λ partition.
+    let meaning = g.A.Meaning.meaning in
+    let t = task_at partition c.args.row.now c.args.rules.now c.args.item_count (meaning c.args.artifacts.now) in
     let came_to = yield_of c.in-Ok-Whole.tally (g.A.Results.ChunkResults.pairs c.gather.new.results) in
     let gathered = rw c.in-Ok-Whole.field-0-is at c.in-Ok-Whole.ensures.ok in
-    if_ok-map c.finish_block.result (λ tried finish. finished-tried t came_to c.gather.new.row c.finish_block.new.row (meaning c.gather.new.artifacts) (meaning c.finish_block.new.artifacts) tried (omega arith) gathered finish) c.finish_block.ensures.ok
+    let hi = ap (λ (b : Range). b.hi) c.block-block.ensures.block in
+    if_ok-map c.finish_block.result (λ end finish.
+    finished-tried t came_to c.gather.new.row c.finish_block.new.row (meaning c.gather.new.artifacts) (meaning c.finish_block.new.artifacts) end (omega (arith, hi)) (gathered partition)
+    (subst (λ n. IsFinishAfter c.args.rules.now c.gather.new.row n came_to (meaning c.gather.new.artifacts) end c.finish_block.new.row (meaning c.finish_block.new.artifacts)) hi finish)) c.finish_block.ensures.ok
 
 pub returns-in-Ok-Whole-clause-err : goal.returns-in-Ok-Whole-clause-err
 returns-in-Ok-Whole-clause-err g c =
-    let meaning = g.A.Meaning.workplace in
-    let t : Trial = record { rules = c.args.rules.now; row = c.args.row.now; hi = c.args.hi; work = meaning c.args.artifacts.now } in
+    let meaning = g.A.Meaning.meaning in
+    let t = task_at 0 c.args.row.now c.args.rules.now c.args.item_count (meaning c.args.artifacts.now) in
     let came_to = yield_of c.in-Ok-Whole.tally (g.A.Results.ChunkResults.pairs c.gather.new.results) in
     let gathered = rw c.in-Ok-Whole.field-0-is at c.in-Ok-Whole.ensures.ok in
-    on_err-map c.finish_block.result (λ torn. whole-torn t came_to c.gather.new.row (meaning c.gather.new.artifacts) (meaning c.finish_block.new.artifacts) (omega arith) gathered torn) c.finish_block.ensures.err
+    let hi = ap (λ (b : Range). b.hi) c.block-block.ensures.block in
+    on_err-map c.finish_block.result (λ torn. whole-torn t came_to c.gather.new.row (meaning c.gather.new.artifacts) (meaning c.finish_block.new.artifacts) (omega (arith, hi)) (gathered 0) torn) c.finish_block.ensures.err
+
+pub open_reader_at-requires-clause-from : goal.open_reader_at-requires-clause-from
+open_reader_at-requires-clause-from g c =
+    let t = task_at 0 c.args.row.now c.args.rules.now c.args.item_count (g.A.Meaning.meaning c.args.artifacts.now) in
+    let gathered = rw c.in-Ok-Settled.field-0-is at c.in-Ok-Settled.ensures.ok in
+    let within = settled-within t _ _ _ _ _ (g.A.Results.ChunkResults.pairs c.gather.new.results) (gathered 0) in
+    let at = within.at in
+    let first = within.first in
+    omega (arith, at, first)
+
+pub open_reader_at-requires-clause-to : goal.open_reader_at-requires-clause-to
+open_reader_at-requires-clause-to g c =
+    let t = task_at 0 c.args.row.now c.args.rules.now c.args.item_count (g.A.Meaning.meaning c.args.artifacts.now) in
+    let gathered = rw c.in-Ok-Settled.field-0-is at c.in-Ok-Settled.ensures.ok in
+    let within = settled-within t _ _ _ _ _ (g.A.Results.ChunkResults.pairs c.gather.new.results) (gathered 0) in
+    let at = within.at in
+    let end = within.end in
+    omega (arith, at, end)
+
+pub finish_block-requires-clause-order : goal.finish_block-requires-clause-order
+finish_block-requires-clause-order g c =
+    let t = task_at 0 c.args.row.now c.args.rules.now c.args.item_count (g.A.Meaning.meaning c.args.artifacts.now) in
+    let came_to = yield_of c.in-Ok-Whole.tally (g.A.Results.ChunkResults.pairs c.gather.new.results) in
+    let gathered = rw c.in-Ok-Whole.field-0-is at c.in-Ok-Whole.ensures.ok in
+    let at = (whole-within t came_to _ _ (gathered 0)).0.at in
+    omega (arith, at)
+
+pub finish_block-requires-clause-from : goal.finish_block-requires-clause-from
+finish_block-requires-clause-from g c =
+    let t = task_at 0 c.args.row.now c.args.rules.now c.args.item_count (g.A.Meaning.meaning c.args.artifacts.now) in
+    let came_to = yield_of c.in-Ok-Whole.tally (g.A.Results.ChunkResults.pairs c.gather.new.results) in
+    let gathered = rw c.in-Ok-Whole.field-0-is at c.in-Ok-Whole.ensures.ok in
+    let within = (whole-within t came_to _ _ (gathered 0)).0 in
+    let at = within.at in
+    let first = within.first in
+    omega (arith, at, first)
+
+pub finish_block-requires-clause-to : goal.finish_block-requires-clause-to
+finish_block-requires-clause-to g c =
+    let t = task_at 0 c.args.row.now c.args.rules.now c.args.item_count (g.A.Meaning.meaning c.args.artifacts.now) in
+    let came_to = yield_of c.in-Ok-Whole.tally (g.A.Results.ChunkResults.pairs c.gather.new.results) in
+    let gathered = rw c.in-Ok-Whole.field-0-is at c.in-Ok-Whole.ensures.ok in
+    let end = (whole-within t came_to _ _ (gathered 0)).0.end in
+    omega (arith, end)
+
+pub finish_block-requires-clause-count : goal.finish_block-requires-clause-count
+finish_block-requires-clause-count g c =
+    let t = task_at 0 c.args.row.now c.args.rules.now c.args.item_count (g.A.Meaning.meaning c.args.artifacts.now) in
+    let came_to = yield_of c.in-Ok-Whole.tally (g.A.Results.ChunkResults.pairs c.gather.new.results) in
+    let gathered = rw c.in-Ok-Whole.field-0-is at c.in-Ok-Whole.ensures.ok in
+    let within = (whole-within t came_to _ _ (gathered 0)).0 in
+    ap length within.written ∙ c.requires.count ∙ sym within.kept

@@ -1,16 +1,23 @@
-use Rattle.std.proofs.Common.{arith}
-use Rattle.jb_chunk.specs.Attempt.{Trial}
+use Rattle.std.proofs.Common.{ℕ, ap, arith}
+use Rattle.jb_base.specs.Rules.{RulesRecord}
+use Rattle.jb_base.specs.declared.range.Range.{Range}
+use Rattle.jb_rules.specs.declared.row.Row.{Row}
+use Rattle.jb_artifacts.specs.Meaning.{ArtifactsMeaning}
+use Rattle.jb_chunk.specs.Standing.{TaskState}
 use Rattle.jb_chunk.specs.inside.Gathering.{yield_of}
-use Rattle.jb_chunk.proofs.Counting.{tally-none, one_if-le}
-use Rattle.jb_chunk.proofs.Recording.{gathering-none, gathering-more, gathering-settled, gathering-whole, gathering-torn, gathering-stands}
+use Rattle.jb_chunk.proofs.RecordCounts.{tally-none, one_if-le}
+use Rattle.jb_chunk.proofs.DoneRecords.{gathering-none, gathering-more, gathering-settled, gathering-whole, gathering-torn, gathering-stands}
 use Rattle.jb_chunk.proofs.gather.gather.Goals as goal
+
+abbrev task_at : (partition : ℕ) → Row → RulesRecord → (item_count : ℕ) → ArtifactsMeaning → TaskState
+task_at partition row rules item_count work = record { partition = partition; row = row; rules = rules; item_count = item_count; work = work }
 
 pub loop-number-init : goal.loop-number-init
 loop-number-init g c =
-    let old = g.A.Meaning.workplace c.args.artifacts.now in
-    let t : Trial = record { rules = c.args.rules.now; row = c.args.row.now; hi = c.args.hi; work = old } in
+    let old = g.A.Meaning.meaning c.args.artifacts.now in
+    let hi = ap (λ (b : Range). b.hi) c.block-block.ensures.block in
     record {
-      gathering = gathering-none t _ c.requires.place c.requires.order (tally-none old _ _ c.requires.none c.new-tally.ensures.read_skips c.new-tally.ensures.process_skips c.new-tally.ensures.filtered);
+      gathering = λ partition. gathering-none (task_at partition c.args.row.now c.args.rules.now c.args.item_count old) _ c.requires.place (omega (arith, hi)) (tally-none old _ _ c.requires.none c.new-tally.ensures.read_skips c.new-tally.ensures.process_skips c.new-tally.ensures.filtered);
       sound = c.requires.sound;
       room = c.requires.room;
       read_skips = let none = c.new-tally.ensures.read_skips in omega (arith, none);
@@ -19,40 +26,43 @@ loop-number-init g c =
     }
 
 pub settle_record-requires-clause-place : goal.settle_record-requires-clause-place
-settle_record-requires-clause-place g c = (gathering-stands _ _ _ _ _ c.loop-number.invariant.gathering).place
+settle_record-requires-clause-place g c = (gathering-stands _ _ _ _ _ (c.loop-number.invariant.gathering 0)).place
 
 pub settle_record-requires-clause-from : goal.settle_record-requires-clause-from
 settle_record-requires-clause-from g c =
-    let first = (gathering-stands _ _ _ _ _ c.loop-number.invariant.gathering).first in
+    let first = (gathering-stands _ _ _ _ _ (c.loop-number.invariant.gathering 0)).first in
     omega (arith, first, c.requires.from)
 
 pub settle_record-requires-clause-to : goal.settle_record-requires-clause-to
 settle_record-requires-clause-to g c =
-    let end = (gathering-stands _ _ _ _ _ c.loop-number.invariant.gathering).end in
-    omega (arith, end, c.requires.to)
+    let end = (gathering-stands _ _ _ _ _ (c.loop-number.invariant.gathering 0)).end in
+    let within = c.block-block.ensures.within in
+    omega (arith, end, c.requires.to, within)
 
 pub returns-in-Err-clause-err : goal.returns-in-Err-clause-err
 returns-in-Err-clause-err g c =
-    let meaning = g.A.Meaning.workplace in
-    let t : Trial = record { rules = c.args.rules.now; row = c.args.row.now; hi = c.args.hi; work = meaning c.args.artifacts.now } in
-    gathering-torn t c.loop-number.number (yield_of c.loop-number.tally (g.A.Results.ChunkResults.pairs c.loop-number.results)) c.loop-number.row (meaning c.loop-number.artifacts) (meaning c.settle_record.new.artifacts) c.loop-number.invariant.gathering (omega arith) (omega arith) c.in-Err.ensures.err
+    let meaning = g.A.Meaning.meaning in
+    let t = task_at 0 c.args.row.now c.args.rules.now c.args.item_count (meaning c.args.artifacts.now) in
+    let hi = ap (λ (b : Range). b.hi) c.block-block.ensures.block in
+    gathering-torn t c.loop-number.number (yield_of c.loop-number.tally (g.A.Results.ChunkResults.pairs c.loop-number.results)) c.loop-number.row (meaning c.loop-number.artifacts) (meaning c.settle_record.new.artifacts) (c.loop-number.invariant.gathering 0) (omega arith) (omega (arith, hi)) c.in-Err.ensures.err
 
 pub returns-in-Ok-Some-clause-ok : goal.returns-in-Ok-Some-clause-ok
-returns-in-Ok-Some-clause-ok g c =
-    let meaning = g.A.Meaning.workplace in
+returns-in-Ok-Some-clause-ok g c = λ partition.
+    let meaning = g.A.Meaning.meaning in
     let pairs = g.A.Results.ChunkResults.pairs in
-    let t : Trial = record { rules = c.args.rules.now; row = c.args.row.now; hi = c.args.hi; work = meaning c.args.artifacts.now } in
+    let t = task_at partition c.args.row.now c.args.rules.now c.args.item_count (meaning c.args.artifacts.now) in
+    let hi = ap (λ (b : Range). b.hi) c.block-block.ensures.block in
     let stepped = rw c.in-Ok-Some.field-0-is at c.in-Ok-Some.ensures.stepped in
-    gathering-settled t c.loop-number.number (yield_of c.loop-number.tally (pairs c.loop-number.results)) (yield_of c.settle_record.new.tally (pairs c.settle_record.new.results)) c.loop-number.row c.settle_record.new.row (meaning c.loop-number.artifacts) (meaning c.settle_record.new.artifacts) stepped.0 c.in-Ok-Some.class c.in-Ok-Some.choice (pairs c.settle_record.new.results) c.loop-number.invariant.gathering (omega arith) (omega arith) stepped.1 stepped.2
+    gathering-settled t c.loop-number.number (yield_of c.loop-number.tally (pairs c.loop-number.results)) (yield_of c.settle_record.new.tally (pairs c.settle_record.new.results)) c.loop-number.row c.settle_record.new.row (meaning c.loop-number.artifacts) (meaning c.settle_record.new.artifacts) stepped.0 c.in-Ok-Some.class c.in-Ok-Some.choice (pairs c.settle_record.new.results) (c.loop-number.invariant.gathering partition) (omega arith) (omega (arith, hi)) stepped.1 stepped.2
 
 pub loop-number-preserved : goal.loop-number-preserved
 loop-number-preserved g c =
-    let meaning = g.A.Meaning.workplace in
+    let meaning = g.A.Meaning.meaning in
     let pairs = g.A.Results.ChunkResults.pairs in
-    let t : Trial = record { rules = c.args.rules.now; row = c.args.row.now; hi = c.args.hi; work = meaning c.args.artifacts.now } in
+    let hi = ap (λ (b : Range). b.hi) c.block-block.ensures.block in
     let stepped = rw c.in-Ok-None.field-0-is at c.in-Ok-None.ensures.stepped in
     record {
-      gathering = gathering-more t c.loop-number.number (yield_of c.loop-number.tally (pairs c.loop-number.results)) (yield_of c.settle_record.new.tally (pairs c.settle_record.new.results)) c.loop-number.row c.settle_record.new.row (meaning c.loop-number.artifacts) (meaning c.settle_record.new.artifacts) stepped.0 c.loop-number.invariant.gathering (omega arith) (omega arith) stepped.1 stepped.2;
+      gathering = λ partition. gathering-more (task_at partition c.args.row.now c.args.rules.now c.args.item_count (meaning c.args.artifacts.now)) c.loop-number.number (yield_of c.loop-number.tally (pairs c.loop-number.results)) (yield_of c.settle_record.new.tally (pairs c.settle_record.new.results)) c.loop-number.row c.settle_record.new.row (meaning c.loop-number.artifacts) (meaning c.settle_record.new.artifacts) stepped.0 (c.loop-number.invariant.gathering partition) (omega arith) (omega (arith, hi)) stepped.1 stepped.2;
       sound = c.in-Ok-None.ensures.sound;
       room = c.in-Ok-None.ensures.room;
       read_skips = let up = stepped.2.1.read_skips in omega (arith, up, one_if-le);
@@ -61,7 +71,7 @@ loop-number-preserved g c =
     }
 
 pub returns-clause-ok : goal.returns-clause-ok
-returns-clause-ok g c =
-    let meaning = g.A.Meaning.workplace in
-    let t : Trial = record { rules = c.args.rules.now; row = c.args.row.now; hi = c.args.hi; work = meaning c.args.artifacts.now } in
-    gathering-whole t _ _ _ _ (omega arith) c.loop-number.invariant.gathering
+returns-clause-ok g c = λ partition.
+    let meaning = g.A.Meaning.meaning in
+    let hi = ap (λ (b : Range). b.hi) c.block-block.ensures.block in
+    gathering-whole (task_at partition c.args.row.now c.args.rules.now c.args.item_count (meaning c.args.artifacts.now)) _ _ _ _ (omega (arith, hi)) (c.loop-number.invariant.gathering partition)

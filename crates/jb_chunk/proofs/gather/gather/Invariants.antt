@@ -1,7 +1,7 @@
 use Rattle.std.proofs.Common.{◌-◌, ◌≤◌}
 use Rattle.jb_rules.specs.Sound.{IsSoundRow}
-use Rattle.jb_chunk.specs.Attempt.{Trial}
 use Rattle.jb_chunk.specs.Standing.{HasRepeats}
+use Rattle.jb_chunk.specs.inside.TriedChunk.{OfTask}
 use Rattle.jb_chunk.specs.inside.Gathering.{yield_of}
 use Rattle.jb_chunk.specs.inside.Repeats.{IsGathering}
 use Rattle.jb_chunk.proofs.gather.gather.Given as goal
@@ -9,10 +9,9 @@ use Rattle.jb_chunk.proofs.gather.gather.Given as goal
 -- the records so far are done, and each of their faults is skipped or its call repeated
 abbrev pub invariant-loop-number : goal.invariant-loop-number
 invariant-loop-number g l =
-    let meaning = g.A.Meaning.workplace in
-    let t : Trial = record { rules = l.rules; row = l.fn.row; hi = l.hi; work = meaning l.fn.artifacts } in
+    let meaning = g.A.Meaning.meaning in
     record {
-      gathering : IsGathering t l.number (yield_of l.tally (g.A.Results.ChunkResults.pairs l.results)) l.row (meaning l.artifacts);
+      gathering : OfTask l.rules l.fn.row l.item_count (meaning l.fn.artifacts) (λ t. IsGathering t l.number (yield_of l.tally (g.A.Results.ChunkResults.pairs l.results)) l.row (meaning l.artifacts));
       sound : IsSoundRow l.row;
       room : HasRepeats l.rules l.row;
       read_skips : l.tally.read_skips ≤ l.number - l.fn.row.at;

@@ -1,6 +1,6 @@
-use Rattle.jb_chunk.proofs.Bridging.{after_repeats-row}
-use Rattle.jb_chunk.proofs.Course.{rows-live-on}
-use Rattle.jb_chunk.proofs.Ways.{commits-take-one-chunk}
+use Rattle.jb_chunk.proofs.AfterRepeats.{after_repeats-row}
+use Rattle.jb_chunk.proofs.StepsOfLife.{rows-live-on}
+use Rattle.jb_chunk.proofs.RunsOfAttempts.{commits-take-one-chunk}
 use Rattle.jb_chunk.proofs.laws.attempts_are_steps.Goals as goal
 
 pub returns : goal.returns

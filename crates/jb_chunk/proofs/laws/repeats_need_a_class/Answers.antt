@@ -1,4 +1,4 @@
-use Rattle.jb_chunk.proofs.Unrepeated.{attempts-without-repeats, repeats-stay}
+use Rattle.jb_chunk.proofs.WithoutRepeats.{attempts-without-repeats, repeats-stay}
 use Rattle.jb_chunk.proofs.laws.repeats_need_a_class.Goals as goal
 
 pub returns : goal.returns

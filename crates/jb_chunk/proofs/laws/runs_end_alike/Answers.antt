@@ -1,4 +1,4 @@
-use Rattle.jb_chunk.proofs.Ways.{one-end, calm-runs-are-plain}
+use Rattle.jb_chunk.proofs.RunsOfAttempts.{one-end, calm-runs-are-plain}
 use Rattle.jb_chunk.proofs.laws.runs_end_alike.Goals as goal
 
 pub returns : goal.returns

@@ -1,4 +1,4 @@
-use Rattle.jb_chunk.proofs.Ways.{runs-are-short, retries-are-few, ways-join, ways-end}
+use Rattle.jb_chunk.proofs.RunsOfAttempts.{runs-are-short, retries-are-few, ways-join, ways-end}
 use Rattle.jb_chunk.proofs.laws.runs_lead_to_an_end.Goals as goal
 
 pub returns : goal.returns

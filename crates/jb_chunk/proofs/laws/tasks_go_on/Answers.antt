@@ -1,4 +1,4 @@
-use Rattle.jb_chunk.proofs.Ways.{same-place, same-end}
+use Rattle.jb_chunk.proofs.RunsOfAttempts.{same-place, same-end}
 use Rattle.jb_chunk.proofs.laws.tasks_go_on.Goals as goal
 
 pub returns : goal.returns

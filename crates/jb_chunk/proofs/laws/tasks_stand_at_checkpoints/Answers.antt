@@ -1,4 +1,4 @@
-use Rattle.jb_chunk.proofs.Ways.{tasks-stand-at-checkpoints}
+use Rattle.jb_chunk.proofs.RunsOfAttempts.{tasks-stand-at-checkpoints}
 use Rattle.jb_chunk.proofs.laws.tasks_stand_at_checkpoints.Goals as goal
 
 pub returns : goal.returns

@@ -1,4 +1,4 @@
-use Rattle.jb_chunk.proofs.Ways.{tasks-stay-ready}
+use Rattle.jb_chunk.proofs.RunsOfAttempts.{tasks-stay-ready}
 use Rattle.jb_chunk.proofs.laws.tasks_stay_ready.Goals as goal
 
 pub returns : goal.returns

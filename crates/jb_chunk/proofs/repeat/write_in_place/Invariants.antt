@@ -7,7 +7,7 @@ use Rattle.jb_chunk.proofs.repeat.write_in_place.Given as goal
 -- each write so far failed, and was to be repeated
 abbrev pub invariant-loop-answer : goal.invariant-loop-answer
 invariant-loop-answer g l = record {
-  calling : IsCalling l.rules l.skips l.fn.row (write_call (g.A.Meaning.workplace l.fn.artifacts) (g.A.Results.ChunkResults.pairs l.results)) l.row (g.A.Meaning.workplace l.artifacts);
+  calling : IsCalling l.rules l.skips l.fn.row (write_call (g.A.Meaning.meaning l.fn.artifacts) (g.A.Results.ChunkResults.pairs l.results)) l.row (g.A.Meaning.meaning l.artifacts);
   sound : IsSoundRow l.row;
   room : HasRepeats l.rules l.row;
 }

@@ -1,5 +1,5 @@
 use Rattle.jb_job.specs.JobRecord.{range_pair_at}
-use Rattle.jb_job.specs.declared.job.Range.{Range}
+use Rattle.jb_base.specs.declared.range.Range.{Range}
 use Rattle.jb_job.proofs.partition.ranges.Given as goal
 
 abbrev pub ghosts-each : goal.ghosts-each

@@ -4,7 +4,7 @@ use Rattle.std.proofs.lemmas.Grind.{common_steps}
 use Rattle.jb_rules.specs.declared.row.Row.{Row}
 use Rattle.jb_rules.specs.States.{is_running}
 use Rattle.jb_saved.specs.inside.Forms.{AreStill}
-use Rattle.jb_saved.proofs.Kept.{still_more}
+use Rattle.jb_saved.proofs.RowByRow.{still_more}
 use Rattle.jb_saved.proofs.form.rows_in.Goals as goal
 
 pub loop-item-preserved : goal.loop-item-preserved

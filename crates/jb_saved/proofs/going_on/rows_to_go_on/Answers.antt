@@ -1,6 +1,6 @@
 use Rattle.std.proofs.Common.{ap, ◌∙◌, map}
 use Rattle.jb_saved.specs.GoingOn.{again}
-use Rattle.jb_saved.proofs.Again.{kept-again, unfailed-again}
+use Rattle.jb_saved.proofs.GoneOn.{kept-again, unfailed-again}
 use Rattle.jb_saved.proofs.going_on.rows_to_go_on.Goals as goal
 
 pub returns-clause-kept : goal.returns-clause-kept

@@ -1,4 +1,4 @@
-use Rattle.jb_step.proofs.Going.{next_can_run, runs_in_order, runs_all}
+use Rattle.jb_step.proofs.ChunksInOrder.{next_can_run, runs_in_order, runs_all}
 use Rattle.jb_step.proofs.Holding.{begins_with_table, partitions_stay}
 use Rattle.jb_step.proofs.Whole.{ends_whole}
 use Rattle.jb_step.proofs.Starting.{begins_with_rows}

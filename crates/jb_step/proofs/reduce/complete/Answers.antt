@@ -1,5 +1,5 @@
 use Rattle.std.proofs.Common.{rules}
-use Rattle.jb_step.proofs.Reduced.{ending-undone, ending-failed-in-part, ending-well-in-part}
+use Rattle.jb_step.proofs.CallsInPart.{ending-undone, ending-failed-in-part, ending-well-in-part}
 use Rattle.jb_step.proofs.reduce.complete.Goals as goal
 
 pub returns-in_err-before-clause-memory : goal.returns-in_err-before-clause-memory

@@ -2,12 +2,12 @@ use Rattle.std.proofs.Common.{rules, ◌≡◌, ◌∙◌, map, List}
 use Rattle.jb_cert.specs.Lawful.{Pair}
 use Rattle.jb_cert.specs.Plans.{slot_pair}
 use Rattle.jb_step.specs.inside.Places.{held_in, picked}
-use Rattle.jb_step.specs.inside.Round.{tasks_of, taken}
+use Rattle.jb_step.specs.inside.Round.{tasks_of, tasks_of_set}
 use Rattle.jb_step.proofs.Placing.{in-turn, picked-taken}
 use Rattle.jb_step.proofs.Splitting.{taken-can, taken-rise}
 use Rattle.jb_step.proofs.round.chosen.Goals as goal
 
-are : (g : _) (c : goal.In_ok-take_works g) → tasks_of c.take_works.new.works.items ≡ taken g.T.PartitionTask.standing (map slot_pair c.args.slots.now) (held_in c.args.held.items)
+are : (g : _) (c : goal.In_ok-take_works g) → tasks_of c.take_works.new.works.items ≡ tasks_of_set g.T.PartitionTask.standing (map slot_pair c.args.slots.now) (held_in c.args.held.items)
 are g c =
     let set : List Pair = map slot_pair c.args.slots.now in
     let all : tasks_of c.take_works.new.works.items ≡ picked set c.args.held.items = search rules in

@@ -1,5 +1,5 @@
 use Rattle.std.proofs.Common.{◌≡◌, map, drop}
-use Rattle.jb_step.specs.Ways.{have_ended}
+use Rattle.jb_step.specs.Alone.{have_ended}
 use Rattle.jb_step.specs.inside.Places.{held_in}
 use Rattle.jb_step.proofs.run.all_ended.Given as goal
 

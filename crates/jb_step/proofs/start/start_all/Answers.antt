@@ -1,7 +1,7 @@
 use Rattle.std.proofs.Common.{◌≡◌, List, map, arith, ap, sym, ◌∙◌, subst}
 use Rattle.jb_rules.specs.declared.row.Row.{Row}
 use Rattle.jb_chunk.specs.Standing.{TaskState}
-use Rattle.jb_step.specs.Going.{IsTable}
+use Rattle.jb_step.specs.PlanLaws.{IsTable}
 use Rattle.jb_step.specs.Setup.{first_tasks}
 use Rattle.jb_step.specs.inside.Places.{held_in}
 use Rattle.jb_step.specs.inside.Starting.{tasks_from}
@@ -11,13 +11,13 @@ use Rattle.jb_step.proofs.start.start_all.Goals as goal
 
 pub returns-clause-tasks : goal.returns-clause-tasks
 returns-clause-tasks g c =
-    let works = map g.T.Artifacts.Meaning.workplace c.args.artifacts.items in
+    let works = map g.T.Artifacts.Meaning.meaning c.args.artifacts.items in
     all-started c.args.prepared.now (map g.T.PartitionTask.standing (held_in c.loop-row.tasks.items)) _ c.begun_rows-rows.result.now c.loop-row.row-index _ (omega arith) c.loop-row.invariant.3
     ∙ ap (λ (rows : List Row). tasks_from c.args.prepared.now 0 rows works) c.begun_rows-rows.ensures.value
 
 pub returns-clause-table : goal.returns-clause-table
 returns-clause-table g c =
-    let works = map g.T.Artifacts.Meaning.workplace c.args.artifacts.items in
+    let works = map g.T.Artifacts.Meaning.meaning c.args.artifacts.items in
     let are : map g.T.PartitionTask.standing (held_in c.loop-row.tasks.items) ≡ first_tasks c.args.prepared.now works =
     all-started c.args.prepared.now (map g.T.PartitionTask.standing (held_in c.loop-row.tasks.items)) _ c.begun_rows-rows.result.now c.loop-row.row-index _ (omega arith) c.loop-row.invariant.3
     ∙ ap (λ (rows : List Row). tasks_from c.args.prepared.now 0 rows works) c.begun_rows-rows.ensures.value in

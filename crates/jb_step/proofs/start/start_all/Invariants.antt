@@ -9,6 +9,6 @@ abbrev pub invariant-loop-row : goal.invariant-loop-row
 invariant-loop-row g l =
     (length l.tasks.items ≡ l.row-index)
     × ArePlaced g.T.PartitionTask.standing 0 l.tasks.items
-    × FitRows (unfinished_from l.row-index (drop l.row-index l.rows)) (map g.T.Artifacts.Meaning.workplace (into_iter_items l.artifacts))
-    × (map g.T.PartitionTask.standing (held_in l.tasks.items) ++ tasks_from l.prepared l.row-index (drop l.row-index l.rows) (map g.T.Artifacts.Meaning.workplace (into_iter_items l.artifacts))
-    ≡ tasks_from l.prepared 0 l.rows (map g.T.Artifacts.Meaning.workplace l.fn.artifacts.items))
+    × FitRows (unfinished_from l.row-index (drop l.row-index l.rows)) (map g.T.Artifacts.Meaning.meaning (into_iter_items l.artifacts))
+    × (map g.T.PartitionTask.standing (held_in l.tasks.items) ++ tasks_from l.prepared l.row-index (drop l.row-index l.rows) (map g.T.Artifacts.Meaning.meaning (into_iter_items l.artifacts))
+    ≡ tasks_from l.prepared 0 l.rows (map g.T.Artifacts.Meaning.meaning l.fn.artifacts.items))

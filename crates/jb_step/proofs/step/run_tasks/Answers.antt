@@ -1,29 +1,52 @@
-use Rattle.std.proofs.Common.{rules, ◌≡◌, true, length, map, ap}
-use Rattle.jb_step.specs.Ending.{given_back}
+use Rattle.std.proofs.Common.{rules, ◌≡◌, true, length, map, ap, subst, List}
+use Rattle.jb_chunk.specs.Standing.{TaskState}
+use Rattle.jb_step.specs.Answers.{StepRun, given_back}
+use Rattle.jb_step.specs.inside.Finish.{AreHeardToEnd}
 use Rattle.jb_step.specs.inside.Places.{held_in}
-use Rattle.jb_step.proofs.Stepping.{IsLeft, left-by, run-is, alone-is, way-is, heard-fault}
+use Rattle.jb_step.specs.inside.Telling.{moment}
+use Rattle.jb_step.proofs.Stepping.{IsLeft, run-is, alone-is, way-is, heard-fault}
 use Rattle.jb_step.proofs.step.run_tasks.Goals as goal
 
-left : (g : _) (c : goal.In_ok-artifacts g)
-    → IsLeft c.args.prepared.now (map g.T.Artifacts.Meaning.workplace c.args.artifacts.items) c.args.round_limit
-    ((goal.Analyzer-dyn g c.args.analyzer.now).analyzed c.args.analyzer.now.1)
-    ((goal.Analyzer-dyn g (c.args.analyzer.now.0, c.run_to_end.new.analyzer)).analyzed c.run_to_end.new.analyzer)
-    c.in_ok-ended.ended.fault c.in_ok-ended.ended.notes.items c.in_ok-ended.ended.snapshot (given_back g.T.Artifacts.Meaning.workplace c.in_ok-artifacts.artifacts.items)
+-- the run that is answered
+abbrev run-of : (g : _) → goal.In_ok-artifacts g → StepRun
+run-of g c = record {
+  setup = c.args.prepared.now;
+  works = map g.T.Artifacts.Meaning.meaning c.args.artifacts.items;
+  round_limit = c.args.round_limit;
+  heard_before = (goal.Analyzer-dyn g c.args.analyzer.now).analyzed c.args.analyzer.now.1;
+  heard_after = (goal.Analyzer-dyn g (c.args.analyzer.now.0, c.run_to_end.new.analyzer)).analyzed c.run_to_end.new.analyzer;
+  notes = c.in_ok-ended.ended.0.notes.items;
+  snapshot = c.in_ok-ended.ended.1;
+  left = given_back g.T.Artifacts.Meaning.meaning c.in_ok-artifacts.artifacts.items;
+}
+
+left : (g : _) (c : goal.In_ok-artifacts g) → IsLeft (run-of g c) c.in_ok-ended.ended.0.fault
 left g c =
+    let r = run-of g c in
+    let ended = c.in_ok-ended.ended.0 in
     let yes : c.are_numbers-agree.result ≡ true = search rules in
-    left-by c.args.prepared.now (map g.T.Artifacts.Meaning.workplace c.args.artifacts.items) (map g.T.PartitionTask.standing (held_in c.in_ok-tasks.tasks.items)) c.args.round_limit _ _
-    c.in_ok-ended.ended.fault c.in_ok-ended.ended.notes.items c.in_ok-ended.ended.snapshot (given_back g.T.Artifacts.Meaning.workplace c.in_ok-artifacts.artifacts.items)
-    (map g.T.PartitionTask.standing (held_in c.in_ok-ended.ended.held.items)) (c.in_ok-ended.ended.rounds, c.in_ok-ended.ended.attempts) (length c.as_slice.result.now) c.in_ok-ended.ended.stopped
-    c.in_ok-tasks.ensures.tasks c.in_ok-ended.ensures.told c.in_ok-ended.ensures.rows c.in_ok-artifacts.ensures (ap length c.as_slice.ensures.value) (c.are_numbers-agree.ensures yes)
+    record {
+      table = map g.T.PartitionTask.standing (held_in ended.held.items);
+      ran = (ended.rounds, ended.attempts);
+      number = length c.as_slice.result.now;
+      stopped = ended.stopped;
+      told =
+          subst (λ (ts : List TaskState). AreHeardToEnd (record { setup = r.setup; start = ts; base = r.heard_before }) r.round_limit (record { moment = moment r.heard_after ended.fault; table = map g.T.PartitionTask.standing (held_in ended.held.items); ran = (ended.rounds, ended.attempts); notes = r.notes }) ended.stopped)
+          c.in_ok-tasks.ensures.tasks c.in_ok-ended.ensures.heard;
+      rows = c.in_ok-ended.ensures.rows;
+      left_is = c.in_ok-artifacts.ensures;
+      number_is = ap length c.as_slice.ensures.value;
+      agree = c.are_numbers-agree.ensures yes;
+    }
 
 pub returns-clause-run : goal.returns-clause-run
-returns-clause-run g c = run-is _ _ _ _ _ _ _ _ _ (left g c)
+returns-clause-run g c = run-is (run-of g c) c.in_ok-ended.ended.0.fault (left g c)
 
 pub returns-clause-alone : goal.returns-clause-alone
-returns-clause-alone g c = alone-is _ _ _ _ _ _ _ _ _ (left g c)
+returns-clause-alone g c = alone-is (run-of g c) c.in_ok-ended.ended.0.fault (left g c)
 
 pub returns-clause-on_the_way : goal.returns-clause-on_the_way
-returns-clause-on_the_way g c = way-is _ _ _ _ _ _ _ _ _ (left g c)
+returns-clause-on_the_way g c = way-is (run-of g c) c.in_ok-ended.ended.0.fault (left g c)
 
 pub returns-clause-fault : goal.returns-clause-fault
-returns-clause-fault g c = heard-fault _ _ _ _ _ _ _ _ _ (left g c)
+returns-clause-fault g c = heard-fault (run-of g c) c.in_ok-ended.ended.0.fault (left g c)

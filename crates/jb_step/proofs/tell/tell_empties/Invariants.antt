@@ -1,8 +1,8 @@
 use Rattle.std.proofs.Common.{List, Option, drop}
-use Rattle.jb_job.specs.declared.class.ClassId.{ClassId}
+use Rattle.jb_base.specs.declared.class.ClassId.{ClassId}
 use Rattle.jb_collect.specs.declared.calls.AnalyzerCall.{AnalyzerCall}
 use Rattle.jb_collect.specs.Taken.{Taken, HasTaken}
-use Rattle.jb_step.specs.Reduced.{Grew}
+use Rattle.jb_step.specs.Callbacks.{Grew}
 use Rattle.jb_step.specs.inside.Telling.{empties}
 use Rattle.jb_step.proofs.tell.tell_empties.Given as goal
 

@@ -14,7 +14,7 @@ use Rattle.jb_collect.specs.declared.calls.ReducerCall.TheVariants.{Begin, Befor
 use Rattle.jb_collect.specs.declared.calls.PartitionStatus.TheVariants as end
 use Rattle.jb_collect.specs.declared.calls.Status.TheVariants.{Completed}
 use Rattle.jb_cert.specs.declared.certificates.Certificate.TheVariants.{Longest}
-use Rattle.jb_step.specs.declared.notes.PlanNote.{PlanNote}
+use Rattle.jb_cert.specs.declared.notes.PlanNote.{PlanNote}
 use Rattle.jb_saved.specs.SavedTree.{list_tree, saved_tree}
 use Rattle.jb_texts.specs.Report.{PartitionReport, heard_tree, outputs_tree, plans_tree, reducer_tree, report_text, texts_tree}
 use Rattle.jb_texts.specs.Worked.{finished_row, seven_records, seven_records_text}

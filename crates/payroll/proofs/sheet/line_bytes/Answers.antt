@@ -1,10 +1,10 @@
 use Rattle.std.proofs.Common.{◌≢◌, ◌∙◌}
 use Rattle.csv.specs.declared.writer.QuoteStyle.TheVariants as style
-use Rattle.payroll.specs.Sheets.{line_of}
+use Rattle.jb_ready.specs.Csv.{row_of}
 use Rattle.payroll.proofs.sheet.line_bytes.Goals as goal
 
 pub returns-in-Ok : goal.returns-in-Ok
-unfolding line_of
+unfolding row_of
 returns-in-Ok c =
     let from = c.from_writer-wtr.ensures in
     let plain : c.from_writer-wtr.result.cfg.style ≢ style.NonNumeric = rw (from.cfg, c.new.ensures) (λ e. cc e) in

@@ -7,7 +7,7 @@ use Rattle.std.specs.Option.{option_copied_mut}
 use Rattle.jb_artifacts.specs.declared.faults.FaultPlan.{FaultPlan}
 use Rattle.jb_artifacts.specs.declared.fault_plans.FaultPlans.TheInside.{Inside}
 use Rattle.jb_artifacts.specs.Faults.{live, used_at, plans_of}
-use Rattle.jb_artifacts.proofs.Plans.{idle, none-planned, struck, used_at-sound}
+use Rattle.jb_artifacts.proofs.FaultTables.{idle, none-planned, struck, used_at-sound}
 use Rattle.jb_artifacts.proofs.fault_plans.FaultPlans.strike.Goals as goal
 use Rattle.jb_artifacts.proofs.fault_plans.FaultPlans.strike.Goals.{in-Some, in-None}
 

@@ -1,6 +1,6 @@
 use Rattle.std.proofs.Common.{◌*◌, ◌≤◌, length, sum, arith}
 use Rattle.jb_job.specs.declared.field.Field.TheVariants as field
-use Rattle.jb_job.specs.Limits.{max_chunks}
+use Rattle.jb_base.specs.Limits.{max_chunks}
 use Rattle.jb_documents.proofs.Counts.{sum-each}
 use Rattle.jb_documents.proofs.plan.counts.counts.Goals as goal
 

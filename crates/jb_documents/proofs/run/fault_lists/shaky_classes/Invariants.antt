@@ -1,4 +1,4 @@
-use Rattle.jb_job.specs.declared.class.ClassId.{ClassId}
+use Rattle.jb_base.specs.declared.class.ClassId.{ClassId}
 use Rattle.jb_documents.specs.FaultLists.{named_class_at}
 use Rattle.jb_documents.proofs.run.fault_lists.shaky_classes.Given as goal
 

@@ -1,5 +1,5 @@
 use Rattle.std.proofs.Common.{◌≡◌, ◌≤◌, ◌∷◌, [], ◌++◌, length, arith, rules}
-use Rattle.jb_job.specs.Limits.{max_record}
+use Rattle.jb_base.specs.Limits.{max_record}
 use Rattle.jb_job.specs.Reading.{text_at}
 use Rattle.jb_job.specs.declared.field.Field.TheVariants as field
 use Rattle.jb_documents.proofs.Plain.{one_more_text, goes_past}

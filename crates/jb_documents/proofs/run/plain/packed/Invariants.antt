@@ -1,6 +1,6 @@
 use Rattle.std.proofs.Common.{drop}
 use Rattle.json.specs.Value.{items_view}
-use Rattle.jb_job.specs.Limits.{max_record}
+use Rattle.jb_base.specs.Limits.{max_record}
 use Rattle.jb_job.specs.Reading.{text_at}
 use Rattle.jb_job.specs.declared.field.Field.TheVariants as field
 use Rattle.jb_documents.proofs.Plain.{Goes}

@@ -1,5 +1,5 @@
 use Rattle.std.proofs.Common.{◌≤◌, length, arith}
-use Rattle.jb_job.specs.Limits.{max_records}
+use Rattle.jb_base.specs.Limits.{max_records}
 use Rattle.jb_documents.proofs.Plain.{records_read}
 use Rattle.jb_documents.proofs.run.plain.records.Goals as goal
 

@@ -1,7 +1,7 @@
 use Rattle.std.specs.Prelude.{ℕ, List}
 use Rattle.jb_job.specs.declared.field.Field.TheVariants as field
 use Rattle.jb_job.specs.Reading.{text_at}
-use Rattle.jb_job.specs.Limits.{max_record}
+use Rattle.jb_base.specs.Limits.{max_record}
 use Rattle.jb_documents.proofs.run.step_fields.records.Given as goal
 
 abbrev pub ghosts-each_by_value : goal.ghosts-each_by_value

@@ -1,7 +1,12 @@
-use Rattle.std.proofs.Common.{rules, ◌≡◌, ◌∷◌, ap, sym, ◌∙◌, length}
+use Rattle.std.proofs.Common.{rules, ◌≡◌, ◌∷◌, [], ap, sym, refl, ◌∙◌, length, append-nil}
 use Rattle.std.proofs.lemmas.Result.{IfOk-weaker}
-use Rattle.jb_program.proofs.Steps.{completed-more, head-removed, other-last}
+use Rattle.jb_program.proofs.Steps.{completed-more, head-removed, no-data, other-last}
 use Rattle.jb_program.proofs.run.job.+run_steps.Goals as goal
+
+pub returns-then-is_empty-clause-ran : goal.returns-then-is_empty-clause-ran
+returns-then-is_empty-clause-ran g t c =
+    let none : length c.args.supplies.items ≡ 0 = search rules in
+    ([], no-data 0 c.args.steps.now c.args.supplies.items c.args.round_limit c.args.resume none, refl, sym (append-nil c.args.text.now))
 
 pub returns-in-Completed-clause-ran : goal.returns-in-Completed-clause-ran
 returns-in-Completed-clause-ran g t c =

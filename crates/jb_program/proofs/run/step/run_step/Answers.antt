@@ -1,5 +1,5 @@
-use Rattle.std.proofs.Common.{rules, ◌≡◌, ◌++◌, ◌⊎◌, false, Option, length, refl, ap, ◌∙◌}
-use Rattle.jb_collect.specs.Reduced.{calls_before}
+use Rattle.std.proofs.Common.{rules, ◌≡◌, ◌++◌, ◌⊎◌, Option, length, refl, ap, ◌∙◌}
+use Rattle.jb_collect.specs.ReducerCalls.{calls_before}
 use Rattle.jb_saved.specs.SavedRows.{SavedRows}
 use Rattle.jb_step.specs.Setup.{discards}
 use Rattle.jb_program.specs.JobRun.{IsStepRefused}
@@ -33,13 +33,13 @@ returns g c =
     let counted : c.len-count.result ≡ length c.into_list-records.result = search rules in
     let taken : c.into_list-records.result ≡ c.args.supply.records = search rules in
     let prepared = c.in_ok-prepared.ensures in
-    let calls = λ (rows : Option SavedRows). calls_before (discards c.args.step.now.spec.replace rows) false in
-    let begins = c.in_ok-prepared.ensures.begun ∙ ap (λ cs. cs ++ calls c.taken-saved.result.0) c.new-recorder.ensures ∙ ap calls c.taken-saved.ensures.saved in
+    let calls = λ (rows : Option SavedRows). calls_before (discards c.args.step.now.spec.replace rows) in
+    let begins = c.in_ok-prepared.ensures.begun ∙ ap (λ cs. cs ++ calls c.taken-saved.result.0) c.new-reducer.ensures ∙ ap calls c.taken-saved.ensures.saved in
     let run = step-run c.laws_below.ensures c.args.step.now c.args.supply c.args.round_limit c.args.resume c.len-count.result c.in_ok-prepared.prepared c.into_list-records.result _ c.settings_for-settings.result _
     c.in_ok-end.end.snapshot _ c.id.result.now c.in_ok-end.end.status c.in_ok-end.end.plans.items c.calls.result.now _ _ c.calls-2.result.now _ _
     (record { counted = counted; prepares = prepared-with _ _ c.args.resume _ _ c.taken-saved.ensures.saved prepared.runnable prepared.accepted prepared.prepared prepared.setup c.requires.held; outputs_are = search rules })
     taken c.settings_for-settings.ensures.settings
     (record { items = c.settings_for-settings.ensures.items; retried = c.settings_for-settings.ensures.retried })
-    c.in_ok-artifacts.ensures c.new-listener.ensures c.in_ok-end.ensures.ran c.in_ok-end.ensures.on_the_way c.in_ok-end.ensures.status begins c.in_ok-end.ensures.reducer
+    c.in_ok-artifacts.ensures c.new-analyzer.ensures c.in_ok-end.ensures.ran c.in_ok-end.ensures.on_the_way c.in_ok-end.ensures.status begins c.in_ok-end.ensures.reducer
     c.id.ensures.value c.calls.ensures c.calls-2.ensures in
     record { ran = (_, run, refl, c.in_ok-write_step.ensures); why = tt }

@@ -1,7 +1,7 @@
 use Rattle.std.proofs.Common.{◌++◌, flat_map, take, ap, sym, ◌∙◌, append_assoc}
 use Rattle.std.specs.List.{enumerate_from}
 use Rattle.std.proofs.lemmas.List.{take_all}
-use Rattle.jb_step.specs.Ending.{given_back}
+use Rattle.jb_step.specs.Answers.{given_back}
 use Rattle.jb_program.proofs.Own.{own_work}
 use Rattle.jb_program.proofs.Told.{outputs_at, outputs-more}
 use Rattle.jb_program.proofs.run.told.write_all_outputs.Goals as goal

@@ -1,6 +1,6 @@
 use Rattle.std.proofs.Common.{◌≡◌, ◌++◌, flat_map, take}
 use Rattle.std.specs.List.{enumerate_from}
-use Rattle.jb_step.specs.Ending.{given_back}
+use Rattle.jb_step.specs.Answers.{given_back}
 use Rattle.jb_program.proofs.Own.{own_work}
 use Rattle.jb_program.proofs.Told.{outputs_at}
 use Rattle.jb_program.proofs.run.told.write_all_outputs.Given as goal

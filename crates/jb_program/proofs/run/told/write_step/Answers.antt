@@ -1,6 +1,6 @@
 use Rattle.std.proofs.Common.{rules, ◌≡◌, List, OnOk, subst}
 use Rattle.json.specs.Token.{Token}
-use Rattle.jb_step.specs.Ending.{given_back}
+use Rattle.jb_step.specs.Answers.{given_back}
 use Rattle.jb_program.proofs.Told.{step-written}
 use Rattle.jb_program.proofs.run.told.write_step.Goals as goal
 

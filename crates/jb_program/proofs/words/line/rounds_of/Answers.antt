@@ -4,7 +4,7 @@ use Rattle.std.specs.Char.{is_ascii_digit}
 use Rattle.std.proofs.lemmas.List.{at_drop_more}
 use Rattle.std.proofs.lemmas.Bool.Decides.{nat_tests}
 use Rattle.clap.specs.Words.{Text}
-use Rattle.jb_job.specs.Limits.{max_rounds}
+use Rattle.jb_base.specs.Limits.{max_rounds}
 use Rattle.jb_program.specs.CommandLine.{rounds_from, rounds_in}
 use Rattle.jb_program.proofs.words.line.rounds_of.Goals as goal
 

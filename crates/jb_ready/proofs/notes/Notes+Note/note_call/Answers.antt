@@ -1,5 +1,5 @@
 use Rattle.std.proofs.Common.{◌≡◌, rules}
-use Rattle.jb_job.specs.declared.class.ClassId.{ClassId}
+use Rattle.jb_base.specs.declared.class.ClassId.{ClassId}
 use Rattle.jb_ready.specs.declared.notes.Note.{Note}
 use Rattle.jb_ready.proofs.Noting.{noted}
 use Rattle.jb_ready.proofs.notes.Notes+Note.note_call.Goals as goal

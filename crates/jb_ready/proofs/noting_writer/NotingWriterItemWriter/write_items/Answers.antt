@@ -1,5 +1,5 @@
 use Rattle.std.proofs.Common.{◌≡◌, rules, map}
-use Rattle.jb_job.specs.declared.class.ClassId.{ClassId}
+use Rattle.jb_base.specs.declared.class.ClassId.{ClassId}
 use Rattle.jb_ready.specs.declared.notes.WriteNote.{WriteNote}
 use Rattle.jb_ready.proofs.Noting.{noted}
 use Rattle.jb_ready.proofs.noting_writer.NotingWriterItemWriter.write_items.Goals as goal

@@ -1,8 +1,8 @@
 use Rattle.std.proofs.Common.{◌++◌, ◌∷◌, [], List, ◌∙◌, ap, refl, sym, arith}
 use Rattle.jb_repo.specs.declared.events.Event.{Event}
 use Rattle.jb_repo.specs.declared.repository.Repo.TheInside.{Inside}
-use Rattle.jb_repo.specs.Kept.{journal_of, IsKept}
-use Rattle.jb_repo.proofs.Keeping.{kept_after, can_enter, past_len, enough, replayable, on_ok}
+use Rattle.jb_repo.specs.Representation.{journal_of, IsRepresentation}
+use Rattle.jb_repo.proofs.Representing.{represents_after, can_enter, past_len, enough, replayable, on_ok}
 use Rattle.jb_repo.proofs.Places.{places_after}
 use Rattle.jb_repo.proofs.repository.Repo.apply.Goals as goal
 use Rattle.jb_repo.proofs.repository.Repo.apply.Goals.{After-put_last}
@@ -25,15 +25,15 @@ left c = record {
   threads = c.self.inside.threads;
   item_count = c.self.inside.item_count;
   history = c.put_last.new.history;
-  standing = c.note.new.self;
+  projection = c.note.new.self;
 }
 
-kept : (c : After-put_last) → IsKept (left c)
+kept : (c : After-put_last) → IsRepresentation (left c)
 kept c =
     let can = can_enter c.self.inside _ c.args.event _ c.self.invariant c.self.view_is c.refusal.ensures c.in_default.is in
     let made = on_ok c.make_room.result _ (sym c.is_err.ensures.value ∙ c.if-is_err.false) c.make_room.ensures.room in
     let room = enough c.self.inside c.args.event _ _ _ c.self.invariant c.make_room.ensures.len c.places.ensures made in
-    kept_after c.self.inside (left c) c.args.event c.self.invariant can.passes refl refl refl
+    represents_after c.self.inside (left c) c.args.event c.self.invariant can.passes refl refl refl
     (c.put_last.ensures.items ∙ ap (λ (x : List Event). x ++ c.args.event ∷ []) c.make_room.ensures.items)
     (omega (arith, room, c.put_last.ensures.room))
     (c.note.ensures (journal_of c.self.inside) can)

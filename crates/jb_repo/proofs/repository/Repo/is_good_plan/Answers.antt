@@ -1,7 +1,7 @@
 use Rattle.std.proofs.Common.{◌≡◌, ℕ, List, length, take, ◌∙◌, ap, sym, arith}
 use Rattle.std.proofs.lemmas.List.{length-take}
 use Rattle.jb_cert.specs.Certificates.{is_least_plan}
-use Rattle.jb_repo.specs.Kept.{journal_of}
+use Rattle.jb_repo.specs.Representation.{journal_of}
 use Rattle.jb_repo.specs.Rows.{remaining}
 use Rattle.jb_repo.specs.Table.{rows_of}
 use Rattle.jb_repo.proofs.Tables.{remaining_fits}

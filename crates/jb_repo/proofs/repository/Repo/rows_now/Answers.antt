@@ -1,5 +1,5 @@
 use Rattle.std.proofs.Common.{◌≡◌, length, ◌∙◌, ap, arith}
-use Rattle.jb_repo.specs.Kept.{journal_of}
+use Rattle.jb_repo.specs.Representation.{journal_of}
 use Rattle.jb_repo.specs.Table.{rows_of}
 use Rattle.jb_repo.proofs.Tables.{is_table}
 use Rattle.jb_repo.proofs.Totals.{totals_fit}

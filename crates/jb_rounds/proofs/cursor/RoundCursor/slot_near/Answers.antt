@@ -1,6 +1,6 @@
 use Rattle.std.proofs.Common.{◌≡◌, rules, ◌*◌, ◌≤◌, length, ap, arith}
 use Rattle.std.proofs.lemmas.Nat.{mul-le}
-use Rattle.jb_job.specs.Limits.{max_chunks, max_threads}
+use Rattle.jb_base.specs.Limits.{max_chunks, max_threads}
 use Rattle.jb_cert.specs.WrapAround.{slot_of}
 use Rattle.jb_rounds.specs.inside.Starts.{counts_between}
 use Rattle.jb_rounds.proofs.Busy.{partition_known, chunk_known}

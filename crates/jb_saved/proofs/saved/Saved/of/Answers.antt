@@ -1,8 +1,8 @@
 use Rattle.std.proofs.Common.{◌≡◌, List, sym, subst, ◌∙◌, None}
-use Rattle.jb_job.specs.Kept.{IsName}
+use Rattle.jb_base.specs.Name.{IsName}
 use Rattle.jb_rules.specs.declared.row.Row.{Row}
 use Rattle.jb_saved.specs.Answers.{first_running}
-use Rattle.jb_saved.proofs.Kept.{kept_of}
+use Rattle.jb_saved.proofs.RowByRow.{kept_of}
 use Rattle.jb_saved.proofs.saved.Saved.of.Goals as goal
 
 pub invariant_of-result : goal.invariant_of-result

@@ -1,7 +1,7 @@
 use Rattle.std.proofs.Common.{◌≡◌, None, List, subst}
 use Rattle.jb_rules.specs.declared.row.Row.{Row}
 use Rattle.jb_saved.specs.Reading.{first_unfit}
-use Rattle.jb_saved.proofs.Kept.{kept}
+use Rattle.jb_saved.proofs.RowByRow.{kept}
 use Rattle.jb_saved.proofs.Unfit.{all-fit}
 use Rattle.jb_saved.proofs.saved.Saved.of_value.Goals as goal
 

@@ -1,7 +1,7 @@
 use Rattle.std.proofs.Common.{◌++◌, ◌∷◌, [], map, take, ap, sym, ◌∙◌}
 use Rattle.std.proofs.lemmas.List.{take_more, with_items_is}
 use Rattle.std.specs.List.{range_with_len}
-use Rattle.jb_step.specs.Parts.{calls_about}
+use Rattle.jb_collect.specs.Heard.{calls_about}
 use Rattle.jb_texts.specs.inside.Heard.{placed}
 use Rattle.jb_texts.proofs.Heard.{placed-more}
 use Rattle.jb_texts.proofs.report.heard.by_partition.Goals as goal

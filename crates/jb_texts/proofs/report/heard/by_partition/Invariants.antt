@@ -1,6 +1,6 @@
 use Rattle.std.proofs.Common.{◌≡◌, take, map}
 use Rattle.std.specs.List.{range_with_len}
-use Rattle.jb_step.specs.Parts.{calls_about}
+use Rattle.jb_collect.specs.Heard.{calls_about}
 use Rattle.jb_texts.proofs.report.heard.by_partition.Given as goal
 
 -- the calls so far are in their lists

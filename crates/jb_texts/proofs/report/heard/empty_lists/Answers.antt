@@ -3,7 +3,7 @@ use Rattle.std.specs.Prelude.{List}
 use Rattle.std.proofs.lemmas.List.{map-append}
 use Rattle.std.proofs.lemmas.List.FromFn.{map-range_with_len_more}
 use Rattle.jb_collect.specs.declared.calls.AnalyzerCall.{AnalyzerCall}
-use Rattle.jb_step.specs.Parts.{calls_about}
+use Rattle.jb_collect.specs.Heard.{calls_about}
 use Rattle.jb_texts.proofs.report.heard.empty_lists.Goals as goal
 
 pub loop-preserved : goal.loop-preserved

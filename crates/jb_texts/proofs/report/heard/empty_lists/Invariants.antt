@@ -1,6 +1,6 @@
 use Rattle.std.proofs.Common.{◌≡◌, [], map}
 use Rattle.std.specs.List.{range_with_len}
-use Rattle.jb_step.specs.Parts.{calls_about}
+use Rattle.jb_collect.specs.Heard.{calls_about}
 use Rattle.jb_texts.proofs.report.heard.empty_lists.Given as goal
 
 -- the lists so far have no call

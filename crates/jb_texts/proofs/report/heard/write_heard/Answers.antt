@@ -5,7 +5,7 @@ use Rattle.json.specs.Token.{begin_array}
 use Rattle.jb_saved.specs.SavedTree.{tokens_of}
 use Rattle.jb_texts.specs.Report.{heard_of, heard_text, texts_tree}
 use Rattle.jb_texts.proofs.Heard.{lists-of}
-use Rattle.jb_texts.proofs.Tokens.{list-written}
+use Rattle.jb_saved.proofs.Written.{list-written}
 use Rattle.jb_texts.proofs.report.heard.write_heard.Goals as goal
 
 pub returns-clause-heard : goal.returns-clause-heard

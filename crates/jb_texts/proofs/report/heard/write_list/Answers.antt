@@ -4,7 +4,7 @@ use Rattle.json.specs.Token.{begin_array}
 use Rattle.serde_json.specs.Data.{Data}
 use Rattle.jb_texts.specs.Report.{heard_text}
 use Rattle.jb_texts.proofs.Heard.{texts-of}
-use Rattle.jb_texts.proofs.Tokens.{list-written}
+use Rattle.jb_saved.proofs.Written.{list-written}
 use Rattle.jb_texts.proofs.report.heard.write_list.Goals as goal
 
 pub returns-clause-list : goal.returns-clause-list

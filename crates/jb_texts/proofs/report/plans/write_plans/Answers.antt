@@ -3,7 +3,7 @@ use Rattle.std.proofs.lemmas.Result.{on_ok_weaker}
 use Rattle.json.specs.Token.{begin_array}
 use Rattle.jb_saved.specs.SavedTree.{tokens_of}
 use Rattle.jb_texts.specs.Report.{plan_tree}
-use Rattle.jb_texts.proofs.Tokens.{list-written}
+use Rattle.jb_saved.proofs.Written.{list-written}
 use Rattle.jb_texts.proofs.report.plans.write_plans.Goals as goal
 
 pub returns-clause-plans : goal.returns-clause-plans

@@ -5,7 +5,7 @@ use Rattle.std.proofs.lemmas.Simd.{map-map}
 use Rattle.json.specs.Token.{begin_array, string}
 use Rattle.serde_json.specs.Data.{Data}
 use Rattle.jb_texts.specs.Report.{call_name}
-use Rattle.jb_texts.proofs.Tokens.{list-written}
+use Rattle.jb_saved.proofs.Written.{list-written}
 use Rattle.jb_texts.proofs.report.reducer.write_reducer.Goals as goal
 
 pub returns-clause-calls : goal.returns-clause-calls

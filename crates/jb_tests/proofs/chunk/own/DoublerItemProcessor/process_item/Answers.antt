@@ -1,6 +1,6 @@
 use Rattle.std.proofs.Common.{◌≡◌, ◌++◌, ap, sym, refl, rules, Some}
 use Rattle.jb_artifacts.specs.declared.faults.FaultPlan.TheVariants.{Sound}
-use Rattle.jb_artifacts.proofs.Plans.{used_at-sound}
+use Rattle.jb_artifacts.proofs.FaultTables.{used_at-sound}
 use Rattle.jb_tests.proofs.chunk.own.DoublerItemProcessor.process_item.Goals as goal
 
 pub returns-clause-answered : goal.returns-clause-answered

@@ -1,7 +1,7 @@
 use Rattle.std.proofs.Common.{rules, ◌≡◌, ◌∙◌, ◌+◌, ◌-◌, ◌<◌, ◌∷◌, [], map, Some, ap, refl, sym, length, slice_index_or, arith}
 use Rattle.std.proofs.lemmas.List.{get_or-map}
 use Rattle.jb_artifacts.specs.declared.faults.FaultPlan.TheVariants.{Sound}
-use Rattle.jb_artifacts.proofs.Plans.{used_at-sound}
+use Rattle.jb_artifacts.proofs.FaultTables.{used_at-sound}
 use Rattle.jb_tests.proofs.chunk.own.LettersItemReader.read_item.Goals as goal
 
 pub returns-clause-answered : goal.returns-clause-answered

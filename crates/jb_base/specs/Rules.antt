@@ -1,0 +1,9 @@
+-- What contracts see of the rules of skipping and retrying: a plain record, whose ranges the type keeps.
+use Rattle.std.specs.Prelude.{ℕ, Option}
+
+pub record RulesRecord : Type 0 where
+  pub skippable : ℕ
+  pub retryable : ℕ
+  pub no_rollback : ℕ
+  pub skip_limit : Option ℕ
+  pub retry_limit : ℕ

@@ -1,0 +1,253 @@
+-- A task that runs alone.
+use Rattle.std.proofs.Common.{◌≡◌, ℕ, ◌+◌, ◌≤◌, ◌<◌, Bool, true, false, cond, List, [], ◌∷◌, ◌++◌, length, length-append, Option, Some, None, refl, ap, sym, ◌∙◌, subst, arith}
+use Rattle.std.specs.Prelude.{◌&&◌, nat_lt, ◌==◌}
+use Rattle.std.proofs.lemmas.Bool.Decides.{nat_tests}
+use Rattle.jb_base.specs.declared.class.ClassId.{ClassId}
+use Rattle.jb_base.specs.Limits.{max_retry_limit, max_rollbacks, max_in_place}
+use Rattle.jb_plan.specs.Blocks.{ChunksFollow}
+use Rattle.jb_rules.specs.declared.counts.Counts.{Counts}
+use Rattle.jb_rules.specs.declared.row.Row.{Row}
+use Rattle.jb_rules.specs.declared.row.RowState.{RowState}
+use Rattle.jb_rules.specs.declared.row.RowState.TheVariants as state
+use Rattle.jb_rules.specs.declared.choice.Choice.TheVariants.{Retry, Again}
+use Rattle.jb_rules.specs.Decide.{has_class, choice_by, skip_open}
+use Rattle.jb_rules.specs.States.{has_ended}
+use Rattle.jb_rules.specs.Rows.{row_block, state_at}
+use Rattle.jb_rules.specs.Sound.{IsSoundRow}
+use Rattle.jb_chunk.specs.declared.chunk_end.ChunkEnd.{ChunkEnd}
+use Rattle.jb_chunk.specs.declared.chunk_end.ChunkEnd.TheVariants.{Committed, Rolled, Failed}
+use Rattle.jb_chunk.specs.declared.outcome.Outcome.{Outcome}
+use Rattle.jb_chunk.specs.declared.outcome.Outcome.TheVariants as outcome
+use Rattle.jb_chunk.specs.Alone.{IsRunOf, IsAlone, IsBroken, retries_left, attempts_left}
+use Rattle.jb_chunk.specs.Attempt.{AttemptEnd, after_repeats, block_of, again_of, counts_of, fault_at, skips_at, end_by, end_of, end_at, settled_at, attempt_of, ending_of, IsUnfinished}
+use Rattle.jb_chunk.specs.inside.ChunkEnds.{after_end, outcome_with}
+use Rattle.jb_chunk.proofs.AddedCounts.{IsAdded, end-added}
+use Rattle.jb_chunk.proofs.AfterRepeats.{after_repeats-row, after_repeats-left, after_repeats-in_place}
+use Rattle.jb_chunk.proofs.AttemptLeaves.{parts-of}
+use Rattle.jb_chunk.specs.Standing.{TaskState, IsReady, HasItemCount, HasRepeats}
+
+-- a chunk is rolled back only where a retry is left
+rolled-open : (no_rollback retrying skip opened : Bool) (skipped : Counts) (k class : ClassId) → end_by skipped k (choice_by (cond no_rollback Again Retry) retrying skip opened) ≡ Rolled class → opened ≡ true
+rolled-open b false skip true skipped k class e = refl
+rolled-open b false true false skipped k class e = cc
+rolled-open b false false false skipped k class e = cc
+rolled-open b true true opened skipped k class e = cc
+rolled-open b true false true skipped k class e = refl
+rolled-open b true false false skipped k class e = cc
+
+open-below : (b : Bool) (m n : ℕ) → (b && nat_lt m n) ≡ true → m < n
+open-below b m n e = grind (arith, nat_tests)
+
+end-below : (t : TaskState) (fault : Option ClassId) (skips : ℕ) (class : ClassId) → end_at t fault skips ≡ Rolled class → t.row.retries < t.rules.retry_limit
+end-below t None skips class e = cc
+end-below t (Some k) skips class e =
+    open-below (has_class t.rules.retryable k) t.row.retries t.rules.retry_limit
+    (rolled-open (has_class t.rules.no_rollback k) (nat_lt t.row.at t.row.redo) (skip_open t.rules k skips) _ (counts_of t 0 1) k class e)
+
+pub rolled-below : (t : TaskState) (class : ClassId) → end_of t ≡ Rolled class → t.row.retries < t.rules.retry_limit
+unfolding end_of
+rolled-below t class e = end-below t (fault_at t (settled_at t)) (skips_at t (settled_at t)) class e
+
+-- a block has a record, and none beyond the range
+pub block-in : ChunksFollow → (t : TaskState) → t.row.at < t.row.hi → t.row.redo ≤ t.row.hi → HasItemCount t.item_count → (t.row.at < (block_of t).hi) × ((block_of t).hi ≤ t.row.hi)
+block-in law t lt redo c = let next = law.next t.row.at t.row.redo t.row.hi t.item_count lt redo c.some in (next.some, next.within)
+
+-- there is a number for each rollback and each repeat to come
+abbrev pub HasRoom : TaskState → Type 0
+HasRoom t = (t.row.counts.rollback + retries_left t < max_rollbacks) × HasRepeats t.rules t.row
+
+-- the task after an attempt from which another may follow
+pub record IsFurther (before after : TaskState) : Type 0 where
+  pub fewer : attempts_left after < attempts_left before
+  pub room : after.row.counts.rollback + retries_left after ≤ before.row.counts.rollback + retries_left before
+  pub repeats : after.row.in_place + retries_left after ≤ before.row.in_place + retries_left before
+
+pub record IsCommit (before after : TaskState) : Type 0 where
+  pub further : IsFurther before after
+  pub stands : after.row.state ≡ state_at after.row.at after.row.hi
+
+commit-by : (t : TaskState) (e : ChunkEnd) (d : Counts) → IsAdded t e → (t.row.at < (block_of t).hi) × ((block_of t).hi ≤ t.row.hi) → outcome.Committed d ≡ outcome_with e → IsCommit t (after_end t e)
+commit-by t (Committed delta) d added b o =
+    let lt = b.0 in
+    let le = b.1 in
+    let none = (added.1 (omega (arith, lt))).rollback in
+    record { further = record { fewer = omega (arith, lt, le); room = omega (arith, none); repeats = omega arith }; stands = refl }
+commit-by t (Rolled class) d added b o = cc
+commit-by t (Failed class) d added b o = cc
+
+roll-by : (t : TaskState) (e : ChunkEnd) (class : ClassId) → e ≡ end_of t → t.row.state ≡ state.Waiting → outcome.Rolled class ≡ outcome_with e → IsFurther t (after_end t e) × ((after_end t e).row.state ≡ state.Waiting)
+roll-by t (Committed delta) class h w o = cc
+roll-by t (Rolled k) class h w o =
+    let below = rolled-below t k (sym h) in
+    (record { fewer = omega (arith, below); room = omega (arith, below); repeats = omega (arith, below) }, w)
+roll-by t (Failed k) class h w o = cc
+
+fail-by : (t : TaskState) (e : ChunkEnd) (class : ClassId) → outcome.Failed class ≡ outcome_with e → (after_end t e).row.state ≡ state.Failed
+fail-by t (Committed delta) class o = cc
+fail-by t (Rolled k) class o = cc
+fail-by t (Failed k) class o = refl
+
+same-of : (m n : ℕ) → (m == n) ≡ true → m ≡ n
+same-of m n e = grind (arith, nat_tests)
+
+differ-of : (m n : ℕ) → (m == n) ≡ false → m ≤ n → m < n
+differ-of m n e le = grind (arith, nat_tests)
+
+unlike : (s : RowState) → s ≡ state.Finished → s ≡ state.Waiting → 1 ≤ 0
+unlike s f w = cc
+
+below-by : (b : Bool) (row : Row) → (row.at == row.hi) ≡ b → row.at ≤ row.hi → (row.at ≡ row.hi → row.state ≡ state.Finished) → row.state ≡ state.Waiting → row.at < row.hi
+below-by true row e le finished waiting = let never = unlike row.state (finished (same-of row.at row.hi e)) waiting in omega (arith, never)
+below-by false row e le finished waiting = differ-of row.at row.hi e le
+
+-- a Waiting row has a record left
+pub left-waiting : (row : Row) → IsSoundRow row → row.state ≡ state.Waiting → row.at < row.hi
+left-waiting row sound waiting = below-by (row.at == row.hi) row refl sound.placed.at_to (λ e. sound.finished.1 e) waiting
+
+-- what an attempt with this outcome leaves of the task after all its repeats
+left-by : (t after : TaskState) (out : Outcome) (values : List (List ℕ)) (again : ℕ) → ending_of after out values again ≡ attempt_of t → after ≡ after_end (after_repeats t) (end_of (after_repeats t))
+left-by t after out values again done = ap (λ (e : AttemptEnd). e.task) (done ∙ parts-of (after_repeats t) (again_of t) (end_of (after_repeats t)))
+
+ended-by : (t after : TaskState) (out : Outcome) (values : List (List ℕ)) (again : ℕ) → ending_of after out values again ≡ attempt_of t → out ≡ outcome_with (end_of (after_repeats t))
+ended-by t after out values again done = ap (λ (e : AttemptEnd). e.outcome) (done ∙ parts-of (after_repeats t) (again_of t) (end_of (after_repeats t)))
+
+-- the repeats take no attempt away that isn't a retry, and no record
+after_repeats-further : (t after : TaskState) → IsFurther (after_repeats t) after → IsFurther t after
+after_repeats-further t after f =
+    let left = after_repeats-left t in
+    let grown = after_repeats-in_place t in
+    let at = ap (λ (x : Row). x.at) (after_repeats-row t) in
+    let hi = ap (λ (x : Row). x.hi) (after_repeats-row t) in
+    let rollback = ap (λ (x : Row). x.counts.rollback) (after_repeats-row t) in
+    let fewer = f.fewer in
+    let room = f.room in
+    let repeats = f.repeats in
+    record {
+      fewer = omega (arith, fewer, left, at, hi);
+      room = omega (arith, room, left, rollback);
+      repeats = omega (arith, repeats, left, grown);
+    }
+
+block-after_repeats : ChunksFollow → (t : TaskState) → IsReady t → t.row.state ≡ state.Waiting → ((after_repeats t).row.at < (block_of (after_repeats t)).hi) × ((block_of (after_repeats t)).hi ≤ (after_repeats t).row.hi)
+block-after_repeats law t ready waiting =
+    let P : Row → Type 0 = λ x. (x.at < (row_block t.item_count x).hi) × ((row_block t.item_count x).hi ≤ x.hi) in
+    subst P (sym (after_repeats-row t)) (block-in law t (left-waiting t.row ready.sound waiting) ready.sound.placed.redo_to ready.item_counted)
+
+commit-left : ChunksFollow → (before after : TaskState) (d : Counts) (values : List (List ℕ)) (again : ℕ) → IsReady before → before.row.state ≡ state.Waiting → ending_of after (outcome.Committed d) values again ≡ attempt_of before → IsCommit before after
+commit-left law before after d values again ready waiting done =
+    let s = after_repeats before in
+    let P : TaskState → Type 0 = λ u. IsCommit s u in
+    let made = subst P (sym (left-by before after _ values again done)) (commit-by s (end_of s) d (end-added s) (block-after_repeats law before ready waiting) (ended-by before after _ values again done)) in
+    record { further = after_repeats-further before after made.further; stands = made.stands }
+
+roll-left : (before after : TaskState) (class : ClassId) (values : List (List ℕ)) (again : ℕ) → before.row.state ≡ state.Waiting → ending_of after (outcome.Rolled class) values again ≡ attempt_of before → IsFurther before after × (after.row.state ≡ state.Waiting)
+roll-left before after class values again waiting done =
+    let s = after_repeats before in
+    let P : TaskState → Type 0 = λ u. IsFurther s u × (u.row.state ≡ state.Waiting) in
+    let waits = ap (λ (x : Row). x.state) (after_repeats-row before) ∙ waiting in
+    let made = subst P (sym (left-by before after _ values again done)) (roll-by s (end_of s) class refl waits (ended-by before after _ values again done)) in
+    (after_repeats-further before after made.0, made.1)
+
+fail-left : (before after : TaskState) (class : ClassId) (values : List (List ℕ)) (again : ℕ) → ending_of after (outcome.Failed class) values again ≡ attempt_of before → after.row.state ≡ state.Failed
+fail-left before after class values again done =
+    let s = after_repeats before in
+    let P : TaskState → Type 0 = λ u. u.row.state ≡ state.Failed in
+    subst P (sym (left-by before after _ values again done)) (fail-by s (end_of s) class (ended-by before after _ values again done))
+
+-- no more is retried than the limit of a step's retries
+pub has-room : (t : TaskState) → IsReady t → t.row.counts.rollback + max_retry_limit < max_rollbacks → t.row.in_place + max_retry_limit ≤ max_in_place → HasRoom t
+has-room t ready few repeats = let most = ready.retried in (omega (arith, few, most), omega (arith, repeats, most))
+
+-- some attempts were made, and there may be as many more as are left now
+pub record IsUnderWay (start now : TaskState) : Type 0 where
+  pub attempts : List AttemptEnd
+  pub run : IsRunOf start attempts now
+  pub few : length attempts + attempts_left now ≤ attempts_left start
+
+pub begun : (t : TaskState) → IsUnderWay t t
+begun t = record { attempts = []; run = refl; few = omega arith }
+
+-- one more attempt
+pub run-more : (t : TaskState) (es : List AttemptEnd) (s : TaskState) (e : AttemptEnd) → IsRunOf t es s → s.row.state ≡ state.Waiting → e ≡ attempt_of s → IsRunOf t (es ++ e ∷ []) e.task
+run-more t [] s e run waiting last = (ap (λ (v : TaskState). v.row.state) (sym run) ∙ waiting, last ∙ ap attempt_of run, refl)
+run-more t (f ∷ es) s e run waiting last = (run.0, run.1, run-more f.task es s e run.2 waiting last)
+
+pub further-way : (start now : TaskState) (e : AttemptEnd) → IsUnderWay start now → now.row.state ≡ state.Waiting → e ≡ attempt_of now → attempts_left e.task < attempts_left now → IsUnderWay start e.task
+further-way start now e way waiting last fewer = record {
+  attempts = way.attempts ++ e ∷ [];
+  run = run-more start way.attempts now e way.run waiting last;
+  few = let few = way.few in let more = length-append way.attempts (e ∷ []) in omega (arith, few, fewer, more);
+}
+
+-- the last attempt
+last-alone : (start now : TaskState) (e : AttemptEnd) → IsUnderWay start now → IsReady now → now.row.state ≡ state.Waiting → e ≡ attempt_of now → has_ended e.task.row.state ≡ true → IsAlone start e.task
+last-alone start now e way ready waiting last ended = record {
+  attempts = way.attempts ++ e ∷ [];
+  run = run-more start way.attempts now e way.run waiting last;
+  ended = ended;
+  few =
+      let few = way.few in
+      let more = length-append way.attempts (e ∷ []) in
+      let lt = left-waiting now.row ready.sound waiting in
+      omega (arith, few, more, lt);
+}
+
+pub finished-at : (at hi : ℕ) → at ≡ hi → state_at at hi ≡ state.Finished
+finished-at at hi e = let same : (at == hi) ≡ true = grind (arith, nat_tests) in ap (λ b. cond b state.Finished state.Waiting) same
+
+pub waiting-at : (at hi : ℕ) → at < hi → state_at at hi ≡ state.Waiting
+waiting-at at hi lt = let other : (at == hi) ≡ false = grind (arith, nat_tests) in ap (λ b. cond b state.Finished state.Waiting) other
+
+-- a chunk that was committed ends the task where no record is left
+pub commit-ends : ChunksFollow → (start now after : TaskState) (d : Counts) (values : List (List ℕ)) (again : ℕ) → IsReady now → now.row.state ≡ state.Waiting → IsUnderWay start now → ending_of after (outcome.Committed d) values again ≡ attempt_of now → after.row.at ≡ after.row.hi → IsAlone start after × (after.row.state ≡ state.Finished)
+commit-ends law start now after d values again ready waiting way done at =
+    let commit = commit-left law now after d values again ready waiting done in
+    let ended = commit.stands ∙ finished-at after.row.at after.row.hi at in
+    (last-alone start now (ending_of after (outcome.Committed d) values again) way ready waiting done (ap has_ended ended), ended)
+
+-- what holds where the task is to be attempted again
+pub record IsNext (start now after : TaskState) : Type 0 where
+  pub waiting : after.row.state ≡ state.Waiting
+  pub room : HasRoom after
+  pub reached : IsUnderWay start after
+  pub fewer : attempts_left after < attempts_left now
+
+next-of : (start now : TaskState) (e : AttemptEnd) → now.row.state ≡ state.Waiting → HasRoom now → IsUnderWay start now → e ≡ attempt_of now → IsFurther now e.task → e.task.row.state ≡ state.Waiting → IsNext start now e.task
+next-of start now e waiting room way last further again =
+    let less = further.room in
+    let fewer = further.repeats in
+    let rolls = room.0 in
+    let repeats = room.1 in
+    record {
+      waiting = again;
+      room = (omega (arith, less, rolls), omega (arith, fewer, repeats));
+      reached = further-way start now e way waiting last further.fewer;
+      fewer = further.fewer;
+    }
+
+pub commit-next : ChunksFollow → (start now after : TaskState) (d : Counts) (values : List (List ℕ)) (again : ℕ) → IsReady now → now.row.state ≡ state.Waiting → HasRoom now → IsUnderWay start now → ending_of after (outcome.Committed d) values again ≡ attempt_of now → after.row.at < after.row.hi → IsNext start now after
+commit-next law start now after d values again ready waiting room way done lt =
+    let commit = commit-left law now after d values again ready waiting done in
+    next-of start now (ending_of after (outcome.Committed d) values again) waiting room way done commit.further (commit.stands ∙ waiting-at after.row.at after.row.hi lt)
+
+pub roll-next : (start now after : TaskState) (class : ClassId) (values : List (List ℕ)) (again : ℕ) → now.row.state ≡ state.Waiting → HasRoom now → IsUnderWay start now → ending_of after (outcome.Rolled class) values again ≡ attempt_of now → IsNext start now after
+roll-next start now after class values again waiting room way done =
+    let rolled = roll-left now after class values again waiting done in
+    next-of start now (ending_of after (outcome.Rolled class) values again) waiting room way done rolled.0 rolled.1
+
+-- a chunk that failed ends the task
+pub fail-ends : (start now after : TaskState) (class : ClassId) (values : List (List ℕ)) (again : ℕ) → IsReady now → now.row.state ≡ state.Waiting → IsUnderWay start now → ending_of after (outcome.Failed class) values again ≡ attempt_of now → IsAlone start after × (after.row.state ≡ state.Failed)
+fail-ends start now after class values again ready waiting way done =
+    let ended = fail-left now after class values again done in
+    (last-alone start now (ending_of after (outcome.Failed class) values again) way ready waiting done (ap has_ended ended), ended)
+
+-- an attempt that found no memory breaks the run off
+pub breaks-off : (start now after : TaskState) → IsReady now → now.row.state ≡ state.Waiting → IsUnderWay start now → IsUnfinished now after → IsBroken start after
+breaks-off start now after ready waiting way unfinished = record {
+  attempts = way.attempts;
+  last = now;
+  run = way.run;
+  waiting = waiting;
+  few = let few = way.few in let lt = left-waiting now.row ready.sound waiting in omega (arith, few, lt);
+  unfinished = unfinished;
+}

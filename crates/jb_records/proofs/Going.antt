@@ -1,0 +1,467 @@
+-- A partition's results, attempt by attempt.
+use Rattle.std.proofs.Common.{◌≡◌, ℕ, zero, suc, ◌+◌, ◌-◌, ◌≤◌, ◌<◌, ◌++◌, Bool, true, false, not, cond, List, [], ◌∷◌, length, Option, Some, None, is_some, refl, ap, sym, ◌∙◌, subst, arith}
+use Rattle.std.specs.Prelude.{◌==◌, ◌&&◌, nat_le, nat_lt}
+use Rattle.std.specs.List.{filter_map, range_with_len, cons_option, find}
+use Rattle.std.proofs.lemmas.List.Elements.{filter_map-append}
+use Rattle.std.proofs.lemmas.Bool.Decides.{nat_tests}
+use Rattle.jb_base.specs.declared.class.ClassId.{ClassId}
+use Rattle.jb_base.specs.Rules.{RulesRecord}
+use Rattle.jb_rules.specs.Decide.{choice_by, has_class, is_below, retry_for, retry_open}
+use Rattle.jb_rules.specs.declared.choice.Choice.{Choice}
+use Rattle.jb_rules.specs.declared.choice.Choice.TheVariants.{Skip, Retry, Again, Fail}
+use Rattle.jb_rules.specs.declared.counts.Counts.{Counts}
+use Rattle.jb_rules.specs.declared.row.Row.{Row}
+use Rattle.jb_rules.specs.declared.row.RowState.TheVariants as state
+use Rattle.jb_rules.specs.Rows.{repeated_row}
+use Rattle.jb_artifacts.specs.declared.faults.FaultPlan.{FaultPlan}
+use Rattle.jb_artifacts.specs.declared.faults.FaultPlan.TheVariants.{Sound, Bad, Shaky}
+use Rattle.jb_artifacts.specs.Faults.{FaultTable, live, used, used_at, is_live}
+use Rattle.jb_artifacts.specs.Reader.{record_at}
+use Rattle.jb_artifacts.specs.Writer.{Numbered, texts_of, failing, fault_of, write_fault, used_for}
+use Rattle.jb_artifacts.specs.Meaning.{ArtifactsMeaning}
+use Rattle.jb_chunk.specs.declared.chunk_end.ChunkEnd.{ChunkEnd}
+use Rattle.jb_chunk.specs.declared.chunk_end.ChunkEnd.TheVariants.{Committed, Rolled, Failed}
+use Rattle.jb_chunk.specs.Alone.{IsOnTheWay, IsRunOf}
+use Rattle.jb_chunk.specs.Attempt.{AttemptEnd, attempt_of, block_of, results_of, settled_at, fault_at, skips_at, counts_of, end_of, end_at, end_by, work_left, ending_by, after_repeats, all_repeated, again_of, called_again, repeated, repeated_work, repeated_up_to, asks_repeat}
+use Rattle.jb_chunk.specs.Block.{entry, entry_by, results, settles, settling, stops, is_skip, choice_at, skips_before, used_between}
+use Rattle.jb_chunk.specs.Entries.{Entry, ReadFault, ProcessFault, Filtered, Answered, fault_in, text_in, numbered}
+use Rattle.jb_chunk.specs.Laws.{RepeatsAreRetries, TasksStandAtCheckpoints, WaysJoin}
+use Rattle.jb_chunk.specs.Standing.{IsReady, TaskState}
+use Rattle.jb_chunk.proofs.WorkLeft.{read_end, write_plans, work_as, left-as}
+use Rattle.jb_ready.specs.Checks.{checked_plans, plan_by}
+use Rattle.jb_ready.proofs.Refusals.{check-decides}
+use Rattle.jb_records.specs.Function.{Function, result_by, result_of}
+use Rattle.jb_records.specs.Runs.{HasResults, IsSamePart, PartsStay, ResultsGoOn}
+use Rattle.jb_records.specs.Works.{IsNeverSkipped, IsWork, own_records, record_of, results_between}
+
+-- ---- WHAT IS FOUND PASSES THE TEST, AND WHAT IS NOT FOUND FAILS IT
+
+abbrev value_or : ℕ → Option ℕ → ℕ
+value_or n None = n
+value_or n (Some m) = m
+
+found-step : (p : ℕ → Bool) (x k : ℕ) (others : Option ℕ) (b : Bool) → p x ≡ b → (others ≡ Some k → p k ≡ true) → cond b (Some x) others ≡ Some k → p k ≡ true
+found-step p x k others true h more e = subst (λ y. p y ≡ true) (ap (value_or x) e) h
+found-step p x k others false h more e = more e
+
+found-passes : (p : ℕ → Bool) (xs : List ℕ) (k : ℕ) → find p xs ≡ Some k → p k ≡ true
+found-passes p [] k e = absurd cc
+found-passes p (x ∷ xs) k e = found-step p x k (find p xs) (p x) refl (found-passes p xs k) e
+
+none-step : (x : ℕ) (others : Option ℕ) (b : Bool) → cond b (Some x) others ≡ None → (b ≡ false) × (others ≡ None)
+none-step x others true e = absurd cc
+none-step x others false e = (refl, e)
+
+same-or-later : (b : Bool) (lo k : ℕ) → (k == lo) ≡ b → lo ≤ k → (b ≡ true → k ≡ lo) × (b ≡ false → lo + 1 ≤ k)
+same-or-later true lo k e le = (λ _. grind (arith, nat_tests), λ never. absurd cc)
+same-or-later false lo k e le = ((λ never. absurd cc), λ _. grind (arith, nat_tests))
+
+none-at : (p : ℕ → Bool) (lo k : ℕ) (b : Bool) → (k == lo) ≡ b → lo ≤ k → p lo ≡ false → (lo + 1 ≤ k → p k ≡ false) → p k ≡ false
+none-at p lo k true is le here later = let same : k ≡ lo = (same-or-later true lo k is le).0 refl in ap p same ∙ here
+none-at p lo k false is le here later = later ((same-or-later false lo k is le).1 refl)
+
+none-fails : (p : ℕ → Bool) (n lo : ℕ) → find p (range_with_len lo n) ≡ None → (k : ℕ) → lo ≤ k → k < lo + n → p k ≡ false
+none-fails p zero lo none k le lt = absurd (omega (arith, le, lt))
+none-fails p (suc n) lo none k le lt =
+    let parts = none-step lo (find p (range_with_len (lo + 1) n)) (p lo) none in
+    none-at p lo k (k == lo) refl le parts.0 (λ past. none-fails p n (lo + 1) parts.1 k past (omega (arith, lt)))
+
+-- ---- FAULT PLANS THAT ARE USED
+
+used-if : (P : FaultPlan → Type 0) (b : Bool) (plan : FaultPlan) → P plan → P (used plan) → P (cond b (used plan) plan)
+used-if P true plan was is = is
+used-if P false plan was is = was
+
+-- a record that can't be read stays so
+checked-used : (refusal : Option ClassId) (inside : Bool) (plan : FaultPlan) → plan ≡ cond inside (plan_by refusal) Sound → used plan ≡ cond inside (plan_by refusal) Sound
+checked-used refusal false plan e = ap used e
+checked-used None true plan e = ap used e
+checked-used (Some class) true plan e = ap used e
+
+never-used : (rules : RulesRecord) (plan : FaultPlan) → IsNeverSkipped rules plan → IsNeverSkipped rules (used plan)
+never-used rules Sound is = is
+never-used rules (Bad class) is = is
+never-used rules (Shaky []) is = is
+never-used rules (Shaky (class ∷ later)) is = is.1
+
+sound-used : (plan : FaultPlan) → plan ≡ Sound → used plan ≡ Sound
+sound-used plan e = ap used e
+
+module _ (f : Function) (rules : RulesRecord) (first : ℕ) (records : List (List ℕ)) where
+  reads-by : (k : ℕ) (plan : FaultPlan) (b : Bool) → plan ≡ checked_plans f.refusal first records k → cond b (used plan) plan ≡ checked_plans f.refusal first records k
+  unfolding checked_plans
+  reads-by k plan b is =
+      used-if (λ p. p ≡ checked_plans f.refusal first records k) b plan is
+      (checked-used (f.refusal (record_of first records k)) (nat_le first k && nat_lt k (first + length records)) plan is)
+
+  reads-used : (called : ℕ → Bool) (plans : FaultTable) (lo hi : ℕ) → ((k : ℕ) → plans k ≡ checked_plans f.refusal first records k)
+      → (k : ℕ) → used_between called plans lo hi k ≡ checked_plans f.refusal first records k
+  unfolding used_between
+  reads-used called plans lo hi is k = reads-by k (plans k) _ (is k)
+
+  tries-used : (called : ℕ → Bool) (plans : FaultTable) (lo hi : ℕ) → ((k : ℕ) → IsNeverSkipped rules (plans k)) → (k : ℕ) → IsNeverSkipped rules (used_between called plans lo hi k)
+  unfolding used_between
+  tries-used called plans lo hi is k = used-if (IsNeverSkipped rules) _ (plans k) (is k) (never-used rules (plans k) (is k))
+
+  writes-used : (plans : FaultTable) (o : Option (ℕ × List ℕ)) → ((k : ℕ) → plans k ≡ Sound) → (k : ℕ) → used_for plans o k ≡ Sound
+  unfolding used_at
+  writes-used plans None is k = is k
+  writes-used plans (Some r) is k = used-if (λ p. p ≡ Sound) _ (plans k) (is k) (sound-used (plans k) (is k))
+
+  write-plans : (t : TaskState) (settled : Option ℕ) → ((k : ℕ) → t.work.writer.faults k ≡ Sound) → (k : ℕ) → write_plans t settled k ≡ Sound
+  write-plans t (Some j) is k = is k
+  write-plans t None is k = writes-used t.work.writer.faults (failing t.work.writer.faults (results_of t)) is k
+
+  -- what an attempt leaves is what the partition works with
+  work-by : (t : TaskState) (settled : Option ℕ) (place : ℕ) (written : List (List ℕ)) → IsWork f rules first records t.work → IsWork f rules first records (work_as t settled place written)
+  work-by t settled place written is = record {
+    first_is = is.first_is;
+    records_are = is.records_are;
+    reads = reads-used (λ _. true) t.work.reader.faults t.row.at (read_end t settled) is.reads;
+    answers = is.answers;
+    tries = tries-used (λ k. not (is_live t.work.reader.faults k)) t.work.processor.faults t.row.at (read_end t settled) is.tries;
+    writes = write-plans t settled is.writes;
+  }
+
+  work-left : (t : TaskState) (place : ℕ) (written : List (List ℕ)) → IsWork f rules first records t.work → IsWork f rules first records (work_left t place written)
+  work-left t place written is = subst (IsWork f rules first records) (sym (left-as t place written)) (work-by t (settled_at t) place written is)
+
+  -- ---- CALLS THAT ARE REPEATED IN PLACE
+
+  -- a repeat leaves what the partition works with, and what is written
+  record IsKept (w now : ArtifactsMeaning) : Type 0 where
+    pub work : IsWork f rules first records now
+    pub written : now.writer.written ≡ w.writer.written
+
+  reads-at : (plans : FaultTable) (n : ℕ) → ((k : ℕ) → plans k ≡ checked_plans f.refusal first records k) → (k : ℕ) → used_at plans n k ≡ checked_plans f.refusal first records k
+  unfolding used_at
+  reads-at plans n is k = reads-by k (plans k) _ (is k)
+
+  tries-at : (plans : FaultTable) (n : ℕ) → ((k : ℕ) → IsNeverSkipped rules (plans k)) → (k : ℕ) → IsNeverSkipped rules (used_at plans n k)
+  unfolding used_at
+  tries-at plans n is k = used-if (IsNeverSkipped rules) _ (plans k) (is k) (never-used rules (plans k) (is k))
+
+  call-kept : (w : ArtifactsMeaning) (k : ℕ) (e : Entry) → IsWork f rules first records w → IsKept w (called_again w k e)
+  call-kept w k (ReadFault class) is = record {
+    work = record { first_is = is.first_is; records_are = is.records_are; reads = reads-at w.reader.faults k is.reads; answers = is.answers; tries = is.tries; writes = is.writes };
+    written = refl;
+  }
+  call-kept w k (ProcessFault class) is = record {
+    work = record { first_is = is.first_is; records_are = is.records_are; reads = is.reads; answers = is.answers; tries = tries-at w.processor.faults k is.tries; writes = is.writes };
+    written = refl;
+  }
+  call-kept w k Filtered is = record {
+    work = record { first_is = is.first_is; records_are = is.records_are; reads = is.reads; answers = is.answers; tries = tries-at w.processor.faults k is.tries; writes = is.writes };
+    written = refl;
+  }
+  call-kept w k (Answered text) is = record {
+    work = record { first_is = is.first_is; records_are = is.records_are; reads = is.reads; answers = is.answers; tries = tries-at w.processor.faults k is.tries; writes = is.writes };
+    written = refl;
+  }
+
+  repeat-kept : (t : TaskState) (settled : Option ℕ) → IsWork f rules first records t.work → IsKept t.work (repeated_work t settled)
+  repeat-kept t (Some k) is = call-kept t.work k (entry t.work k) is
+  repeat-kept t None is = record {
+    work = record { first_is = is.first_is; records_are = is.records_are; reads = is.reads; answers = is.answers; tries = is.tries; writes = write-plans t None is.writes };
+    written = refl;
+  }
+
+  kept-if : (w : ArtifactsMeaning) (b : Bool) (t u : TaskState) → IsKept w t.work → IsKept w u.work → IsKept w (cond b t u).work
+  kept-if w true t u is was = is
+  kept-if w false t u is was = was
+
+  repeats-kept : (n : ℕ) (t : TaskState) → IsWork f rules first records t.work → IsKept t.work (repeated_up_to n t).work
+  unfolding repeated_up_to
+  repeats-kept zero t is = record { work = is; written = refl }
+  repeats-kept (suc n) t is =
+      let once = repeat-kept t (settled_at t) is in
+      let later = repeats-kept n (repeated t) once.work in
+      kept-if t.work (asks_repeat t) (repeated_up_to n (repeated t)) t (record { work = later.work; written = later.written ∙ once.written }) (record { work = is; written = refl })
+
+  -- so do all of them
+  after-kept : (t : TaskState) → IsWork f rules first records t.work → IsKept t.work (after_repeats t).work
+  unfolding all_repeated
+  after-kept t is = repeats-kept (t.rules.retry_limit - t.row.retries) t is
+
+-- ---- A RECORD THAT DOESN'T SETTLE ITS BLOCK
+
+never : true ≡ false → ⊥
+never e = cc
+
+-- a fault that may not be skipped isn't
+no-skip : (again : Bool) → is_skip (cond again Again Retry) ≡ false
+no-skip true = refl
+no-skip false = refl
+
+retry-choice : (retried : Choice) (retrying retry : Bool) → is_skip retried ≡ false → is_skip (choice_by retried retrying false retry) ≡ false
+retry-choice retried false true e = e
+retry-choice retried false false e = refl
+retry-choice retried true true e = e
+retry-choice retried true false e = refl
+
+never-stops : (rules : RulesRecord) (row : Row) (class : ClassId) (skips : ℕ) → has_class rules.skippable class ≡ false → stops rules row (Some class) skips ≡ true
+never-stops rules row class skips none =
+    let retrying = nat_lt row.at row.redo in
+    let retry = retry_open rules class row.retries in
+    ap (λ (b : Bool). not (is_skip (choice_by (retry_for rules class) retrying (b && is_below rules.skip_limit skips) retry))) none
+    ∙ ap not (retry-choice (retry_for rules class) retrying retry (no-skip (has_class rules.no_rollback class)))
+
+class-or : ClassId → Option ClassId → ClassId
+class-or d None = d
+class-or d (Some x) = x
+
+some-same : (a b : ClassId) → Some a ≡ Some b → a ≡ b
+unfolding class-or
+some-same a b e = ap (class-or a) e
+
+live-never : (rules : RulesRecord) (plan : FaultPlan) (class : ClassId) → IsNeverSkipped rules plan → live plan ≡ Some class → has_class rules.skippable class ≡ false
+live-never rules Sound class is e = absurd cc
+live-never rules (Bad c) class is e = ap (has_class rules.skippable) (sym (some-same c class e)) ∙ is
+live-never rules (Shaky []) class is e = absurd cc
+live-never rules (Shaky (c ∷ later)) class is e = ap (has_class rules.skippable) (sym (some-same c class e)) ∙ is.0
+
+-- the process call of a record that doesn't settle its block doesn't fail
+text-by : (rules : RulesRecord) (row : Row) (skips : ℕ) (plan : FaultPlan) (fault : Option ClassId) (answer : Option (List ℕ)) → IsNeverSkipped rules plan → live plan ≡ fault
+    → stops rules row (fault_in (entry_by None fault answer)) skips ≡ false → text_in (entry_by None fault answer) ≡ answer
+text-by rules row skips plan None None is e idle = refl
+text-by rules row skips plan None (Some text) is e idle = refl
+text-by rules row skips plan (Some class) answer is e idle = absurd (never (sym (never-stops rules row class skips (live-never rules plan class is e)) ∙ idle))
+
+entry-by : (rules : RulesRecord) (row : Row) (skips : ℕ) (tries : FaultPlan) (refusal : Option ClassId) (answer : Option (List ℕ)) → IsNeverSkipped rules tries
+    → stops rules row (fault_in (entry_by refusal (live tries) answer)) skips ≡ false → text_in (entry_by refusal (live tries) answer) ≡ result_by refusal answer
+entry-by rules row skips tries (Some class) answer is idle = refl
+entry-by rules row skips tries None answer is idle = text-by rules row skips tries (live tries) answer is refl idle
+
+-- what is found of a record that doesn't settle its block is its result, if it has one
+entry-result : (f : Function) (first : ℕ) (records : List (List ℕ)) (rules : RulesRecord) (row : Row) (w : ArtifactsMeaning) (k : ℕ) → IsWork f rules first records w
+    → first ≤ k → k < first + length records → settles rules row w k ≡ false → text_in (entry w k) ≡ result_of f k (record_of first records k)
+unfolding entry settles
+entry-result f first records rules row w k is from to idle =
+    let own = record_of first records k in
+    let line : record_at w.reader k ≡ own = λ i. record_of (is.first_is i) (is.records_are i) k in
+    let fault : live (w.reader.faults k) ≡ f.refusal own = ap live (is.reads k) ∙ check-decides f.refusal first records k own from to refl in
+    let answer : w.processor.answer k (record_at w.reader k) ≡ f.answer k own = is.answers k (record_at w.reader k) ∙ ap (f.answer k) line in
+    let same : entry w k ≡ entry_by (f.refusal own) (live (w.processor.faults k)) (f.answer k own) =
+    λ i. entry_by (fault i) (live (w.processor.faults k)) (answer i) in
+    ap text_in same ∙ entry-by rules row (skips_before row w k) (w.processor.faults k) (f.refusal own) (f.answer k own) (is.tries k) (ap (λ e. stops rules row (fault_in e) (skips_before row w k)) (sym same) ∙ idle)
+
+-- ---- A BLOCK THAT NOTHING SETTLED
+
+text-one : (k : ℕ) (a : Option (List ℕ)) (more : Numbered) (rest : List (List ℕ)) → texts_of more ≡ rest → texts_of (cons_option (numbered k a) more) ≡ cons_option a rest
+text-one k None more rest e = e
+text-one k (Some x) more rest e = ap (λ ys. x ∷ ys) e
+
+texts-are : (w : ArtifactsMeaning) (f : ℕ → Option (List ℕ)) (n lo : ℕ) → ((k : ℕ) → lo ≤ k → k < lo + n → text_in (entry w k) ≡ f k)
+    → texts_of (filter_map (λ k. numbered k (text_in (entry w k))) (range_with_len lo n)) ≡ filter_map f (range_with_len lo n)
+texts-are w f zero lo are = refl
+texts-are w f (suc n) lo are =
+    let rest = texts-are w f n (lo + 1) (λ k le lt. are k (omega (arith, le)) (omega (arith, lt))) in
+    text-one lo (text_in (entry w lo)) _ _ rest ∙ ap (λ o. cons_option o (filter_map f (range_with_len (lo + 1) n))) (are lo (omega arith) (omega arith))
+
+block-results : (f : Function) (first : ℕ) (records : List (List ℕ)) (t : TaskState) → IsWork f t.rules first records t.work → first ≤ t.row.at → (block_of t).hi ≤ first + length records → settled_at t ≡ None
+    → texts_of (results_of t) ≡ results_between f first records t.row.at (block_of t).hi
+unfolding results settling results_between
+block-results f first records t is above below none =
+    texts-are t.work (λ k. result_of f k (record_of first records k)) ((block_of t).hi - t.row.at) t.row.at
+    (λ k from to. entry-result f first records t.rules t.row t.work k is (omega (arith, above, from)) (omega (arith, below, from, to))
+    (none-fails (settles t.rules t.row t.work) ((block_of t).hi - t.row.at) t.row.at none k from to))
+
+-- numbers up to one of them, and those from there on
+numbers-split : (lo n m : ℕ) → range_with_len lo (n + m) ≡ range_with_len lo n ++ range_with_len (lo + n) m
+numbers-split lo zero m =
+    let len : 0 + m ≡ m = omega arith in
+    let start : lo ≡ lo + 0 = omega arith in
+    ap (range_with_len lo) len ∙ ap (λ a. range_with_len a m) start
+numbers-split lo (suc n) m =
+    let len : suc n + m ≡ suc (n + m) = omega arith in
+    let start : lo + 1 + n ≡ lo + suc n = omega arith in
+    ap (range_with_len lo) len
+    ∙ ap (λ xs. lo ∷ xs) (numbers-split (lo + 1) n m)
+    ∙ ap (λ a. lo ∷ range_with_len (lo + 1) n ++ range_with_len a m) start
+
+-- the results up to a checkpoint, and those from there on
+pub results-join : (f : Function) (first : ℕ) (records : List (List ℕ)) (lo at hi : ℕ) → lo ≤ at → at ≤ hi → results_between f first records lo at ++ results_between f first records at hi ≡ results_between f first records lo hi
+unfolding results_between
+results-join f first records lo at hi from to =
+    let g : ℕ → Option (List ℕ) = λ k. result_of f k (record_of first records k) in
+    let start : lo + (at - lo) ≡ at = omega (arith, from) in
+    let whole : (at - lo) + (hi - at) ≡ hi - lo = omega (arith, from, to) in
+    ap (λ a. filter_map g (range_with_len lo (at - lo)) ++ filter_map g (range_with_len a (hi - at))) (sym start)
+    ∙ sym (filter_map-append g (range_with_len lo (at - lo)) (range_with_len (lo + (at - lo)) (hi - at)))
+    ∙ ap (filter_map g) (sym (numbers-split lo (at - lo) (hi - at)))
+    ∙ ap (λ n. filter_map g (range_with_len lo n)) whole
+
+-- ---- HOW A BLOCK ENDS
+
+-- a fault that settles a block isn't skipped, and its block isn't committed
+abbrev Commits : ChunkEnd → Type 0
+Commits (Committed delta) = Unit {0}
+Commits (Rolled class) = ⊥
+Commits (Failed class) = ⊥
+
+end-fails : (skipped : Counts) (class : ClassId) (choice : Choice) → not (is_skip choice) ≡ true → Commits (end_by skipped class choice) → ⊥
+end-fails skipped class Skip h e = never (sym h)
+end-fails skipped class Retry h e = e
+end-fails skipped class Again h e = e
+end-fails skipped class Fail h e = e
+
+fault-fails : (t : TaskState) (fault : Option ClassId) (skips : ℕ) → stops t.rules t.row fault skips ≡ true → Commits (end_at t fault skips) → ⊥
+fault-fails t None skips h e = never (sym h)
+fault-fails t (Some class) skips h e = end-fails (counts_of t 0 1) class (choice_at t.rules t.row class skips) h e
+
+settling-stops : (rules : RulesRecord) (row : Row) (w : ArtifactsMeaning) (hi k : ℕ) → settling rules row w hi ≡ Some k → stops rules row (fault_in (entry w k)) (skips_before row w k) ≡ true
+unfolding settling settles
+settling-stops rules row w hi k e = found-passes (settles rules row w) (range_with_len row.at (hi - row.at)) k e
+
+commit-by : (t : TaskState) (o : Option ℕ) → settled_at t ≡ o → Commits (end_at t (fault_at t o) (skips_at t o)) → settled_at t ≡ None
+commit-by t None at e = at
+commit-by t (Some k) at e = absurd (fault-fails t (fault_at t (Some k)) (skips_at t (Some k)) (settling-stops t.rules t.row t.work (block_of t).hi k at) e)
+
+-- nothing settled a block that is committed
+commit-none : (t : TaskState) → Commits (end_of t) → settled_at t ≡ None
+unfolding end_of
+commit-none t e = commit-by t (settled_at t) refl e
+
+-- no write call fails
+sound-failing : (plans : FaultTable) (rs : Numbered) → ((k : ℕ) → plans k ≡ Sound) → failing plans rs ≡ None
+sound-failing plans [] is = refl
+sound-failing plans (r ∷ rs) is = ap (λ (p : FaultPlan). cond (is_some (live p)) (Some r) (failing plans rs)) (is r.0) ∙ sound-failing plans rs is
+
+-- all that is committed is written
+abbrev whole_counts : TaskState → Counts
+whole_counts t = counts_of t (length (results_of t)) 0
+
+all-written : (t : TaskState) → ((k : ℕ) → t.work.writer.faults k ≡ Sound) → Commits (end_of t) → end_of t ≡ Committed (whole_counts t)
+unfolding end_of
+all-written t is e =
+    let sound : write_fault t.work.writer (results_of t) ≡ None = ap (fault_of t.work.writer.faults) (sound-failing t.work.writer.faults (results_of t) is) in
+    ap (λ s. end_at t (fault_at t s) (skips_at t s)) (commit-none t e) ∙ ap (λ f. end_at t f (skips_at t None)) sound
+
+-- ---- ATTEMPT BY ATTEMPT
+
+written-kept : (t : TaskState) (place : ℕ) (written : List (List ℕ)) → (work_left t place written).writer.written ≡ written
+unfolding work_left
+written-kept t place written = refl
+
+-- a row that is finished stands at the end of its range
+ends-at : (b : Bool) (at hi : ℕ) → (at == hi) ≡ b → cond b state.Finished state.Waiting ≡ state.Finished → at ≡ hi
+ends-at true at hi e finished = grind (arith, nat_tests)
+ends-at false at hi e finished = absurd cc
+
+-- as many results are written as the row says
+abbrev IsNumbered : TaskState → Type 0
+IsNumbered t = length t.work.writer.written ≡ t.row.written
+
+-- the task's next block has a record and lies in its range
+abbrev HasBlock : TaskState → Type 0
+HasBlock t = (t.row.at < (block_of t).hi) × ((block_of t).hi ≤ t.row.hi)
+
+attempt-written : (f : Function) (records : List (List ℕ)) (t : TaskState) (again : ℕ) → settled_at t ≡ None → HasBlock t → HasResults f records t → IsNumbered (ending_by t again (Committed (whole_counts t))).task
+    → HasResults f records (ending_by t again (Committed (whole_counts t))).task
+attempt-written f records t again none block has number =
+    let own = own_records records t.row in
+    let hi = (block_of t).hi in
+    let lt = block.0 in
+    let last = block.1 in
+    let from = has.from in
+    let served = has.served in
+    let le : t.row.at ≤ (block_of t).hi = omega (arith, lt) in
+    let below : (block_of t).hi ≤ t.row.lo + length own = omega (arith, last, served) in
+    record {
+      work = work-left f t.rules t.row.lo own t hi (t.work.writer.written ++ texts_of (results_of t)) has.work;
+      from = omega (arith, from, lt);
+      served = has.served;
+      results = written-kept t hi (t.work.writer.written ++ texts_of (results_of t))
+          ∙ (λ i. has.results i ++ block-results f t.row.lo own t has.work from below none i) ∙ results-join f t.row.lo own t.row.lo t.row.at hi from le;
+      number = number;
+      whole = ends-at (hi == t.row.hi) hi t.row.hi refl;
+    }
+
+attempt-by : (f : Function) (records : List (List ℕ)) (t : TaskState) (again : ℕ) (e : ChunkEnd) → end_of t ≡ e → HasBlock t → HasResults f records t → IsNumbered (ending_by t again e).task
+    → HasResults f records (ending_by t again e).task
+attempt-by f records t again (Committed delta) is block has number =
+    let commits = subst Commits (sym is) tt in
+    let same : Committed (whole_counts t) ≡ Committed delta = sym (all-written t has.work.writes commits) ∙ is in
+    let left = attempt-written f records t again (commit-none t commits) block has (subst (λ (e : ChunkEnd). IsNumbered (ending_by t again e).task) (sym same) number) in
+    subst (λ (e : ChunkEnd). HasResults f records (ending_by t again e).task) same left
+attempt-by f records t again (Rolled class) is block has number = record {
+  work = work-left f t.rules t.row.lo (own_records records t.row) t t.row.at t.work.writer.written has.work;
+  from = has.from;
+  served = has.served;
+  results = written-kept t t.row.at t.work.writer.written ∙ has.results;
+  number = number;
+  whole = has.whole;
+}
+attempt-by f records t again (Failed class) is block has number = record {
+  work = work-left f t.rules t.row.lo (own_records records t.row) t t.row.at t.work.writer.written has.work;
+  from = has.from;
+  served = has.served;
+  results = written-kept t t.row.at t.work.writer.written ∙ has.results;
+  number = number;
+  whole = λ e. absurd cc;
+}
+
+-- the task after the repeats of its next block: of its row they are retries
+abbrev repeated-task : TaskState → TaskState
+repeated-task t = record t { row = repeated_row t.row (again_of t); work = (after_repeats t).work }
+
+same-task : RepeatsAreRetries → (t : TaskState) → after_repeats t ≡ repeated-task t
+same-task law t = λ i. record t { row = law t i; work = (after_repeats t).work }
+
+repeats-have : (f : Function) (records : List (List ℕ)) (t : TaskState) → HasResults f records t → HasResults f records (repeated-task t)
+repeats-have f records t has =
+    let kept = after-kept f t.rules t.row.lo (own_records records t.row) t has.work in
+    record {
+      work = kept.work;
+      from = has.from;
+      served = has.served;
+      results = kept.written ∙ has.results;
+      number = ap length kept.written ∙ has.number;
+      whole = has.whole;
+    }
+
+-- an attempt leads further on the way
+way-on : WaysJoin → (start t s : TaskState) (e : AttemptEnd) → IsOnTheWay start t → t.row.state ≡ state.Waiting → e ≡ attempt_of t → s ≡ e.task → IsOnTheWay start s
+way-on join start t s e way waiting is to = join start t s way (record { attempts = e ∷ []; run = (waiting, is, to) })
+
+-- each place on the way has its results if the one before has
+run-results : TasksStandAtCheckpoints → WaysJoin → RepeatsAreRetries → (f : Function) (records : List (List ℕ)) (start : TaskState) → IsReady start
+    → (es : List AttemptEnd) (t s : TaskState) → IsOnTheWay start t → HasResults f records t → IsRunOf t es s → HasResults f records s
+run-results stand join law f records start ready [] t s way has run = subst (HasResults f records) (sym run) has
+run-results stand join law f records start ready (e ∷ es) t s way has run =
+    let waiting = run.0 in
+    let on = way-on join start t e.task e way waiting run.1 refl in
+    let again = again_of t in
+    let u = repeated-task t in
+    let is : e ≡ ending_by u again (end_of u) = run.1 ∙ ap (λ (x : TaskState). ending_by x again (end_of x)) (same-task law t) in
+    let number = subst (λ (x : AttemptEnd). IsNumbered x.task) is (stand start e.task ready on).count in
+    let next = attempt-by f records u again (end_of u) refl ((stand start t ready way).chunk waiting) (repeats-have f records t has) number in
+    run-results stand join law f records start ready es e.task s on (subst (λ (x : AttemptEnd). HasResults f records x.task) (sym is) next) run.2
+
+pub results-go : TasksStandAtCheckpoints → WaysJoin → RepeatsAreRetries → ResultsGoOn
+results-go stand join law f records t s ready has way = run-results stand join law f records t ready way.attempts t s (record { attempts = []; run = refl }) has way.run
+
+-- ---- THE PARTITION AND ITS RANGE
+
+part-by : (t : TaskState) (again : ℕ) (e : ChunkEnd) → IsSamePart t (ending_by t again e).task
+part-by t again (Committed delta) = record { partition = refl; lo = refl; hi = refl }
+part-by t again (Rolled class) = record { partition = refl; lo = refl; hi = refl }
+part-by t again (Failed class) = record { partition = refl; lo = refl; hi = refl }
+
+part-joins : (t u s : TaskState) → IsSamePart t u → IsSamePart u s → IsSamePart t s
+part-joins t u s first later = record { partition = later.partition ∙ first.partition; lo = later.lo ∙ first.lo; hi = later.hi ∙ first.hi }
+
+-- repeats in place are retries of the row alone
+part-after : RepeatsAreRetries → (t : TaskState) → IsSamePart t (after_repeats t)
+part-after law t = record { partition = refl; lo = ap (λ (r : Row). r.lo) (law t); hi = ap (λ (r : Row). r.hi) (law t) }
+
+part-attempt : RepeatsAreRetries → (t : TaskState) → IsSamePart t (attempt_of t).task
+part-attempt law t = part-joins t (after_repeats t) (attempt_of t).task (part-after law t) (part-by (after_repeats t) (again_of t) (end_of (after_repeats t)))
+
+run-part : RepeatsAreRetries → (es : List AttemptEnd) (t s : TaskState) → IsRunOf t es s → IsSamePart t s
+run-part law [] t s run = subst (IsSamePart t) (sym run) (record { partition = refl; lo = refl; hi = refl })
+run-part law (e ∷ es) t s run =
+    part-joins t e.task s (subst (λ (x : AttemptEnd). IsSamePart t x.task) (sym run.1) (part-attempt law t)) (run-part law es e.task s run.2)
+
+pub parts-stay : RepeatsAreRetries → PartsStay
+parts-stay law t s way = run-part law way.attempts t s way.run

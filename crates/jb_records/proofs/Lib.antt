@@ -1,0 +1,9 @@
+mod Begun
+mod Evenly
+mod Going
+mod Joining
+mod Putting
+mod Resuming
+mod Sharing
+mod Steps
+mod Trying

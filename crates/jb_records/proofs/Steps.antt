@@ -1,0 +1,229 @@
+-- The partitions, over a whole run of its step.
+use Rattle.std.proofs.Common.{◌≡◌, ℕ, zero, suc, ◌+◌, ◌-◌, ◌≤◌, Bool, true, false, not, cond, List, [], ◌∷◌, length, Some, Option, refl, ap, sym, subst, ◌∙◌, arith}
+use Rattle.std.proofs.Math.Seq.{take-length}
+use Rattle.std.specs.Prelude.{◌==◌, ◌||◌, filter, map, nat_eq, slice_get, take}
+use Rattle.std.specs.List.{enumerate_from, filter_map, list_any, range_with_len, zip}
+use Rattle.std.proofs.lemmas.Bool.Decides.{nat_tests}
+use Rattle.jb_base.specs.declared.range.Range.{Range}
+use Rattle.jb_repo.specs.declared.snapshot.Snapshot.{Snapshot}
+use Rattle.jb_rules.specs.declared.row.Row.{Row}
+use Rattle.jb_rules.specs.declared.row.RowState.TheVariants as state
+use Rattle.jb_rules.specs.Rows.{fresh_row}
+use Rattle.jb_rules.specs.declared.row.RowState.{RowState}
+use Rattle.jb_rules.specs.States.{is_failed, is_finished}
+use Rattle.jb_artifacts.specs.Meaning.{ArtifactsMeaning}
+use Rattle.jb_chunk.specs.Standing.{IsReady, TaskState, started}
+use Rattle.jb_collect.specs.declared.calls.Status.TheVariants as status
+use Rattle.jb_step.specs.Answers.{IsRunOfStep, StepRun, tasks_left}
+use Rattle.jb_step.specs.Statuses.{status_of}
+use Rattle.jb_step.specs.PlanLaws.{AreTasksOf, BeginsWithRows, BeginsWithTable}
+use Rattle.jb_step.specs.Prepare.{DoFit}
+use Rattle.jb_step.specs.Setup.{IsSetup, Setup, first_tasks, fresh_rows, row_now, rows_now, unfinished}
+use Rattle.jb_step.specs.Alone.{AreOnTheWay}
+use Rattle.jb_records.specs.Function.{Function, result_of}
+use Rattle.jb_records.specs.Runs.{HasResults, PartsStay, ResultsGoOn}
+use Rattle.jb_records.specs.Shares.{AreInOrder, AreNumbered, AreRangesOf, AreShares, AreWhole, IsShare, IsSoFar, NewStepsBegin, newer_share, newer_shares}
+use Rattle.jb_records.specs.Steps.{AreWorks, BeginsAnew, HaveResults, StepsKeepResults}
+use Rattle.jb_records.specs.Works.{IsWork, own_records, record_of, results_between}
+
+-- ---- HOW THE PARTITIONS BEGIN
+
+begun-task : (f : Function) (records : List (List ℕ)) (p item_count : ℕ) (row : Row) (s : Setup) (w : ArtifactsMeaning) → IsWork f s.rules row.lo (own_records records row) w
+    → IsShare f records row w.writer.written → IsReady (started p row s.rules item_count w) → HasResults f records (started p row s.rules item_count w)
+begun-task f records p item_count row s w work share ready =
+    let cut : take row.written w.writer.written ≡ w.writer.written = ap (λ n. take n w.writer.written) (sym share.number) ∙ take-length w.writer.written in
+    record {
+      work = record { first_is = work.first_is; records_are = work.records_are; reads = work.reads; answers = work.answers; tries = work.tries; writes = work.writes };
+      from = ready.sound.placed.at_from;
+      served = subst (λ n. row.hi ≤ n) (λ i. work.first_is i + length (work.records_are i)) ready.fits.to;
+      results = cut ∙ share.results;
+      number = ready.count;
+      whole = share.whole;
+    }
+
+-- the unfinished rows, their tasks, and what they work with
+abbrev left-of : List (ℕ × Row) → List (ℕ × Row)
+left-of ns = filter (λ n. not (is_finished n.1.state)) ns
+
+abbrev tasks-of : Setup → List (ℕ × Row) → List ArtifactsMeaning → List TaskState
+tasks-of s ns works = map (λ n. started n.0.0 n.0.1 s.rules s.item_count n.1) (zip ns works)
+
+abbrev Begin : (f : Function) (records : List (List ℕ)) → (shares : List (List (List ℕ))) → Setup → List (ℕ × Row) → List ArtifactsMeaning → Type 0
+Begin f records shares s ns works = AreWorks f s.rules records shares ns works → AreTasksOf s (tasks-of s ns works) → HaveResults f records (tasks-of s ns works)
+
+same-share : (o : Option (List (List ℕ))) (share other : List (List ℕ)) → o ≡ Some share → o ≡ Some other → share ≡ other
+same-share o share other a b = cc
+
+first-begun : (f : Function) (records : List (List ℕ)) (shares : List (List (List ℕ))) (s : Setup) (n : ℕ × Row) (share : List (List ℕ)) (ns : List (ℕ × Row)) (b : Bool) (works : List ArtifactsMeaning)
+    → slice_get shares n.0 ≡ Some share → IsShare f records n.1 share → ((ws : List ArtifactsMeaning) → Begin f records shares s ns ws) → Begin f records shares s (cond b (n ∷ ns) ns) works
+first-begun f records shares s n share ns false works at is others are ready = others works are ready
+first-begun f records shares s n share ns true [] at is others are ready = absurd are
+first-begun f records shares s n share ns true (w ∷ ws) at is others are ready =
+    let own = subst (IsShare f records n.1) (same-share (slice_get shares n.0) share w.writer.written at are.0.1) is in
+    (begun-task f records n.0 s.item_count n.1 s w are.0.0 own ready.0.0, others ws are.1 ready.1)
+
+none-begun : (f : Function) (records : List (List ℕ)) (shares : List (List (List ℕ))) (s : Setup) (works : List ArtifactsMeaning) → Begin f records shares s [] works
+none-begun f records shares s [] are ready = tt
+none-begun f records shares s (w ∷ ws) are ready = absurd are
+
+all-begun : (f : Function) (records : List (List ℕ)) (all : List (List (List ℕ))) (s : Setup) (k : ℕ) (rows : List Row) (shares : List (List (List ℕ))) (works : List ArtifactsMeaning)
+    → AreShares f records rows shares → ((i : ℕ) (share : List (List ℕ)) → slice_get shares i ≡ Some share → slice_get all (k + i) ≡ Some share)
+    → Begin f records all s (left-of (enumerate_from k rows)) works
+all-begun f records all s k [] shares works have at are ready = none-begun f records all s works are ready
+all-begun f records all s k (row ∷ rows) [] works have at are ready = absurd have
+all-begun f records all s k (row ∷ rows) (share ∷ shares) works have at are ready =
+    first-begun f records all s (k, row) share (left-of (enumerate_from (k + 1) rows)) (not (is_finished row.state)) works
+    (let e : k + 0 ≡ k = omega arith in subst (λ m. slice_get all m ≡ Some share) e (at zero share refl)) have.0
+    (λ ws. all-begun f records all s (k + 1) rows shares ws have.1 (λ i x get. let e : k + suc i ≡ (k + 1) + i = omega arith in subst (λ m. slice_get all m ≡ Some x) e (at (suc i) x get)))
+    are ready
+
+-- ---- WHERE THEY ARE LED
+
+kept-by : ResultsGoOn → (f : Function) (records : List (List ℕ)) (s : Setup) (ts now : List TaskState) → AreTasksOf s ts → HaveResults f records ts → AreOnTheWay ts now → HaveResults f records now
+kept-by law f records s [] [] ready have ways = tt
+kept-by law f records s [] (x ∷ xs) ready have ways = absurd ways
+kept-by law f records s (t ∷ ts) [] ready have ways = absurd ways
+kept-by law f records s (t ∷ ts) (x ∷ xs) ready have ways = (law f records t x ready.0.0 have.0 ways.0, kept-by law f records s ts xs ready.1 have.1 ways.1)
+
+-- each partition has its new share, or the one that it had
+newer-by : (f : Function) (records : List (List ℕ)) (t : TaskState) (b : Bool) (row : Row) (share : List (List ℕ)) → HasResults f records t → IsShare f records row share
+    → IsShare f records (cond b t.row row) (cond b t.work.writer.written share)
+newer-by f records t true row share has is = record { results = has.results; number = has.number; whole = has.whole }
+newer-by f records t false row share has is = is
+
+newer-is : (f : Function) (records : List (List ℕ)) (s : Setup) (snapshot : Snapshot) (left : List (ℕ × ArtifactsMeaning)) (p : ℕ) (row : Row) (share : List (List ℕ)) → HaveResults f records (tasks_left s snapshot left)
+    → IsShare f records row share → IsShare f records (row_now (tasks_left s snapshot left) p row) (newer_share left p share)
+newer-is f records s snapshot [] p row share have is = is
+newer-is f records s snapshot (a ∷ left) p row share have is =
+    newer-by f records _ (nat_eq a.0 p) _ _ have.0 (newer-is f records s snapshot left p row share have.1 is)
+
+newer-all : (f : Function) (records : List (List ℕ)) (s : Setup) (snapshot : Snapshot) (left : List (ℕ × ArtifactsMeaning)) (k : ℕ) (rows : List Row) (shares : List (List (List ℕ))) → HaveResults f records (tasks_left s snapshot left)
+    → AreShares f records rows shares
+    → AreShares f records (map (λ n. row_now (tasks_left s snapshot left) n.0 n.1) (enumerate_from k rows)) (map (λ n. newer_share left n.0 n.1) (enumerate_from k shares))
+newer-all f records s snapshot left k [] [] have are = tt
+newer-all f records s snapshot left k [] (share ∷ shares) have are = absurd are
+newer-all f records s snapshot left k (row ∷ rows) [] have are = absurd are
+newer-all f records s snapshot left k (row ∷ rows) (share ∷ shares) have are =
+    (newer-is f records s snapshot left k row share have are.0, newer-all f records s snapshot left (k + 1) rows shares have are.1)
+
+-- ---- THE RANGES STAY IN THEIR ORDER
+
+record IsSameRange (row other : Row) : Type 0 where
+  pub lo : other.lo ≡ row.lo
+  pub hi : other.hi ≡ row.hi
+
+range-by : (b : Bool) (first now row other : Row) → IsSameRange first now → IsSameRange row other → IsSameRange (cond b first row) (cond b now other)
+range-by true first now row other is others = is
+range-by false first now row other is others = others
+
+range-kept : PartsStay → (ts now : List TaskState) (p : ℕ) (row : Row) → AreOnTheWay ts now → IsSameRange (row_now ts p row) (row_now now p row)
+range-kept law [] [] p row ways = record { lo = refl; hi = refl }
+range-kept law [] (x ∷ xs) p row ways = absurd ways
+range-kept law (t ∷ ts) [] p row ways = absurd ways
+range-kept law (t ∷ ts) (x ∷ xs) p row ways =
+    let same = law t x ways.0 in
+    let is : IsSameRange t.row x.row = record { lo = same.lo; hi = same.hi } in
+    let others = range-kept law ts xs p row ways.1 in
+    let now = range-by (nat_eq t.partition p) t.row x.row (row_now ts p row) (row_now xs p row) is others in
+    subst (λ q. IsSameRange (cond (nat_eq t.partition p) t.row (row_now ts p row)) (cond (nat_eq q p) x.row (row_now xs p row))) (sym same.partition) now
+
+order-kept : PartsStay → (ts now : List TaskState) (k from to : ℕ) (rows : List Row) → AreOnTheWay ts now
+    → AreInOrder from to (map (λ n. row_now ts n.0 n.1) (enumerate_from k rows)) → AreInOrder from to (map (λ n. row_now now n.0 n.1) (enumerate_from k rows))
+order-kept law ts now k from to [] ways order = order
+order-kept law ts now k from to (row ∷ rows) ways order =
+    let same = range-kept law ts now k row ways in (
+      same.lo ∙ order.0,
+      subst (λ hi. from ≤ hi) (sym same.hi) order.1,
+      subst (λ hi. AreInOrder hi to (map (λ n. row_now now n.0 n.1) (enumerate_from (k + 1) rows))) (sym same.hi)
+          (order-kept law ts now (k + 1) (row_now ts k row).hi to rows ways order.2),
+    )
+
+-- ---- A WHOLE RUN
+
+pub shares-kept : ResultsGoOn → PartsStay → BeginsWithTable → BeginsWithRows → StepsKeepResults
+shares-kept law parts begins same f records shares s works snapshot left is fit are ways rows so-far =
+    let ready = (begins s works is fit).tasks in
+    let ts = first_tasks s works in
+    let now = tasks_left s snapshot left in
+    let begun = all-begun f records shares s 0 s.rows shares works so-far.each (λ i share get. let e : i ≡ 0 + i = omega arith in subst (λ m. slice_get shares m ≡ Some share) e get) are ready in
+    let have : HaveResults f records now = kept-by law f records s ts now ready begun ways in
+    let order : AreInOrder 0 (length records) (rows_now s.rows ts) = subst (AreInOrder 0 (length records)) (sym (same s works fit)) so-far.order in
+    record {
+      order = subst (AreInOrder 0 (length records)) (sym rows) (order-kept parts ts now 0 0 (length records) s.rows ways order);
+      each = subst (λ (x : List Row). AreShares f records x (newer_shares left shares)) (sym rows) (newer-all f records s snapshot left 0 s.rows shares have so-far.each);
+    }
+
+-- ---- A STEP THAT BEGINS ANEW
+
+no-results : (f : Function) (first : ℕ) (records : List (List ℕ)) (lo : ℕ) → results_between f first records lo lo ≡ []
+unfolding results_between
+no-results f first records lo =
+    let none : lo - lo ≡ 0 = omega arith in
+    ap (λ n. filter_map (λ k. result_of f k (record_of first records k)) (range_with_len lo n)) none
+
+nothing : (share : List (List ℕ)) → length share ≡ 0 → share ≡ []
+nothing [] e = refl
+nothing (x ∷ xs) e = absurd (omega (arith, e))
+
+ends-at : (b : Bool) (at hi : ℕ) → (at == hi) ≡ b → cond b state.Finished state.Waiting ≡ state.Finished → at ≡ hi
+ends-at true at hi e finished = grind (arith, nat_tests)
+ends-at false at hi e finished = absurd cc
+
+new-share : (f : Function) (records : List (List ℕ)) (r : Range) (share : List (List ℕ)) → length share ≡ 0 → IsShare f records (fresh_row r) share
+new-share f records r share none = record {
+  results = nothing share none ∙ sym (no-results f r.lo (own_records records (fresh_row r)) r.lo);
+  number = none;
+  whole = ends-at (r.lo == r.hi) r.lo r.hi refl;
+}
+
+new-shares : (f : Function) (records : List (List ℕ)) (ranges : List Range) (shares : List (List (List ℕ))) → AreNumbered (fresh_rows ranges) shares → AreShares f records (fresh_rows ranges) shares
+new-shares f records [] [] are = tt
+new-shares f records [] (share ∷ shares) are = absurd are
+new-shares f records (r ∷ rs) [] are = absurd are
+new-shares f records (r ∷ rs) (share ∷ shares) are = (new-share f records r share are.0, new-shares f records rs shares are.1)
+
+new-order : (from to : ℕ) (ranges : List Range) → AreRangesOf from to ranges → AreInOrder from to (fresh_rows ranges)
+new-order from to [] order = order
+new-order from to (r ∷ rs) order = (order.0, order.1, new-order r.hi to rs order.2)
+
+pub steps-begin : NewStepsBegin
+steps-begin f records ranges shares order are = record { order = new-order 0 (length records) ranges order; each = new-shares f records ranges shares are }
+
+-- with as many results as its rows say
+pub begun-anew : NewStepsBegin → (f : Function) (records : List (List ℕ)) (s : Setup) (shares : List (List (List ℕ))) → BeginsAnew (length records) s → AreNumbered s.rows shares → IsSoFar f records s.rows shares
+begun-anew law f records s shares anew are =
+    subst (λ (rows : List Row). IsSoFar f records rows shares) (sym anew.rows) (law f records anew.ranges shares anew.order (subst (λ (rows : List Row). AreNumbered rows shares) anew.rows are))
+
+-- ---- HOW IT ENDS
+
+-- a run of the step leaves its partitions so far, if they were so when it began
+pub led : StepsKeepResults → (f : Function) (records : List (List ℕ)) (shares : List (List (List ℕ))) (r : StepRun) → IsRunOfStep r → AreWorks f r.setup.rules records shares (unfinished r.setup.rows) r.works → DoFit r.setup r.works
+    → AreOnTheWay (first_tasks r.setup r.works) (tasks_left r.setup r.snapshot r.left) → IsSetup r.setup → IsSoFar f records r.setup.rows shares → IsSoFar f records r.snapshot.rows.items (newer_shares r.left shares)
+led kept f records shares r run are fit ways is so-far =
+    kept f records shares r.setup r.works r.snapshot r.left is fit are ways (run.rows ∙ ap (rows_now r.setup.rows) (sym run.tasks)) so-far
+
+finished-is : (st : RowState) → not (is_finished st) ≡ false → st ≡ state.Finished
+finished-is state.Waiting e = absurd cc
+finished-is (state.Running lane) e = absurd cc
+finished-is state.Finished e = refl
+finished-is state.Failed e = absurd cc
+
+none-left : (b more : Bool) → (b || more) ≡ false → (b ≡ false) × (more ≡ false)
+none-left true more e = absurd cc
+none-left false more e = (refl, e)
+
+whole-if : (rows : List Row) → list_any (λ row. not (is_finished row.state)) rows ≡ false → AreWhole rows
+whole-if [] e = tt
+whole-if (row ∷ rows) e =
+    let parts = none-left (not (is_finished row.state)) (list_any (λ row. not (is_finished row.state)) rows) e in
+    (finished-is row.state parts.0, whole-if rows parts.1)
+
+completed-by : (failed unfinished : Bool) → cond failed status.Failed (cond unfinished status.Stopped status.Completed) ≡ status.Completed → unfinished ≡ false
+completed-by true unfinished e = absurd cc
+completed-by false true e = absurd cc
+completed-by false false e = refl
+
+-- where the step is completed, each partition is finished
+pub completed-whole : (rows : List Row) (failed : Bool) → status_of rows failed ≡ status.Completed → AreWhole rows
+completed-whole rows failed e =
+    whole-if rows (completed-by (failed || list_any (λ row. is_failed row.state) rows) (list_any (λ row. not (is_finished row.state)) rows) e)

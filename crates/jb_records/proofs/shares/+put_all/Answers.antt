@@ -1,0 +1,20 @@
+use Rattle.std.proofs.Common.{◌≡◌, ◌∙◌, ◌∷◌, ◌++◌, [], ap, arith, map, rules, set}
+use Rattle.std.proofs.lemmas.List.{map-append}
+use Rattle.jb_records.proofs.Putting.{not-put, put-none, putting}
+use Rattle.jb_records.proofs.shares.+put_all.Goals as goal
+use Rattle.jb_records.proofs.shares.+put_all.Goals.{then-index-shares, else-index-shares}
+
+pub returns-after-index-shares : goal.returns-after-index-shares
+returns-after-index-shares g t c =
+    let popped : c.args.works.now.items ≡ c.pop.new.self.items ++ (c.in-Some.partition, c.in-Some.last) ∷ [] = search rules in
+    let all = ap (map _) popped ∙ map-append _ c.pop.new.self.items ((c.in-Some.partition, c.in-Some.last) ∷ []) in
+    putting _ _ _ _ _ _ all (
+    elim c.if-index-shares.branch [
+      | then-index-shares w ↦ w.shares-is ∙ ap (set c.args.shares.now c.in-Some.partition) w.into_written.ensures
+      | else-index-shares w ↦ w.shares-is ∙ not-put c.args.shares.now c.in-Some.partition _ (let past = w.if-index-shares.false in omega (arith, past))
+    ]) c.put_all.ensures
+
+pub returns-in_default : goal.returns-in_default
+returns-in_default g t c =
+    let none : c.args.works.now.items ≡ [] = search rules in
+    put-none _ _ (ap (map _) none)

@@ -1,0 +1,24 @@
+-- What a run takes over from an earlier one.
+use Rattle.std.specs.Prelude.{ℕ, ◌≡◌, List, Option, Some, Ok}
+use Rattle.jb_job.specs.Reading.{tree_of}
+use Rattle.jb_saved.specs.Reading.{answer_of}
+use Rattle.jb_saved.specs.SavedRows.{SavedRows}
+use Rattle.jb_records.specs.Function.{Function}
+use Rattle.jb_records.specs.Shares.{IsSoFar, joined}
+
+-- THE SAVED ROWS AND THE RESULTS OF A STOPPED RUN of this function over these very records: they are the shares of its
+-- partitions, joined
+pub record IsStoppedRun (f : Function) (records : List (List ℕ)) (saved : Option SavedRows) (earlier : List (List ℕ)) : Type 0 where
+  pub held : SavedRows
+  pub given : saved ≡ Some held
+  pub shares : List (List (List ℕ))
+  pub so_far : IsSoFar f records held.rows shares
+  pub results : joined shares ≡ earlier
+
+-- the same, where this text holds the saved rows
+pub record IsOfStoppedRun (f : Function) (records : List (List ℕ)) (text : List ℕ) (earlier : List (List ℕ)) : Type 0 where
+  pub held : SavedRows
+  pub read : answer_of (tree_of text) ≡ Ok held
+  pub shares : List (List (List ℕ))
+  pub so_far : IsSoFar f records held.rows shares
+  pub results : joined shares ≡ earlier

@@ -1,0 +1,6 @@
+pub mod Earlier
+pub mod Function
+pub mod Runs
+pub mod Shares
+pub mod Steps
+pub mod Works

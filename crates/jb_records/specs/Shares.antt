@@ -1,0 +1,68 @@
+-- The results of all partitions: each one's share, and the shares joined.
+use Rattle.std.specs.Prelude.{ℕ, ◌≡◌, ◌≤◌, nat_eq, if◌then◌else◌, List, [], ◌∷◌, length, map}
+use Rattle.std.specs.List.{AllByRecursion, enumerate_from, flat_map}
+use Rattle.jb_base.specs.Pairwise.{Pairwise}
+use Rattle.jb_artifacts.specs.Meaning.{ArtifactsMeaning}
+use Rattle.jb_base.specs.declared.range.Range.{Range}
+use Rattle.jb_rules.specs.declared.row.Row.{Row}
+use Rattle.jb_rules.specs.declared.row.RowState.TheVariants.{Finished}
+use Rattle.jb_step.specs.Setup.{fresh_rows}
+use Rattle.jb_records.specs.Function.{Function, all_results}
+use Rattle.jb_records.specs.Works.{own_records, results_between}
+
+-- the results of a partition's records before its checkpoint
+abbrev pub results_so_far : Function → (records : List (List ℕ)) → Row → List (List ℕ)
+results_so_far f records row = results_between f row.lo (own_records records row) row.lo row.at
+
+-- a partition's share is these, as many as its row says; one that is finished stands at the end of its range
+pub record IsShare (f : Function) (records : List (List ℕ)) (row : Row) (share : List (List ℕ)) : Type 0 where
+  pub results : share ≡ results_so_far f records row
+  pub number : length share ≡ row.written
+  pub whole : row.state ≡ Finished → row.at ≡ row.hi
+
+abbrev pub AreShares : Function → (records : List (List ℕ)) → List Row → (shares : List (List (List ℕ))) → Type 0
+AreShares f records rows shares = Pairwise (IsShare f records) rows shares
+
+-- the ranges follow one another
+abbrev pub AreInOrder : (from to : ℕ) → List Row → Type 0
+AreInOrder from to [] = from ≡ to
+AreInOrder from to (row ∷ rows) = (row.lo ≡ from) × (from ≤ row.hi) × AreInOrder row.hi to rows
+
+abbrev pub AreRangesOf : (from to : ℕ) → List Range → Type 0
+AreRangesOf from to [] = from ≡ to
+AreRangesOf from to (range ∷ ranges) = (range.lo ≡ from) × (from ≤ range.hi) × AreRangesOf range.hi to ranges
+
+-- so many results are written of each partition
+abbrev pub AreNumbered : List Row → (shares : List (List (List ℕ))) → Type 0
+AreNumbered rows shares = Pairwise (λ (row : Row) share. length share ≡ row.written) rows shares
+
+-- HOW FAR A STEP OVER RECORDS IS: the ranges are those of all records in their order, and each partition has its share
+pub record IsSoFar (f : Function) (records : List (List ℕ)) (rows : List Row) (shares : List (List (List ℕ))) : Type 0 where
+  pub order : AreInOrder 0 (length records) rows
+  pub each : AreShares f records rows shares
+
+-- each partition is at the end of its range
+abbrev pub AreWhole : List Row → Type 0
+AreWhole rows = AllByRecursion (λ row. row.state ≡ Finished) rows
+
+-- the shares, one behind the other
+abbrev pub joined : (shares : List (List (List ℕ))) → List (List ℕ)
+joined shares = flat_map (λ share. share) shares
+
+-- a partition's results as its writer was handed back, or the share that it had
+abbrev pub newer_share : List (ℕ × ArtifactsMeaning) → ℕ → List (List ℕ) → List (List ℕ)
+newer_share [] p share = share
+newer_share (a ∷ left) p share = if nat_eq a.0 p then a.1.writer.written else newer_share left p share
+
+abbrev pub newer_shares : List (ℕ × ArtifactsMeaning) → (shares : List (List (List ℕ))) → List (List (List ℕ))
+newer_shares left shares = map (λ n. newer_share left n.0 n.1) (enumerate_from 0 shares)
+
+-- THE LAW: once all partitions are finished, the shares joined are the results of all records
+abbrev pub SharesJoin : Type 0
+SharesJoin = (f : Function) (records : List (List ℕ)) (rows : List Row) (shares : List (List (List ℕ))) → IsSoFar f records rows shares → AreWhole rows → joined shares ≡ all_results f records
+
+-- THE LAW: a step that begins anew is so far, with no result
+abbrev pub NewStepsBegin : Type 0
+NewStepsBegin =
+    (f : Function) (records : List (List ℕ)) (ranges : List Range) (shares : List (List (List ℕ)))
+    → AreRangesOf 0 (length records) ranges → AreNumbered (fresh_rows ranges) shares → IsSoFar f records (fresh_rows ranges) shares

@@ -1,0 +1,51 @@
+-- The partitions, over a whole run of their step.
+use Rattle.std.specs.Prelude.{ℕ, ◌≡◌, List, slice_get, Some}
+use Rattle.std.specs.List.{AllByRecursion}
+use Rattle.jb_base.specs.Pairwise.{Pairwise}
+use Rattle.jb_artifacts.specs.Meaning.{ArtifactsMeaning}
+use Rattle.jb_chunk.specs.Standing.{TaskState}
+use Rattle.jb_base.specs.declared.range.Range.{Range}
+use Rattle.jb_base.specs.Rules.{RulesRecord}
+use Rattle.jb_repo.specs.declared.snapshot.Snapshot.{Snapshot}
+use Rattle.jb_rules.specs.declared.row.Row.{Row}
+use Rattle.jb_step.specs.Answers.{tasks_left}
+use Rattle.jb_step.specs.Prepare.{DoFit}
+use Rattle.jb_step.specs.Setup.{IsSetup, Setup, first_tasks, fresh_rows, rows_now, unfinished}
+use Rattle.jb_step.specs.Alone.{AreOnTheWay}
+use Rattle.jb_records.specs.Function.{Function}
+use Rattle.jb_records.specs.Runs.{HasResults}
+use Rattle.jb_records.specs.Shares.{AreRangesOf, IsSoFar, newer_shares}
+use Rattle.jb_records.specs.Works.{IsWork, own_records}
+
+-- each partition has its records, and the results of those before its checkpoint
+abbrev pub HaveResults : Function → (records : List (List ℕ)) → List TaskState → Type 0
+HaveResults f records ts = AllByRecursion (HasResults f records) ts
+
+-- ---- how the partitions begin
+
+-- the unfinished partition works with its own records, and its writer holds its share
+abbrev pub IsWorkFor : Function → RulesRecord → (records : List (List ℕ)) → (shares : List (List (List ℕ))) → ℕ × Row → ArtifactsMeaning → Type 0
+IsWorkFor f rules records shares n w = IsWork f rules n.1.lo (own_records records n.1) w × (slice_get shares n.0 ≡ Some w.writer.written)
+
+abbrev pub AreWorks : Function → RulesRecord → (records : List (List ℕ)) → (shares : List (List (List ℕ))) → List (ℕ × Row) → List ArtifactsMeaning → Type 0
+AreWorks f rules records shares ns ws = Pairwise (IsWorkFor f rules records shares) ns ws
+
+-- the same of partitions that are named by their numbers
+abbrev pub AreWorksOf : Function → RulesRecord → (records : List (List ℕ)) → (shares : List (List (List ℕ))) → List Row → (partitions : List ℕ) → List ArtifactsMeaning → Type 0
+AreWorksOf f rules records shares rows ps ws =
+    Pairwise (λ (p : ℕ) (w : ArtifactsMeaning). ((row : Row) → slice_get rows p ≡ Some row → IsWork f rules row.lo (own_records records row) w)
+    × (slice_get shares p ≡ Some w.writer.written)) ps ws
+
+-- the step begins anew, with ranges that are those of so many records in their order
+pub record BeginsAnew (records : ℕ) (s : Setup) : Type 0 where
+  pub ranges : List Range
+  pub order : AreRangesOf 0 records ranges
+  pub rows : s.rows ≡ fresh_rows ranges
+
+-- THE LAW: where a run of the step ends, its partitions are so far as its rows say, if they were so when it began
+abbrev pub StepsKeepResults : Type 0
+StepsKeepResults =
+    (f : Function) (records : List (List ℕ)) (shares : List (List (List ℕ))) (s : Setup) (works : List ArtifactsMeaning) (snapshot : Snapshot) (left : List (ℕ × ArtifactsMeaning))
+    → IsSetup s → DoFit s works → AreWorks f s.rules records shares (unfinished s.rows) works
+    → AreOnTheWay (first_tasks s works) (tasks_left s snapshot left) → snapshot.rows.items ≡ rows_now s.rows (tasks_left s snapshot left)
+    → IsSoFar f records s.rows shares → IsSoFar f records snapshot.rows.items (newer_shares left shares)

@@ -1,0 +1,186 @@
+//! A step over records, from its saved rows to its end.
+
+ghost use Rattle.std.specs.Prelude.{◌≡◌, ◌≤◌, false, None, IfOk, IfSome};
+ghost use Rattle.jb_base.specs.Limits.{max_records};
+ghost use Rattle.jb_mapper.specs.Mapping.{even};
+ghost use Rattle.jb_collect.specs.declared.calls.Status.TheVariants.{Completed};
+ghost use Rattle.jb_step.specs.Setup.{IsSetup};
+ghost use Rattle.jb_records.specs.Earlier.{IsStoppedRun};
+ghost use Rattle.jb_records.specs.Function.{Function, all_results};
+ghost use Rattle.jb_saved.specs.GoingOn.{rows_restarted};
+ghost use Rattle.jb_records.specs.Shares.{IsSoFar, joined};
+ghost use Rattle.jb_records.specs.Steps.{BeginsAnew};
+
+use crate::end::RecordsEnd;
+use crate::error::RecordsStepError;
+use crate::function::RecordFunction;
+use crate::laws::steps_keep_results;
+use crate::shares::{put_back, shares_of};
+use crate::step::RecordsStep;
+use crate::works::{Works, all_works};
+use jb_base::{MAX_RECORDS, Name, PackedList, Rules};
+use jb_chunk::Task;
+use jb_collect::{ListAnalyzer, ListReducer};
+use jb_job::{Spec, Step};
+use jb_mapper::{EvenMapper, PartitionMapper};
+use jb_step::{Prepared, Saved, StepEnd, prepare, run_step};
+use jb_workers::{Desk, NoGate};
+use std::alloc::Global;
+use std::sync::ledger::Ledger;
+use std::sync::{Arc, Wait};
+use std::thread::Threads;
+
+/// A step over records that is ready to run: the rows of its partitions, and the results that each has.
+#[derive(Drop)]
+pub struct RecordsJob {
+    pub prepared: Prepared,
+    pub results: Vec<PackedList>,
+    rules: Rules,
+    reducer: ListReducer,
+    ghost same_rules: { prepared.rules ≡ rules },
+}
+
+impl RecordsJob {
+    /// The step begins anew, with no results, or goes on from the saved rows of a stopped run and its results, those of one
+    /// partition behind those of the other.
+    ///
+    /// # Errors
+    /// `Records` where there are more than 10,000,000; `Step` with what is wrong with the partitions or the saved rows; `Results`
+    /// where the rows say otherwise how many results there are; and `Memory`.
+    pub fn begin(
+        alloc: Global,
+        step: &RecordsStep,
+        records: &PackedList,
+        saved: Option<Saved>,
+        earlier: &PackedList,
+    ) -> Result<RecordsJob, RecordsStepError>
+        ensures setup { IfOk result (λ job. IsSetup job.prepared) }
+        ensures new { saved ≡ None → IfOk result (λ job. (f : Function) → IsSoFar f records.now job.prepared.rows job.results.items) }
+        ensures goes_on { IfOk result (λ job. (f : Function) → IsStoppedRun f records.now saved earlier.now → IsSoFar f records.now job.prepared.rows job.results.items) }
+    {
+        steps_keep_results();
+        let mut reducer = ListReducer::new(alloc, None);
+        let count = records.len() as u64;
+        let prepared = prepared_for(alloc, step, count, &mut reducer, saved)?;
+        let results = shares_of(alloc, &prepared, earlier)?;
+        Ok(RecordsJob {
+            prepared,
+            results,
+            rules: step.rules,
+            reducer,
+        })
+    }
+
+    /// Runs the step over its desk (`prepared.desk`), for so many rounds at most. Wherever it ends, each partition has the
+    /// results of the records before its checkpoint, if it had them at the beginning.
+    ///
+    /// # Errors
+    /// `Records` where there are fewer than the rows say; `SkippedTry` where a first try is to fail with a class that the rules
+    /// skip; `Step`, and `Memory`.
+    pub fn run<
+        F: RecordFunction + Drop + 'static,
+        L: Ledger + Send + Sync + 'static,
+        R: Threads + Wait + Sync,
+    >(
+        self,
+        rt: &R,
+        alloc: Global,
+        desk: &Desk<L>,
+        function: F,
+        records: &PackedList,
+        rounds: Option<u64>,
+    ) -> Result<RecordsEnd, RecordsStepError>
+        ensures so_far { IfOk result (λ end. IsSetup self.prepared → IsSoFar (F.function function) records.now self.prepared.rows self.results.items →
+            IsSoFar (F.function function) records.now end.snapshot.rows.items end.results.items) }
+        ensures whole { IfOk result (λ end. IsSetup self.prepared → IsSoFar (F.function function) records.now self.prepared.rows self.results.items → end.status ≡ Completed →
+            joined end.results.items ≡ all_results (F.function function) records.now) }
+    {
+        steps_keep_results();
+        let RecordsJob {
+            prepared,
+            results,
+            rules,
+            mut reducer,
+        } = self;
+        let function = Arc::new(alloc, function)?;
+        let works = all_works(alloc, &function, &rules, records, &prepared, &results)?;
+        let mut analyzer = ListAnalyzer::new(alloc, None);
+        let end = run_step::<Task<Works<F>>, L, NoGate, R>(
+            rt,
+            alloc,
+            desk,
+            prepared,
+            works,
+            &mut analyzer,
+            &mut reducer,
+            rounds,
+            &NoGate,
+        )?;
+        let StepEnd {
+            status,
+            snapshot,
+            artifacts,
+            ..
+        } = end;
+        Ok(RecordsEnd {
+            status,
+            snapshot,
+            results: put_back(artifacts, results),
+        })
+    }
+}
+
+/// What the step begins with, by a mapper of so many even partitions.
+fn prepared_by(
+    alloc: Global,
+    step: &Step,
+    partitions: u32,
+    threads: u32,
+    records: u64,
+    mapper: &mut dyn PartitionMapper,
+    reducer: &mut ListReducer,
+    saved: Option<Saved>,
+) -> Result<Prepared, RecordsStepError>
+    requires few { records ≤ max_records }
+    requires some { 1 ≤ partitions }
+    requires mapped { mapping mapper.old records ≡ even partitions threads false records }
+    ensures setup { IfOk result IsSetup }
+    ensures rules { IfOk result (λ prepared. prepared.rules ≡ step.now.rules) }
+    ensures new { saved ≡ None → IfOk result (BeginsAnew records) }
+    ensures resumed { IfSome saved (λ held. IfOk result (λ prepared. prepared.rows ≡ rows_restarted held)) }
+{
+    let prepared = prepare(alloc, step, records, mapper, reducer, saved)?;
+    Ok(prepared)
+}
+
+/// What the step begins with.
+fn prepared_for(
+    alloc: Global,
+    step: &RecordsStep,
+    records: u64,
+    reducer: &mut ListReducer,
+    saved: Option<Saved>,
+) -> Result<Prepared, RecordsStepError>
+    ensures setup { IfOk result IsSetup }
+    ensures rules { IfOk result (λ prepared. prepared.rules ≡ step.now.rules) }
+    ensures new { saved ≡ None → IfOk result (BeginsAnew records) }
+    ensures resumed { IfSome saved (λ held. IfOk result (λ prepared. prepared.rows ≡ rows_restarted held)) }
+{
+    if records > MAX_RECORDS {
+        return Err(RecordsStepError::Records);
+    }
+    let id = Name::new(String::from_str(alloc, step.id.as_str())?);
+    let spec = Spec::new(step.partitions, step.threads, false, None);
+    let chunk = Step::new(id, step.item_count, step.rules, spec);
+    let mut mapper = EvenMapper::new(alloc, step.partitions, step.threads, false);
+    prepared_by(
+        alloc,
+        &chunk,
+        step.partitions,
+        step.threads,
+        records,
+        &mut mapper,
+        reducer,
+        saved,
+    )
+}

@@ -1,0 +1,29 @@
+//! What comes of the attempts of a step over records. Nothing is done here: the clauses are the laws.
+
+ghost use Rattle.jb_records.specs.Runs.{PartsStay, ResultsGoOn};
+ghost use Rattle.jb_records.specs.Shares.{NewStepsBegin, SharesJoin};
+ghost use Rattle.jb_records.specs.Steps.{StepsKeepResults};
+
+use jb_chunk::{attempts_are_steps, runs_lead_to_an_end, tasks_stand_at_checkpoints};
+use jb_step::plans_can_be_run;
+
+/// Wherever its attempts lead, a partition has the results of the records before its checkpoint: each once, in order.
+pub fn results_go_on()
+    ensures results { ResultsGoOn }
+    ensures part { PartsStay }
+{
+    tasks_stand_at_checkpoints();
+    runs_lead_to_an_end();
+    attempts_are_steps();
+}
+
+/// So have all partitions of a step wherever its run leads them; those that begin anew have none; and those of all partitions
+/// that are finished are, one behind the other, the results of all records.
+pub fn steps_keep_results()
+    ensures kept { StepsKeepResults }
+    ensures begun { NewStepsBegin }
+    ensures joined { SharesJoin }
+{
+    results_go_on();
+    plans_can_be_run();
+}

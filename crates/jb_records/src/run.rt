@@ -1,0 +1,103 @@
+//! A step over records in one call.
+
+ghost use Rattle.std.specs.Prelude.{◌≡◌, None, IfOk, IfSome};
+ghost use Rattle.jb_base.specs.Limits.{max_parts};
+ghost use Rattle.jb_collect.specs.declared.calls.Status.TheVariants.{Completed};
+ghost use Rattle.jb_step.specs.Setup.{IsSetup};
+ghost use Rattle.jb_records.specs.Earlier.{IsOfStoppedRun};
+ghost use Rattle.jb_records.specs.Function.{Function, all_results};
+ghost use Rattle.jb_records.specs.Shares.{IsSoFar, joined};
+
+use crate::end::RecordsEnd;
+use crate::error::RecordsStepError;
+use crate::function::RecordFunction;
+use crate::job::RecordsJob;
+use crate::step::RecordsStep;
+use jb_base::{MAX_PARTS, PackedList};
+use jb_step::read_saved;
+use std::alloc::Global;
+use std::marker::Brand;
+use std::sync::Wait;
+use std::sync::ledger::{Blank, Ledger};
+use std::thread::Threads;
+
+/// What a stopped run left: its saved text, and the results of its partitions, those of one behind those of the other.
+#[derive(Clone, Copy)]
+pub struct Earlier<'a> {
+    pub saved: &'a [u8],
+    pub results: &'a PackedList,
+}
+
+/// Runs a step over records, anew or from where a stopped run left it, for so many rounds at most; with none, to its end.
+/// Wherever it ends, each partition has the results of the records before its checkpoint, each once and in order; where it is
+/// completed, those of all records.
+///
+/// # Errors
+/// Those of `RecordsJob::begin` and `RecordsJob::run`, and `Step` with what is wrong with the saved text.
+pub fn run_records<F: RecordFunction + Drop + 'static, R: Threads + Wait + Sync>(
+    rt: &R,
+    alloc: Global,
+    step: &RecordsStep,
+    function: F,
+    records: &PackedList,
+    earlier: Option<Earlier>,
+    rounds: Option<u64>,
+) -> Result<RecordsEnd, RecordsStepError>
+    ensures so_far { earlier.entry ≡ None → IfOk result (λ end. IsSoFar (F.function function) records.now end.snapshot.rows.items end.results.items) }
+    ensures all { earlier.entry ≡ None → IfOk result (λ end. end.status ≡ Completed → joined end.results.items ≡ all_results (F.function function) records.now) }
+    ensures goes_on { IfSome earlier.entry (λ e. IsOfStoppedRun (F.function function) records.now e.saved.now e.results.now →
+        IfOk result (λ end. IsSoFar (F.function function) records.now end.snapshot.rows.items end.results.items)) }
+    ensures goes_on_whole { IfSome earlier.entry (λ e. IsOfStoppedRun (F.function function) records.now e.saved.now e.results.now →
+        IfOk result (λ end. end.status ≡ Completed → joined end.results.items ≡ all_results (F.function function) records.now)) }
+{
+    let job = begun(alloc, step, records, &earlier)?;
+    let blank = Blank::new(MAX_PARTS);
+    run_on::<F, Brand, R>(rt, alloc, blank, job, function, records, rounds)
+}
+
+/// The step as it begins, anew or behind an earlier run.
+fn begun(
+    alloc: Global,
+    step: &RecordsStep,
+    records: &PackedList,
+    earlier: &Option<Earlier>,
+) -> Result<RecordsJob, RecordsStepError>
+    ensures setup { IfOk result (λ job. IsSetup job.prepared) }
+    ensures new { earlier.now ≡ None → IfOk result (λ job. (f : Function) → IsSoFar f records.now job.prepared.rows job.results.items) }
+    ensures goes_on { IfSome earlier.now (λ e. IfOk result (λ job. (f : Function) → IsOfStoppedRun f records.now e.saved.now e.results.now →
+        IsSoFar f records.now job.prepared.rows job.results.items)) }
+{
+    match earlier {
+        None => RecordsJob::begin(alloc, step, records, None, &PackedList::new(alloc)),
+        Some(earlier) => {
+            let saved = read_saved(alloc, earlier.saved)?;
+            RecordsJob::begin(alloc, step, records, Some(saved), earlier.results)
+        }
+    }
+}
+
+/// Runs the step over a desk of its own.
+fn run_on<
+    F: RecordFunction + Drop + 'static,
+    L: Ledger + Send + Sync + 'static,
+    R: Threads + Wait + Sync,
+>(
+    rt: &R,
+    alloc: Global,
+    blank: Blank,
+    job: RecordsJob,
+    function: F,
+    records: &PackedList,
+    rounds: Option<u64>,
+) -> Result<RecordsEnd, RecordsStepError>
+    requires name { blank.name ≡ L.name }
+    requires parts { blank.parts ≡ L.parts }
+    requires all { blank.parts ≡ max_parts }
+    ensures so_far { IfOk result (λ end. IsSetup job.prepared → IsSoFar (F.function function) records.now job.prepared.rows job.results.items →
+        IsSoFar (F.function function) records.now end.snapshot.rows.items end.results.items) }
+    ensures whole { IfOk result (λ end. IsSetup job.prepared → IsSoFar (F.function function) records.now job.prepared.rows job.results.items → end.status ≡ Completed →
+        joined end.results.items ≡ all_results (F.function function) records.now) }
+{
+    let desk = job.prepared.desk::<L>(alloc, blank)?;
+    job.run(rt, alloc, &desk, function, records, rounds)
+}

@@ -1,0 +1,79 @@
+//! The results of each partition: taken from an earlier run's, and put in their places.
+
+ghost use Rattle.std.specs.Prelude.{◌≡◌, ◌≤◌, drop, length, take, IfOk, OnOk};
+ghost use Rattle.jb_step.specs.Answers.{given_back};
+ghost use Rattle.jb_records.specs.Shares.{AreNumbered, joined, newer_shares};
+
+use crate::error::RecordsStepError;
+use crate::function::RecordFunction;
+use crate::works::Works;
+use jb_artifacts::Meaning;
+use jb_base::{MAX_PARTITIONS, PackedList};
+use jb_step::Prepared;
+use std::alloc::{AllocError, Global};
+
+/// The results that an earlier run wrote, for each partition as many as its row says.
+pub(crate) fn shares_of(
+    alloc: Global,
+    prepared: &Prepared,
+    earlier: &PackedList,
+) -> Result<Vec<PackedList>, RecordsStepError>
+    ensures numbered { IfOk result (λ shares. AreNumbered prepared.now.rows shares.items) }
+    ensures joined { IfOk result (λ shares. joined shares.items ≡ earlier.now) }
+{
+    let mut shares = Vec::new(alloc);
+    let mut place = 0;
+    for partition in 0..MAX_PARTITIONS as u32 + 1 {
+        let Some(row) = prepared.row(partition) else {
+            return if place == earlier.len() {
+                Ok(shares)
+            } else {
+                Err(RecordsStepError::Results)
+            };
+        };
+        if row.written > (earlier.len() - place) as u64 {
+            return Err(RecordsStepError::Results);
+        }
+        let next = place + row.written as usize;
+        shares.push(earlier.part(alloc, place, next)?)?;
+        place = next;
+    }
+    Err(RecordsStepError::Results)
+}
+
+// Puts the results that came back in the places of their partitions.
+fn put_all<F: RecordFunction + Drop>(works: &mut Vec<(u32, Works<F>)>, shares: &mut [PackedList])
+    ensures { shares.new ≡ newer_shares (given_back ⟦<Works<F> as Meaning>⟧.meaning works.old.items) shares.old }
+{
+    if let Some((partition, last)) = works.pop() {
+        let index = partition as usize;
+        if index < shares.len() {
+            shares[index] = last.writer.into_written();
+        }
+        put_all(works, shares);
+    }
+}
+
+/// The shares with the results that came back in the places of their partitions.
+pub(crate) fn put_back<F: RecordFunction + Drop>(
+    works: Vec<(u32, Works<F>)>,
+    shares: Vec<PackedList>,
+) -> Vec<PackedList>
+    ensures { result.items ≡ newer_shares (given_back ⟦<Works<F> as Meaning>⟧.meaning works.items) shares.items }
+{
+    let mut works = works;
+    let mut shares = shares;
+    put_all(&mut works, &mut shares);
+    shares
+}
+
+/// The shares, one behind the other.
+pub(crate) fn joined(alloc: Global, shares: &[PackedList]) -> Result<PackedList, AllocError>
+    ensures { IfOk result (λ all. all ≡ joined shares.now) }
+{
+    let mut all = PackedList::new(alloc);
+    for share in shares {
+        all.append(share)?;
+    }
+    Ok(all)
+}

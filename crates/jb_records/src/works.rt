@@ -1,0 +1,184 @@
+//! What the partitions work with, before the step's run.
+
+ghost use Rattle.std.specs.Prelude.{◌≡◌, ◌+◌, ◌<◌, ◌^◌, ℕ, true, length, map, IfOk, OnOk};
+ghost use Rattle.std.specs.Arc.{arc_value};
+ghost use Rattle.jb_artifacts.specs.declared.faults.FaultPlan.TheVariants.{Sound};
+ghost use Rattle.jb_artifacts.specs.Faults.{plans_of, with_plan};
+ghost use Rattle.jb_step.specs.Setup.{unfinished};
+ghost use Rattle.jb_records.specs.Steps.{AreWorks, AreWorksOf};
+ghost use Rattle.jb_records.specs.Works.{AreNeverSkipped, IsNeverSkipped, IsWork, own_records, plan_of, tries_plan};
+
+use crate::error::RecordsStepError;
+use crate::function::RecordFunction;
+use crate::shared::Shared;
+use jb_artifacts::{
+    ArtifactsOf, CountCollector, FaultList, FaultPlan, FaultPlans, ListWriter, Meaning,
+};
+use jb_base::{ClassId, PackedList, Rules};
+use jb_ready::{AnswerProcessor, CheckedReader};
+use jb_rules::Row;
+use jb_step::Prepared;
+use std::alloc::{AllocError, Global};
+use std::sync::Arc;
+
+/// What a partition works with.
+pub type Works<F> = ArtifactsOf<
+    CheckedReader<Shared<F>>,
+    AnswerProcessor<Shared<F>>,
+    ListWriter,
+    CountCollector,
+>;
+
+/// Whether none of these classes may be skipped.
+fn are_never_skipped(rules: &Rules, classes: &[ClassId]) -> bool
+    ensures { result ≡ true → AreNeverSkipped rules.now classes.now }
+{
+    let Some((class, later)) = classes.split_first() else {
+        return true;
+    };
+    if (rules.skippable / class.bit()) % 2 == 1 {
+        return false;
+    }
+    are_never_skipped(rules, later)
+}
+
+/// Puts in the plan of the tries at a record that had none: one fails for each of these classes.
+fn put_tries(tries: &mut FaultPlans, number: u64, classes: Vec<ClassId>) -> Result<(), AllocError>
+    requires { plans_of tries.old number ≡ Sound }
+    ensures { OnOk result ((k : ℕ) → plans_of tries.new k ≡ with_plan (plans_of tries.old) number (plan_of classes.items) k) }
+{
+    if classes.is_empty() {
+        return Ok(());
+    }
+    tries.insert(number, FaultPlan::Shaky(FaultList::from_vec(classes)))
+}
+
+/// The fault plans of the tries at these records, the first of which has the number `first`.
+fn tries_of<F: RecordFunction>(
+    alloc: Global,
+    function: &F,
+    rules: &Rules,
+    first: u64,
+    records: &PackedList,
+) -> Result<FaultPlans, RecordsStepError>
+    requires { first + length records.now < 2 ^ 64 }
+    ensures never_skipped { IfOk result (λ tries. (k : ℕ) → IsNeverSkipped rules.now (plans_of tries k)) }
+    ensures tries { IfOk result (λ tries. (k : ℕ) → plans_of tries k ≡ tries_plan (F.function function.now) first records.now k) }
+{
+    let mut tries = FaultPlans::new(alloc);
+    for index in 0..records.len() {
+        let number = first + index as u64;
+        let classes = function.tries_of(alloc, number, records.at(index))?;
+        if !are_never_skipped(rules, &classes) {
+            return Err(RecordsStepError::SkippedTry);
+        }
+        put_tries(&mut tries, number, classes)?;
+    }
+    Ok(tries)
+}
+
+/// A copy of these records, or results.
+pub(crate) fn copy_of(alloc: Global, list: &PackedList) -> Result<PackedList, AllocError>
+    ensures { IfOk result (λ copy. copy ≡ list.now) }
+{
+    let mut copy = PackedList::new(alloc);
+    copy.append(list)?;
+    Ok(copy)
+}
+
+/// The records of a partition's row.
+fn records_of(
+    alloc: Global,
+    records: &PackedList,
+    row: &Row,
+) -> Result<PackedList, RecordsStepError>
+    ensures { IfOk result (λ own. own ≡ own_records records.now row.now) }
+{
+    if row.lo > row.hi || row.hi > records.len() as u64 {
+        return Err(RecordsStepError::Records);
+    }
+    let own = records.part(alloc, row.lo as usize, row.hi as usize)?;
+    Ok(own)
+}
+
+/// What the partition of this row works with, with the results that it has.
+fn works_of<F: RecordFunction + Drop>(
+    alloc: Global,
+    function: &Arc<F, Global>,
+    rules: &Rules,
+    records: &PackedList,
+    row: &Row,
+    results: &PackedList,
+) -> Result<Works<F>, RecordsStepError>
+    ensures work { IfOk result (λ works. IsWork (F.function (arc_value function.now)) rules.now row.now.lo (own_records records.now row.now) (⟦<Works<F> as Meaning>⟧.meaning works)) }
+    ensures results { IfOk result (λ works. (⟦<Works<F> as Meaning>⟧.meaning works).writer.written ≡ results.now) }
+{
+    let own = records_of(alloc, records, row)?;
+    if row.lo.checked_add(own.len() as u64).is_none() {
+        return Err(RecordsStepError::Records);
+    }
+    let tries = tries_of(alloc, &**function, rules, row.lo, &own)?;
+    let reader = match CheckedReader::new(alloc, Shared::of(function)?, row.lo, own) {
+        Ok(reader) => reader,
+        Err(_) => return Err(RecordsStepError::Records),
+    };
+    Ok(ArtifactsOf {
+        reader,
+        processor: AnswerProcessor {
+            function: Shared::of(function)?,
+            faults: tries,
+        },
+        writer: ListWriter::new(copy_of(alloc, results)?, FaultPlans::new(alloc)),
+        collector: CountCollector::new(alloc),
+    })
+}
+
+/// What these partitions work with, each with its share of the earlier results.
+fn works_for<F: RecordFunction + Drop>(
+    alloc: Global,
+    function: &Arc<F, Global>,
+    rules: &Rules,
+    records: &PackedList,
+    prepared: &Prepared,
+    shares: &[PackedList],
+    partitions: &[u32],
+) -> Result<Vec<Works<F>>, RecordsStepError>
+    ensures { IfOk result (λ all. AreWorksOf (F.function (arc_value function.now)) rules.now records.now shares.now prepared.now.rows partitions.now (map ⟦<Works<F> as Meaning>⟧.meaning all.items)) }
+{
+    let Some((partition, others)) = partitions.split_first() else {
+        return Ok(Vec::new(alloc));
+    };
+    let Some(row) = prepared.row(*partition) else {
+        return Err(RecordsStepError::Results);
+    };
+    let Some(share) = shares.get(*partition as usize) else {
+        return Err(RecordsStepError::Results);
+    };
+    let works = works_of(alloc, function, rules, records, row, share)?;
+    let mut all = works_for(alloc, function, rules, records, prepared, shares, others)?;
+    all.insert(0, works)?;
+    Ok(all)
+}
+
+/// What the unfinished partitions work with. Each has its share of the earlier results.
+pub(crate) fn all_works<F: RecordFunction + Drop>(
+    alloc: Global,
+    function: &Arc<F, Global>,
+    rules: &Rules,
+    records: &PackedList,
+    prepared: &Prepared,
+    shares: &[PackedList],
+) -> Result<Vec<Works<F>>, RecordsStepError>
+    ensures { IfOk result (λ all. AreWorks (F.function (arc_value function.now)) rules.now records.now shares.now (unfinished prepared.now.rows) (map ⟦<Works<F> as Meaning>⟧.meaning all.items)) }
+{
+    let all = works_for(
+        alloc,
+        function,
+        rules,
+        records,
+        prepared,
+        shares,
+        prepared.needs(),
+    )?;
+    Ok(all)
+}

@@ -1,5 +1,0 @@
-use Rattle.std.proofs.Common.{rules}
-use Rattle.jb_repo.proofs.plans.Plans.note.Goals as goal
-
-pub returns-in-Roll : goal.returns-in-Roll
-returns-in-Roll c = search rules

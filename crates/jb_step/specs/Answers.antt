@@ -1,0 +1,105 @@
+-- What `run_step` answers.
+use Rattle.std.specs.Prelude.{◌≡◌, ℕ, ◌≤◌, true, false, ◌||◌, MatchOption, Option, List, [], ◌∷◌, map, length, slice_index_or}
+use Rattle.jb_rules.specs.Rows.{fresh_row}
+use Rattle.jb_artifacts.specs.Meaning.{ArtifactsMeaning}
+use Rattle.jb_chunk.specs.Standing.{TaskState}
+use Rattle.jb_repo.specs.declared.snapshot.Snapshot.{Snapshot}
+use Rattle.jb_collect.specs.declared.calls.AnalyzerCall.{AnalyzerCall}
+use Rattle.jb_collect.specs.declared.calls.ReducerCall.{ReducerCall}
+use Rattle.jb_collect.specs.declared.calls.ReducerCall.TheVariants.{Before}
+use Rattle.jb_collect.specs.declared.calls.Status.{Status}
+use Rattle.jb_saved.specs.declared.error.StepError.{StepError}
+use Rattle.jb_saved.specs.declared.error.StepError.TheVariants.{WrongArtifacts, Repository, Workers, Memory}
+use Rattle.jb_cert.specs.declared.notes.PlanNote.{PlanNote}
+use Rattle.jb_collect.specs.ReducerCalls.{before_failed, calls_after, rolled_back, run_end}
+use Rattle.jb_collect.specs.Taken.{Taken, calls_of, well}
+use Rattle.jb_step.specs.Heard.{heard, HasHeard}
+use Rattle.jb_step.specs.Callbacks.{AreSome, has_fault}
+use Rattle.jb_step.specs.Runs.{PlanRun, ArePlanRuns, IsLastOver, notes_of, rounds_of, table_after, events_of}
+use Rattle.jb_step.specs.Setup.{Setup, first_tasks, rows_now}
+use Rattle.jb_step.specs.Statuses.{status_of}
+use Rattle.jb_step.specs.Alone.{have_ended}
+
+-- the artifacts that came back, each with its partition
+abbrev pub given_back : {A : Type 0} → (A → ArtifactsMeaning) → List (ℕ × A) → List (ℕ × ArtifactsMeaning)
+given_back meaning left = map (λ a. (a.0, meaning a.1)) left
+
+-- the tasks as they were left: the artifacts that came back, each with its partition, and the rows
+abbrev pub tasks_left : Setup → Snapshot → List (ℕ × ArtifactsMeaning) → List TaskState
+tasks_left s snapshot left =
+    map
+    (λ a. record {
+      partition = a.0;
+      row = slice_index_or snapshot.rows.items a.0 (fresh_row (record { lo = 0; hi = 0 }));
+      rules = s.rules;
+      item_count = s.item_count;
+      work = a.1;
+    })
+    left
+
+-- what holds where nothing stopped the run: all partitions ended, and so is the last plan; and the history's numbers
+pub record IsUnstopped (start : List TaskState) (plans : List PlanRun) (snapshot : Snapshot) : Type 0 where
+  pub ended : have_ended (table_after plans start) ≡ true
+  pub over : IsLastOver plans start
+  pub plans_number : snapshot.plans ≡ length plans
+  pub events_number : snapshot.events ≡ events_of plans start
+
+-- one run of a step: what it was prepared with, the artifacts and the greatest number of rounds that were handed in; the
+-- calls that its analyzer had taken when it began, and at its end; its notes, its snapshot, and the artifacts handed back
+pub record StepRun : Type 0 where
+  pub setup : Setup
+  pub works : List ArtifactsMeaning
+  pub round_limit : Option ℕ
+  pub heard_before : List (Taken AnalyzerCall)
+  pub heard_after : List (Taken AnalyzerCall)
+  pub notes : List PlanNote
+  pub snapshot : Snapshot
+  pub left : List (ℕ × ArtifactsMeaning)
+
+-- the tasks that it began with, and those that it left, of the partitions that were unfinished when it began
+abbrev pub tasks_before : StepRun → List TaskState
+tasks_before r = first_tasks r.setup r.works
+
+abbrev pub tasks_after : StepRun → List TaskState
+tasks_after r = tasks_left r.setup r.snapshot r.left
+
+-- Run of a step: some plans were run, one after another, each a least one for what was left; these are its notes, its
+-- rows, its artifacts, and what the analyzer was told
+pub record IsRunOfStep (r : StepRun) : Type 0 where
+  pub plans : List PlanRun
+  pub run : ArePlanRuns r.setup (tasks_before r) plans
+  pub notes_are : r.notes ≡ notes_of plans
+  pub few : MatchOption r.round_limit (Unit {0}) (λ limit. length (rounds_of plans) ≤ limit)
+  pub rows : r.snapshot.rows.items ≡ rows_now r.setup.rows (table_after plans (tasks_before r))
+  pub tasks : tasks_after r ≡ table_after plans (tasks_before r)
+  pub heard_is : HasHeard r.heard_before (heard r.setup (tasks_before r) plans) r.heard_after
+  pub unstopped : r.snapshot.stopping ≡ false → IsUnstopped (tasks_before r) plans r.snapshot
+
+-- the status, by the rows and by whether a callback answered a fault
+abbrev pub IsStatus : Snapshot → List (Taken AnalyzerCall) → List (Taken ReducerCall) → Status → Type 0
+IsStatus snapshot analyzed reduced status = status ≡ status_of snapshot.rows.items (has_fault analyzed || has_fault reduced)
+
+-- the reducer's calls at the end, by how the step stands before them and by what `before_completion` answered
+abbrev pub AreCallsAfter : Snapshot → List (Taken AnalyzerCall) → List (Taken ReducerCall) → Type 0
+AreCallsAfter snapshot analyzed reduced =
+    calls_of reduced ≡ calls_after (run_end (status_of snapshot.rows.items (has_fault analyzed)) (before_failed reduced))
+
+-- The reducer's calls where memory lacked: some of these, in their order. Where `before_completion` was answered well, it is
+-- the only one: `after(Commit)`, which is called then, found no memory.
+pub record AreCallsInPart (reduced : List (Taken ReducerCall)) : Type 0 where
+  pub some : AreSome (calls_of reduced) (Before ∷ rolled_back)
+  pub alone : (more : List (Taken ReducerCall)) → reduced ≡ well Before ∷ more → more ≡ []
+
+-- the reducer's calls after an error: the step was rolled back, whatever that was answered
+abbrev pub AreCallsUndone : StepError → List (Taken ReducerCall) → Type 0
+AreCallsUndone Memory reduced = AreCallsInPart reduced
+AreCallsUndone _ reduced = calls_of reduced ≡ rolled_back
+
+-- the errors of a run: the artifacts don't fit the step, the desk isn't its own or refused an event, a worker could not be
+-- started, or memory lacked; plans, mappers and the reducer's `begin` belong to the preparation
+abbrev pub IsRunError : StepError → Type 0
+IsRunError WrongArtifacts = Unit {0}
+IsRunError (Repository partition) = Unit {0}
+IsRunError Workers = Unit {0}
+IsRunError Memory = Unit {0}
+IsRunError _ = ⊥

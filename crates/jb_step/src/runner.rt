@@ -1,0 +1,91 @@
+//! The desk, as what runs the rounds of a step.
+
+ghost use Rattle.std.specs.Prelude.{◌≡◌, true, IfOk};
+ghost use Rattle.jb_step.specs.inside.Round.{AreWhole, had_memory};
+ghost use Rattle.jb_workers.specs.Round.{AreDones};
+ghost use Rattle.jb_workers.specs.Works.{AllCanBegin, Rise};
+
+use crate::error::RunError;
+use jb_cert::Certificate;
+use jb_chunk::{Done, Outcome, PartitionTask};
+use jb_repo::{Event, Refused, Snapshot};
+use jb_workers::{Desk, Gate, Work};
+use std::alloc::{AllocError, Global};
+use std::sync::Wait;
+use std::sync::ledger::Ledger;
+use std::thread::Threads;
+
+/// A desk, whose rounds run in threads that come by a gate.
+#[derive(Drop)]
+pub(crate) struct RoundRunner<'a, L: Ledger, G, R> {
+    pub desk: &'a Desk<L>,
+    pub gate: &'a G,
+    pub rt: &'a R,
+}
+
+impl<'a, L: Ledger + Send + Sync + 'static, G: Gate + Sync, R: Threads + Wait + Sync> RoundRunner<
+    'a,
+    L,
+    G,
+    R,
+> {
+    /// Applies a Plan.
+    pub(crate) fn plan(&self, rounds: u64, certificate: Certificate) -> Result<(), Refused> {
+        self.desk.apply(self.rt, Event::Plan(rounds, certificate))
+    }
+
+    /// Applies a Stop.
+    pub(crate) fn stop(&self) -> Result<(), Refused> {
+        self.desk.apply(self.rt, Event::Stop)
+    }
+
+    /// Attempts the works' next chunks, each once and with memory, and closes the round. The attempts come in the order of the
+    /// works.
+    pub(crate) fn run_round<T: PartitionTask + Send + 'static>(
+        &self,
+        alloc: Global,
+        works: Vec<Work<T>>,
+    ) -> Result<Vec<Done<T>>, RunError>
+        requires can { AllCanBegin T.standing works.items }
+        requires rise { Rise T.standing works.items }
+        ensures dones { IfOk result (λ dones. AreDones T.standing works.items dones.items) }
+        ensures whole { IfOk result (λ dones. AreWhole dones.items) }
+    {
+        let dones = self.desk.run_round(self.rt, alloc, self.gate, works)?;
+        if !are_whole(dones.as_slice()) {
+            return Err(RunError::Memory);
+        }
+        Ok(dones)
+    }
+
+    /// Whether a stop was asked for.
+    pub(crate) fn is_stopping(&self) -> bool {
+        self.desk.is_stopping()
+    }
+
+    /// The rows now, and what the history says as a whole.
+    pub(crate) fn snapshot(&self) -> Result<Snapshot, AllocError> {
+        self.desk.status(self.rt)
+    }
+}
+
+// True where each attempt had memory.
+fn are_whole<T: PartitionTask>(dones: &[Done<T>]) -> bool
+    ensures { result ≡ true → AreWhole dones.now }
+{
+    for done in dones {
+        if !is_whole(done) {
+            return false;
+        }
+    }
+    true
+}
+
+fn is_whole<T: PartitionTask>(done: &Done<T>) -> bool
+    ensures { result ≡ had_memory done.now.outcome }
+{
+    match done.outcome {
+        Outcome::NoMemory => false,
+        Outcome::Committed(_) | Outcome::Rolled(_) | Outcome::Failed(_) => true,
+    }
+}

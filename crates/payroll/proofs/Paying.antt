@@ -1,0 +1,44 @@
+-- The results of a payroll are its pay slips.
+use Rattle.std.proofs.Common.{◌≡◌, ℕ, ◌+◌, List, [], ◌∷◌, Option, Some, None, refl, ap, subst}
+use Rattle.std.specs.List.{cons_option, enumerate_from, filter_map}
+use Rattle.jb_base.specs.declared.class.ClassId.{ClassId}
+use Rattle.jb_base.specs.Limits.{max_classes}
+use Rattle.std.proofs.Math.Bridge.{le_prop}
+use Rattle.std.specs.Prelude.{◌<◌}
+use Rattle.jb_records.specs.Function.{all_results, result_by, result_of}
+use Rattle.jb_collect.specs.declared.calls.Status.{Status}
+use Rattle.jb_collect.specs.declared.calls.Status.TheVariants as status
+use Rattle.payroll.specs.Payroll.{all_slips, exit_status, payroll, refusal_by}
+use Rattle.payroll.specs.Sheets.{slip_of}
+
+own-slip : (slip : Option (List ℕ)) → result_by (refusal_by slip) slip ≡ slip
+own-slip None = refl
+own-slip (Some slip) = refl
+
+slips-from : (n : ℕ) (lines : List (List ℕ)) → filter_map (λ r. result_of payroll r.0 r.1) (enumerate_from n lines) ≡ filter_map slip_of lines
+slips-from n [] = refl
+slips-from n (line ∷ lines) = λ i. cons_option (own-slip (slip_of line) i) (slips-from (n + 1) lines i)
+
+pub results-are-slips : (lines : List (List ℕ)) → all_results payroll lines ≡ all_slips lines
+results-are-slips lines = slips-from 0 lines
+
+-- ---- CLASSES BY THEIR NUMBERS
+
+classed : (n : ℕ) → n < max_classes → ClassId
+classed n small = record { number = n; below = small }
+
+-- a class is known by its number
+pub same-class : (class other : ClassId) → class.number ≡ other.number → class ≡ other
+unfolding classed
+same-class class other e =
+    let P : ℕ → Type 0 = λ n. (small : n < max_classes) → classed class.number class.below ≡ classed n small in
+    subst P e (λ small. ap (classed class.number) (le_prop class.below small)) other.below
+
+-- ---- THE EXIT STATUS
+
+-- it is 0 where the step is completed alone
+pub completed-if : (s : Status) → 0 ≡ exit_status s → s ≡ status.Completed
+completed-if status.Completed e = refl
+completed-if status.Failed e = absurd cc
+completed-if status.Stopped e = absurd cc
+completed-if status.Started e = absurd cc

@@ -1,0 +1,75 @@
+//! What is done to a time sheet.
+
+ghost use Rattle.std.specs.Prelude.{◌≡◌, IfOk};
+ghost use Rattle.payroll.specs.Payroll.{broken_class, payroll, tries_by, unsteady_class};
+
+use crate::sheet::{is_shaky, slip_of};
+use jb_artifacts::Item;
+use jb_base::{ClassId, DEFAULT_RETRY_LIMIT, Rules};
+use jb_records::RecordFunction;
+use std::alloc::{AllocError, Global};
+
+/// The class of the fault of a time sheet that has no pay slip.
+const BROKEN: u8 = 0;
+
+/// The class of the fault of a first try that fails.
+const UNSTEADY: u8 = 1;
+
+/// A time sheet that has no pay slip is skipped, and a try that fails is made again.
+pub const RULES: Rules = Rules {
+    skippable: 1,
+    retryable: 2,
+    no_rollback: 0,
+    skip_limit: None,
+    retry_limit: DEFAULT_RETRY_LIMIT,
+};
+
+/// Makes a pay slip of a time sheet. One that has none can't be read, and some of its first tries fail.
+#[derive(Drop)]
+pub struct Clerk {
+    pub alloc: Global,
+}
+
+impl RecordFunction for Clerk {
+    ghost function = { λ _. payroll };
+
+    fn refusal_of(&self, item: &[u8]) -> Result<Option<ClassId>, AllocError> {
+        match slip_of(self.alloc, item) {
+            Ok(Some(_)) => Ok(None),
+            Ok(None) => Ok(Some(broken())),
+            Err(_) => Err(AllocError),
+        }
+    }
+
+    fn answer_of(&self, _number: u64, item: &[u8]) -> Result<Option<Item>, AllocError> {
+        match slip_of(self.alloc, item) {
+            Ok(slip) => Ok(slip),
+            Err(_) => Err(AllocError),
+        }
+    }
+
+    fn tries_of(
+        &self,
+        alloc: Global,
+        _number: u64,
+        item: &[u8],
+    ) -> Result<Vec<ClassId>, AllocError> {
+        match is_shaky(alloc, item) {
+            Ok(true) => Vec::from_slice(alloc, &[unsteady()]),
+            Ok(false) => Ok(Vec::new(alloc)),
+            Err(_) => Err(AllocError),
+        }
+    }
+}
+
+fn broken() -> ClassId
+    ensures { result ≡ broken_class }
+{
+    ClassId::new(BROKEN)
+}
+
+fn unsteady() -> ClassId
+    ensures { result ≡ unsteady_class }
+{
+    ClassId::new(UNSTEADY)
+}
