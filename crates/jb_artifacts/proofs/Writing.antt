@@ -4,7 +4,7 @@ use Rattle.std.specs.Prelude.{is_some}
 use Rattle.std.specs.List.{find, prefix_len}
 use Rattle.std.specs.Option.{option_or}
 use Rattle.std.proofs.Math.Seq.{take-suc}
-use Rattle.std.proofs.lemmas.List.{get_or_default, map-append, take_all, length-take-le}
+use Rattle.std.proofs.lemmas.List.{get_or_default, length-map, map-append, take_all, length-take-le}
 use Rattle.std.proofs.lemmas.List.Folds.{find-append}
 use Rattle.jb_base.specs.declared.artifact_error.ArtifactError.{ArtifactError}
 use Rattle.jb_base.specs.declared.artifact_error.ArtifactError.TheVariants.{Fault, Memory}
@@ -63,9 +63,9 @@ module _ {X : Type 0} (p : X → Bool) where
       ap (λ k. find p (take k xs)) one_more ∙ ap (find p) (take-suc xs n x below) ∙ find-append p (take n xs) (get_or xs n x ∷ []) ∙ ap (λ o. option_or o (find p (get_or xs n x ∷ []))) none
       ∙ ap (λ y. find p (y ∷ [])) (sym is) ∙ ap (λ b. cond b (Some x) None) fails
 
-length-texts : (xs : Numbered) → length (texts_of xs) ≡ length xs
-length-texts [] = refl
-length-texts (x ∷ xs) = let more = length-texts xs in omega (arith, more)
+-- as many texts as results
+pub length-texts : (xs : Numbered) → length (texts_of xs) ≡ length xs
+length-texts xs = length-map xs (λ r. r.1)
 
 module _ (old : Writer) (results : Numbered) (n : ℕ) (now : Writer) (h : IsWrittenTo old results n now) where
   -- the next result is not appended

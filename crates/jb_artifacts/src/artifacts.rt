@@ -1,6 +1,6 @@
 //! The artifacts of a partition.
 
-ghost use Rattle.std.specs.Prelude.{◌≡◌, ◌↔◌, ◌≤◌, IsTrue};
+ghost use Rattle.std.specs.Prelude.{◌↔◌, ◌≤◌, IsTrue};
 ghost use Rattle.jb_artifacts.specs.Meaning.{ArtifactsMeaning, Fits};
 
 use crate::interfaces::{Collector, ItemProcessor, ItemReader, ItemWriter};

@@ -1,11 +1,18 @@
 -- Lists whose members stand in a relation, each to the one at its place.
-use Rattle.std.proofs.Common.{◌≡◌, List, [], ◌∷◌, refl, ap₂}
+use Rattle.std.proofs.Common.{◌≡◌, List, [], ◌∷◌, ◌++◌, refl, ap₂}
 use Rattle.jb_base.specs.Pairwise.{Pairwise}
 
 -- a list to itself
 pub pairwise-itself : {A : Type 0} (R : A → A → Type 0) → ((x : A) → R x x) → (xs : List A) → Pairwise R xs xs
 pairwise-itself R law [] = tt
 pairwise-itself R law (x ∷ xs) = (law x, pairwise-itself R law xs)
+
+-- one more member in each
+pub pairwise-push : {A B : Type 0} (R : A → B → Type 0) (xs : List A) (ys : List B) (x : A) (y : B) → Pairwise R xs ys → R x y → Pairwise R (xs ++ x ∷ []) (ys ++ y ∷ [])
+pairwise-push R [] [] x y r last = (last, tt)
+pairwise-push R [] (z ∷ ys) x y r last = absurd r
+pairwise-push R (z ∷ xs) [] x y r last = absurd r
+pairwise-push R (z ∷ xs) (w ∷ ys) x y r last = (r.0, pairwise-push R xs ys x y r.1 last)
 
 -- a list to a third one, over the second
 pub pairwise-join : {A B C : Type 0} (R : A → B → Type 0) (S : B → C → Type 0) (T : A → C → Type 0) → ((x : A) (y : B) (z : C) → R x y → S y z → T x z)

@@ -10,8 +10,7 @@ use Rattle.jb_cert.specs.Lawful.{Pair, StandsIn, HasOnePerPartition, IsLawful}
 use Rattle.jb_cert.specs.Plans.{slot_pair, sets_of, StandsForLawful}
 use Rattle.jb_cert.specs.Faults.{slots_of, slots_in_all}
 use Rattle.jb_cert.specs.inside.Walk.{found_fault}
-use Rattle.jb_cert.proofs.Numbers.{one_if}
-use Rattle.jb_cert.proofs.Judged.{no_slot, slots_in_all-more}
+use Rattle.jb_cert.proofs.Judged.{no_slot, one_if, slots_in_all-more}
 use Rattle.jb_cert.proofs.NoFault.{IsGood, AreGood, IsFaultless, faultless_from_none, none_from_faultless}
 
 -- ---- counts of slots with one number, as a lane or a partition

@@ -1,8 +1,7 @@
 -- What a plan's first fault says of the plan.
-use Rattle.std.proofs.Common.{◌≡◌, ◌≢◌, ◌⊎◌, ℕ, zero, suc, ◌<◌, ◌≤◌, Bool, true, false, cond, eqb, ltb, ◌||◌, List, [], ◌∷◌, ◌++◌, length, get_or, take, slice_index, Option, Some, None, sym, ◌∙◌, refl, ap, subst, inl, inr, arith, le_refl, length-take-le, append_assoc, append-nil}
+use Rattle.std.proofs.Common.{◌≡◌, ◌≢◌, ◌⊎◌, ℕ, zero, suc, ◌<◌, ◌≤◌, Bool, true, false, cond, eqb, List, [], ◌∷◌, ◌++◌, length, get_or, take, slice_index, Option, Some, None, sym, ◌∙◌, refl, ap, subst, inl, inr, arith, le_refl, length-take-le, append_assoc, append-nil, ltb-false, eqb-true}
 use Rattle.std.specs.List.{list_any}
-use Rattle.std.proofs.lemmas.Bool.{cases_lt, cases_eq}
-use Rattle.std.proofs.lemmas.Bool.Decides.{nat_tests}
+use Rattle.std.proofs.lemmas.Bool.{cases_lt, cases_eq, or_cases, eqb-false}
 use Rattle.std.proofs.lemmas.List.{get_or-take, get_or_default}
 use Rattle.jb_cert.specs.declared.plans.Slot.{Slot}
 use Rattle.jb_cert.specs.declared.plans.PlanFault.{PlanFault}
@@ -10,7 +9,6 @@ use Rattle.jb_cert.specs.declared.plans.PlanFault.TheVariants.{LaneRange, TwiceI
 use Rattle.jb_cert.specs.Faults.{slots_in_all, has_lane, is_known, collides, missing_fault}
 use Rattle.jb_cert.specs.WrongPlans.{IsSlotOf, HasLaneOutOfRange, HasStranger, Repeats, HasTwiceInRound, HasOutOfOrder, HasMissing, FirstFaultSays}
 use Rattle.jb_cert.specs.inside.Walk.{fault_here, first_of_two, fault_in_round, fault_after, found_fault}
-use Rattle.jb_cert.proofs.Numbers.{agree, differ}
 use Rattle.jb_cert.proofs.Judged.{no_slot, by_tests, nothing_missing}
 use Rattle.jb_cert.proofs.NoFault.{AreGood, good_in_round, known_both}
 use Rattle.jb_cert.proofs.Faultless.{slot_at, slot_from_stands, stands_from_slot, chunk_is_ran, ran_later, ran-whole, stood}
@@ -154,16 +152,9 @@ no_slot_is_missing true true true next is = cc
 no_slot_is_missing true true false false is = cc
 no_slot_is_missing true true false true is = cc
 
-not_below : (a n : ℕ) → ltb a n ≡ false → n ≤ a
-not_below a n is = grind (arith, nat_tests)
-
-either : (a b : Bool) → (a || b) ≡ true → (a ≡ true) ⊎ (b ≡ true)
-either true b is = inl refl
-either false b is = inr is
-
 collided : (slot : Slot) (here : List Slot) → list_any (collides slot) here ≡ true → (k : ℕ) × (k < length here) × (collides slot (get_or here k no_slot) ≡ true)
 collided slot [] is = cc
-collided slot (other ∷ rest) is = elim (either (collides slot other) (list_any (collides slot) rest) is) [
+collided slot (other ∷ rest) is = elim (or_cases (collides slot other) (list_any (collides slot) rest) is) [
   | inl first ↦ (0, omega arith, first)
   | inr later ↦
       let there = collided slot rest later in
@@ -185,7 +176,7 @@ module _ (counts : List ℕ) (threads : ℕ) (rounds : List (List Slot)) (f : Pl
   pub says_lane_range : f ≡ LaneRange → HasLaneOutOfRange threads rounds
   says_lane_range is =
       let test = lane_test (has_lane threads slot) (is_known counts slot) (list_any (collides slot) (take at.i round)) (eqb slot.chunk (slots_in_all slot.partition (take at.r rounds))) (at.is ∙ ap Some is) in
-      (slot, is_slot, not_below slot.lane threads test)
+      (slot, is_slot, ltb-false slot.lane threads test)
 
   pub says_stranger : f ≡ Stranger → HasStranger counts rounds
   says_stranger is =
@@ -199,7 +190,7 @@ module _ (counts : List ℕ) (threads : ℕ) (rounds : List (List Slot)) (f : Pl
 
   shared : (k : ℕ) → k < at.i → (number : Slot → ℕ) → eqb (number (get_or (take at.i round) k no_slot)) (number slot) ≡ true → Repeats number round
   shared k before number is =
-      let same = agree (number (get_or (take at.i round) k no_slot)) (number slot) is in
+      let same = eqb-true (number (get_or (take at.i round) k no_slot)) (number slot) is in
       let taken = get_or-take at.i round k no_slot before in (
         k,
         at.i,
@@ -217,7 +208,7 @@ module _ (counts : List ℕ) (threads : ℕ) (rounds : List (List Slot)) (f : Pl
       let there : Slot = get_or (take at.i round) other.0 no_slot in (
         at.r,
         at.round,
-        elim (either (eqb there.lane slot.lane) (eqb there.partition slot.partition) other.2) [
+        elim (or_cases (eqb there.lane slot.lane) (eqb there.partition slot.partition) other.2) [
           | inl lane ↦ inl (shared other.0 before (λ s. s.lane) lane)
           | inr partition ↦ inr (shared other.0 before (λ s. s.partition) partition)
         ],
@@ -238,7 +229,7 @@ module _ (counts : List ℕ) (threads : ℕ) (rounds : List (List Slot)) (f : Pl
               let there = stood counts threads rounds at.r inside at.good slot.partition slot.chunk at.r (le_refl at.r) before in
               inl (there.0, there.1, there.2)
           | inr past ↦
-              let differs : slot.chunk ≢ ran = λ same. differ slot.chunk ran test same in
+              let differs : slot.chunk ≢ ran = λ same. eqb-false slot.chunk ran test same in
               inr (
                 ran,
                 omega (arith, past, differs),

@@ -11,12 +11,14 @@ use Rattle.jb_cert.specs.declared.plans.PlanFault.{PlanFault}
 use Rattle.jb_cert.specs.declared.plans.PlanFault.TheVariants.{LaneRange, TwiceInRound, OutOfOrder, Missing, Stranger}
 use Rattle.jb_cert.specs.Faults.{slots_of, slots_in_all, has_lane, is_known, collides, missing_fault}
 use Rattle.jb_cert.specs.inside.Walk.{fault_here, first_of_two, fault_in_round, fault_after, found_fault}
-use Rattle.jb_cert.proofs.Numbers.{one_if}
 use Rattle.jb_cert.proofs.Sets.{get_or-range}
 
 -- what stands past the end of a round
 abbrev pub no_slot : Slot
 no_slot = record { lane = 0; partition = 0; chunk = 0 }
+
+abbrev pub one_if : Bool → ℕ
+one_if b = cond b 1 0
 
 -- ---- only the count of the slot's own partition matters
 

@@ -1,4 +1,3 @@
-pub mod Numbers
 pub mod LowerBound
 pub mod Rounds
 pub mod EndToEnd

@@ -1,5 +1,6 @@
 -- What the tests of certificates and of least plans say.
-use Rattle.std.proofs.Common.{◌≡◌, ◌↔◌, ℕ, ◌-◌, ◌*◌, ◌<◌, ◌≤◌, Bool, true, false, nat_eq, nat_lt, nat_le, List, length, sum, slice_get, slice_index, get_or, Option, Some, None, eq-eqb, refl, sym, ◌∙◌, subst, arith, le_antisymm}
+use Rattle.std.proofs.Common.{◌≡◌, ◌↔◌, ℕ, ◌-◌, ◌*◌, ◌<◌, ◌≤◌, Bool, true, false, nat_eq, nat_lt, nat_le, List, length, sum, slice_get, slice_index, get_or, Option, Some, None, eq-eqb, refl, sym, ◌∙◌, subst, arith, le_antisymm, eqb-true, ltb-true, leb-true}
+use Rattle.std.proofs.lemmas.Bool.{and_parts}
 use Rattle.std.specs.Prelude.{IsTrue}
 use Rattle.std.proofs.lemmas.Bool.Decides.{nat_tests}
 use Rattle.std.proofs.lemmas.Option.{slice_get-get_or, get_or_from_slice_get, slice_get_within}
@@ -8,18 +9,17 @@ use Rattle.jb_cert.specs.declared.certificates.Certificate.TheVariants.{Nothing,
 use Rattle.jb_cert.specs.Load.{mcnaughton}
 use Rattle.jb_cert.specs.Lawful.{IsLeastNumber}
 use Rattle.jb_cert.specs.Certificates.{Holds, is_count, certifies, is_least_plan}
-use Rattle.jb_cert.proofs.Numbers.{agree, below, both, within}
 use Rattle.jb_cert.proofs.LowerBound.{none_shorter_bound}
 use Rattle.jb_cert.proofs.Planned.{bound_is_least_number}
 
 longest_by : (o : Option ℕ) (counts : List ℕ) (p n : ℕ) → slice_get counts p ≡ o → is_count o n ≡ true → (p < length counts) × (slice_index counts p ≡ n)
 longest_by None counts p n is h = absurd cc
-longest_by (Some m) counts p n is h = (slice_get_within counts p m is, get_or_from_slice_get counts p m 0 is ∙ agree m n h)
+longest_by (Some m) counts p n is h = (slice_get_within counts p m is, get_or_from_slice_get counts p m 0 is ∙ eqb-true m n h)
 
 pub holds_from_test : (counts : List ℕ) (threads rounds : ℕ) (certificate : Certificate) → certifies counts threads rounds certificate ≡ true → Holds counts threads rounds certificate
-holds_from_test counts threads rounds Nothing h = let t = both _ _ h in (agree _ _ t.0, agree _ _ t.1)
+holds_from_test counts threads rounds Nothing h = let t = and_parts _ _ h in (eqb-true _ _ t.0, eqb-true _ _ t.1)
 holds_from_test counts threads rounds (Longest p) h = longest_by (slice_get counts p) counts p rounds refl h
-holds_from_test counts threads rounds FullLoad h = let t = both _ _ h in (within _ _ t.0, below _ _ t.1)
+holds_from_test counts threads rounds FullLoad h = let t = and_parts _ _ h in (leb-true _ _ t.0, ltb-true _ _ t.1)
 
 pub test_from_holds : (counts : List ℕ) (threads rounds : ℕ) (certificate : Certificate) → Holds counts threads rounds certificate → certifies counts threads rounds certificate ≡ true
 test_from_holds counts threads rounds Nothing h =
@@ -55,8 +55,8 @@ least_is_bound counts threads n some least =
 
 pub least_from_test : (counts : List ℕ) (threads rounds : ℕ) (certificate : Certificate) → 1 ≤ threads → is_least_plan counts threads rounds certificate ≡ true → IsLeastNumber counts threads rounds × Holds counts threads rounds certificate
 least_from_test counts threads rounds certificate some h =
-    let t = both _ _ h in (
-      subst (λ (n : ℕ). IsLeastNumber counts threads n) (sym (agree _ _ t.0)) (bound_is_least_number counts threads some),
+    let t = and_parts _ _ h in (
+      subst (λ (n : ℕ). IsLeastNumber counts threads n) (sym (eqb-true _ _ t.0)) (bound_is_least_number counts threads some),
       holds_from_test counts threads rounds certificate t.1,
     )
 

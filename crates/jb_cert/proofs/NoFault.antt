@@ -1,14 +1,13 @@
 -- No fault is found exactly where each slot is good by those before it, and no chunk is left.
-use Rattle.std.proofs.Common.{◌≡◌, ◌≢◌, ℕ, zero, suc, ◌<◌, Bool, true, false, cond, eqb, ltb, ◌&&◌, List, [], ◌∷◌, ◌++◌, length, get_or, take, slice_index, Option, Some, None, sym, refl, subst, arith, append_assoc, append-nil, ltb-true, lt-ltb, eq-eqb, ne_eqb}
+use Rattle.std.proofs.Common.{◌≡◌, ◌≢◌, ℕ, zero, suc, ◌<◌, Bool, true, false, cond, eqb, ltb, ◌&&◌, List, [], ◌∷◌, ◌++◌, length, get_or, take, slice_index, Option, Some, None, sym, refl, subst, arith, append_assoc, append-nil, ltb-true, lt-ltb, eq-eqb, ne_eqb, eqb-true}
 use Rattle.std.specs.List.{list_any}
-use Rattle.std.proofs.lemmas.Bool.{or_parts, or_from}
+use Rattle.std.proofs.lemmas.Bool.{or_parts, or_from, eqb-false}
 use Rattle.std.proofs.lemmas.Bool.Decides.{nat_tests}
 use Rattle.jb_cert.specs.declared.plans.Slot.{Slot}
 use Rattle.jb_cert.specs.declared.plans.PlanFault.{PlanFault}
 use Rattle.jb_cert.specs.declared.plans.PlanFault.TheVariants.{Missing}
 use Rattle.jb_cert.specs.Faults.{slots_in_all, has_lane, is_known, collides, missing_fault}
 use Rattle.jb_cert.specs.inside.Walk.{fault_here, first_of_two, fault_in_round, fault_after, found_fault}
-use Rattle.jb_cert.proofs.Numbers.{agree, differ}
 use Rattle.jb_cert.proofs.Judged.{at_range, by_tests, known_parts, nothing_missing}
 
 -- what no fault at a slot says: so many chunks of its partition stood before, and these slots in its round
@@ -24,7 +23,7 @@ apart_from_none slot [] none k d within = absurd (omega arith)
 apart_from_none slot (other ∷ rest) none zero d within =
     let parts = or_parts (collides slot other) (list_any (collides slot) rest) none in
     let both = or_parts (eqb other.lane slot.lane) (eqb other.partition slot.partition) parts.0 in
-    (differ other.lane slot.lane both.0, differ other.partition slot.partition both.1)
+    (eqb-false other.lane slot.lane both.0, eqb-false other.partition slot.partition both.1)
 apart_from_none slot (other ∷ rest) none (suc k) d within =
     let parts = or_parts (collides slot other) (list_any (collides slot) rest) none in
     apart_from_none slot rest parts.1 k d (omega arith)
@@ -63,7 +62,7 @@ good_from_none counts threads ran here slot is =
       partition = known.0;
       chunk = known.1;
       apart = apart_from_none slot here passed.2;
-      next = agree slot.chunk (ran slot.partition) passed.3;
+      next = eqb-true slot.chunk (ran slot.partition) passed.3;
     }
 
 none_from_good : (counts : List ℕ) (threads : ℕ) (ran : ℕ → ℕ) (here : List Slot) (slot : Slot) → IsGood counts threads (ran slot.partition) here slot → fault_here counts threads ran here slot ≡ None
@@ -147,7 +146,7 @@ missing_none false is = cc
 pub faultless_from_none : (counts : List ℕ) (threads : ℕ) (rounds : List (List Slot)) → found_fault counts threads rounds ≡ None → IsFaultless counts threads rounds
 faultless_from_none counts threads rounds is = record {
   good = λ r i d round slot. good_in_round counts threads (λ p. slots_in_all p (take r rounds)) [] (get_or rounds r []) (rounds_pass counts threads [] rounds is r round) i d slot;
-  whole = λ p within. agree (slots_in_all p rounds) (slice_index counts p)
+  whole = λ p within. eqb-true (slots_in_all p rounds) (slice_index counts p)
       (at_range (λ q. eqb (slots_in_all q rounds) (slice_index counts q)) (length counts) (missing_none _ (end_passes counts threads [] rounds is)) p within);
 }
 

@@ -1,8 +1,7 @@
 -- In a round of the wrap-around the partitions rise with the lanes.
-use Rattle.std.proofs.Common.{◌≡◌, ℕ, suc, zero, ◌+◌, ◌*◌, ◌-◌, ◌≤◌, ◌<◌, Bool, true, false, ◌&&◌, cond, List, [], ◌∷◌, map, filter_map, Option, Some, None, refl, ap, sym, arith}
+use Rattle.std.proofs.Common.{◌≡◌, ℕ, suc, zero, ◌+◌, ◌*◌, ◌-◌, ◌≤◌, ◌<◌, Bool, true, false, ◌&&◌, cond, List, [], ◌∷◌, map, filter_map, Option, Some, None, refl, ap, sym, arith, ltb-true, ltb-false, le-ltb}
 use Rattle.std.specs.Prelude.{nat_lt, max, sum, option_map}
 use Rattle.std.specs.List.{range_with_len, cons_option}
-use Rattle.std.proofs.lemmas.Bool.Decides.{nat_tests}
 use Rattle.std.proofs.lemmas.List.Sums.{sum_by-cons}
 use Rattle.jb_cert.specs.declared.plans.Slot.{Slot}
 use Rattle.jb_cert.specs.Load.{longest_count, mcnaughton}
@@ -10,15 +9,6 @@ use Rattle.jb_cert.specs.Rising.{RiseFrom, Rise}
 use Rattle.jb_cert.specs.WrapAround.{partition_at_place, pair_at_place, lane_slot, in_lane, slots_of_round}
 
 -- THE ROW OF ALL CHUNKS
-
-below : (x n : ℕ) → nat_lt x n ≡ true → x < n
-below x n e = grind (arith, nat_tests)
-
-not_below : (x n : ℕ) → nat_lt x n ≡ false → n ≤ x
-not_below x n e = grind (arith, nat_tests)
-
-behind : (x n : ℕ) → n ≤ x → nat_lt x n ≡ false
-behind x n le = grind (arith, nat_tests)
 
 -- either only the first place lies in the first partition (a and b say so of both), or neither does and the rest decides
 later_by : (a b : Bool) (p q : ℕ) → (a ≡ true → b ≡ false) → (a ≡ false → (b ≡ false) × (p < q)) → cond a 0 (suc p) < cond b 0 (suc q)
@@ -35,9 +25,9 @@ later (n ∷ ns) x y far in_row =
     let rest : longest_count ns ≤ max n (longest_count ns) = omega arith in
     let row : sum (n ∷ ns) ≡ n + sum ns = sum_by-cons (λ (k : ℕ). k) n ns in
     later_by (nat_lt x n) (nat_lt y n) (partition_at_place ns (x - n)) (partition_at_place ns (y - n))
-    (λ e. let lt = below x n e in behind y n (omega (arith, long, far)))
-    (λ e. let le = not_below x n e in
-    (behind y n (omega (arith, le, long, far)), later ns (x - n) (y - n) (omega (arith, le, long, rest, far)) (omega (arith, le, long, far, in_row, row))))
+    (λ e. let lt = ltb-true x n e in le-ltb y n (omega (arith, long, far)))
+    (λ e. let le = ltb-false x n e in
+    (le-ltb y n (omega (arith, le, long, far)), later ns (x - n) (y - n) (omega (arith, le, long, rest, far)) (omega (arith, le, long, far, in_row, row))))
 
 -- A ROUND
 
@@ -64,9 +54,9 @@ slot_is counts threads r l slot e =
     let rounds = mcnaughton counts threads in
     let x = l * rounds + r in
     slot_by (nat_lt r rounds && nat_lt l threads && nat_lt x (sum counts)) counts threads r l slot
-    (λ t. below x (sum counts) (last_of (nat_lt r rounds) (nat_lt l threads) (nat_lt x (sum counts)) t)) e
+    (λ t. ltb-true x (sum counts) (last_of (nat_lt r rounds) (nat_lt l threads) (nat_lt x (sum counts)) t)) e
 
--- the places of a later lane lie a whole lane or more behind
+-- the places of a later lane lie a whole lane or more le-ltb
 lane_behind : (l m rounds r : ℕ) → l < m → (l * rounds + r) + rounds ≤ m * rounds + r
 lane_behind l zero rounds r lt = absurd (omega (arith, lt))
 lane_behind l (suc m) rounds r lt =

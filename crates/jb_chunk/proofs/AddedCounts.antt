@@ -82,7 +82,8 @@ found-passes : (p : ℕ → Bool) (xs : List ℕ) (k : ℕ) → find p xs ≡ So
 found-passes p [] k e = absurd cc
 found-passes p (x ∷ xs) k e = found-step p x k (find p xs) (p x) refl (found-passes p xs k) e
 
-settling-stops : (rules : RulesRecord) (row : Row) (w : ArtifactsMeaning) (hi k : ℕ) → settling rules row w hi ≡ Some k → stops rules row (fault_in (entry w k)) (skips_before row w k) ≡ true
+-- the record that settles a block has a fault that isn't skipped
+pub settling-stops : (rules : RulesRecord) (row : Row) (w : ArtifactsMeaning) (hi k : ℕ) → settling rules row w hi ≡ Some k → stops rules row (fault_in (entry w k)) (skips_before row w k) ≡ true
 unfolding settling settles
 settling-stops rules row w hi k e = found-passes (settles rules row w) (range_with_len row.at (hi - row.at)) k e
 

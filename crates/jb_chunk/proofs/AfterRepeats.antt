@@ -10,22 +10,18 @@ use Rattle.jb_artifacts.specs.Writer.{Writer}
 use Rattle.jb_chunk.specs.Alone.{retries_left}
 use Rattle.jb_chunk.specs.Attempt.{block_of, all_repeated, after_repeats, again_of, IsRestored}
 use Rattle.jb_chunk.specs.Standing.{TaskState, IsReady}
-use Rattle.jb_chunk.specs.inside.Repeats.{IsRepeated}
 use Rattle.jb_chunk.proofs.ChunkRepeats.{after_repeats-repeated}
-
-abbrev pub all_repeats : (t : TaskState) → IsRepeated t (all_repeated t)
-all_repeats t = after_repeats-repeated t
 
 -- all repeats change nothing else of the task
 pub after_repeats-is : (t : TaskState) → all_repeated t ≡ after_repeats t
-after_repeats-is t = (all_repeats t).rest
+after_repeats-is t = (after_repeats-repeated t).rest
 
 -- the row has grown by the repeats, and nothing else
 again-is : (row now : Row) (n : ℕ) → now ≡ repeated_row row n → now.in_place - row.in_place ≡ n
 again-is row now n e = let in_place : now.in_place ≡ row.in_place + n = ap (λ (r : Row). r.in_place) e in omega (arith, in_place)
 
 pub after_repeats-row : (t : TaskState) → (after_repeats t).row ≡ repeated_row t.row (again_of t)
-after_repeats-row t = let r = all_repeats t in r.row ∙ ap (repeated_row t.row) (sym (again-is t.row _ r.again r.row))
+after_repeats-row t = let r = after_repeats-repeated t in r.row ∙ ap (repeated_row t.row) (sym (again-is t.row _ r.again r.row))
 
 pub after_repeats-block : (t : TaskState) → block_of (after_repeats t) ≡ block_of t
 after_repeats-block t = ap (row_block t.item_count) (after_repeats-row t)
@@ -37,7 +33,7 @@ few-by again limit retries (inr few) = omega (arith, few)
 -- no more are made than retries are left
 pub again-few : (t : TaskState) → again_of t ≤ retries_left t
 again-few t =
-    let r = all_repeats t in
+    let r = after_repeats-repeated t in
     let few = few-by r.again t.rules.retry_limit t.row.retries r.few in
     let is = again-is t.row _ r.again r.row in
     omega (arith, few, is)
@@ -52,7 +48,7 @@ pub after_repeats-in_place : (t : TaskState) → (after_repeats t).row.in_place 
 after_repeats-in_place t = ap (λ (r : Row). r.in_place) (after_repeats-row t)
 
 pub after_repeats-work : (t : TaskState) → IsRestored t.row.at (block_of t).hi t.work (after_repeats t).work
-after_repeats-work t = (all_repeats t).work
+after_repeats-work t = (after_repeats-repeated t).work
 
 pub after_repeats-ready-by : (t : TaskState) → IsReady t → IsSoundRow (after_repeats t).row → IsReady (after_repeats t)
 after_repeats-ready-by t ready sound =

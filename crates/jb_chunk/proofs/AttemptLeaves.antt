@@ -1,5 +1,5 @@
 -- What an attempt leaves.
-use Rattle.std.proofs.Common.{◌≡◌, ℕ, ◌+◌, ◌≤◌, ◌++◌, List, [], ◌∷◌, length, length-append, take, refl, ap, sym, ◌∙◌, subst, arith, Option, Some, None}
+use Rattle.std.proofs.Common.{◌≡◌, ℕ, ◌+◌, ◌≤◌, ◌++◌, List, length, length-append, take, take_all, refl, ap, sym, ◌∙◌, subst, arith, Option, Some, None}
 use Rattle.jb_rules.specs.Sound.{IsSoundRow}
 use Rattle.jb_rules.specs.declared.row.Row.{Row}
 use Rattle.jb_artifacts.specs.Reader.{reader_end, opened}
@@ -12,16 +12,13 @@ use Rattle.jb_chunk.specs.inside.ChunkEnds.{place_by, kept_by, row_with, work_by
 use Rattle.jb_chunk.specs.Block.{passed, MayBeUsed}
 use Rattle.jb_chunk.specs.Standing.{TaskState, IsReady}
 use Rattle.jb_chunk.specs.inside.TriedChunk.{IsTried}
+use Rattle.jb_artifacts.proofs.Writing.{length-texts}
+use Rattle.jb_chunk.proofs.ChunkEnds.{take-front, front-longer}
 use Rattle.jb_chunk.proofs.AddedCounts.{IsAdded}
 use Rattle.jb_chunk.proofs.WorkLeft.{read_end, write_plans, work_as, left-as}
 use Rattle.jb_chunk.proofs.ChunkRepeats.{may-same, may-used_for}
 use Rattle.jb_chunk.proofs.UsedPlans.{worn-passed}
 use Rattle.jb_chunk.proofs.OwnRecords.{read-in, failing-in}
-use Rattle.std.proofs.lemmas.Grind.{common_steps}
-
-pub length-texts : (xs : Numbered) → length (texts_of xs) ≡ length xs
-length-texts [] = refl
-length-texts (x ∷ xs) = let more = length-texts xs in omega (arith, more)
 
 grown : (t : TaskState) (kept : Numbered) (count : ℕ) → length kept ≡ count → IsReady t → length (t.work.writer.written ++ texts_of kept) ≡ t.row.written + count
 grown t kept count more r = let before = r.count in omega (arith, before, more, length-append t.work.writer.written (texts_of kept), length-texts kept)
@@ -77,16 +74,10 @@ may-write : (t : TaskState) (settled : Option ℕ) → MayBeUsed t.row.at (block
 may-write t (Some k) = may-same t.row.at (block_of t).hi t.work.writer.faults
 may-write t None = may-used_for t.work.writer.faults (failing t.work.writer.faults (results_of t)) t.row.at (block_of t).hi (failing-in t)
 
-take-all : (xs : List (List ℕ)) (n : ℕ) → length xs ≡ n → take n xs ≡ xs
-take-all xs n e = grind (arith, common_steps)
-
-take-front : (xs ys : List (List ℕ)) (n : ℕ) → length xs ≡ n → take n (xs ++ ys) ≡ xs
-take-front xs ys n e = grind (arith, common_steps)
-
 cut-kept : (e : ChunkEnd) (old : List (List ℕ)) (found : Numbered) (n : ℕ) → length old ≡ n → take n (kept_by e old found) ≡ old
 cut-kept (Committed delta) old found n h = take-front old _ n h
-cut-kept (Rolled class) old found n h = take-all old n h
-cut-kept (Failed class) old found n h = take-all old n h
+cut-kept (Rolled class) old found n h = take_all n old (omega (arith, h))
+cut-kept (Failed class) old found n h = take_all n old (omega (arith, h))
 
 -- opened again at the checkpoint
 abbrev pub reopened : Row → ArtifactsMeaning → ArtifactsMeaning
@@ -113,9 +104,6 @@ first-by t e now at = ap (λ (v : ArtifactsMeaning). v.reader.first) (at ∙ lef
 
 pub end-by : (t : TaskState) (e : ChunkEnd) (now : ArtifactsMeaning) → now ≡ work_by t e → reader_end now.reader ≡ reader_end t.work.reader
 end-by t e now at = ap (λ (v : ArtifactsMeaning). reader_end v.reader) (at ∙ left-as t _ _)
-
-front-longer : (xs ys : List (List ℕ)) → length xs ≤ length (xs ++ ys)
-front-longer xs ys = omega (arith, length-append xs ys)
 
 kept-longer : (e : ChunkEnd) (old : List (List ℕ)) (found : Numbered) → length old ≤ length (kept_by e old found)
 kept-longer (Committed delta) old found = front-longer old _

@@ -1,5 +1,5 @@
 -- How a chunk ends.
-use Rattle.std.proofs.Common.{◌≡◌, ℕ, ◌+◌, suc, false, not, cond, List, [], ◌∷◌, ◌++◌, append-nil, length, take, Option, Some, None, is_some, refl, ap, sym, ◌∙◌, arith}
+use Rattle.std.proofs.Common.{◌≡◌, ℕ, ◌≤◌, ◌+◌, suc, false, not, cond, List, [], ◌∷◌, ◌++◌, append-nil, length, take, Option, Some, None, is_some, refl, ap, sym, ◌∙◌, arith}
 use Rattle.std.specs.Prelude.{◌==◌}
 use Rattle.std.specs.List.{take_while, prefix_len}
 use Rattle.std.proofs.lemmas.Grind.{common_steps}
@@ -81,8 +81,11 @@ kept-fault skipped class Retry old found one = refl
 kept-fault skipped class Again old found one = refl
 kept-fault skipped class Fail old found one = refl
 
-take-front : (xs ys : Texts) (n : ℕ) → length xs ≡ n → take n (xs ++ ys) ≡ xs
+pub take-front : (xs ys : Texts) (n : ℕ) → length xs ≡ n → take n (xs ++ ys) ≡ xs
 take-front xs ys n e = grind (arith, common_steps)
+
+pub front-longer : (xs ys : Texts) → length xs ≤ length (xs ++ ys)
+front-longer xs ys = grind (arith, common_steps)
 
 -- a write with a fault that is cut back keeps none
 pub kept-some : (rules : RulesRecord) (row : Row) (records : ℕ) (tally : Yield) (w : Writer) (found : Numbered) (class : ClassId) (skips n : ℕ) → length w.written ≡ n → record (after_write w found) { written = take n (after_write w found).written } ≡ writer_by (end_from rules row records tally (Some class) skips) w found

@@ -29,7 +29,7 @@ again-opened retried true true opened e = absurd cc
 again-opened retried true false true e = refl
 again-opened retried true false false e = absurd cc
 
-opened-below : (b : Bool) (m n : ℕ) → (b && nat_lt m n) ≡ true → m < n
+pub opened-below : (b : Bool) (m n : ℕ) → (b && nat_lt m n) ≡ true → m < n
 opened-below b m n e = grind (arith, nat_tests)
 
 -- a fault is repeated only where a retry is left
@@ -116,7 +116,7 @@ outside-wide lo hi from to k a b (inr past) = inr (omega (arith, b, past))
 pub may-wide : (lo hi from to : ℕ) (a b : FaultTable) → from ≤ lo → hi ≤ to → MayBeUsed lo hi a b → MayBeUsed from to a b
 may-wide lo hi from to a b f t used = record { each = used.each; others = λ k out. used.others k (outside-wide lo hi from to k f t out) }
 
-one-or-none : (b : Bool) (plan : FaultPlan) → (n : ℕ) × (cond b (used plan) plan ≡ used_times n plan)
+pub one-or-none : (b : Bool) (plan : FaultPlan) → (n : ℕ) × (cond b (used plan) plan ≡ used_times n plan)
 one-or-none true plan = (1, refl)
 one-or-none false plan = (0, refl)
 

@@ -16,7 +16,7 @@ pub mod AttemptLeaves
 pub mod Attempts
 pub mod RunsAlone
 pub mod AddedCounts
-pub mod StepsOfLife
+pub mod OnCourse
 pub mod RunsOfAttempts
 pub mod CalmRecords
 pub mod PlainRuns

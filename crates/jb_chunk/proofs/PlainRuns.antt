@@ -14,6 +14,7 @@ use Rattle.jb_rules.specs.Counts.{no_counts}
 use Rattle.jb_artifacts.specs.Faults.{FaultTable, live}
 use Rattle.jb_artifacts.specs.Writer.{fault_of, used_for}
 use Rattle.jb_artifacts.specs.Meaning.{ArtifactsMeaning}
+use Rattle.jb_artifacts.proofs.Writing.{length-texts}
 use Rattle.jb_chunk.specs.declared.chunk_end.ChunkEnd.TheVariants.{Committed}
 use Rattle.jb_chunk.specs.Attempt.{block_of, all_repeated, again_of, asks_repeat, fault_at, skips_at, end_of, end_at, counts_of, results_of, AttemptEnd, ending_by, attempt_of}
 use Rattle.jb_chunk.specs.Block.{count_of, skips_before, repeats}
@@ -25,9 +26,8 @@ use Rattle.jb_chunk.proofs.ChunkRepeats.{after_repeats-last}
 use Rattle.jb_chunk.proofs.WorkLeft.{work_as, left-as}
 use Rattle.jb_chunk.proofs.PassedRecords.{between-outside}
 use Rattle.jb_chunk.proofs.SettlingRecord.{numbers-split}
-use Rattle.jb_chunk.proofs.AttemptLeaves.{length-texts}
 use Rattle.jb_chunk.proofs.CalmRecords.{answer_at, calm-texts, calm-failing, calm-settling, calm-reads, calm-processes, calm-filtered}
-use Rattle.jb_chunk.proofs.RunsAlone.{block-in, finished-at, waiting-at, left-waiting}
+use Rattle.jb_chunk.proofs.RunsAlone.{block-in, finished-at, waiting-at, below-at, left-waiting}
 
 -- two chunks are as one, but for the commits
 merged : (row : Row) (mid hi r1 w1 r2 w2 c2 r w c : ℕ) → r1 + r2 ≡ r → w1 + w2 ≡ w → 1 + c2 ≡ c → w1 ≤ r1 → w2 ≤ r2 → committed_row (committed_row row mid (plain_delta r1 w1 1)) hi (plain_delta r2 w2 c2) ≡ committed_row row hi (plain_delta r w c)
@@ -242,10 +242,6 @@ ended-at : (b : Bool) (at hi : ℕ) → (at == hi) ≡ b → has_ended (cond b s
 ended-at true at hi e ended = grind (arith, nat_tests)
 ended-at false at hi e ended = cc
 
-below-at : (b : Bool) (at hi : ℕ) → (at == hi) ≡ b → at ≤ hi → cond b state.Finished state.Waiting ≡ state.Waiting → at < hi
-below-at true at hi e le waiting = cc
-below-at false at hi e le waiting = grind (arith, nat_tests)
-
 calm-first : (t : TaskState) (hi : ℕ) → hi ≤ t.row.hi → IsCalm t.work t.row.at t.row.hi → IsCalm t.work t.row.at hi
 calm-first t hi le calm = record {
   reads = λ k p q. calm.reads k p (omega (arith, q, le));
@@ -260,7 +256,7 @@ plain-run law t [] s run ended le redo stands count calm =
     let P : TaskState → Type 0 = λ v. IsPlain t v in
     subst P (sym run) (plain-none law t (ended-at (t.row.at == t.row.hi) t.row.at t.row.hi refl here) redo stands count)
 plain-run law t (e ∷ es) s run ended le redo stands count calm =
-    let lt = below-at (t.row.at == t.row.hi) t.row.at t.row.hi refl le (sym stands ∙ run.0) in
+    let lt = below-at t.row.at t.row.hi le (sym stands ∙ run.0) in
     let b = block-in law t lt redo count in
     let from = b.0 in
     let to = b.1 in

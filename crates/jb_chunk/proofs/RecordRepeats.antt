@@ -2,7 +2,9 @@
 use Rattle.std.proofs.Common.{◌≡◌, ℕ, zero, suc, ◌+◌, ◌-◌, ◌≤◌, ◌<◌, ◌⊎◌, inl, inr, Bool, true, false, not, ◌&&◌, nat_lt, cond, Option, Some, None, is_some, refl, ap, sym, ◌∙◌, subst, arith, eqb}
 use Rattle.std.specs.Prelude.{nat_le}
 use Rattle.std.specs.List.{find, range_with_len, filter_map, cons_option, count_by}
+use Rattle.std.proofs.lemmas.Bool.{ltb-true}
 use Rattle.std.proofs.lemmas.Bool.Decides.{nat_tests}
+use Rattle.std.proofs.Math.Nat.{eq-or-lt_of_le}
 use Rattle.std.proofs.lemmas.List.Sums.{sum_by-cons}
 use Rattle.jb_base.specs.declared.class.ClassId.{ClassId}
 use Rattle.jb_base.specs.Rules.{RulesRecord}
@@ -67,23 +69,13 @@ none-holds : (p : ℕ → Bool) (x : ℕ) (b : Bool) (others : Option ℕ) → p
 none-holds p x true others h e = absurd cc
 none-holds p x false others h e = (h, e)
 
-same-first : (p : ℕ → Bool) (lo k : ℕ) → lo ≡ k → p lo ≡ false → p k ≡ false
-same-first p lo k e h = subst (λ x. p x ≡ false) e h
-
-later-by : (b : Bool) (lo k : ℕ) → eqb lo k ≡ b → lo ≤ k → (lo ≡ k) ⊎ (lo + 1 ≤ k)
-later-by true lo k e le = inl (grind (arith, nat_tests))
-later-by false lo k e le = inr (grind (arith, nat_tests))
-
-first-or-later : (lo k : ℕ) → lo ≤ k → (lo ≡ k) ⊎ (lo + 1 ≤ k)
-first-or-later lo k le = later-by (eqb lo k) lo k refl le
-
-unfound : (p : ℕ → Bool) (n lo : ℕ) → find p (range_with_len lo n) ≡ None → (k : ℕ) → lo ≤ k → k < lo + n → p k ≡ false
+pub unfound : (p : ℕ → Bool) (n lo : ℕ) → find p (range_with_len lo n) ≡ None → (k : ℕ) → lo ≤ k → k < lo + n → p k ≡ false
 unfound p zero lo none k le lt = absurd (omega (arith, le, lt))
 unfound p (suc n) lo none k le lt =
     let parts = none-holds p lo (p lo) (find p (range_with_len (lo + 1) n)) refl none in
-    elim (first-or-later lo k le) [
-      | inl same ↦ same-first p lo k same parts.0
-      | inr later ↦ unfound p n (lo + 1) parts.1 k later (omega (arith, lt))
+    elim (eq-or-lt_of_le le) [
+      | inl same ↦ subst (λ x. p x ≡ false) same parts.0
+      | inr later ↦ unfound p n (lo + 1) parts.1 k (omega (arith, later)) (omega (arith, lt))
     ]
 
 -- records that are skipped stay so behind a repeat at a later record
@@ -247,9 +239,6 @@ three true false c d h = refl
 three false true c d h = refl
 three false false c d h = refl
 
-below-of : (k n : ℕ) → nat_lt k n ≡ true → k < n
-below-of k n e = grind (arith, nat_tests)
-
 times-between-by : (b : Bool) (c d : ℕ → Bool) (plans : FaultTable) (lo n m k : ℕ) → eqb k n ≡ b → ((j : ℕ) → j < n → c j ≡ d j) → called_times m (used_between c plans lo n) n k ≡ used_between d (called_times m plans n) lo n k
 unfolding used_between
 times-between-by true c d plans lo n m k e same =
@@ -258,7 +247,7 @@ times-between-by true c d plans lo n m k e same =
     (times-alike m _ _ n (between-outside c plans lo n n (omega arith)) ∙ sym (between-outside d (called_times m plans n) lo n n (omega arith)))
 times-between-by false c d plans lo n m k e same =
     times-other m _ n k e
-    ∙ (λ i. cond (three (nat_le lo k) (nat_lt k n) (c k) (d k) (λ h. same k (below-of k n h)) i) (used (sym (times-other m plans n k e) i)) (sym (times-other m plans n k e) i))
+    ∙ (λ i. cond (three (nat_le lo k) (nat_lt k n) (c k) (d k) (λ h. same k (ltb-true k n h)) i) (used (sym (times-other m plans n k e) i)) (sym (times-other m plans n k e) i))
 
 times-between : (c d : ℕ → Bool) (plans : FaultTable) (lo n m : ℕ) → ((j : ℕ) → j < n → c j ≡ d j) → called_times m (used_between c plans lo n) n ≡ used_between d (called_times m plans n) lo n
 times-between c d plans lo n m same = fun_ext (λ k. times-between-by (eqb k n) c d plans lo n m k refl same)

@@ -1,8 +1,7 @@
 -- A call that is repeated in place.
-use Rattle.std.proofs.Common.{◌≡◌, ℕ, suc, ◌+◌, ◌-◌, ◌≤◌, ◌<◌, ◌⊎◌, inl, inr, Bool, true, false, not, List, ◌++◌, length, length-append, take, option_to_list, is_some, Option, Some, None, Result, Ok, Err, IfOk, OnOk, refl, ap, sym, ◌∙◌, subst, arith, eqb}
+use Rattle.std.proofs.Common.{◌≡◌, ℕ, suc, ◌+◌, ◌-◌, ◌≤◌, ◌<◌, ◌⊎◌, inl, inr, Bool, true, false, not, List, ◌++◌, length, length-append, option_to_list, is_some, Option, Some, None, Result, Ok, Err, IfOk, OnOk, refl, ap, sym, ◌∙◌, subst, arith, eqb}
 use Rattle.std.specs.List.{take_while}
 use Rattle.std.proofs.lemmas.Bool.Decides.{nat_tests}
-use Rattle.std.proofs.lemmas.Grind.{common_steps}
 use Rattle.jb_base.specs.declared.class.ClassId.{ClassId}
 use Rattle.jb_base.specs.declared.artifact_error.ArtifactError.{ArtifactError}
 use Rattle.jb_base.specs.declared.artifact_error.ArtifactError.TheVariants.{Fault, Memory}
@@ -14,12 +13,13 @@ use Rattle.jb_artifacts.specs.Answers.{IfFault, IfNoMemory}
 use Rattle.jb_artifacts.specs.Faults.{live, used_at, is_live}
 use Rattle.jb_artifacts.specs.Reader.{reader_end, opened, record_at, read_fault, after_read}
 use Rattle.jb_artifacts.specs.Processor.{process_fault, after_process}
-use Rattle.jb_artifacts.specs.Writer.{Numbered, Texts, texts_of, cut, write_fault, after_write, torn_write}
+use Rattle.jb_artifacts.specs.Writer.{Numbered, texts_of, cut, write_fault, after_write, torn_write}
 use Rattle.jb_artifacts.specs.Meaning.{ArtifactsMeaning}
 use Rattle.jb_chunk.specs.Block.{repeats}
 use Rattle.jb_chunk.specs.Entries.{numbered}
 use Rattle.jb_chunk.specs.Standing.{HasRepeats}
 use Rattle.jb_chunk.specs.inside.Repeats.{Call, called_times, called, next_fault, seen_as, fault_answered, results_behind, read_call, process_call, write_call, IsCalling, IsCalled, IsRead, IsProcessed, IsPut, rewritten, written_times}
+use Rattle.jb_chunk.proofs.ChunkEnds.{take-front}
 use Rattle.jb_chunk.proofs.ChunkRepeats.{repeats-below}
 use Rattle.jb_chunk.proofs.RecordRepeats.{row-suc, row-none}
 
@@ -214,9 +214,6 @@ put-at w left found m o at e = ap (λ (v : ArtifactsMeaning). write_fault v.writ
 
 put-past : (w left new : ArtifactsMeaning) (found : Numbered) (m : ℕ) → left ≡ (write_call w found).before m → new ≡ record left { writer = after_write left.writer found } → new ≡ (write_call w found).behind m
 put-past w left new found m at e = e ∙ ap (λ (v : ArtifactsMeaning). record v { writer = after_write v.writer found }) at
-
-take-front : (xs ys : Texts) (n : ℕ) → length xs ≡ n → take n (xs ++ ys) ≡ xs
-take-front xs ys n e = grind (arith, common_steps)
 
 -- what a failing write left, cut back
 put-back : (w left failed back : ArtifactsMeaning) (found : Numbered) (m n : ℕ) → length w.writer.written ≡ n → left ≡ (write_call w found).before m → failed ≡ record left { writer = after_write left.writer found } → back ≡ record failed { writer = cut failed.writer n } → back ≡ (write_call w found).before (suc m)

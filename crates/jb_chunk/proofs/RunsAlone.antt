@@ -1,7 +1,8 @@
 -- A task that runs alone.
-use Rattle.std.proofs.Common.{◌≡◌, ℕ, ◌+◌, ◌≤◌, ◌<◌, Bool, true, false, cond, List, [], ◌∷◌, ◌++◌, length, length-append, Option, Some, None, refl, ap, sym, ◌∙◌, subst, arith}
-use Rattle.std.specs.Prelude.{◌&&◌, nat_lt, ◌==◌}
+use Rattle.std.proofs.Common.{◌≡◌, ℕ, ◌+◌, ◌≤◌, ◌<◌, ◌⊎◌, inl, inr, Bool, true, false, cond, List, [], ◌∷◌, ◌++◌, length, length-append, Option, Some, None, refl, ap, sym, ◌∙◌, subst, arith}
+use Rattle.std.specs.Prelude.{nat_lt, ◌==◌}
 use Rattle.std.proofs.lemmas.Bool.Decides.{nat_tests}
+use Rattle.std.proofs.Math.Nat.{eq-or-lt_of_le}
 use Rattle.jb_base.specs.declared.class.ClassId.{ClassId}
 use Rattle.jb_base.specs.Limits.{max_retry_limit, max_rollbacks, max_in_place}
 use Rattle.jb_plan.specs.Blocks.{ChunksFollow}
@@ -24,6 +25,7 @@ use Rattle.jb_chunk.specs.inside.ChunkEnds.{after_end, outcome_with}
 use Rattle.jb_chunk.proofs.AddedCounts.{IsAdded, end-added}
 use Rattle.jb_chunk.proofs.AfterRepeats.{after_repeats-row, after_repeats-left, after_repeats-in_place}
 use Rattle.jb_chunk.proofs.AttemptLeaves.{parts-of}
+use Rattle.jb_chunk.proofs.ChunkRepeats.{opened-below}
 use Rattle.jb_chunk.specs.Standing.{TaskState, IsReady, HasItemCount, HasRepeats}
 
 -- a chunk is rolled back only where a retry is left
@@ -35,13 +37,10 @@ rolled-open b true true opened skipped k class e = cc
 rolled-open b true false true skipped k class e = refl
 rolled-open b true false false skipped k class e = cc
 
-open-below : (b : Bool) (m n : ℕ) → (b && nat_lt m n) ≡ true → m < n
-open-below b m n e = grind (arith, nat_tests)
-
 end-below : (t : TaskState) (fault : Option ClassId) (skips : ℕ) (class : ClassId) → end_at t fault skips ≡ Rolled class → t.row.retries < t.rules.retry_limit
 end-below t None skips class e = cc
 end-below t (Some k) skips class e =
-    open-below (has_class t.rules.retryable k) t.row.retries t.rules.retry_limit
+    opened-below (has_class t.rules.retryable k) t.row.retries t.rules.retry_limit
     (rolled-open (has_class t.rules.no_rollback k) (nat_lt t.row.at t.row.redo) (skip_open t.rules k skips) _ (counts_of t 0 1) k class e)
 
 pub rolled-below : (t : TaskState) (class : ClassId) → end_of t ≡ Rolled class → t.row.retries < t.rules.retry_limit
@@ -87,22 +86,23 @@ fail-by t (Committed delta) class o = cc
 fail-by t (Rolled k) class o = cc
 fail-by t (Failed k) class o = refl
 
-same-of : (m n : ℕ) → (m == n) ≡ true → m ≡ n
-same-of m n e = grind (arith, nat_tests)
+pub finished-at : (at hi : ℕ) → at ≡ hi → state_at at hi ≡ state.Finished
+finished-at at hi e = let same : (at == hi) ≡ true = grind (arith, nat_tests) in ap (λ b. cond b state.Finished state.Waiting) same
 
-differ-of : (m n : ℕ) → (m == n) ≡ false → m ≤ n → m < n
-differ-of m n e le = grind (arith, nat_tests)
+pub waiting-at : (at hi : ℕ) → at < hi → state_at at hi ≡ state.Waiting
+waiting-at at hi lt = let other : (at == hi) ≡ false = grind (arith, nat_tests) in ap (λ b. cond b state.Finished state.Waiting) other
 
-unlike : (s : RowState) → s ≡ state.Finished → s ≡ state.Waiting → 1 ≤ 0
-unlike s f w = cc
+some-left : (at hi : ℕ) (s : RowState) → (at ≡ hi) ⊎ (at < hi) → (at ≡ hi → s ≡ state.Finished) → s ≡ state.Waiting → at < hi
+some-left at hi s (inl e) finished waiting = let never : state.Finished ≡ state.Waiting = sym (finished e) ∙ waiting in absurd cc
+some-left at hi s (inr lt) finished waiting = lt
 
-below-by : (b : Bool) (row : Row) → (row.at == row.hi) ≡ b → row.at ≤ row.hi → (row.at ≡ row.hi → row.state ≡ state.Finished) → row.state ≡ state.Waiting → row.at < row.hi
-below-by true row e le finished waiting = let never = unlike row.state (finished (same-of row.at row.hi e)) waiting in omega (arith, never)
-below-by false row e le finished waiting = differ-of row.at row.hi e le
+-- a record is left where the state says so
+pub below-at : (at hi : ℕ) → at ≤ hi → state_at at hi ≡ state.Waiting → at < hi
+below-at at hi le waiting = some-left at hi (state_at at hi) (eq-or-lt_of_le le) (finished-at at hi) waiting
 
--- a Waiting row has a record left
+-- and in a Waiting row
 pub left-waiting : (row : Row) → IsSoundRow row → row.state ≡ state.Waiting → row.at < row.hi
-left-waiting row sound waiting = below-by (row.at == row.hi) row refl sound.placed.at_to (λ e. sound.finished.1 e) waiting
+left-waiting row sound waiting = some-left row.at row.hi row.state (eq-or-lt_of_le sound.placed.at_to) sound.finished.1 waiting
 
 -- what an attempt with this outcome leaves of the task after all its repeats
 left-by : (t after : TaskState) (out : Outcome) (values : List (List ℕ)) (again : ℕ) → ending_of after out values again ≡ attempt_of t → after ≡ after_end (after_repeats t) (end_of (after_repeats t))
@@ -191,12 +191,6 @@ last-alone start now e way ready waiting last ended = record {
       let lt = left-waiting now.row ready.sound waiting in
       omega (arith, few, more, lt);
 }
-
-pub finished-at : (at hi : ℕ) → at ≡ hi → state_at at hi ≡ state.Finished
-finished-at at hi e = let same : (at == hi) ≡ true = grind (arith, nat_tests) in ap (λ b. cond b state.Finished state.Waiting) same
-
-pub waiting-at : (at hi : ℕ) → at < hi → state_at at hi ≡ state.Waiting
-waiting-at at hi lt = let other : (at == hi) ≡ false = grind (arith, nat_tests) in ap (λ b. cond b state.Finished state.Waiting) other
 
 -- a chunk that was committed ends the task where no record is left
 pub commit-ends : ChunksFollow → (start now after : TaskState) (d : Counts) (values : List (List ℕ)) (again : ℕ) → IsReady now → now.row.state ≡ state.Waiting → IsUnderWay start now → ending_of after (outcome.Committed d) values again ≡ attempt_of now → after.row.at ≡ after.row.hi → IsAlone start after × (after.row.state ≡ state.Finished)

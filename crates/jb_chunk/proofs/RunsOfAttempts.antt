@@ -12,7 +12,7 @@ use Rattle.jb_chunk.specs.Alone.{IsRunOf, IsOnTheWay, IsAlone, retries_of, retri
 use Rattle.jb_chunk.specs.Attempt.{AttemptEnd, after_repeats, again_of, end_of, attempt_of}
 use Rattle.jb_chunk.specs.Laws.{OneEnd, CalmRunsArePlain, RunsAreShort, RetriesAreFew, WaysJoin, WaysEnd, TasksStayReady, TasksStandAtCheckpoints, SamePlace, SameEnd, CommitsTakeOneChunk}
 use Rattle.jb_chunk.specs.Standing.{TaskState, IsReady, taken_up}
-use Rattle.jb_chunk.proofs.StepsOfLife.{IsOnCourse, Goes, ready-course, course-next, rollbacks-rise, repeats-grow, ready-next, one-chunk, retry-by, again-in}
+use Rattle.jb_chunk.proofs.OnCourse.{IsOnCourse, Goes, ready-course, course-next, rollbacks-rise, repeats-grow, ready-next, one-chunk, retry-by, again-in}
 use Rattle.jb_chunk.proofs.AfterRepeats.{after_repeats-row, after_repeats-left}
 use Rattle.jb_chunk.proofs.PlainRuns.{plain-run, plain-alone}
 use Rattle.jb_chunk.proofs.RunsAlone.{block-in, finished-at}

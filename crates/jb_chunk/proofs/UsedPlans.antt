@@ -1,17 +1,12 @@
 -- Reader and processor that stop in the middle of a block.
-use Rattle.std.proofs.Common.{◌≡◌, ℕ, ◌≤◌, Bool, true, false, not, ◌&&◌, cond, nat_lt, refl, sym, ◌∙◌, subst, arith, ◌<◌, ◌⊎◌, inl, inr}
+use Rattle.std.proofs.Common.{◌≡◌, ℕ, ◌≤◌, Bool, true, not, ◌&&◌, nat_lt, refl, sym, ◌∙◌, subst, arith, ◌<◌, ◌⊎◌, inl, inr}
 use Rattle.std.specs.Prelude.{nat_le}
-use Rattle.jb_artifacts.specs.declared.faults.FaultPlan.{FaultPlan}
-use Rattle.jb_artifacts.specs.Faults.{FaultTable, used, is_live}
+use Rattle.jb_artifacts.specs.Faults.{FaultTable, is_live}
 use Rattle.jb_artifacts.specs.Meaning.{ArtifactsMeaning}
-use Rattle.jb_chunk.specs.Block.{used_between, used_times, passed, MayBeUsed}
+use Rattle.jb_chunk.specs.Block.{used_between, passed, MayBeUsed}
 use Rattle.jb_chunk.specs.inside.Gathering.{IsWornTo}
 use Rattle.jb_chunk.proofs.PassedRecords.{between-before, between-outside}
-use Rattle.jb_chunk.proofs.ChunkRepeats.{may-trans, may-wide}
-
-once : (b : Bool) (p : FaultPlan) → (n : ℕ) × (cond b (used p) p ≡ used_times n p)
-once true p = (1, refl)
-once false p = (0, refl)
+use Rattle.jb_chunk.proofs.ChunkRepeats.{one-or-none, may-trans, may-wide}
 
 others-between : (called : ℕ → Bool) (plans : FaultTable) (lo n hi k : ℕ) → n ≤ hi → (k < lo) ⊎ (hi ≤ k) → used_between called plans lo n k ≡ plans k
 others-between called plans lo n hi k le (inl below) = between-before called plans lo n k below
@@ -20,7 +15,7 @@ others-between called plans lo n hi k le (inr past) = between-outside called pla
 used_between-may : (called : ℕ → Bool) (plans : FaultTable) (lo n hi : ℕ) → n ≤ hi → MayBeUsed lo hi plans (used_between called plans lo n)
 unfolding used_between
 used_between-may called plans lo n hi le = record {
-  each = λ k. once (nat_le lo k && nat_lt k n && called k) (plans k);
+  each = λ k. one-or-none (nat_le lo k && nat_lt k n && called k) (plans k);
   others = λ k out. others-between called plans lo n hi k le out;
 }
 

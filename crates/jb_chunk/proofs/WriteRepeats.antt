@@ -1,6 +1,6 @@
 -- A block whose records are done and whose write is repeated; and a block that a record's fault settles.
-use Rattle.std.proofs.Common.{◌≡◌, ℕ, zero, suc, ◌+◌, ◌-◌, ◌≤◌, ◌<◌, Bool, true, false, List, ◌++◌, length, take, Some, None, Ok, Err, refl, ap, sym, ◌∙◌, subst, arith}
-use Rattle.std.proofs.lemmas.Grind.{common_steps}
+use Rattle.std.proofs.Common.{◌≡◌, ℕ, zero, suc, ◌+◌, ◌-◌, ◌≤◌, ◌<◌, Bool, true, false, ◌++◌, length, take, Some, None, Ok, Err, refl, ap, sym, ◌∙◌, subst, arith}
+use Rattle.std.proofs.Math.Seq.{take-append_seam}
 use Rattle.jb_base.specs.declared.class.ClassId.{ClassId}
 use Rattle.jb_base.specs.declared.artifact_error.ArtifactError.TheVariants.{Fault, Memory}
 use Rattle.jb_base.specs.Rules.{RulesRecord}
@@ -26,7 +26,7 @@ use Rattle.jb_chunk.specs.inside.TriedChunk.{IsTried, IsFinish, IsTorn, writer_b
 use Rattle.jb_chunk.proofs.RecordRepeats.{row-none, row-suc, settling-alike, tally-alike, skips-alike}
 use Rattle.jb_chunk.proofs.ChunkRepeats.{same-rules, same-hi, repeated-more, repeated-last, may-same, may-trans, may-used_for}
 use Rattle.jb_chunk.proofs.SettlingRecord.{skips-tally}
-use Rattle.jb_chunk.proofs.ChunkEnds.{kept-none, kept-some}
+use Rattle.jb_chunk.proofs.ChunkEnds.{front-longer, kept-none, kept-some}
 use Rattle.jb_chunk.proofs.TriedChunk.{settled-tried, whole-tried}
 use Rattle.jb_chunk.proofs.UsedPlans.{worn-passed}
 use Rattle.jb_chunk.proofs.DoneRecords.{restored-worn}
@@ -258,12 +258,6 @@ put-faulted rules row now hi w left back tally class end count put ends cuts =
       },
     )
 
-front-kept : (xs ys : List (List ℕ)) → take (length xs) (xs ++ ys) ≡ xs
-front-kept xs ys = grind (arith, common_steps)
-
-front-longer : (xs ys : List (List ℕ)) → length xs ≤ length (xs ++ ys)
-front-longer xs ys = grind (arith, common_steps)
-
 pub put-torn : (rules : RulesRecord) (skips : ℕ) (row now : Row) (w left : ArtifactsMeaning) (found : Numbered) → IsPut rules skips row w found (Err Memory) now left → IsTornWrite w found left
 put-torn rules skips row now w left found put =
     let is = put.no_memory in
@@ -275,7 +269,7 @@ put-torn rules skips row now w left found put =
       again = put.again;
       others = is ∙ (λ i. record w { writer = (sym is i).writer });
       plans = ap (λ (v : ArtifactsMeaning). v.writer.faults) is;
-      written = ap (take (length w.writer.written)) grown ∙ front-kept w.writer.written more;
+      written = ap (take (length w.writer.written)) grown ∙ take-append_seam w.writer.written more;
       longer = omega (arith, long, longer);
     }
 

@@ -162,11 +162,9 @@ ending_by t again (Committed delta) =
     let written = t.work.writer.written ++ texts_of (if delta.write_skip == 0 then results_of t else []) in
     ending_of (record t { row = row; work = work_left t row.at written }) (outcome.Committed delta) (values_of t.work.collector t.partition row) again
 ending_by t again (Rolled class) =
-    let row = rolled_row t.row (block_of t).hi in
-    ending_of (record t { row = row; work = work_left t row.at t.work.writer.written }) (outcome.Rolled class) [] again
+    ending_of (record t { row = rolled_row t.row (block_of t).hi; work = work_left t t.row.at t.work.writer.written }) (outcome.Rolled class) [] again
 ending_by t again (Failed class) =
-    let row = failed_row t.row in
-    ending_of (record t { row = row; work = work_left t row.at t.work.writer.written }) (outcome.Failed class) [] again
+    ending_of (record t { row = failed_row t.row; work = work_left t t.row.at t.work.writer.written }) (outcome.Failed class) [] again
 
 -- the attempt at the task's next chunk, where it finds its memory: the chunk ends after all its repeats
 abbrev pub attempt_of : TaskState → AttemptEnd

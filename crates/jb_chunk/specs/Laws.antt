@@ -1,16 +1,14 @@
 -- What holds of a task's attempts, wherever they lead.
-use Rattle.std.specs.Prelude.{ℕ, ◌≡◌, ◌≤◌, ◌<◌, ◌+◌, ◌-◌, ◌↔◌, ◌⊎◌, true, List, ◌∷◌, length}
+use Rattle.std.specs.Prelude.{◌≡◌, ◌≤◌, ◌<◌, ◌+◌, ◌-◌, ◌↔◌, ◌⊎◌, true, List, ◌∷◌, length}
 use Rattle.jb_base.specs.declared.range.Range.{Range}
 use Rattle.jb_plan.specs.Blocks.{blocks}
 use Rattle.jb_rules.specs.declared.counts.Counts.{Counts}
-use Rattle.jb_rules.specs.declared.row.Row.{Row}
 use Rattle.jb_rules.specs.declared.row.RowState.TheVariants as state
 use Rattle.jb_base.specs.Limits.{max_rollbacks, max_in_place}
 use Rattle.jb_rules.specs.Counts.{IsDelta}
-use Rattle.jb_rules.specs.Rows.{repeated_row, committed_row, rolled_row, failed_row}
+use Rattle.jb_rules.specs.Rows.{repeated_row}
 use Rattle.jb_rules.specs.States.{has_ended}
-use Rattle.jb_chunk.specs.declared.outcome.Outcome.{Outcome}
-use Rattle.jb_chunk.specs.declared.outcome.Outcome.TheVariants.{Committed, Rolled, Failed, NoMemory}
+use Rattle.jb_chunk.specs.declared.outcome.Outcome.TheVariants.{Committed}
 use Rattle.jb_chunk.specs.Alone.{IsRunOf, IsOnTheWay, IsAlone, retries_in, retries_left, attempts_left}
 use Rattle.jb_chunk.specs.Attempt.{AttemptEnd, IsAttempt, attempt_of, ending_by, end_of, block_of, after_repeats, again_of}
 use Rattle.jb_chunk.specs.Plain.{IsCalm, IsPlain}
@@ -89,22 +87,15 @@ CommitsTakeOneChunk =
     (t s : TaskState) (delta : Counts) → IsReady t → IsOnTheWay t s → s.row.state ≡ state.Waiting → (attempt_of s).outcome ≡ Committed delta
     → blocks_of s ≡ block_of s ∷ blocks_of (attempt_of s).task
 
+-- and its counts are those of a committed chunk with as many records
+abbrev pub CommitsHaveDeltas : Type 0
+CommitsHaveDeltas =
+    (t : TaskState) (e : AttemptEnd) (delta : Counts) → IsReady t → t.row.state ≡ state.Waiting → IsAttempt t e → e.outcome ≡ Committed delta
+    → IsDelta ((block_of t).hi - t.row.at) delta
+
 -- the repeats of a task's next block are so many retries of its row, and change nothing else of it
 abbrev pub RepeatsAreRetries : Type 0
 RepeatsAreRetries = (t : TaskState) → (after_repeats t).row ≡ repeated_row t.row (again_of t)
-
--- what an attempt at the chunk that ends at `hi`, with so many repeats, does to its row, by its outcome
-abbrev pub IsStepOfLife : Outcome → (again : ℕ) → (row : Row) → (hi : ℕ) → (after : Row) → Type 0
-IsStepOfLife (Committed delta) again row hi after = IsDelta (hi - row.at) delta × (after ≡ committed_row (repeated_row row again) hi delta)
-IsStepOfLife (Rolled class) again row hi after = after ≡ rolled_row (repeated_row row again) hi
-IsStepOfLife (Failed class) again row hi after = after ≡ failed_row (repeated_row row again)
-IsStepOfLife NoMemory again row hi after = after ≡ row
-
--- each attempt takes the row a step further in its life
-abbrev pub RowsLiveOn : Type 0
-RowsLiveOn =
-    (t : TaskState) (e : AttemptEnd) → IsReady t → t.row.state ≡ state.Waiting → IsAttempt t e
-    → IsStepOfLife e.outcome e.again t.row (block_of t).hi e.task.row
 
 -- NO REPEATS
 

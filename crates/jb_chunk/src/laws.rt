@@ -1,6 +1,6 @@
 //! The laws of a task's attempts. The functions do nothing: their contracts are the laws.
 
-ghost use Rattle.jb_chunk.specs.Laws.{OneEnd, CalmRunsArePlain, RunsAreShort, RetriesAreFew, WaysJoin, WaysEnd, TasksStayReady, TasksStandAtCheckpoints, SamePlace, SameEnd, CommitsTakeOneChunk, RowsLiveOn, RepeatsAreRetries, AttemptsWithoutRepeats, RepeatsStay};
+ghost use Rattle.jb_chunk.specs.Laws.{OneEnd, CalmRunsArePlain, RunsAreShort, RetriesAreFew, WaysJoin, WaysEnd, TasksStayReady, TasksStandAtCheckpoints, SamePlace, SameEnd, CommitsTakeOneChunk, CommitsHaveDeltas, RepeatsAreRetries, AttemptsWithoutRepeats, RepeatsStay};
 
 use jb_plan::chunks_follow_one_another;
 use jb_rules::rows_stay_sound;
@@ -49,11 +49,11 @@ pub fn tasks_stand_at_checkpoints()
     chunks_follow_one_another();
 }
 
-/// Each attempt takes the row a step further in its life, and one that commits takes just the first of the chunks that
-/// are left. Its repeats in place are retries of the row, and change nothing else of it.
+/// An attempt that commits takes just the first of the chunks that are left, and its counts are those of a committed chunk
+/// with as many records. The repeats in place are retries of the row, and change nothing else of it.
 pub fn attempts_are_steps()
     ensures chunk { CommitsTakeOneChunk }
-    ensures row { RowsLiveOn }
+    ensures delta { CommitsHaveDeltas }
     ensures repeats { RepeatsAreRetries }
 {
     chunks_follow_one_another();

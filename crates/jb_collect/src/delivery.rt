@@ -1,6 +1,5 @@
 //! What an analyzer is told of a round.
 
-ghost use Rattle.std.specs.Prelude.{map};
 ghost use Rattle.jb_chunk.specs.Attempt.{ending_of};
 ghost use Rattle.jb_collect.specs.Heard.{heard_of, heard_in, endings_of, collected_calls, ended_calls};
 ghost use Rattle.jb_collect.specs.Taken.{TakesCalls};

@@ -1,9 +1,10 @@
 -- An object apart: a member, and the object without it, as data.
-use Rattle.std.proofs.Common.{◌≡◌, ℕ, ◌&&◌, Bool, true, false, cond, List, Option, Some, None, option_map, option_and_then, Ok, refl, sym, ap, subst, ◌∙◌, bytes_eq, nat_cmp, Ordering, Less, Equal, Greater}
+use Rattle.std.proofs.Common.{◌≡◌, ℕ, Bool, true, false, cond, List, Option, Some, None, option_map, option_and_then, Ok, refl, sym, ap, subst, ◌∙◌, bytes_eq, nat_cmp, Ordering, Less, Equal, Greater}
 use Rattle.std.specs.List.{list_all}
 use Rattle.std.specs.Prelude.{⊤}
 use Rattle.std.specs.Cmp.Lexicographic.{slice_cmp}
 use Rattle.std.specs.Ordering.{match_ordering}
+use Rattle.std.proofs.lemmas.Bool.{and_parts}
 use Rattle.std.proofs.lemmas.Option.{option_and_then_some, same_Some}
 use Rattle.std.proofs.lemmas.Slice.Eq.{bytes_eq-Decides}
 use Rattle.json.specs.Json as json
@@ -69,10 +70,6 @@ found_last name (json.member k j ms) old found e =
 
 -- ---- the keys that are found are those of the members
 
-both : (a b : Bool) → (a && b) ≡ true → (a ≡ true) × (b ≡ true)
-both true b e = (refl, e)
-both false b e = absurd (cc)
-
 names_put_at : (p : List ℕ → Bool) (o : Ordering) (k l : List ℕ) (d e : Data) (ms : Members) → p k ≡ true → p l ≡ true → list_all p (member_names ms) ≡ true → list_all p (member_names (put k d ms)) ≡ true
     → list_all p (member_names (match_ordering o (member k d (member l e ms)) (member l d ms) (member l e (put k d ms)))) ≡ true
 names_put_at p Less k l d e ms here there all later = rw (here, there, all) refl
@@ -82,13 +79,13 @@ names_put_at p Greater k l d e ms here there all later = rw (there, later) refl
 names_put : (p : List ℕ → Bool) (k : List ℕ) (d : Data) (ms : Members) → p k ≡ true → list_all p (member_names ms) ≡ true → list_all p (member_names (put k d ms)) ≡ true
 names_put p k d no_members here all = rw here refl
 names_put p k d (member l e ms) here all =
-    let parts = both (p l) (list_all p (member_names ms)) all in
+    let parts = and_parts (p l) (list_all p (member_names ms)) all in
     names_put_at p (slice_cmp nat_cmp k l) k l d e ms here parts.0 parts.1 (names_put p k d ms here parts.1)
 
 pub names_found : (p : List ℕ → Bool) (ms : json.Members) (old found : Members) → list_all p (keys ms) ≡ true → list_all p (member_names old) ≡ true → of_members ms old ≡ Some found → list_all p (member_names found) ≡ true
 names_found p json.no_members old found named all e = subst (λ ms. list_all p (member_names ms) ≡ true) (same_Some old found e) all
 names_found p (json.member k j ms) old found named all e =
-    let parts = both (p k) (list_all p (keys ms)) named in
+    let parts = and_parts (p k) (list_all p (keys ms)) named in
     let one = one_then j ms k old found e in
     names_found p ms (put k one.0 old) found parts.1 (names_put p k one.0 old parts.0 all) one.2
 

@@ -3,7 +3,7 @@ use Rattle.std.proofs.Common.{◌≡◌, ℕ, ◌+◌, ◌-◌, ◌≤◌, ◌<�
 use Rattle.std.specs.Prelude.{◌&&◌, ◌==◌, nat_le, nat_lt, bytes_eq, slice_get, IfSome, if◌then◌else◌, codes}
 use Rattle.std.specs.List.{position_or_len}
 use Rattle.std.specs.List.Sorted.{IsStrictlyIncreasing}
-use Rattle.std.proofs.lemmas.Bool.{cases_lt}
+use Rattle.std.proofs.lemmas.Bool.{cases_lt, eqb-true, leb-true, ltb-true}
 use Rattle.std.proofs.lemmas.Bool.Decides.{nat_tests}
 use Rattle.std.proofs.lemmas.List.{get_or-map, length-map, map-append}
 use Rattle.std.proofs.lemmas.List.Elements.{All-append, All-cons, All-nil}
@@ -40,19 +40,13 @@ use Rattle.jb_documents.specs.PlanDocument.{counts_at, plan_document_at}
 use Rattle.jb_documents.specs.RunDocument.{data_list_at, document_at}
 use Rattle.jb_documents.specs.StepFields.{records_at, drop_at, data_at}
 
-at-most : (n high : ℕ) → nat_le n high ≡ true → n ≤ high
-at-most n high e = grind (arith, nat_tests)
-
-lt-is : (n m : ℕ) → nat_lt n m ≡ true → n < m
-lt-is n m e = grind (arith, nat_tests)
-
 -- ---- the document of `plan`
 
 counts-read : (f : Field) (d : Data) → IfOk (counts_at f d) (λ counts. (length counts ≤ max_load_partitions) × (sum counts ≤ max_chunks))
 unfolding counts_at
 counts-read f d = followed _ _ (list_at 0 max_load_partitions f d) _ (list-between 0 max_load_partitions f d) (λ items within.
     followed _ _ (each_at (λ _. number_at 0 max_chunks f) items) _ (each-long (λ _. number_at 0 max_chunks f) items) (λ counts long.
-    in-range (λ found. (length found ≤ max_load_partitions) × (sum found ≤ max_chunks)) f _ counts (λ few. (omega (arith, long, within.1), at-most (sum counts) max_chunks few))))
+    in-range (λ found. (length found ≤ max_load_partitions) × (sum found ≤ max_chunks)) f _ counts (λ few. (omega (arith, long, within.1), leb-true (sum counts) max_chunks few))))
 
 load-read : (d : Data) → IfOk (plan_document_at d) (λ load. IsWithinLimits load.counts load.threads)
 unfolding plan_document_at
@@ -151,11 +145,11 @@ past-is (e ∷ earlier) number past some =
     let there = slice_get-get_or (e ∷ earlier) last e (omega arith) in
     let below : nat_lt (get_or (e ∷ earlier) last e).number number ≡ true = sym (ap (λ before. is_past before number) there) ∙ past in
     let same = get_or-map number_of (e ∷ earlier) last e 0 (omega arith) in
-    omega (arith, same, lt-is (get_or (e ∷ earlier) last e).number number below)
+    omega (arith, same, ltb-true (get_or (e ∷ earlier) last e).number number below)
 
-number-read : (f : Field) (records number : ℕ) (earlier : List PlannedFault) (past : Bool) → is_past (slice_get earlier (length earlier - 1)) number ≡ past → IfOk (fault_number f records earlier number) (λ n. IsPast earlier n × (n < records))
+pub number-read : (f : Field) (records number : ℕ) (earlier : List PlannedFault) (past : Bool) → is_past (slice_get earlier (length earlier - 1)) number ≡ past → IfOk (fault_number f records earlier number) (λ n. IsPast earlier n × (n < records))
 unfolding fault_number
-number-read f records number earlier true past = rw past (in-range (λ n. IsPast earlier n × (n < records)) f (nat_lt number records) number (λ inside. (past-is earlier number past, lt-is number records inside)))
+number-read f records number earlier true past = rw past (in-range (λ n. IsPast earlier n × (n < records)) f (nat_lt number records) number (λ inside. (past-is earlier number past, ltb-true number records inside)))
 number-read f records number earlier false past = rw past tt
 
 past-there : (earlier : List PlannedFault) (number : ℕ) → IsPast earlier number → 0 < length (map number_of earlier) → get_or (map number_of earlier) (length (map number_of earlier) - 1) 0 < number
@@ -226,7 +220,7 @@ step-faults-read classes few records f d =
 
 -- ---- the data of a step
 
-abbrev IsRecord : List ℕ → Type 0
+abbrev pub IsRecord : List ℕ → Type 0
 IsRecord text = length text ≤ max_record
 
 records-read : (f : Field) (d : Data) → IfOk (records_at f d) (λ records. (length records ≤ max_records) × All IsRecord records)
@@ -262,14 +256,11 @@ data-read classes few d =
 
 -- ---- the document of `run`
 
-pub as-many : (n m : ℕ) → (n == m) ≡ true → n ≡ m
-as-many n m e = grind (arith, nat_tests)
-
 pub list-read : (job : Job) → IsJob job → (f : Field) (d : Data) → IfOk (data_list_at job f d) (λ steps. (length steps ≡ length job.steps) × All (IsStepData job.classes) steps)
 unfolding data_list_at
 list-read job kept f d = next _ (shaped f (as_array d)) _ (λ items. if-so _ (items_len items == length job.steps) _ _ (λ so.
     both _ _ (each_at (λ _. data_at job.classes) items)
-    (IfOk-weaker (each_at (λ _. data_at job.classes) items) _ _ (λ steps long. long ∙ as-many (items_len items) (length job.steps) so) (each-long (λ _. data_at job.classes) items))
+    (IfOk-weaker (each_at (λ _. data_at job.classes) items) _ _ (λ steps long. long ∙ eqb-true (items_len items) (length job.steps) so) (each-long (λ _. data_at job.classes) items))
     (each-has (IsStepData job.classes) (λ _. data_at job.classes) (λ _. data-read job.classes kept.classes.few) items)))
 
 document-read : JobsKeepRanges → (d : Data) → IfOk (document_at d) IsRunDocument

@@ -1,8 +1,8 @@
 -- The tree of a document is read as the document.
 use Rattle.std.proofs.Common.{◌≡◌, ℕ, ◌+◌, ◌-◌, ◌≤◌, ◌<◌, true, List, [], ◌∷◌, ◌++◌, length, get_or, map, sum, Option, Some, None, Ok, All, refl, sym, ap, subst, ◌∙◌, arith, length-append}
-use Rattle.std.specs.Prelude.{◌==◌, nat_lt, slice_get}
+use Rattle.std.specs.Prelude.{slice_get}
 use Rattle.std.specs.List.Sorted.{IsStrictlyIncreasing}
-use Rattle.std.proofs.lemmas.Bool.Decides.{nat_tests}
+use Rattle.std.proofs.lemmas.Bool.{eq-eqb, le-leb, lt-ltb}
 use Rattle.std.proofs.lemmas.List.{get_or-map, length-map, map-append, map-id}
 use Rattle.std.proofs.lemmas.List.Sums.{sum_by-append}
 use Rattle.std.proofs.lemmas.Option.{slice_get-get_or}
@@ -25,7 +25,7 @@ use Rattle.jb_base.specs.Limits.{max_records, max_record, max_affix, max_entries
 use Rattle.jb_job.specs.Names.{name_of}
 use Rattle.jb_job.specs.Reading.{list_at, text_at, number_at, triple_at, object_at, required, optional, each_at}
 use Rattle.jb_job.proofs.FieldRanges.{each-long}
-use Rattle.jb_job.proofs.FieldTrees.{then-ok, text-back, number-back, list-back, is-most, required-back, optional-back, optional-none, each-back, member-has}
+use Rattle.jb_job.proofs.FieldTrees.{then-ok, text-back, number-back, list-back, required-back, optional-back, optional-none, each-back, member-has}
 use Rattle.jb_job.proofs.JobTrees.{place-found}
 use Rattle.jb_cert.specs.declared.certificates.Certificate.{Certificate}
 use Rattle.jb_cert.specs.declared.certificates.Certificate.TheVariants.{Nothing, Longest, FullLoad}
@@ -45,10 +45,7 @@ use Rattle.jb_documents.specs.PlanDocument.{counts_at, plan_document_at}
 use Rattle.jb_documents.specs.RunDocument.{data_list_at, document_at}
 use Rattle.jb_documents.specs.StepFields.{records_at, drop_at, data_at}
 use Rattle.jb_documents.proofs.Classes.{class_of-number}
-use Rattle.jb_documents.proofs.DocumentRanges.{number_of, IsPast}
-
-is-less : (n m : ℕ) → n < m → nat_lt n m ≡ true
-is-less n m lt = grind (arith, nat_tests)
+use Rattle.jb_documents.proofs.DocumentRanges.{number_of, IsPast, IsRecord}
 
 -- ---- the document of `plan`
 
@@ -66,7 +63,7 @@ counts-back f counts few most =
     (list-back 0 max_load_partitions f (map number_tree counts) (omega arith) (omega (arith, length-map counts number_tree, few)))
     (then-ok (each_at (λ _. number_at 0 max_chunks f) (items_of (map number_tree counts))) counts _ counts
     (each-back (λ _. number_at 0 max_chunks f) number_tree (λ n. n) counts (λ done n rest is. number-back 0 max_chunks f n (omega arith) (omega (arith, part-most counts done n rest is, most))) ∙ ap Ok (map-id counts))
-    (rw (is-most (sum counts) max_chunks most) refl))
+    (rw (le-leb (sum counts) max_chunks most) refl))
 
 pub load-back : (load : Load) → IsWithinLimits load.counts load.threads → plan_document_at (load_tree load) ≡ Ok load
 unfolding plan_document_at object_at
@@ -80,7 +77,7 @@ load-back load kept =
 
 slot-back : (f : Field) (slot : Slot) → IsSlot slot → slot_at f (slot_tree slot) ≡ Ok slot
 unfolding slot_at triple_at
-slot-back f slot is = rw (is-most slot.lane max_place is.lane, is-most slot.partition max_place is.partition) refl
+slot-back f slot is = rw (le-leb slot.lane max_place is.lane, le-leb slot.partition max_place is.partition) refl
 
 round-back : (f : Field) (round : List Slot) → All IsSlot round → round_at f (round_tree round) ≡ Ok round
 unfolding round_at
@@ -139,7 +136,7 @@ is-past (e ∷ earlier) number past =
     let there = slice_get-get_or (e ∷ earlier) last e (omega arith) in
     let same = get_or-map number_of (e ∷ earlier) last e 0 (omega arith) in
     let below : get_or (map number_of (e ∷ earlier)) last 0 < number = past (omega arith) in
-    ap (λ before. is_past before number) there ∙ is-less (get_or (e ∷ earlier) last e).number number (omega (arith, same, below))
+    ap (λ before. is_past before number) there ∙ lt-ltb (get_or (e ∷ earlier) last e).number number (omega (arith, same, below))
 
 number-is-past : (all done : List PlannedFault) (fault : PlannedFault) (rest : List PlannedFault) → IsStrictlyIncreasing (map number_of all) → done ++ fault ∷ rest ≡ all → IsPast done fault.number
 number-is-past all done fault rest rise is some =
@@ -149,7 +146,7 @@ number-is-past all done fault rest rise is some =
 
 place-back : (f : Field) (records : ℕ) (earlier : List PlannedFault) (number : ℕ) → is_past (slice_get earlier (length earlier - 1)) number ≡ true → number < records → fault_number f records earlier number ≡ Ok number
 unfolding fault_number
-place-back f records earlier number past within = rw (past, is-less number records within) refl
+place-back f records earlier number past within = rw (past, lt-ltb number records within) refl
 
 -- ---- entries
 
@@ -188,9 +185,6 @@ step-faults-back classes are records f faults read process write =
     refl))
 
 -- ---- the data of a step
-
-abbrev IsRecord : List ℕ → Type 0
-IsRecord text = length text ≤ max_record
 
 records-back : (f : Field) (records : List (List ℕ)) → length records ≤ max_records → All IsRecord records → records_at f (list_tree (map string records)) ≡ Ok records
 unfolding records_at
@@ -238,16 +232,13 @@ data-back classes given are kept = data-by classes given.records given.prefix gi
 
 -- ---- the document of `run`
 
-pub is-same : (n m : ℕ) → n ≡ m → (n == m) ≡ true
-is-same n m e = grind (arith, nat_tests)
-
 pub list-back-data : (job : Job) → IsJob job → (f : Field) (steps : List StepData) → length steps ≡ length job.steps → All (IsStepData job.classes) steps → data_list_at job f (list_tree (map (data_tree job.classes) steps)) ≡ Ok steps
 unfolding data_list_at
 list-back-data job kept f steps many each =
     let items = items_of (map (data_tree job.classes) steps) in
     let is = each-back (λ _. data_at job.classes) (data_tree job.classes) (λ given. given) steps (λ done given rest is. data-back job.classes given kept.classes (member-has (IsStepData job.classes) steps done given rest each is)) ∙ ap Ok (map-id steps) in
     let long : length steps ≡ items_len items = answer-has (λ (found : List StepData). length found ≡ items_len items) (each_at (λ _. data_at job.classes) items) steps (each-long (λ _. data_at job.classes) items) is in
-    rw (is-same (items_len items) (length job.steps) (sym long ∙ many)) is
+    rw (eq-eqb (items_len items) (length job.steps) (sym long ∙ many)) is
 
 pub document-back : JobsHaveTrees → (document : Document) → IsRunDocument document → document_at (document_tree document) ≡ Ok document
 unfolding document_at object_at

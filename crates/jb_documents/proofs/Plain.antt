@@ -1,7 +1,8 @@
 -- Documents that are read from trees which borrow their text.
-use Rattle.std.proofs.Common.{◌≡◌, ℕ, suc, ◌+◌, ◌<◌, ◌≤◌, ◌&&◌, ◌==◌, nat_le, true, List, [], ◌∷◌, ◌++◌, length, drop, get_or, Some, option_map, option_and_then, Ok, Err, IfOk, Result, Vec, Global, Bor, refl, sym, ap, subst, ◌∙◌, length-append, arith, rules}
+use Rattle.std.proofs.Common.{◌≡◌, ℕ, suc, ◌+◌, ◌<◌, ◌≤◌, ◌&&◌, nat_le, true, List, [], ◌∷◌, ◌++◌, length, drop, get_or, Some, option_map, option_and_then, Ok, Err, IfOk, Result, Vec, Global, Bor, refl, sym, ap, subst, ◌∙◌, length-append, arith, rules}
 use Rattle.std.proofs.lemmas.List.{drop_all}
 use Rattle.std.proofs.Math.Seq.{drop-cons}
+use Rattle.std.proofs.lemmas.Bool.{eq-eqb}
 use Rattle.std.proofs.lemmas.Bool.Decides.{nat_tests}
 use Rattle.json.specs.Json as json
 use Rattle.json.specs.Tree.{HasNumbers, ItemsHaveNumbers, MembersHaveNumbers}
@@ -173,16 +174,13 @@ step_read classes whole part rest others records (Err error) is_apart is_rest st
 
 -- ---- the data of a job's steps
 
-as_many : (n m : ℕ) → n ≡ m → (n == m) ≡ true
-as_many n m e = grind (arith, nat_tests)
-
 pub data_stand : (job : Job) (trees : json.Items) (steps : List StepData) → length steps ≡ length job.steps → AllStand (λ done. data_at job.classes) trees steps
     → Stands (data_list_at job field.Data) (json.array trees) steps
 unfolding data_list_at
 data_stand job trees steps one_for_each all = record {
   tree_data = array all.all;
   is = ap (option_map array) all.are;
-  gives = rw (as_many (items_len all.all) (length job.steps) (all.long ∙ one_for_each)) all.give;
+  gives = rw (eq-eqb (items_len all.all) (length job.steps) (all.long ∙ one_for_each)) all.give;
 }
 
 pub data_read : (job : Job) (tree : Value Global) (trees : Vec (Value Global) Global) (steps given : List StepData)

@@ -1,13 +1,15 @@
 -- What is read of a document of `restart` keeps its ranges.
-use Rattle.std.proofs.Common.{◌≡◌, ℕ, ◌≤◌, Bool, true, false, List, length, map, Result, Ok, Err, IfOk, All, refl, sym, ap, subst, ◌∙◌, arith}
-use Rattle.std.specs.Prelude.{⊤, ◌==◌, nat_le, bytes_eq, Contains, if◌then◌else◌}
+use Rattle.std.proofs.Common.{◌≡◌, ℕ, Bool, true, false, List, length, map, Result, Ok, Err, IfOk, All, refl, sym, ap, subst, ◌∙◌, arith}
+use Rattle.std.specs.Prelude.{◌==◌, bytes_eq, Contains, if◌then◌else◌}
 use Rattle.std.specs.Bool.{Decides}
 use Rattle.std.specs.List.{list_all, list_any, zip}
-use Rattle.std.proofs.lemmas.Bool.Decides.{nat_tests, Decides-by_and}
+use Rattle.std.proofs.lemmas.Bool.{eqb-true, le-leb, leb-true}
+use Rattle.std.proofs.lemmas.Bool.Decides.{Decides-by_and}
 use Rattle.std.proofs.lemmas.List.{get_or-map, length-map}
 use Rattle.std.proofs.lemmas.List.Folds.{Any-from_list_any}
 use Rattle.std.proofs.lemmas.Slice.Eq.{bytes_eq-Decides}
 use Rattle.serde_json.specs.Data.{Data}
+use Rattle.jb_base.proofs.Causes.{followed, next}
 use Rattle.jb_job.specs.declared.field.Field.{Field}
 use Rattle.jb_job.specs.declared.field.Field.TheVariants as field
 use Rattle.jb_job.specs.JobRanges.{IsJob}
@@ -23,43 +25,24 @@ use Rattle.jb_saved.specs.Reading.{saved_at}
 use Rattle.jb_saved.specs.SavedRows.{SavedRows}
 use Rattle.jb_documents.specs.declared.restart.document.RestartDocument.{RestartDocument}
 use Rattle.jb_documents.specs.DocumentRanges.{IsStepData, HoldsResults, IsLeft, IsRestartDocument}
-use Rattle.jb_documents.specs.RestartDocument.{Refusal, ◌>>=◌, fields, saves, named_in, resume_at, restart_at}
+use Rattle.jb_documents.specs.RestartDocument.{Refusal, fields, saves, named_in, resume_at, restart_at}
 use Rattle.jb_documents.specs.ResumeFields.{Texts, holds, held_at, outputs_at}
 use Rattle.jb_documents.specs.RunDocument.{data_list_at}
-use Rattle.jb_documents.proofs.DocumentRanges.{as-many, list-read}
-
--- ---- one reading after another
-
-anything : {A : Type 0} (r : Result A Refusal) → IfOk r (λ _. ⊤)
-anything (Ok x) = tt
-anything (Err e) = tt
-
-followed : {A B : Type 0} (P : A → Type 0) (Q : B → Type 0) (r : Result A Refusal) (f : A → Result B Refusal) → IfOk r P → ((x : A) → P x → IfOk (f x) Q) → IfOk (r >>= f) Q
-followed P Q (Ok x) f known go_on = go_on x known
-followed P Q (Err e) f known go_on = tt
-
-next : {A B : Type 0} (Q : B → Type 0) (r : Result A Refusal) (f : A → Result B Refusal) → ((x : A) → IfOk (f x) Q) → IfOk (r >>= f) Q
-next Q r f go_on = followed (λ _. ⊤) Q r f (anything r) (λ x _. go_on x)
+use Rattle.jb_documents.proofs.DocumentRanges.{list-read}
 
 of-fields : {A : Type 0} (P : A → Type 0) (r : Read A) → IfOk r P → IfOk (fields r) P
 of-fields P (Ok x) known = known
 of-fields P (Err fault) known = tt
 
-at-most : (n m : ℕ) → nat_le n m ≡ true → n ≤ m
-at-most n m test = grind (arith, nat_tests)
-
-is-most : (n m : ℕ) → n ≤ m → nat_le n m ≡ true
-is-most n m le = grind (arith, nat_tests)
-
 -- ---- what the run before left
 
 pub hold-decides : (pairs : List (Texts × Row)) → Decides (list_all holds pairs) (All HoldsResults pairs)
-hold-decides pairs = Decides-by_and holds HoldsResults (list_all holds) (λ pair. (at-most pair.1.written (length pair.0), is-most pair.1.written (length pair.0))) refl (λ pair more. refl) pairs
+hold-decides pairs = Decides-by_and holds HoldsResults (list_all holds) (λ pair. (leb-true pair.1.written (length pair.0), le-leb pair.1.written (length pair.0))) refl (λ pair more. refl) pairs
 
 held-read : (f : Field) (outputs : List Texts) (rows : List Row) → IfOk (held_at f outputs rows) (λ held. (length held ≡ length rows) × All HoldsResults (zip held rows))
 unfolding held_at
 held-read f outputs rows =
-    if-so _ (length outputs == length rows) _ _ (λ many. if-so (λ held. (length held ≡ length rows) × All HoldsResults (zip held rows)) (list_all holds (zip outputs rows)) _ (Ok outputs) (λ all. (as-many (length outputs) (length rows) many, (hold-decides (zip outputs rows)).0 all)))
+    if-so _ (length outputs == length rows) _ _ (λ many. if-so (λ held. (length held ≡ length rows) × All HoldsResults (zip held rows)) (list_all holds (zip outputs rows)) _ (Ok outputs) (λ all. (eqb-true (length outputs) (length rows) many, (hold-decides (zip outputs rows)).0 all)))
 
 found-id : (steps : List StepRecord) (id : List ℕ) → list_any (λ (step : StepRecord). bytes_eq step.id id) steps ≡ true → Contains (map (λ step. step.id) steps) id
 found-id steps id found =

@@ -1,7 +1,8 @@
 -- The tree of a document of `restart` is read as the document.
-use Rattle.std.proofs.Common.{◌≡◌, ℕ, ◌<◌, true, List, [], ◌∷◌, length, get_or, map, Result, Ok, All, refl, sym, ap, ◌∙◌, arith}
+use Rattle.std.proofs.Common.{◌≡◌, ℕ, ◌<◌, true, List, [], ◌∷◌, length, get_or, map, Ok, All, refl, sym, ap, ◌∙◌, arith}
 use Rattle.std.specs.Prelude.{bytes_eq, Contains}
 use Rattle.std.specs.List.{list_any, zip}
+use Rattle.std.proofs.lemmas.Bool.{eq-eqb}
 use Rattle.std.proofs.lemmas.List.{get_or-map, length-map, map-id}
 use Rattle.std.proofs.lemmas.List.Folds.{list_any_at}
 use Rattle.std.proofs.lemmas.Slice.Eq.{bytes_eq-Decides}
@@ -14,7 +15,7 @@ use Rattle.jb_job.specs.JobTree.{list_tree, job_tree}
 use Rattle.jb_job.specs.Laws.{JobsHaveTrees}
 use Rattle.jb_job.specs.Reading.{Read, shaped, object_at, required}
 use Rattle.jb_job.specs.Records.{StepRecord}
-use Rattle.jb_job.proofs.FieldTrees.{required-back, each-back}
+use Rattle.jb_job.proofs.FieldTrees.{then-ok, required-back, each-back}
 use Rattle.jb_job.proofs.Kept.{id_of}
 use Rattle.jb_rules.specs.declared.row.Row.{Row}
 use Rattle.jb_saved.specs.Laws.{TreeIsRead}
@@ -25,14 +26,11 @@ use Rattle.jb_documents.specs.declared.restart.document.RestartDocument.{Restart
 use Rattle.jb_documents.specs.declared.restart.resume.Resume.{Resume}
 use Rattle.jb_documents.specs.DocumentRanges.{HoldsResults, IsLeft, IsRestartDocument}
 use Rattle.jb_documents.specs.DocumentTrees.{data_tree, texts_tree, resume_tree, restart_tree}
-use Rattle.jb_documents.specs.RestartDocument.{Refusal, ◌>>=◌, fields, saves, named_in, resume_at, restart_at}
+use Rattle.jb_documents.specs.RestartDocument.{fields, saves, named_in, resume_at, restart_at}
 use Rattle.jb_documents.specs.ResumeFields.{Texts, held_at, texts_at, outputs_at}
 use Rattle.jb_documents.specs.RunDocument.{data_list_at}
-use Rattle.jb_documents.proofs.DocumentTrees.{is-same, list-back-data}
+use Rattle.jb_documents.proofs.DocumentTrees.{list-back-data}
 use Rattle.jb_documents.proofs.RestartRanges.{hold-decides}
-
-then-ok : {A B : Type 0} (r : Result A Refusal) (x : A) (f : A → Result B Refusal) (y : B) → r ≡ Ok x → f x ≡ Ok y → (r >>= f) ≡ Ok y
-then-ok r x f y is goes_on = ap (λ (read : Result _ Refusal). read >>= f) is ∙ goes_on
 
 field-ok : {A : Type 0} (r : Read A) (x : A) → r ≡ Ok x → fields r ≡ Ok x
 field-ok r x is = ap fields is
@@ -49,7 +47,7 @@ outputs-back f outputs = each-back (λ _. texts_at f) texts_tree (λ texts. text
 
 held-back : (f : Field) (outputs : List Texts) (rows : List Row) → length outputs ≡ length rows → All HoldsResults (zip outputs rows) → held_at f outputs rows ≡ Ok outputs
 unfolding held_at
-held-back f outputs rows many held = rw (is-same (length outputs) (length rows) many, (hold-decides (zip outputs rows)).1 held) refl
+held-back f outputs rows many held = rw (eq-eqb (length outputs) (length rows) many, (hold-decides (zip outputs rows)).1 held) refl
 
 found-back : (steps : List StepRecord) (id : List ℕ) → Contains (map (λ step. step.id) steps) id → list_any (λ (step : StepRecord). bytes_eq step.id id) steps ≡ true
 found-back [] id one = absurd (omega (arith, one.1))

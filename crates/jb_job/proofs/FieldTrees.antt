@@ -1,7 +1,8 @@
 -- Trees of fields that are read as the values that they were made of.
-use Rattle.std.proofs.Common.{◌≡◌, ℕ, suc, ◌≤◌, true, List, [], ◌∷◌, ◌++◌, length, map, Some, None, Ok, All, refl, sym, ap, subst, ◌∙◌, arith, append_assoc, append-nil}
+use Rattle.std.proofs.Common.{◌≡◌, ℕ, suc, ◌≤◌, true, List, [], ◌∷◌, ◌++◌, length, map, Some, None, Result, Ok, All, refl, sym, ap, subst, ◌∙◌, arith, append_assoc, append-nil}
 use Rattle.std.specs.Prelude.{◌&&◌, nat_le}
 use Rattle.std.specs.List.{AllByRecursion}
+use Rattle.std.proofs.lemmas.Bool.{le-leb}
 use Rattle.std.proofs.lemmas.Bool.Decides.{nat_tests}
 use Rattle.std.proofs.lemmas.List.{map-append}
 use Rattle.std.proofs.lemmas.List.Elements.{recursion_from_All}
@@ -16,8 +17,8 @@ use Rattle.jb_job.specs.Reading.{Read, ◌>>=◌, list_at, text_at, number_at, r
 
 -- ---- one reading after another
 
-pub then-ok : {A B : Type 0} (r : Read A) (x : A) (f : A → Read B) (y : B) → r ≡ Ok x → f x ≡ Ok y → (r >>= f) ≡ Ok y
-then-ok r x f y is goes_on = ap (λ (read : Read _). read >>= f) is ∙ goes_on
+pub then-ok : {E A B : Type 0} (r : Result A E) (x : A) (f : A → Result B E) (y : B) → r ≡ Ok x → f x ≡ Ok y → (r >>= f) ≡ Ok y
+then-ok r x f y is goes_on = ap (λ (read : Result _ _). read >>= f) is ∙ goes_on
 
 pub within : (low n high : ℕ) → low ≤ n → n ≤ high → (nat_le low n && nat_le n high) ≡ true
 within low n high least most = grind (arith, nat_tests)
@@ -34,15 +35,9 @@ items-long : (ds : List Data) → items_len (items_of ds) ≡ length ds
 items-long [] = refl
 items-long (d ∷ ds) = ap suc (items-long ds)
 
-pub is-most : (n high : ℕ) → n ≤ high → nat_le n high ≡ true
-is-most n high most = grind (arith, nat_tests)
-
-is-least : (low n : ℕ) → low ≤ n → nat_le low n ≡ true
-is-least low n least = grind (arith, nat_tests)
-
 pub list-back : (low high : ℕ) (f : Field) (ds : List Data) → low ≤ length ds → length ds ≤ high → list_at low high f (list_tree ds) ≡ Ok (items_of ds)
 unfolding list_at
-list-back low high f ds least most = rw (items-long ds, is-most (length ds) high most, is-least low (length ds) least) refl
+list-back low high f ds least most = rw (items-long ds, le-leb (length ds) high most, le-leb low (length ds) least) refl
 
 pub required-back : {A : Type 0} (kind : Field → Data → Read A) (f : Field) (d g : Data) (x : A) → get (name_of f) d ≡ Some g → kind f g ≡ Ok x → required kind f d ≡ Ok x
 unfolding required

@@ -1,7 +1,8 @@
 -- What is read of a job record keeps its ranges.
 use Rattle.std.proofs.Common.{◌≡◌, ℕ, ◌+◌, ◌-◌, ◌^◌, ◌≤◌, ◌<◌, inl, inr, Bool, true, false, true≢false, cond, List, [], ◌∷◌, ◌++◌, length, Option, Some, None, Ok, IfOk, All, refl, arith, length-append}
-use Rattle.std.specs.Prelude.{not, nat_lt, bytes_eq, position, fold, bit_or, is_some, IfSome, if◌then◌else◌}
+use Rattle.std.specs.Prelude.{nat_lt, bytes_eq, position, fold, bit_or, is_some, IfSome, if◌then◌else◌}
 use Rattle.std.specs.List.{IsDistinct, AllByRecursion, list_any, position_or_len}
+use Rattle.std.proofs.lemmas.Bool.{not-true}
 use Rattle.std.proofs.lemmas.Bool.Decides.{nat_tests}
 use Rattle.std.proofs.lemmas.Cmp.{nat_list_eq_equiv}
 use Rattle.std.proofs.lemmas.List.Elements.{All-append, All-cons, All-nil, recursion_from_All}
@@ -35,13 +36,9 @@ use Rattle.jb_job.proofs.FieldRanges.{if-read, text-between, number-between, lis
 pub name-read : (f : Field) (d : Data) → IfOk (text_at 1 max_name f d) IsName
 name-read f d = IfOk-weaker (text_at 1 max_name f d) _ _ (λ s is. record { some = is.0; short = is.1 }) (text-between 1 max_name f d)
 
-not-false : (b : Bool) → not b ≡ true → b ≡ false
-not-false true e = cc
-not-false false e = refl
-
 class-name-read : (f : Field) (d : Data) → IfOk (class_name_at f d) IsClassName
 unfolding class_name_at
-class-name-read f d = followed _ _ (text_at 1 max_name f d) _ (name-read f d) (λ name named. in-range IsClassName f _ name (λ own. record { named = named; own = not-false (bytes_eq name every_class) own }))
+class-name-read f d = followed _ _ (text_at 1 max_name f d) _ (name-read f d) (λ name named. in-range IsClassName f _ name (λ own. record { named = named; own = not-true (bytes_eq name every_class) own }))
 
 -- distinct names, no more than so many
 abbrev AreNames : ℕ → List (List ℕ) → Type 0

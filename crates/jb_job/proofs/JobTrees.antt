@@ -3,6 +3,7 @@ use Rattle.std.proofs.Common.{◌≡◌, ℕ, ◌+◌, ◌-◌, ◌*◌, ◌^◌
 use Rattle.std.specs.Prelude.{◌==◌, nat_lt, bytes_eq, position, fold, filter, bit_or, bit_and, if◌then◌else◌}
 use Rattle.std.specs.List.{IsDistinct, list_any, enumerate_from}
 use Rattle.std.specs.Int.{w64, bit_not, bit_at}
+use Rattle.std.proofs.lemmas.Bool.{le-leb}
 use Rattle.std.proofs.lemmas.Bool.Decides.{nat_tests}
 use Rattle.std.proofs.lemmas.Cmp.{nat_list_eq_equiv}
 use Rattle.std.proofs.lemmas.List.{length-map, map-append, map-id}
@@ -32,7 +33,7 @@ use Rattle.jb_base.specs.Rules.{RulesRecord}
 use Rattle.jb_job.specs.Records.{SpecRecord, StepRecord}
 use Rattle.jb_job.proofs.Kept.{id_of, turned}
 use Rattle.jb_job.proofs.Sets.{and-all, below-all}
-use Rattle.jb_job.proofs.FieldTrees.{then-ok, text-back, number-back, list-back, is-most, required-back, optional-back, optional-none, each-back, member-has, middle}
+use Rattle.jb_job.proofs.FieldTrees.{then-ok, text-back, number-back, list-back, required-back, optional-back, optional-none, each-back, member-has, middle}
 
 -- ---- distinct names
 
@@ -215,7 +216,7 @@ chunk-back classes f n r are some few rules = chunk-by classes f n r.skippable r
 
 range-back : (r : Range) → IsNumbered r → range_pair_at (range_tree r) ≡ Ok r
 unfolding range_pair_at pair_at
-range-back r is = rw (is-most r.lo max_records is.lo, is-most r.hi max_records is.hi) refl
+range-back r is = rw (le-leb r.lo max_records is.lo, le-leb r.hi max_records is.hi) refl
 
 ranges-back : (f : Field) (ranges : List Range) → length ranges ≤ max_ranges → All IsNumbered ranges → ranges_at f (list_tree (map range_tree ranges)) ≡ Ok (Some ranges)
 ranges-back f ranges few numbered =

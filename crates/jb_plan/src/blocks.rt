@@ -1,6 +1,6 @@
 //! The chunks that are left of a range of records.
 
-ghost use Rattle.std.specs.Prelude.{◌≡◌, ◌≤◌, ◌-◌, List, slice_get, IfSome};
+ghost use Rattle.std.specs.Prelude.{◌≡◌, ◌≤◌, ◌-◌, slice_get, IfSome};
 ghost use Rattle.jb_base.specs.Limits.{max_item_count, max_records};
 ghost use Rattle.jb_plan.specs.Blocks.{blocks, left, first_block, blocks_left, IsNext, ChunksFollow};
 

@@ -1,7 +1,8 @@
 -- The rows that a step begins with, or goes on from: where they stand, and that the records and the writers serve them.
-use Rattle.std.proofs.Common.{◌≡◌, ℕ, zero, suc, ◌+◌, ◌-◌, ◌≤◌, ◌⊎◌, ◌&&◌, Bool, true, false, cond, not, nat_lt, nat_le, List, [], ◌∷◌, ◌++◌, length, map, drop, slice_get, Option, Some, None, Ok, Err, refl, ap, sym, subst, arith}
-use Rattle.std.specs.Prelude.{◌==◌, ◌||◌, All, IfSome, bytes_eq}
+use Rattle.std.proofs.Common.{◌≡◌, ℕ, zero, suc, ◌+◌, ◌-◌, ◌≤◌, ◌⊎◌, Bool, true, false, cond, not, nat_lt, nat_le, List, [], ◌∷◌, ◌++◌, length, map, drop, slice_get, Option, Some, None, Ok, Err, refl, ap, sym, subst, arith}
+use Rattle.std.specs.Prelude.{◌==◌, All, IfSome, bytes_eq}
 use Rattle.std.specs.List.{AllByRecursion, list_all, zip}
+use Rattle.std.proofs.lemmas.Bool.{and_parts, or_parts}
 use Rattle.std.proofs.lemmas.Bool.Decides.{nat_tests}
 use Rattle.std.proofs.lemmas.List.{length-drop, length-take-le}
 use Rattle.std.proofs.lemmas.List.Elements.{All-from_recursion}
@@ -16,7 +17,7 @@ use Rattle.jb_rules.specs.Sound.{IsSoundRow}
 use Rattle.jb_rules.specs.States.{is_failed}
 use Rattle.jb_rules.specs.declared.row.Row.{Row}
 use Rattle.jb_rules.specs.declared.row.RowState.TheVariants as state
-use Rattle.jb_saved.specs.GoingOn.{again, fault_if, is_past}
+use Rattle.jb_saved.specs.GoingOn.{restarted, fault_if, is_past}
 use Rattle.jb_saved.specs.declared.place.SavedPlace.TheVariants.{Step, Records}
 use Rattle.jb_step.specs.Setup.{IsSetup, Setup, fresh_rows, opening_rows, saved_faults}
 use Rattle.jb_documents.specs.ResumeFields.{Texts, held_at, holds}
@@ -61,27 +62,19 @@ fresh-below records (range ∷ ranges) within zero row is =
     subst (λ (r : Row). (r.hi ≤ records) × (r.written ≤ 0)) same ((within-first records range ranges within).1, omega arith)
 fresh-below records (range ∷ ranges) within (suc i) row is = fresh-below records ranges (within-rest records range ranges within) i row is
 
-or-first : (a b : Bool) → (a || b) ≡ false → a ≡ false
-or-first true b is = is
-or-first false b is = refl
+restarted-by : (failed : Bool) (row : Row) → ((cond failed (dropped_row row) row).hi ≡ row.hi) × ((cond failed (dropped_row row) row).written ≡ row.written)
+restarted-by true row = (refl, refl)
+restarted-by false row = (refl, refl)
 
-or-second : (a b : Bool) → (a || b) ≡ false → b ≡ false
-or-second true b is = absurd (cc is)
-or-second false b is = is
-
-again-by : (failed : Bool) (row : Row) → ((cond failed (dropped_row row) row).hi ≡ row.hi) × ((cond failed (dropped_row row) row).written ≡ row.written)
-again-by true row = (refl, refl)
-again-by false row = (refl, refl)
-
-again-below : (records : ℕ) (rows : List Row) → is_past records rows ≡ false → (i : ℕ) (row : Row) → slice_get (map again rows) i ≡ Some row → row.hi ≤ records
-again-below records [] past i row is = absurd (cc is)
-again-below records (r ∷ rows) past zero row is =
-    let same : again r ≡ row = cc in
-    let first : nat_lt records r.hi ≡ false = or-first (nat_lt records r.hi) (is_past records rows) past in
+restarted-below : (records : ℕ) (rows : List Row) → is_past records rows ≡ false → (i : ℕ) (row : Row) → slice_get (map restarted rows) i ≡ Some row → row.hi ≤ records
+restarted-below records [] past i row is = absurd (cc is)
+restarted-below records (r ∷ rows) past zero row is =
+    let same : restarted r ≡ row = cc in
+    let first : nat_lt records r.hi ≡ false = (or_parts (nat_lt records r.hi) (is_past records rows) past).0 in
     let below : r.hi ≤ records = grind (arith, nat_tests, first) in
-    let kept = (again-by (is_failed r.state) r).0 in
+    let kept = (restarted-by (is_failed r.state) r).0 in
     subst (λ (one : Row). one.hi ≤ records) same (omega (arith, below, kept))
-again-below records (r ∷ rows) past (suc i) row is = again-below records rows (or-second (nat_lt records r.hi) (is_past records rows) past) i row is
+restarted-below records (r ∷ rows) past (suc i) row is = restarted-below records rows (or_parts (nat_lt records r.hi) (is_past records rows) past).1 i row is
 
 not-past : (step past : Bool) → fault_if step Step ++ fault_if past Records ≡ [] → past ≡ false
 not-past true past is = absurd (cc is)
@@ -100,7 +93,7 @@ kept-of step records false (Some resume) accepted held = (not-past (not (bytes_e
 below-by : (records : ℕ) (plan : PartitionPlan) (kept : Option Resume) → IsRunnable records plan → IsKept records kept
     → (i : ℕ) (row : Row) → slice_get (opening_rows plan.ranges (saved_of kept)) i ≡ Some row → row.hi ≤ records
 below-by records plan None runnable is i row at = (fresh-below records plan.ranges runnable.within i row at).0
-below-by records plan (Some resume) runnable is i row at = again-below records resume.saved.rows is.0 i row at
+below-by records plan (Some resume) runnable is i row at = restarted-below records resume.saved.rows is.0 i row at
 
 -- ---- each writer holds what was committed
 
@@ -113,26 +106,18 @@ are-held : (resume : Resume) → AreHeld resume → ((length resume.outputs == l
 unfolding held_at
 are-held resume held = held-if (length resume.outputs == length resume.saved.rows) (list_all holds (zip resume.outputs resume.saved.rows)) resume.outputs held
 
-and-first : (a b : Bool) → (a && b) ≡ true → a ≡ true
-and-first true b is = refl
-and-first false b is = is
-
-and-second : (a b : Bool) → (a && b) ≡ true → b ≡ true
-and-second true b is = is
-and-second false b is = absurd (cc is)
-
-again-served : (outputs : List Texts) (rows : List Row) → length outputs ≡ length rows → list_all holds (zip outputs rows) ≡ true
-    → (i : ℕ) (row : Row) → slice_get (map again rows) i ≡ Some row → row.written ≤ length (held_by outputs i)
-again-served outputs [] long all i row is = absurd (cc is)
-again-served [] (r ∷ rows) long all i row is = absurd (omega (arith, long))
-again-served (texts ∷ outputs) (r ∷ rows) long all zero row is =
-    let same : again r ≡ row = cc in
-    let first : nat_le r.written (length texts) ≡ true = and-first (holds (texts, r)) (list_all holds (zip outputs rows)) all in
+restarted-served : (outputs : List Texts) (rows : List Row) → length outputs ≡ length rows → list_all holds (zip outputs rows) ≡ true
+    → (i : ℕ) (row : Row) → slice_get (map restarted rows) i ≡ Some row → row.written ≤ length (held_by outputs i)
+restarted-served outputs [] long all i row is = absurd (cc is)
+restarted-served [] (r ∷ rows) long all i row is = absurd (omega (arith, long))
+restarted-served (texts ∷ outputs) (r ∷ rows) long all zero row is =
+    let same : restarted r ≡ row = cc in
+    let first : nat_le r.written (length texts) ≡ true = (and_parts (holds (texts, r)) (list_all holds (zip outputs rows)) all).0 in
     let served : r.written ≤ length texts = grind (arith, nat_tests, first) in
-    let kept = (again-by (is_failed r.state) r).1 in
+    let kept = (restarted-by (is_failed r.state) r).1 in
     subst (λ (one : Row). one.written ≤ length texts) same (omega (arith, served, kept))
-again-served (texts ∷ outputs) (r ∷ rows) long all (suc i) row is =
-    again-served outputs rows (omega (arith, long)) (and-second (holds (texts, r)) (list_all holds (zip outputs rows)) all) i row is
+restarted-served (texts ∷ outputs) (r ∷ rows) long all (suc i) row is =
+    restarted-served outputs rows (omega (arith, long)) (and_parts (holds (texts, r)) (list_all holds (zip outputs rows)) all).1 i row is
 
 served-by : (records : ℕ) (plan : PartitionPlan) (kept : Option Resume) → IsRunnable records plan → IsKept records kept
     → (i : ℕ) (row : Row) → slice_get (opening_rows plan.ranges (saved_of kept)) i ≡ Some row → row.written ≤ length (held_by (outputs_of kept) i)
@@ -143,7 +128,7 @@ served-by records plan (Some resume) runnable is i row at =
     let kept = are-held resume is.1 in
     let one = kept.0 in
     let long : length resume.outputs ≡ length resume.saved.rows = grind (arith, nat_tests, one) in
-    again-served resume.outputs resume.saved.rows long kept.1 i row at
+    restarted-served resume.outputs resume.saved.rows long kept.1 i row at
 
 -- ---- all of it
 

@@ -27,6 +27,7 @@ use Rattle.jb_program.specs.RestartWord.{IsRefusedRestartStep, IsRefusedSaved}
 use Rattle.jb_program.specs.Answer.{IsRefusedBy}
 use Rattle.jb_program.proofs.Known.{some-along}
 use Rattle.jb_program.proofs.Steps.{never-saved}
+use Rattle.jb_program.proofs.Failed.{as_run_failure}
 
 pub failure-of_fault : (f : JobError) → IsFailure (failure_of f)
 failure-of_fault fault.NotJson = tt
@@ -145,16 +146,6 @@ no-plan f g is = subst IsFailure is (failure-of_fault f)
 no-saved : (f : JobError) (place : SavedPlace) → failure_of f ≡ failure.Saved place → ⊥
 no-saved f place is = subst IsFailure is (failure-of_fault f)
 
-as-run : (e : Failure) → IsFailure e → IsRunFailure e
-as-run (failure.Document f) fails = fails
-as-run (failure.Plan f) fails = tt
-as-run (failure.Saved place) fails = tt
-as-run failure.Memory fails = tt
-as-run failure.Stream fails = tt
-as-run failure.Workers fails = tt
-as-run (failure.Repository p) fails = tt
-as-run (failure.Usage f) fails = fails
-
 -- a document of `restart` that isn't read
 pub unread : (round_limit : Option ℕ) (input : Option (List ℕ)) (items : List ℕ) (f : RestartFault) → IfSome input (λ bytes. items ≡ bytes) → IsRefusedRestart f items → RestartFails round_limit input (restart_failure f)
 unread round_limit input items (restart_fault.Document f) are refused = record {
@@ -162,7 +153,7 @@ unread round_limit input items (restart_fault.Document f) are refused = record {
       (λ bytes here. subst (λ one. IsRefusedRestart (restart_fault.Document one) bytes) (same-fault f g is) (subst (IsRefusedRestart (restart_fault.Document f)) here refused)) are;
   unplanned = λ g is. absurd (no-plan f g is);
   unsaved = λ place is. absurd (no-saved f place is);
-  failures = as-run (failure_of f) (failure-of_fault f);
+  failures = as_run_failure (failure_of f) (failure-of_fault f);
 }
 unread round_limit input items (restart_fault.Saved at) are refused = record {
   refused = λ g is. cc;

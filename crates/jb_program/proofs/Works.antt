@@ -1,21 +1,18 @@
 -- The unfinished partitions: their rows, and the records of their ranges.
-use Rattle.std.proofs.Common.{◌≡◌, ℕ, zero, suc, ◌+◌, ◌<◌, List, [], ◌∷◌, ◌++◌, drop, length, map, get_or, slice_get, Some, None, refl, ap, sym, subst, ◌∙◌, arith, append_assoc}
-use Rattle.std.specs.Prelude.{All, AllPairs}
-use Rattle.std.specs.List.{AllByRecursion, enumerate_from}
-use Rattle.std.proofs.lemmas.List.{drop_more, get_or-drop, get_or-map, length-drop, length-map, map-append}
-use Rattle.std.proofs.lemmas.List.Elements.{All-filter, recursion_from_All}
-use Rattle.std.proofs.lemmas.List.Kept.{AllPairs-filter}
+use Rattle.std.proofs.Common.{◌≡◌, ℕ, zero, suc, ◌+◌, ◌<◌, List, [], ◌∷◌, ◌++◌, drop, length, map, get_or, slice_get, Some, None, ap, sym, subst, ◌∙◌, arith, append_assoc}
+use Rattle.std.specs.Prelude.{All}
+use Rattle.std.specs.List.{enumerate_from}
+use Rattle.std.proofs.lemmas.List.{drop_more, get_or-map, length-map, map-append}
+use Rattle.std.proofs.lemmas.List.Elements.{All-filter}
 use Rattle.std.proofs.lemmas.List.FromFn.{get_or-enumerate_from, length-enumerate_from}
 use Rattle.std.proofs.lemmas.Option.{get_or_from_slice_get, slice_get-get_or, slice_get_within}
-use Rattle.jb_base.specs.declared.range.Range.{Range}
 use Rattle.jb_artifacts.specs.Meaning.{ArtifactsMeaning}
 use Rattle.jb_plan.specs.Plans.{IsWithin}
-use Rattle.jb_plan.specs.Ranges.{AreDisjoint, HaveNoneInCommon}
 use Rattle.jb_rules.specs.Rows.{range_of}
 use Rattle.jb_rules.specs.declared.row.Row.{Row}
 use Rattle.jb_step.specs.Setup.{needs, unfinished}
 use Rattle.jb_program.specs.declared.run.settings.StepSettings.{StepSettings}
-use Rattle.jb_program.specs.PartitionRun.{held_by, records_in, work_for, workplace_of}
+use Rattle.jb_program.specs.PartitionRun.{work_for}
 
 -- the row of an unfinished one is the step's, and its records are there
 pub record Stands (rows : List Row) (records : ℕ) (n : ℕ × Row) : Type 0 where

@@ -1,16 +1,16 @@
 //! The records of a text in CSV.
 
-ghost use Rattle.std.specs.Prelude.{◌≡◌, map, IfOk, MatchOption};
+ghost use Rattle.std.specs.Prelude.{◌≡◌, map, option_map, IfOk, MatchOption};
 ghost use Rattle.csv.specs.Records.{fields_of};
-ghost use Rattle.jb_ready.specs.Csv.{AreEvenRowsOf, AreRowsOf, BeginsIn, HasWidthOf, IsUnevenAt, row_of};
+ghost use Rattle.jb_ready.specs.Csv.{AreEvenRowsOf, AreRowsOf, BeginsIn, HasWidthOf, IsUnevenAt, first_fields, row_of};
 ghost use Rattle.jb_ready.specs.Refused.{AreAll, IfRefused, IsFirstRefused};
 
 use crate::csv_lines::line_of;
-use crate::csv_text::{byte_records_of, row_bytes};
+use crate::csv_text::byte_records_of;
 use crate::records_error::RecordsError;
-use csv::{ByteRecord, Error};
+use csv::{ByteRecord, ReaderBuilder, WriterBuilder};
 use jb_base::PackedList;
-use std::alloc::Global;
+use std::alloc::{AllocError, Global};
 
 /// The records of a text in CSV (RFC 4180; no header row), each as a line of CSV with its end, if each has as many fields
 /// as the first. Else the first that has more or fewer is refused, with the line that it begins in.
@@ -48,6 +48,36 @@ pub fn flexible_records_of(alloc: Global, text: &[u8]) -> Result<PackedList, Rec
     }
 }
 
+/// The first record of a text in CSV, as of a line that one of the calls above gave, if it has one.
+#[tactic(auto, unfolding(crate::specs::Csv::first_fields))]
+pub fn first_record_of(alloc: Global, text: &[u8]) -> Result<Option<ByteRecord>, AllocError>
+    ensures { IfOk result (λ found. option_map fields_of found ≡ first_fields text.now) }
+{
+    let mut reader = ReaderBuilder::new()
+        .has_headers(false)
+        .from_reader(alloc, text);
+    let mut record = ByteRecord::new(alloc);
+    match reader.read_byte_record(&mut record) {
+        Ok(true) => Ok(Some(record)),
+        Ok(false) => Ok(None),
+        Err(_) => Err(AllocError),
+    }
+}
+
+/// The record as a line of CSV with its end.
+pub fn row_of(alloc: Global, row: &ByteRecord) -> Result<Vec<u8>, AllocError>
+    ensures { IfOk result (λ bytes. bytes.items ≡ row_of (fields_of row.now)) }
+{
+    let mut writer = WriterBuilder::new().from_writer(Vec::new(alloc));
+    let Ok(()) = writer.write_byte_record(row) else {
+        return Err(AllocError);
+    };
+    match writer.into_inner() {
+        Ok(bytes) => Ok(bytes),
+        Err(_) => Err(AllocError),
+    }
+}
+
 /// The number of the first record that has more fields or fewer than the first, if there is one.
 fn first_uneven(records: &[ByteRecord]) -> Option<u64>
     ensures { let fields = map fields_of records.now in
@@ -62,15 +92,12 @@ fn first_uneven(records: &[ByteRecord]) -> Option<u64>
 }
 
 /// The lines of these records.
-fn rows_of(alloc: Global, records: &[ByteRecord]) -> Result<PackedList, Error>
+fn rows_of(alloc: Global, records: &[ByteRecord]) -> Result<PackedList, AllocError>
     ensures { IfOk result (λ rows. rows ≡ map row_of (map fields_of records.now)) }
 {
     let mut rows = PackedList::new(alloc);
     for row in records {
-        let bytes = row_bytes(alloc, row)?;
-        if rows.push(&bytes).is_err() {
-            return Err(Error::out_of_memory());
-        }
+        rows.push(&row_of(alloc, row)?)?;
     }
     Ok(rows)
 }

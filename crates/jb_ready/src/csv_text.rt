@@ -1,10 +1,10 @@
-//! Text in CSV, read and written by the kit's `csv`.
+//! Text in CSV, read by the kit's `csv`.
 
-ghost use Rattle.std.specs.Prelude.{◌≡◌, map, IfOk};
+ghost use Rattle.std.specs.Prelude.{map, IfOk};
 ghost use Rattle.csv.specs.Records.{fields_of};
-ghost use Rattle.jb_ready.specs.Csv.{AreFieldsOf, row_of};
+ghost use Rattle.jb_ready.specs.Csv.{AreFieldsOf};
 
-use csv::{ByteRecord, Error, ReaderBuilder, WriterBuilder};
+use csv::{ByteRecord, Error, ReaderBuilder};
 use std::alloc::Global;
 
 /// The records of the text.
@@ -22,16 +22,4 @@ pub(crate) fn byte_records_of(alloc: Global, text: &[u8]) -> Result<Vec<ByteReco
         }
     }
     Ok(records)
-}
-
-/// The bytes of the line of this record.
-pub(crate) fn row_bytes(alloc: Global, row: &ByteRecord) -> Result<Vec<u8>, Error>
-    ensures { IfOk result (λ bytes. bytes.items ≡ row_of (fields_of row.now)) }
-{
-    let mut writer = WriterBuilder::new().from_writer(Vec::new(alloc));
-    writer.write_byte_record(row)?;
-    match writer.into_inner() {
-        Ok(bytes) => Ok(bytes),
-        Err(error) => Err(error.into_error()),
-    }
 }

@@ -1,7 +1,7 @@
 -- A partition's results, attempt by attempt.
 use Rattle.std.proofs.Common.{◌≡◌, ℕ, zero, suc, ◌+◌, ◌-◌, ◌≤◌, ◌<◌, ◌++◌, Bool, true, false, not, cond, List, [], ◌∷◌, length, Option, Some, None, is_some, refl, ap, sym, ◌∙◌, subst, arith}
 use Rattle.std.specs.Prelude.{◌==◌, ◌&&◌, nat_le, nat_lt}
-use Rattle.std.specs.List.{filter_map, range_with_len, cons_option, find}
+use Rattle.std.specs.List.{filter_map, range_with_len, cons_option}
 use Rattle.std.proofs.lemmas.List.Elements.{filter_map-append}
 use Rattle.std.proofs.lemmas.Bool.Decides.{nat_tests}
 use Rattle.jb_base.specs.declared.class.ClassId.{ClassId}
@@ -27,44 +27,15 @@ use Rattle.jb_chunk.specs.Block.{entry, entry_by, results, settles, settling, st
 use Rattle.jb_chunk.specs.Entries.{Entry, ReadFault, ProcessFault, Filtered, Answered, fault_in, text_in, numbered}
 use Rattle.jb_chunk.specs.Laws.{RepeatsAreRetries, TasksStandAtCheckpoints, WaysJoin}
 use Rattle.jb_chunk.specs.Standing.{IsReady, TaskState}
+use Rattle.jb_chunk.proofs.AddedCounts.{settling-stops}
+use Rattle.jb_chunk.proofs.RecordRepeats.{unfound}
+use Rattle.jb_chunk.proofs.SettlingRecord.{numbers-split}
 use Rattle.jb_chunk.proofs.WorkLeft.{read_end, write_plans, work_as, left-as}
 use Rattle.jb_ready.specs.Checks.{checked_plans, plan_by}
 use Rattle.jb_ready.proofs.Refusals.{check-decides}
 use Rattle.jb_records.specs.Function.{Function, result_by, result_of}
 use Rattle.jb_records.specs.Runs.{HasResults, IsSamePart, PartsStay, ResultsGoOn}
 use Rattle.jb_records.specs.Works.{IsNeverSkipped, IsWork, own_records, record_of, results_between}
-
--- ---- WHAT IS FOUND PASSES THE TEST, AND WHAT IS NOT FOUND FAILS IT
-
-abbrev value_or : ℕ → Option ℕ → ℕ
-value_or n None = n
-value_or n (Some m) = m
-
-found-step : (p : ℕ → Bool) (x k : ℕ) (others : Option ℕ) (b : Bool) → p x ≡ b → (others ≡ Some k → p k ≡ true) → cond b (Some x) others ≡ Some k → p k ≡ true
-found-step p x k others true h more e = subst (λ y. p y ≡ true) (ap (value_or x) e) h
-found-step p x k others false h more e = more e
-
-found-passes : (p : ℕ → Bool) (xs : List ℕ) (k : ℕ) → find p xs ≡ Some k → p k ≡ true
-found-passes p [] k e = absurd cc
-found-passes p (x ∷ xs) k e = found-step p x k (find p xs) (p x) refl (found-passes p xs k) e
-
-none-step : (x : ℕ) (others : Option ℕ) (b : Bool) → cond b (Some x) others ≡ None → (b ≡ false) × (others ≡ None)
-none-step x others true e = absurd cc
-none-step x others false e = (refl, e)
-
-same-or-later : (b : Bool) (lo k : ℕ) → (k == lo) ≡ b → lo ≤ k → (b ≡ true → k ≡ lo) × (b ≡ false → lo + 1 ≤ k)
-same-or-later true lo k e le = (λ _. grind (arith, nat_tests), λ never. absurd cc)
-same-or-later false lo k e le = ((λ never. absurd cc), λ _. grind (arith, nat_tests))
-
-none-at : (p : ℕ → Bool) (lo k : ℕ) (b : Bool) → (k == lo) ≡ b → lo ≤ k → p lo ≡ false → (lo + 1 ≤ k → p k ≡ false) → p k ≡ false
-none-at p lo k true is le here later = let same : k ≡ lo = (same-or-later true lo k is le).0 refl in ap p same ∙ here
-none-at p lo k false is le here later = later ((same-or-later false lo k is le).1 refl)
-
-none-fails : (p : ℕ → Bool) (n lo : ℕ) → find p (range_with_len lo n) ≡ None → (k : ℕ) → lo ≤ k → k < lo + n → p k ≡ false
-none-fails p zero lo none k le lt = absurd (omega (arith, le, lt))
-none-fails p (suc n) lo none k le lt =
-    let parts = none-step lo (find p (range_with_len (lo + 1) n)) (p lo) none in
-    none-at p lo k (k == lo) refl le parts.0 (λ past. none-fails p n (lo + 1) parts.1 k past (omega (arith, lt)))
 
 -- ---- FAULT PLANS THAT ARE USED
 
@@ -264,20 +235,7 @@ unfolding results settling results_between
 block-results f first records t is above below none =
     texts-are t.work (λ k. result_of f k (record_of first records k)) ((block_of t).hi - t.row.at) t.row.at
     (λ k from to. entry-result f first records t.rules t.row t.work k is (omega (arith, above, from)) (omega (arith, below, from, to))
-    (none-fails (settles t.rules t.row t.work) ((block_of t).hi - t.row.at) t.row.at none k from to))
-
--- numbers up to one of them, and those from there on
-numbers-split : (lo n m : ℕ) → range_with_len lo (n + m) ≡ range_with_len lo n ++ range_with_len (lo + n) m
-numbers-split lo zero m =
-    let len : 0 + m ≡ m = omega arith in
-    let start : lo ≡ lo + 0 = omega arith in
-    ap (range_with_len lo) len ∙ ap (λ a. range_with_len a m) start
-numbers-split lo (suc n) m =
-    let len : suc n + m ≡ suc (n + m) = omega arith in
-    let start : lo + 1 + n ≡ lo + suc n = omega arith in
-    ap (range_with_len lo) len
-    ∙ ap (λ xs. lo ∷ xs) (numbers-split (lo + 1) n m)
-    ∙ ap (λ a. lo ∷ range_with_len (lo + 1) n ++ range_with_len a m) start
+    (unfound (settles t.rules t.row t.work) ((block_of t).hi - t.row.at) t.row.at none k from to))
 
 -- the results up to a checkpoint, and those from there on
 pub results-join : (f : Function) (first : ℕ) (records : List (List ℕ)) (lo at hi : ℕ) → lo ≤ at → at ≤ hi → results_between f first records lo at ++ results_between f first records at hi ≡ results_between f first records lo hi
@@ -308,10 +266,6 @@ end-fails skipped class Fail h e = e
 fault-fails : (t : TaskState) (fault : Option ClassId) (skips : ℕ) → stops t.rules t.row fault skips ≡ true → Commits (end_at t fault skips) → ⊥
 fault-fails t None skips h e = never (sym h)
 fault-fails t (Some class) skips h e = end-fails (counts_of t 0 1) class (choice_at t.rules t.row class skips) h e
-
-settling-stops : (rules : RulesRecord) (row : Row) (w : ArtifactsMeaning) (hi k : ℕ) → settling rules row w hi ≡ Some k → stops rules row (fault_in (entry w k)) (skips_before row w k) ≡ true
-unfolding settling settles
-settling-stops rules row w hi k e = found-passes (settles rules row w) (range_with_len row.at (hi - row.at)) k e
 
 commit-by : (t : TaskState) (o : Option ℕ) → settled_at t ≡ o → Commits (end_at t (fault_at t o) (skips_at t o)) → settled_at t ≡ None
 commit-by t None at e = at
@@ -344,7 +298,7 @@ unfolding work_left
 written-kept t place written = refl
 
 -- a row that is finished stands at the end of its range
-ends-at : (b : Bool) (at hi : ℕ) → (at == hi) ≡ b → cond b state.Finished state.Waiting ≡ state.Finished → at ≡ hi
+pub ends-at : (b : Bool) (at hi : ℕ) → (at == hi) ≡ b → cond b state.Finished state.Waiting ≡ state.Finished → at ≡ hi
 ends-at true at hi e finished = grind (arith, nat_tests)
 ends-at false at hi e finished = absurd cc
 

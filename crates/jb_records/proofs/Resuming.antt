@@ -6,7 +6,7 @@ use Rattle.jb_rules.specs.declared.row.Row.{Row}
 use Rattle.jb_rules.specs.Rows.{dropped_row}
 use Rattle.jb_rules.specs.States.{is_failed}
 use Rattle.jb_job.specs.Reading.{tree_of}
-use Rattle.jb_saved.specs.GoingOn.{again, rows_restarted}
+use Rattle.jb_saved.specs.GoingOn.{restarted, rows_restarted}
 use Rattle.jb_saved.specs.Reading.{answer_of}
 use Rattle.jb_saved.specs.SavedRows.{SavedRows}
 use Rattle.jb_saved.specs.declared.place.SavedPlace.{SavedPlace}
@@ -20,7 +20,7 @@ share-again : (f : Function) (records : List (List ℕ)) (b : Bool) (row : Row) 
 share-again f records true row share is = record { results = is.results; number = is.number; whole = λ e. absurd cc }
 share-again f records false row share is = is
 
-shares-again : (f : Function) (records : List (List ℕ)) (rows : List Row) (shares : List (List (List ℕ))) → AreShares f records rows shares → AreShares f records (map again rows) shares
+shares-again : (f : Function) (records : List (List ℕ)) (rows : List Row) (shares : List (List (List ℕ))) → AreShares f records rows shares → AreShares f records (map restarted rows) shares
 shares-again f records [] [] are = tt
 shares-again f records [] (share ∷ shares) are = absurd are
 shares-again f records (row ∷ rows) [] are = absurd are
@@ -30,9 +30,9 @@ first-again : (from to : ℕ) (b : Bool) (row : Row) (rows : List Row) → row.l
 first-again from to true row rows lo hi order = (lo, hi, order)
 first-again from to false row rows lo hi order = (lo, hi, order)
 
-order-again : (from to : ℕ) (rows : List Row) → AreInOrder from to rows → AreInOrder from to (map again rows)
+order-again : (from to : ℕ) (rows : List Row) → AreInOrder from to rows → AreInOrder from to (map restarted rows)
 order-again from to [] order = order
-order-again from to (row ∷ rows) order = first-again from to (is_failed row.state) row (map again rows) order.0 order.1 (order-again row.hi to rows order.2)
+order-again from to (row ∷ rows) order = first-again from to (is_failed row.state) row (map restarted rows) order.0 order.1 (order-again row.hi to rows order.2)
 
 -- a partition that failed waits at its checkpoint, with its share
 so-far-again : (f : Function) (records : List (List ℕ)) (held : SavedRows) (shares : List (List (List ℕ))) → IsSoFar f records held.rows shares → IsSoFar f records (rows_restarted held) shares

@@ -1,9 +1,9 @@
 -- The partitions, over a whole run of its step.
 use Rattle.std.proofs.Common.{◌≡◌, ℕ, zero, suc, ◌+◌, ◌-◌, ◌≤◌, Bool, true, false, not, cond, List, [], ◌∷◌, length, Some, Option, refl, ap, sym, subst, ◌∙◌, arith}
+use Rattle.std.proofs.lemmas.Bool.{or_parts}
 use Rattle.std.proofs.Math.Seq.{take-length}
 use Rattle.std.specs.Prelude.{◌==◌, ◌||◌, filter, map, nat_eq, slice_get, take}
 use Rattle.std.specs.List.{enumerate_from, filter_map, list_any, range_with_len, zip}
-use Rattle.std.proofs.lemmas.Bool.Decides.{nat_tests}
 use Rattle.jb_base.specs.declared.range.Range.{Range}
 use Rattle.jb_repo.specs.declared.snapshot.Snapshot.{Snapshot}
 use Rattle.jb_rules.specs.declared.row.Row.{Row}
@@ -25,6 +25,7 @@ use Rattle.jb_records.specs.Runs.{HasResults, PartsStay, ResultsGoOn}
 use Rattle.jb_records.specs.Shares.{AreInOrder, AreNumbered, AreRangesOf, AreShares, AreWhole, IsShare, IsSoFar, NewStepsBegin, newer_share, newer_shares}
 use Rattle.jb_records.specs.Steps.{AreWorks, BeginsAnew, HaveResults, StepsKeepResults}
 use Rattle.jb_records.specs.Works.{IsWork, own_records, record_of, results_between}
+use Rattle.jb_records.proofs.Going.{ends-at}
 
 -- ---- HOW THE PARTITIONS BEGIN
 
@@ -165,10 +166,6 @@ nothing : (share : List (List ℕ)) → length share ≡ 0 → share ≡ []
 nothing [] e = refl
 nothing (x ∷ xs) e = absurd (omega (arith, e))
 
-ends-at : (b : Bool) (at hi : ℕ) → (at == hi) ≡ b → cond b state.Finished state.Waiting ≡ state.Finished → at ≡ hi
-ends-at true at hi e finished = grind (arith, nat_tests)
-ends-at false at hi e finished = absurd cc
-
 new-share : (f : Function) (records : List (List ℕ)) (r : Range) (share : List (List ℕ)) → length share ≡ 0 → IsShare f records (fresh_row r) share
 new-share f records r share none = record {
   results = nothing share none ∙ sym (no-results f r.lo (own_records records (fresh_row r)) r.lo);
@@ -208,14 +205,10 @@ finished-is (state.Running lane) e = absurd cc
 finished-is state.Finished e = refl
 finished-is state.Failed e = absurd cc
 
-none-left : (b more : Bool) → (b || more) ≡ false → (b ≡ false) × (more ≡ false)
-none-left true more e = absurd cc
-none-left false more e = (refl, e)
-
 whole-if : (rows : List Row) → list_any (λ row. not (is_finished row.state)) rows ≡ false → AreWhole rows
 whole-if [] e = tt
 whole-if (row ∷ rows) e =
-    let parts = none-left (not (is_finished row.state)) (list_any (λ row. not (is_finished row.state)) rows) e in
+    let parts = or_parts (not (is_finished row.state)) (list_any (λ row. not (is_finished row.state)) rows) e in
     (finished-is row.state parts.0, whole-if rows parts.1)
 
 completed-by : (failed unfinished : Bool) → cond failed status.Failed (cond unfinished status.Stopped status.Completed) ≡ status.Completed → unfinished ≡ false

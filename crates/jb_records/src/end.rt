@@ -1,8 +1,9 @@
 //! How a step over records ended.
 
-ghost use Rattle.std.specs.Prelude.{◌≡◌, IfOk, Some, string_bytes};
+ghost use Rattle.std.specs.Prelude.{◌≡◌, IfErr, IfOk, Some, string_bytes};
 ghost use Rattle.jb_job.specs.Reading.{tree_of};
 ghost use Rattle.jb_saved.specs.SavedTree.{saved_tree};
+ghost use Rattle.jb_records.specs.Refusals.{IsUnsaved};
 ghost use Rattle.jb_records.specs.Shares.{joined};
 
 use crate::error::RecordsStepError;
@@ -35,6 +36,7 @@ impl RecordsEnd {
     /// `Step` with the first row that runs on a lane, and `Memory`.
     pub fn saved_text(&self, alloc: Global, id: &Name) -> Result<String, RecordsStepError>
         ensures reads_back { IfOk result (λ text. tree_of (string_bytes text) ≡ Some (saved_tree (record { step = id.now; rows = self.now.snapshot.rows.items }))) }
+        ensures refused { IfErr result (IsUnsaved self.now.snapshot.rows.items) }
     {
         let saved = Saved::of(alloc, id.as_str(), &self.snapshot)?;
         let text = saved_text(alloc, &saved)?;

@@ -32,9 +32,9 @@ use std::thread::Threads;
 
 /// A step over records that is ready to run: the rows of its partitions, and the results that each has.
 #[derive(Drop)]
-pub struct RecordsJob {
-    pub prepared: Prepared,
-    pub results: Vec<PackedList>,
+pub(crate) struct RecordsJob {
+    pub(crate) prepared: Prepared,
+    pub(crate) results: Vec<PackedList>,
     rules: Rules,
     reducer: ListReducer,
     ghost same_rules: { prepared.rules ≡ rules },
@@ -47,7 +47,7 @@ impl RecordsJob {
     /// # Errors
     /// `Records` where there are more than 10,000,000; `Step` with what is wrong with the partitions or the saved rows; `Results`
     /// where the rows say otherwise how many results there are; and `Memory`.
-    pub fn begin(
+    pub(crate) fn begin(
         alloc: Global,
         step: &RecordsStep,
         records: &PackedList,
@@ -71,13 +71,13 @@ impl RecordsJob {
         })
     }
 
-    /// Runs the step over its desk (`prepared.desk`), for so many rounds at most. Wherever it ends, each partition has the
+    /// Runs the step over its desk, for so many rounds at most. Wherever it ends, each partition has the
     /// results of the records before its checkpoint, if it had them at the beginning.
     ///
     /// # Errors
     /// `Records` where there are fewer than the rows say; `SkippedTry` where a first try is to fail with a class that the rules
     /// skip; `Step`, and `Memory`.
-    pub fn run<
+    pub(crate) fn run<
         F: RecordFunction + Drop + 'static,
         L: Ledger + Send + Sync + 'static,
         R: Threads + Wait + Sync,

@@ -33,7 +33,9 @@ pub struct Earlier<'a> {
 /// completed, those of all records.
 ///
 /// # Errors
-/// Those of `RecordsJob::begin` and `RecordsJob::run`, and `Step` with what is wrong with the saved text.
+/// `Records` where there are more than 10,000,000, or fewer than the saved rows say; `Results` where these say otherwise how many
+/// results there are; `SkippedTry` where a first try is to fail with a class that the rules skip; `Step` with what is wrong with
+/// the partitions or the saved text, or why the step has no end; and `Memory`.
 pub fn run_records<F: RecordFunction + Drop + 'static, R: Threads + Wait + Sync>(
     rt: &R,
     alloc: Global,
@@ -56,7 +58,7 @@ pub fn run_records<F: RecordFunction + Drop + 'static, R: Threads + Wait + Sync>
 }
 
 /// The step as it begins, anew or behind an earlier run.
-fn begun(
+pub(crate) fn begun(
     alloc: Global,
     step: &RecordsStep,
     records: &PackedList,

@@ -1,7 +1,7 @@
 -- In every accepted history a lane runs a partition exactly where the partition's row says so, and both are marked; and the
 -- rows are sound.
-use Rattle.std.proofs.Common.{◌≡◌, ◌≢◌, ℕ, zero, suc, ◌+◌, ◌<◌, ◌≤◌, Bool, true, false, cond, ◌||◌, ◌⊎◌, inl, inr, nat_eq, is_some, List, [], ◌∷◌, length, slice_get, Option, Some, None, refl, sym, ◌∙◌, ap, subst, eq-eqb, arith}
-use Rattle.std.proofs.lemmas.Bool.{ne_eqb, cases_eq}
+use Rattle.std.proofs.Common.{◌≡◌, ◌≢◌, ℕ, zero, suc, ◌+◌, ◌<◌, ◌≤◌, Bool, true, false, cond, ◌⊎◌, inl, inr, nat_eq, is_some, List, [], ◌∷◌, ◌++◌, length, slice_get, Option, Some, None, refl, sym, ◌∙◌, ap, subst, eq-eqb, arith}
+use Rattle.std.proofs.lemmas.Bool.{ne_eqb, cases_eq, or_parts, or_right, ltb-false, leb-false}
 use Rattle.std.proofs.lemmas.Bool.Decides.{nat_tests}
 use Rattle.jb_rules.specs.declared.counts.Counts.{Counts}
 use Rattle.jb_rules.specs.declared.row.Row.{Row}
@@ -21,11 +21,16 @@ use Rattle.jb_repo.specs.inside.Steps.{CanStep, IsCommit}
 use Rattle.jb_base.specs.Limits.{max_rollbacks, max_retry_limit, max_in_place}
 use Rattle.jb_repo.proofs.RowLemmas.{step, own-yes, own-no, own-none, owner-yes, owner-no, replayed_row-step, plus_counts-zero}
 use Rattle.jb_repo.proofs.Stepping.{sound-step, waiting-before-end, running-before-end}
-use Rattle.jb_repo.proofs.Passing.{BeginPasses, begin_passes, commit_passes, roll_passes, fail_passes, drop_passes, round_passes, row_of-is, leb_false, ltb_false, or_false, roll_few, fail_few}
+use Rattle.jb_repo.proofs.Passing.{BeginPasses, begin_passes, commit_passes, roll_passes, fail_passes, drop_passes, round_passes, row_of-is, roll_few, fail_few}
 
 -- the journal of the same repository at another history
 abbrev pub at_past : Journal → List Event → Journal
 at_past j past = record j { past = past }
+
+-- an earlier history of an accepted one is accepted
+pub accepted_before : (j : Journal) (later past : List Event) → AcceptedPast j (later ++ past) → AcceptedPast j past
+accepted_before j [] past ok = ok
+accepted_before j (e ∷ later) past ok = accepted_before j later past ok.1
 
 -- what is known of a lane that runs a partition
 pub record IsLane (j : Journal) (past : List Event) (l p : ℕ) : Type 0 where
@@ -51,10 +56,6 @@ lane_marked-same k e past r b = rw (r, b) refl
 
 pub partition_marked-same : (k : ℕ) (e : Event) (past : List Event) → is_round e ≡ false → begun_by e ≡ None → is_partition_marked k (e ∷ past) ≡ is_partition_marked k past
 partition_marked-same k e past r b = rw (r, b) refl
-
-or_right : (a b : Bool) → b ≡ true → (a || b) ≡ true
-or_right true b h = refl
-or_right false b h = h
 
 -- where none of the lanes below n runs, none of them has an owner
 pub none_owns : (n : ℕ) (past : List Event) (l p : ℕ) → running n past ≡ 0 → l < n → owner l past ≡ Some p → ⊥
@@ -176,9 +177,9 @@ module _ (j : Journal) (past : List Event) (old : Consistent j past) where
     begin_below : (r : Row) → slice_get j.opening p ≡ Some r → HasRoom (replayed_row j.item_count r (own p past))
     begin_below r o =
         let h = rw (row_of-is (at_past j past) p r o) at ok.below_limit in
-        let parts = or_false _ _ h in
-        let few = ltb_false _ _ parts.1 in
-        (leb_false _ _ parts.0, omega (arith, few))
+        let parts = or_parts _ _ h in
+        let few = ltb-false _ _ parts.1 in
+        (leb-false _ _ parts.0, omega (arith, few))
 
     begin_below_all : (q : ℕ) (r : Row) → slice_get j.opening q ≡ Some r → is_running (replayed_row j.item_count r (own q (Begin l p ∷ past))).state ≡ true → (p ≡ q) ⊎ (p ≢ q) → HasRoom (replayed_row j.item_count r (own q (Begin l p ∷ past)))
     begin_below_all q r o s (inl e) =

@@ -1,5 +1,5 @@
 -- Each Commit takes the first of the blocks that are left.
-use Rattle.std.proofs.Common.{◌≡◌, ℕ, List, [], ◌∷◌, ◌++◌, None, subst, arith}
+use Rattle.std.proofs.Common.{◌≡◌, ℕ, List, ◌∷◌, None, subst, arith}
 use Rattle.jb_rules.specs.declared.counts.Counts.{Counts}
 use Rattle.jb_rules.specs.Rows.{row_block}
 use Rattle.jb_repo.specs.declared.events.Event.{Event}
@@ -10,7 +10,7 @@ use Rattle.jb_repo.specs.Table.{Journal, refusal, AcceptedPast}
 use Rattle.jb_repo.specs.Openable.{IsOpenable}
 use Rattle.jb_repo.specs.Laws.{TakesFirstBlock, CommitsTakeFirstBlocks}
 use Rattle.jb_repo.specs.inside.Below.{LawsBelow}
-use Rattle.jb_repo.proofs.Consistent.{at_past, consistent, commit_of_row, rows-sound}
+use Rattle.jb_repo.proofs.Consistent.{at_past, accepted_before, consistent, commit_of_row, rows-sound}
 use Rattle.jb_repo.proofs.Passing.{row_of-is, commit_passes}
 use Rattle.jb_repo.proofs.Stepping.{commit_facts, passed-block, running-before-end}
 use Rattle.jb_repo.proofs.Tables.{at_some}
@@ -39,11 +39,7 @@ takes_first laws j ready past l d w a passes ok =
       passed = omega (arith, next.from, passed);
     }
 
-accepted_at : (j : Journal) (later past : List Event) → AcceptedPast j (later ++ past) → AcceptedPast j past
-accepted_at j [] past ok = ok
-accepted_at j (e ∷ later) past ok = accepted_at j later past ok.1
-
 pub commits_take_first_blocks : LawsBelow → CommitsTakeFirstBlocks
 commits_take_first_blocks laws j law later past l d w a is =
-    let ok = accepted_at j later (Commit l d w a ∷ past) (subst (λ (x : List Event). AcceptedPast j x) is law.accepted) in
+    let ok = accepted_before j later (Commit l d w a ∷ past) (subst (λ (x : List Event). AcceptedPast j x) is law.accepted) in
     takes_first laws j law.ready past l d w a ok.0 ok.1

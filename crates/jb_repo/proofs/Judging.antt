@@ -1,6 +1,7 @@
 -- Which Plans, Rounds, Stops and Commits are accepted, and which are refused for what they say.
-use Rattle.std.proofs.Common.{◌≡◌, ℕ, ◌+◌, ◌-◌, ◌<◌, ◌≤◌, ◌↔◌, Bool, true, false, not, ◌||◌, nat_eq, nat_le, nat_lt, [], ◌∷◌, length, Some, None, refl, sym, ◌∙◌, arith}
+use Rattle.std.proofs.Common.{◌≡◌, ℕ, ◌+◌, ◌-◌, ◌<◌, ◌≤◌, ◌↔◌, Bool, true, false, not, ◌||◌, nat_le, nat_lt, [], ◌∷◌, length, Some, None, refl, sym, ◌∙◌, arith}
 use Rattle.std.proofs.lemmas.Bool.Decides.{nat_tests}
+use Rattle.std.proofs.lemmas.Bool.{or_parts, not-true, eq-eqb}
 use Rattle.jb_rules.specs.declared.counts.Counts.{Counts}
 use Rattle.jb_rules.specs.declared.row.Row.{Row}
 use Rattle.jb_rules.specs.Rows.{row_block}
@@ -16,7 +17,7 @@ use Rattle.jb_repo.specs.Openable.{IsReplayable}
 use Rattle.jb_repo.specs.Laws.{MayPlan, IsCertified, GoodPlansAreAccepted, BadPlansAreRefused, MayEndRound, GoodRoundsAreAccepted, PlacedStopsAreAccepted, IsCommitOfNext, GoodCommitsAreAccepted, BadCommitsAreRefused, RunningLanesMayEnd}
 use Rattle.jb_repo.specs.inside.Below.{LawsBelow}
 use Rattle.jb_repo.proofs.Consistent.{consistent}
-use Rattle.jb_repo.proofs.Passing.{none_below, or_false, plan_passes, round_passes, stop_passes}
+use Rattle.jb_repo.proofs.Passing.{none_below, plan_passes, round_passes, stop_passes}
 use Rattle.jb_repo.proofs.Stepping.{commit_facts}
 
 -- PLANS
@@ -29,13 +30,9 @@ third false false true d h = (refl, refl, refl)
 third false false false true h = absurd cc
 third false false false false h = absurd cc
 
-not_true : (a : Bool) → not a ≡ true → a ≡ false
-not_true true h = absurd cc
-not_true false h = refl
-
 may_plan : (j : Journal) → is_stopping j.past ≡ false → (nat_lt 0 (reserved j) || is_plan_open j.past) ≡ false → MayPlan j
 may_plan j stops runs =
-    let f = or_false (nat_lt 0 (reserved j)) (is_plan_open j.past) runs in
+    let f = or_parts (nat_lt 0 (reserved j)) (is_plan_open j.past) runs in
     record { not_stopping = stops; none_runs = none_below (reserved j) f.0; none_open = f.1 }
 
 none_yet : (j : Journal) → MayPlan j → (nat_lt 0 (reserved j) || is_plan_open j.past) ≡ false
@@ -55,7 +52,7 @@ module _ (means : LeastPlanMeans) (j : Journal) (law : IsReplayable j) (n : ℕ)
   is_bad : refusal j (Plan n k) ≡ Some BadPlan → MayPlan j × (IsCertified j n k → ⊥)
   is_bad h =
       let t = third (is_stopping j.past) (nat_lt 0 (reserved j) || is_plan_open j.past) (not (is_good_plan j n k)) (is_full j 1) h in
-      (may_plan j t.0 t.1, λ both. let g = good_plan both in let b = not_true (is_good_plan j n k) t.2 in cc)
+      (may_plan j t.0 t.1, λ both. let g = good_plan both in let b = not-true (is_good_plan j n k) t.2 in cc)
 
   becomes_bad : MayPlan j × (IsCertified j n k → ⊥) → refusal j (Plan n k) ≡ Some BadPlan
   becomes_bad h =
@@ -133,9 +130,6 @@ is_third false h = refl
 lane_there : (threads lane : ℕ) → lane < threads → nat_le threads lane ≡ false
 lane_there threads lane lt = grind (arith, nat_tests)
 
-same_number : (a b : ℕ) → a ≡ b → nat_eq a b ≡ true
-same_number a b h = grind (arith, nat_tests)
-
 not_more : (again : ℕ) → again ≤ max_retry_limit → nat_lt max_retry_limit again ≡ false
 not_more again few = grind (arith, nat_tests)
 
@@ -161,7 +155,7 @@ module _ (laws : LawsBelow) (j : Journal) (law : IsReplayable j) (l p : ℕ) (ro
   good_commit : IsCommitOfNext j.item_count row d w → is_commit_of j.item_count row d w ≡ true
   good_commit h =
       let delta = (laws.deltas ((row_block j.item_count row).hi - row.at) d).1 h.0 in
-      let number = same_number w (row.written + d.write) h.1 in
+      let number = eq-eqb w (row.written + d.write) h.1 in
       rw (delta, number) refl
 
   accepted : (refusal j (Commit l d w a) ≡ None) ↔ IsCommitOfNext j.item_count row d w

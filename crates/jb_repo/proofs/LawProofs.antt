@@ -1,6 +1,6 @@
 -- The laws of accepted histories.
 use Rattle.std.proofs.Common.{◌≡◌, ℕ, suc, ◌+◌, ◌<◌, ◌≤◌, Bool, true, false, cond, not, ◌&&◌, ◌||◌, nat_eq, nat_lt, List, [], ◌∷◌, ◌++◌, map, slice_get, Option, Some, None, refl, sym, ◌∙◌, ap, subst, arith}
-use Rattle.std.proofs.lemmas.Bool.{ltb-true}
+use Rattle.std.proofs.lemmas.Bool.{ltb-true, and_parts, or_parts, ltb-false}
 use Rattle.std.specs.List.{list_all}
 use Rattle.jb_rules.specs.declared.counts.Counts.{Counts}
 use Rattle.jb_rules.specs.declared.row.Row.{Row}
@@ -20,9 +20,9 @@ use Rattle.jb_repo.specs.Table.{Journal, refusal, after, AcceptedPast, row_of, r
 use Rattle.jb_repo.specs.Openable.{IsOpenable, IsReplayable}
 use Rattle.jb_repo.specs.Laws.{with_past, RunsOn, OneLane, OnePartition, RowsShowLanes, LanesAreKnown, RowsAreSound, next_row, RowsLiveOn, committed_blocks, AreConsecutive, CommitsAreConsecutive, without_lane, OrderIsFree, PlansAreLeast, RoundsArePlanned, goes_well, PlansAreRunWhole}
 use Rattle.jb_repo.proofs.RowLemmas.{step, replayed_row-step}
-use Rattle.jb_repo.proofs.Stepping.{and_parts, commit_facts, passed-block, next-is, running-before-end}
-use Rattle.jb_repo.proofs.Passing.{row_of-is, commit_passes, plan_passes, round_passes, or_false, ltb_false}
-use Rattle.jb_repo.proofs.Consistent.{Consistent, consistent, at_past, none_owns, commit_of_row, rows-sound, some_of}
+use Rattle.jb_repo.proofs.Stepping.{commit_facts, passed-block, next-is, running-before-end}
+use Rattle.jb_repo.proofs.Passing.{row_of-is, commit_passes, plan_passes, round_passes}
+use Rattle.jb_repo.proofs.Consistent.{Consistent, consistent, at_past, accepted_before, none_owns, commit_of_row, rows-sound, some_of}
 use Rattle.jb_repo.proofs.Tables.{at_some, inside, row_sound, has_opening, can_step}
 
 -- LANES
@@ -223,10 +223,6 @@ order_is_free j one other a b still quiet same =
 
 -- PLANS
 
-accepted_before : (j : Journal) (later past : List Event) → AcceptedPast j (later ++ past) → AcceptedPast j past
-accepted_before j [] past ok = ok
-accepted_before j (e ∷ later) past ok = accepted_before j later past ok.1
-
 pub plans_are_least : LeastPlanMeans → PlansAreLeast
 plans_are_least means j law later past n k is =
     let ok = accepted_before j later (Plan n k ∷ past) (subst (λ (x : List Event). AcceptedPast j x) is law.accepted) in
@@ -236,7 +232,7 @@ plans_are_least means j law later past n k is =
 since-plan : (later past : List Event) (n : ℕ) (k : Certificate) → some is_plan later ≡ false → (since is_plan (later ++ Plan n k ∷ past) ≡ later) × (planned_rounds (later ++ Plan n k ∷ past) ≡ n)
 since-plan [] past n k none = (refl, refl)
 since-plan (e ∷ later) past n k none =
-    let f = or_false (is_plan e) (some is_plan later) none in
+    let f = or_parts (is_plan e) (some is_plan later) none in
     let h = since-plan later past n k f.1 in
     (rw (f.0, h.0) refl, rw f.0 h.1)
 
@@ -260,7 +256,7 @@ one_more j Round later past n k ok none h =
 rounds_planned : (j : Journal) (later past : List Event) (n : ℕ) (k : Certificate) → AcceptedPast j (later ++ Plan n k ∷ past) → some is_plan later ≡ false → number is_round later ≤ n
 rounds_planned j [] past n k ok none = omega arith
 rounds_planned j (e ∷ later) past n k ok none =
-    let f = or_false (is_plan e) (some is_plan later) none in
+    let f = or_parts (is_plan e) (some is_plan later) none in
     one_more j e later past n k ok.0 f.1 (rounds_planned j later past n k ok.1 f.1)
 
 pub rounds_are_planned : RoundsArePlanned
@@ -270,7 +266,7 @@ rounds_are_planned j law later past n k is none =
 not_closed : (later : List Event) → some ends_plan later ≡ false → is_closed later ≡ false
 not_closed [] none = refl
 not_closed (e ∷ later) none =
-    let f = or_false (ends_plan e) (some ends_plan later) none in
+    let f = or_parts (ends_plan e) (some ends_plan later) none in
     let h = not_closed later f.1 in
     rw (f.1, h) (elim (is_round e) as (λ b. ((b && false) || false) ≡ false) [ true ↦ refl | false ↦ refl ])
 
@@ -306,6 +302,6 @@ plans_are_run_whole j law between past m n next k is well =
     let s = since-plan between past n k none in
     let c = not_closed between quiet in
     let q' : (nat_lt (number is_round between) n && not (is_closed between)) ≡ false = rw (s.0, s.1) at q in
-    let least : n ≤ number is_round between = ltb_false _ _ (and_true (nat_lt (number is_round between) n) (rw c at q')) in
+    let least : n ≤ number is_round between = ltb-false _ _ (and_true (nat_lt (number is_round between) n) (rw c at q')) in
     let most = rounds_planned j between past n k ok.1 none in
     omega (arith, least, most)

@@ -1,6 +1,7 @@
 -- What the table's silence says of each event.
-use Rattle.std.proofs.Common.{◌≡◌, ℕ, ◌+◌, ◌<◌, ◌≤◌, Bool, true, false, not, ◌||◌, nat_le, nat_lt, is_none, List, [], ◌∷◌, length, slice_get, Option, Some, None, refl, ◌∙◌, arith}
+use Rattle.std.proofs.Common.{◌≡◌, ℕ, ◌+◌, ◌<◌, ◌≤◌, true, false, nat_lt, is_none, List, [], ◌∷◌, length, slice_get, Option, Some, None, refl, ◌∙◌, arith}
 use Rattle.std.proofs.lemmas.Bool.Decides.{nat_tests}
+use Rattle.std.proofs.lemmas.Bool.{or_parts, not-false, ltb-false, leb-false}
 use Rattle.jb_rules.specs.declared.counts.Counts.{Counts}
 use Rattle.jb_rules.specs.declared.row.Row.{Row}
 use Rattle.jb_cert.specs.declared.certificates.Certificate.{Certificate}
@@ -22,26 +23,12 @@ passes [] h = tt
 passes ((true, refused) ∷ others) h = absurd cc
 passes ((false, refused) ∷ others) h = (refl, passes others h)
 
-pub or_false : (a b : Bool) → (a || b) ≡ false → (a ≡ false) × (b ≡ false)
-or_false true b h = absurd cc
-or_false false b h = (refl, h)
-
-pub not_false : (a : Bool) → not a ≡ false → a ≡ true
-not_false true h = refl
-not_false false h = absurd cc
-
 pub some_value : {X : Type 0} (o : Option X) → is_none o ≡ false → (x : X) × (o ≡ Some x)
 some_value None h = absurd cc
 some_value (Some x) h = (x, refl)
 
-pub leb_false : (a b : ℕ) → nat_le a b ≡ false → b < a
-leb_false a b h = grind (arith, nat_tests)
-
-pub ltb_false : (a b : ℕ) → nat_lt a b ≡ false → b ≤ a
-ltb_false a b h = grind (arith, nat_tests)
-
 pub full_false : (j : Journal) (n : ℕ) → is_full j n ≡ false → length j.past + reserved j + n ≤ max_events
-full_false j n h = ltb_false _ _ h
+full_false j n h = ltb-false _ _ h
 
 pub record BeginPasses (j : Journal) (l p : ℕ) : Type 0 where
   pub not_stopping : is_stopping j.past ≡ false
@@ -63,16 +50,16 @@ begin_passes j l p h =
     let e = d.1 in
     let f = e.1 in
     let g = f.1 in
-    let idle = or_false _ _ e.0 in
-    let full = or_false _ _ g.0 in
+    let idle = or_parts _ _ e.0 in
+    let full = or_parts _ _ g.0 in
     record {
       not_stopping = a.0;
-      partition = leb_false _ _ b.0;
-      lane = leb_false _ _ c.0;
+      partition = leb-false _ _ b.0;
+      lane = leb-false _ _ c.0;
       lane_unmarked = d.0;
       partition_unmarked = idle.0;
       not_over = idle.1;
-      open_plan = not_false _ f.0;
+      open_plan = not-false _ f.0;
       room = full_false j 2 full.0;
       below_limit = full.1;
     }
@@ -93,8 +80,8 @@ plan_passes j n k h =
     let b = a.1 in
     let c = b.1 in
     let d = c.1 in
-    let still = or_false _ _ b.0 in
-    record { not_stopping = a.0; none_runs = none_below _ still.0; no_plan = still.1; good = not_false _ c.0; room = full_false j 1 d.0 }
+    let still = or_parts _ _ b.0 in
+    record { not_stopping = a.0; none_runs = none_below _ still.0; no_plan = still.1; good = not-false _ c.0; room = full_false j 1 d.0 }
 
 pub record OutcomePasses (j : Journal) (l : ℕ) : Type 0 where
   pub lane : l < j.threads
@@ -107,36 +94,36 @@ commit_passes j l d w a h =
     let b = p.1 in
     let c = b.1 in
     let v = some_value _ b.0 in
-    let good = or_false _ _ c.0 in
-    (record { lane = leb_false _ _ p.0; partition = v.0; owned = v.1 }, not_false _ good.0, ltb_false _ _ good.1)
+    let good = or_parts _ _ c.0 in
+    (record { lane = leb-false _ _ p.0; partition = v.0; owned = v.1 }, not-false _ good.0, ltb-false _ _ good.1)
 
 pub roll_passes : (j : Journal) (l : ℕ) (k : ClassId) (a : ℕ) → refusal j (Roll l k a) ≡ None → OutcomePasses j l
 roll_passes j l k a h =
     let p = passes (conditions j (Roll l k a)) h in
     let b = p.1 in
     let v = some_value _ b.0 in
-    record { lane = leb_false _ _ p.0; partition = v.0; owned = v.1 }
+    record { lane = leb-false _ _ p.0; partition = v.0; owned = v.1 }
 
 pub fail_passes : (j : Journal) (l : ℕ) (k : ClassId) (a : ℕ) → refusal j (Fail l k a) ≡ None → OutcomePasses j l
 fail_passes j l k a h =
     let p = passes (conditions j (Fail l k a)) h in
     let b = p.1 in
     let v = some_value _ b.0 in
-    record { lane = leb_false _ _ p.0; partition = v.0; owned = v.1 }
+    record { lane = leb-false _ _ p.0; partition = v.0; owned = v.1 }
 
 -- what an outcome repeated is no more than an attempt may
 pub roll_few : (j : Journal) (l : ℕ) (k : ClassId) (a : ℕ) → refusal j (Roll l k a) ≡ None → a ≤ max_retry_limit
-roll_few j l k a h = ltb_false _ _ (passes (conditions j (Roll l k a)) h).1.1.0
+roll_few j l k a h = ltb-false _ _ (passes (conditions j (Roll l k a)) h).1.1.0
 
 pub fail_few : (j : Journal) (l : ℕ) (k : ClassId) (a : ℕ) → refusal j (Fail l k a) ≡ None → a ≤ max_retry_limit
-fail_few j l k a h = ltb_false _ _ (passes (conditions j (Fail l k a)) h).1.1.0
+fail_few j l k a h = ltb-false _ _ (passes (conditions j (Fail l k a)) h).1.1.0
 
 pub drop_passes : (j : Journal) (l : ℕ) → refusal j (Drop l) ≡ None → OutcomePasses j l
 drop_passes j l h =
     let a = passes (conditions j (Drop l)) h in
     let b = a.1 in
     let v = some_value _ b.0 in
-    record { lane = leb_false _ _ a.0; partition = v.0; owned = v.1 }
+    record { lane = leb-false _ _ a.0; partition = v.0; owned = v.1 }
 
 pub record RoundPasses (j : Journal) : Type 0 where
   pub none_runs : reserved j ≡ 0
@@ -148,7 +135,7 @@ round_passes j h =
     let a = passes (conditions j Round) h in
     let b = a.1 in
     let c = b.1 in
-    record { none_runs = none_below _ a.0; open_plan = not_false _ b.0; room = full_false j 1 c.0 }
+    record { none_runs = none_below _ a.0; open_plan = not-false _ b.0; room = full_false j 1 c.0 }
 
 pub stop_passes : (j : Journal) → refusal j Stop ≡ None → length j.past + reserved j + 1 ≤ max_events
 stop_passes j h = full_false j 1 (passes (conditions j Stop) h).0

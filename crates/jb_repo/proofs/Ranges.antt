@@ -21,13 +21,14 @@ use Rattle.jb_repo.specs.Rows.{replayed_row, rows_from, remaining}
 abbrev pub Apart : List Row → Type 0
 Apart rows = (i k : ℕ) (r s : Row) → i < k → slice_get rows i ≡ Some r → slice_get rows k ≡ Some s → HaveNoneInCommon (range_of r) (range_of s)
 
-range_at : (rows : List Row) (i : ℕ) (r : Row) (d : Range) → slice_get rows i ≡ Some r → get_or (map range_of rows) i d ≡ range_of r
+-- the range at a place of the list
+pub range_at : (rows : List Row) (i : ℕ) (r : Row) (d : Range) → slice_get rows i ≡ Some r → get_or (map range_of rows) i d ≡ range_of r
 range_at [] i r d is = absurd cc
 range_at (x ∷ rows) zero r d is = let e : x ≡ r = cc in ap range_of e
 range_at (x ∷ rows) (suc i) r d is = range_at rows i r d is
 
-apart : (rows : List Row) → AreDisjoint (map range_of rows) → Apart rows
-apart rows disjoint i k r s lt a b =
+pub apart_of : (rows : List Row) → AreDisjoint (map range_of rows) → Apart rows
+apart_of rows disjoint i k r s lt a b =
     let within : k < length (map range_of rows) = let n = length-map rows range_of in let h = slice_get_within rows k s b in omega (arith, n, h) in
     let both = disjoint i k (range_of r) lt within in
     let half = subst (λ (x : Range). HaveNoneInCommon x (get_or (map range_of rows) k (range_of r))) (range_at rows i r (range_of r) a) both in
@@ -122,4 +123,4 @@ remaining-below laws c past first (r ∷ rows) some sound =
 pub remaining-small : LawsBelow → (c : ℕ) (past : List Event) (rows : List Row) → 1 ≤ c → AreDisjoint (map range_of rows) → ((i : ℕ) (r : Row) → slice_get rows i ≡ Some r → IsSoundRow (replayed_row c r (own i past))) → sum (remaining c (rows_from c past 0 rows)) ≤ max_records
 remaining-small laws c past rows some disjoint sound =
     let a = remaining-below laws c past 0 rows some (λ i r o. let z : i ≡ 0 + i = omega arith in subst (λ (x : ℕ). IsSoundRow (replayed_row c r (own x past))) z (sound i r o)) in
-    omega (arith, a, all_below-le max_records rows (apart rows disjoint))
+    omega (arith, a, all_below-le max_records rows (apart_of rows disjoint))

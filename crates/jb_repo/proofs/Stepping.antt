@@ -1,6 +1,6 @@
 -- A step keeps the row rules.
-use Rattle.std.proofs.Common.{◌≡◌, ◌≢◌, ℕ, ◌+◌, ◌-◌, ◌<◌, ◌≤◌, Bool, true, false, ◌&&◌, nat_eq, refl, sym, ap, ◌∙◌, subst, arith}
-use Rattle.std.proofs.lemmas.Bool.Decides.{nat_tests}
+use Rattle.std.proofs.Common.{◌≡◌, ◌≢◌, ℕ, ◌+◌, ◌-◌, ◌<◌, ◌≤◌, true, false, refl, sym, ap, ◌∙◌, subst, arith}
+use Rattle.std.proofs.lemmas.Bool.{and_parts, eqb-true}
 use Rattle.jb_rules.specs.declared.counts.Counts.{Counts}
 use Rattle.jb_rules.specs.declared.row.Row.{Row}
 use Rattle.jb_rules.specs.declared.row.RowState.TheVariants.{Running, Finished}
@@ -18,13 +18,6 @@ use Rattle.jb_repo.specs.inside.Steps.{CanStep}
 use Rattle.jb_repo.proofs.RowLemmas.{step}
 
 -- a true conjunction has true parts
-pub and_parts : (a b : Bool) → (a && b) ≡ true → (a ≡ true) × (b ≡ true)
-and_parts true b h = (refl, h)
-and_parts false b h = absurd cc
-
-eqb_fact : (a b : ℕ) → nat_eq a b ≡ true → a ≡ b
-eqb_fact a b h = grind (arith, nat_tests)
-
 -- a row that isn't finished has a record left
 pub before-end : (row : Row) → IsSoundRow row → row.state ≢ Finished → row.at < row.hi
 before-end row s going =
@@ -46,7 +39,7 @@ pub record IsCommitOf (c : ℕ) (row : Row) (d : Counts) (w : ℕ) : Type 0 wher
 pub commit_facts : (laws : LawsBelow) (c : ℕ) (row : Row) (d : Counts) (w : ℕ) → is_commit_of c row d w ≡ true → IsCommitOf c row d w
 commit_facts laws c row d w h =
     let p = and_parts _ _ h in
-    record { delta = (laws.deltas ((row_block c row).hi - row.at) d).0 p.0; written = eqb_fact _ _ p.1 }
+    record { delta = (laws.deltas ((row_block c row).hi - row.at) d).0 p.0; written = eqb-true _ _ p.1 }
 
 module _ (laws : LawsBelow) (c : ℕ) (row : Row) (some : 1 ≤ c) (s : IsSoundRow row) (lt : row.at < row.hi) where
   block_some : row.at < (row_block c row).hi

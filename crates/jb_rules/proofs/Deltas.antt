@@ -1,40 +1,29 @@
 -- The test of what a chunk adds to the counts.
-use Rattle.std.proofs.Common.{◌≡◌, ℕ, ◌+◌, ◌<◌, Bool, true, false, ◌&&◌, ◌||◌, ◌⊎◌, inl, inr, nat_lt, refl, eq-eqb, arith}
+use Rattle.std.proofs.Common.{◌≡◌, ℕ, ◌+◌, ◌<◌, true, false, ◌&&◌, ◌||◌, ◌⊎◌, inl, inr, nat_lt, refl, eq-eqb, arith}
 use Rattle.std.specs.Prelude.{◌==◌}
-use Rattle.std.proofs.lemmas.Bool.{lt-ltb, ltb-true}
+use Rattle.std.proofs.lemmas.Bool.{lt-ltb, ltb-true, and_parts, or_cases, eqb-true}
 use Rattle.std.proofs.lemmas.Bool.Decides.{nat_tests}
 use Rattle.jb_rules.specs.declared.counts.Counts.{Counts}
 use Rattle.jb_rules.specs.Counts.{IsDelta, is_delta}
 use Rattle.jb_rules.specs.Laws.{DeltasAreTested}
-
-and_parts : (a b : Bool) → (a && b) ≡ true → (a ≡ true) × (b ≡ true)
-and_parts true b h = (refl, h)
-and_parts false b h = absurd cc
-
-or_parts : (a b : Bool) → (a || b) ≡ true → (a ≡ true) ⊎ (b ≡ true)
-or_parts true b h = inl refl
-or_parts false b h = inr h
-
-same : (a b : ℕ) → (a == b) ≡ true → a ≡ b
-same a b h = grind (arith, nat_tests)
 
 -- how the items of a chunk were settled
 abbrev Settled : Counts → Type 0
 Settled d = (d.write_skip ≡ 0) × (d.process_skip + d.filter + d.write ≡ d.read) ⊎ (d.write_skip ≡ 1) × (d.write ≡ 0) × (d.process_skip + d.filter < d.read)
 
 settled_of : (d : Counts) → ((d.write_skip == 0 && d.process_skip + d.filter + d.write == d.read) ≡ true) ⊎ ((d.write_skip == 1 && d.write == 0 && nat_lt (d.process_skip + d.filter) d.read) ≡ true) → Settled d
-settled_of d (inl h) = let p = and_parts _ _ h in inl (same _ _ p.0, same _ _ p.1)
+settled_of d (inl h) = let p = and_parts _ _ h in inl (eqb-true _ _ p.0, eqb-true _ _ p.1)
 settled_of d (inr h) =
     let p = and_parts _ _ h in
     let q = and_parts _ _ p.0 in
-    inr (same _ _ q.0, same _ _ q.1, ltb-true _ _ p.1)
+    inr (eqb-true _ _ q.0, eqb-true _ _ q.1, ltb-true _ _ p.1)
 
 delta_of : (records : ℕ) (d : Counts) → is_delta records d ≡ true → IsDelta records d
 delta_of records d h =
     let p = and_parts _ _ h in
     let q = and_parts _ _ p.0 in
     let r = and_parts _ _ q.0 in
-    record { passed = same _ _ r.0; commit = same _ _ r.1; rollback = same _ _ q.1; results = settled_of d (or_parts _ _ p.1) }
+    record { passed = eqb-true _ _ r.0; commit = eqb-true _ _ r.1; rollback = eqb-true _ _ q.1; results = settled_of d (or_cases _ _ p.1) }
 
 settled_test : (d : Counts) → Settled d → ((d.write_skip == 0 && d.process_skip + d.filter + d.write == d.read) || (d.write_skip == 1 && d.write == 0 && nat_lt (d.process_skip + d.filter) d.read)) ≡ true
 settled_test d (inl (none, all)) = rw (eq-eqb d.write_skip 0 none, eq-eqb (d.process_skip + d.filter + d.write) d.read all) refl

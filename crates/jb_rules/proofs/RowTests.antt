@@ -1,7 +1,7 @@
 -- The test of a row and what it tells.
-use Rattle.std.proofs.Common.{◌≡◌, ◌↔◌, ℕ, zero, suc, ◌≤◌, ◌<◌, ◌⊎◌, inl, inr, Bool, true, false, cond, not, ◌||◌, nat_lt, refl, sym, arith}
+use Rattle.std.proofs.Common.{◌≡◌, ◌↔◌, ℕ, zero, suc, ◌≤◌, ◌<◌, inl, inr, Bool, true, false, cond, not, ◌||◌, nat_lt, refl, sym, arith}
 use Rattle.std.specs.Prelude.{◌==◌, nat_le}
-use Rattle.std.proofs.lemmas.Bool.{and_parts, and_from}
+use Rattle.std.proofs.lemmas.Bool.{and_parts, and_from, or_cases, ltb-true, leb-true, leb-false, eqb-true, eq-eqb, le-leb}
 use Rattle.std.proofs.lemmas.Bool.Decides.{nat_tests}
 use Rattle.jb_rules.specs.declared.row.Row.{Row}
 use Rattle.jb_rules.specs.declared.row.RowState.{RowState}
@@ -11,28 +11,6 @@ use Rattle.jb_rules.specs.RowTest.{is_placed, settled, is_counted, is_sound}
 use Rattle.jb_rules.specs.Sound.{IsPlaced, IsCounted, IsSoundRow}
 use Rattle.jb_rules.specs.States.{is_finished}
 
-le-from : (m n : ℕ) → nat_le m n ≡ true → m ≤ n
-le-from m n e = grind (arith, nat_tests)
-
-le-to : (m n : ℕ) → m ≤ n → nat_le m n ≡ true
-le-to m n le = grind (arith, nat_tests)
-
-is-from : (m n : ℕ) → (m == n) ≡ true → m ≡ n
-is-from m n e = grind (arith, nat_tests)
-
-is-to : (m n : ℕ) → m ≡ n → (m == n) ≡ true
-is-to m n e = grind (arith, nat_tests)
-
-below-from : (m n : ℕ) → nat_lt m n ≡ true → m < n
-below-from m n e = grind (arith, nat_tests)
-
-above-from : (m n : ℕ) → nat_le m n ≡ false → n < m
-above-from m n e = grind (arith, nat_tests)
-
-pub or-cases : (a b : Bool) → (a || b) ≡ true → (a ≡ true) ⊎ (b ≡ true)
-or-cases true b e = inl refl
-or-cases false b e = inr e
-
 placed-from : (r : Row) → is_placed r ≡ true → IsPlaced r
 placed-from r e =
     let d = and_parts _ _ e in
@@ -40,24 +18,24 @@ placed-from r e =
     let b = and_parts _ _ c.0 in
     let a = and_parts _ _ b.0 in
     record {
-      at_from = le-from _ _ a.0;
-      at_to = le-from _ _ a.1;
-      redo_from = le-from _ _ b.1;
-      redo_to = le-from _ _ c.1;
-      records = le-from _ _ d.1;
+      at_from = leb-true _ _ a.0;
+      at_to = leb-true _ _ a.1;
+      redo_from = leb-true _ _ b.1;
+      redo_to = leb-true _ _ c.1;
+      records = leb-true _ _ d.1;
     }
 
 placed-to : (r : Row) → IsPlaced r → is_placed r ≡ true
 placed-to r p =
-    let a = and_from _ _ (le-to _ _ p.at_from) (le-to _ _ p.at_to) in
-    let b = and_from _ _ a (le-to _ _ p.redo_from) in
-    let c = and_from _ _ b (le-to _ _ p.redo_to) in
-    and_from _ _ c (le-to _ _ p.records)
+    let a = and_from _ _ (le-leb _ _ p.at_from) (le-leb _ _ p.at_to) in
+    let b = and_from _ _ a (le-leb _ _ p.redo_from) in
+    let c = and_from _ _ b (le-leb _ _ p.redo_to) in
+    and_from _ _ c (le-leb _ _ p.records)
 
 exact-from : (skips : ℕ) (b : Bool) → (nat_lt 0 skips || b) ≡ true → skips ≡ 0 → b ≡ true
 exact-from skips b e none =
-    elim (or-cases (nat_lt 0 skips) b e) [
-      | inl lt ↦ absurd (omega (arith, below-from 0 skips lt, none))
+    elim (or_cases (nat_lt 0 skips) b e) [
+      | inl lt ↦ absurd (omega (arith, ltb-true 0 skips lt, none))
       | inr is ↦ is
     ]
 
@@ -67,14 +45,14 @@ exact-to (suc n) b h = let some : nat_lt 0 (suc n) ≡ true = grind (arith, nat_
 
 some-from : (at lo commit : ℕ) → (nat_le at lo || nat_le 1 commit) ≡ true → lo < at → 1 ≤ commit
 some-from at lo commit e lt =
-    elim (or-cases (nat_le at lo) (nat_le 1 commit) e) [
-      | inl le ↦ absurd (omega (arith, le-from at lo le, lt))
-      | inr is ↦ le-from 1 commit is
+    elim (or_cases (nat_le at lo) (nat_le 1 commit) e) [
+      | inl le ↦ absurd (omega (arith, leb-true at lo le, lt))
+      | inr is ↦ leb-true 1 commit is
     ]
 
 some-by : (at lo commit : ℕ) (b : Bool) → nat_le at lo ≡ b → (lo < at → 1 ≤ commit) → (b || nat_le 1 commit) ≡ true
 some-by at lo commit true e h = refl
-some-by at lo commit false e h = le-to 1 commit (h (above-from at lo e))
+some-by at lo commit false e h = le-leb 1 commit (h (leb-false at lo e))
 
 counted-from : (r : Row) → is_counted r ≡ true → IsCounted r
 counted-from r e =
@@ -89,31 +67,31 @@ counted-from r e =
     let b = and_parts _ _ c.0 in
     let a = and_parts _ _ b.0 in
     record {
-      passed = is-from _ _ a.0;
-      written = is-from _ _ a.1;
-      settled = le-from _ _ b.1;
-      exact = λ none. is-from _ _ (exact-from r.counts.write_skip (settled r == r.counts.read) c.1 none);
-      write_skips = le-from _ _ d.1;
-      commits = le-from _ _ f.1;
+      passed = eqb-true _ _ a.0;
+      written = eqb-true _ _ a.1;
+      settled = leb-true _ _ b.1;
+      exact = λ none. eqb-true _ _ (exact-from r.counts.write_skip (settled r == r.counts.read) c.1 none);
+      write_skips = leb-true _ _ d.1;
+      commits = leb-true _ _ f.1;
       committed = some-from r.at r.lo r.counts.commit g.1;
-      repeated = le-from _ _ h.1;
-      retried = le-from _ _ k.1;
-      rolled = le-from _ _ m.1;
-      few_repeats = le-from _ _ n.1;
+      repeated = leb-true _ _ h.1;
+      retried = leb-true _ _ k.1;
+      rolled = leb-true _ _ m.1;
+      few_repeats = leb-true _ _ n.1;
     }
 
 counted-to : (r : Row) → IsCounted r → is_counted r ≡ true
 counted-to r p =
-    let a = and_from _ _ (is-to _ _ p.passed) (is-to _ _ p.written) in
-    let b = and_from _ _ a (le-to _ _ p.settled) in
-    let c = and_from _ _ b (exact-to r.counts.write_skip (settled r == r.counts.read) (λ none. is-to _ _ (p.exact none))) in
-    let d = and_from _ _ c (le-to _ _ p.write_skips) in
-    let f = and_from _ _ d (le-to _ _ p.commits) in
+    let a = and_from _ _ (eq-eqb _ _ p.passed) (eq-eqb _ _ p.written) in
+    let b = and_from _ _ a (le-leb _ _ p.settled) in
+    let c = and_from _ _ b (exact-to r.counts.write_skip (settled r == r.counts.read) (λ none. eq-eqb _ _ (p.exact none))) in
+    let d = and_from _ _ c (le-leb _ _ p.write_skips) in
+    let f = and_from _ _ d (le-leb _ _ p.commits) in
     let g = and_from _ _ f (some-by r.at r.lo r.counts.commit (nat_le r.at r.lo) refl p.committed) in
-    let h = and_from _ _ g (le-to _ _ p.repeated) in
-    let k = and_from _ _ h (le-to _ _ p.retried) in
-    let m = and_from _ _ k (le-to _ _ p.rolled) in
-    and_from _ _ m (le-to _ _ p.few_repeats)
+    let h = and_from _ _ g (le-leb _ _ p.repeated) in
+    let k = and_from _ _ h (le-leb _ _ p.retried) in
+    let m = and_from _ _ k (le-leb _ _ p.rolled) in
+    and_from _ _ m (le-leb _ _ p.few_repeats)
 
 -- a state that is Finished exactly where b holds
 abbrev done_by : RowState → Bool → Bool
@@ -146,14 +124,14 @@ sound-from r e =
     record {
       placed = placed-from r a.0;
       counted = counted-from r a.1;
-      finished = (λ f. is-from _ _ (done.0 f), λ same. done.1 (is-to _ _ same));
+      finished = (λ f. eqb-true _ _ (done.0 f), λ same. done.1 (eq-eqb _ _ same));
     }
 
 sound-to : (r : Row) → IsSoundRow r → is_sound r ≡ true
 unfolding is_sound
 sound-to r p =
     and_from _ _ (and_from _ _ (placed-to r p.placed) (counted-to r p.counted))
-    (done-to r.state (r.at == r.hi) (λ f. is-to _ _ (p.finished.0 f), λ e. p.finished.1 (is-from _ _ e)))
+    (done-to r.state (r.at == r.hi) (λ f. eq-eqb _ _ (p.finished.0 f), λ e. p.finished.1 (eqb-true _ _ e)))
 
 pub rows_are_tested : RowsAreTested
 rows_are_tested r = (sound-from r, sound-to r)
@@ -165,7 +143,7 @@ same-answer false true p q = p.1 (q.0 refl)
 same-answer false false p q = refl
 
 record_left : (b : Bool) (row : Row) → (row.at == row.hi) ≡ b → IsSoundRow row → (row.state ≡ Finished → ⊥) → row.at < row.hi
-record_left true row e s going = absurd (going (s.finished.1 (is-from row.at row.hi e)))
+record_left true row e s going = absurd (going (s.finished.1 (eqb-true row.at row.hi e)))
 record_left false row e s going = let le = s.placed.at_to in grind (arith, nat_tests)
 
 pub unfinished_rows_go_on : UnfinishedRowsGoOn

@@ -13,7 +13,7 @@ use Rattle.jb_rules.specs.Rows.{range_of, dropped_row}
 use Rattle.jb_rules.specs.Sound.{IsSoundRow}
 use Rattle.jb_rules.specs.States.{is_running, is_failed}
 use Rattle.jb_repo.specs.Openable.{AreIdle}
-use Rattle.jb_saved.specs.GoingOn.{again, AreUnfailed}
+use Rattle.jb_saved.specs.GoingOn.{restarted, AreUnfailed}
 use Rattle.jb_saved.specs.SavedRows.{SavedRows, IsSaved}
 
 failed-is : (s : RowState) → is_failed s ≡ true → s ≡ Failed
@@ -53,37 +53,37 @@ range-by : (r : Row) (b : Bool) → range_of (by b r) ≡ range_of r
 range-by r true = refl
 range-by r false = refl
 
-ranges : (rows : List Row) → map range_of (map again rows) ≡ map range_of rows
+ranges : (rows : List Row) → map range_of (map restarted rows) ≡ map range_of rows
 ranges [] = refl
 ranges (r ∷ rows) = ap₂ (λ (x : Range) (xs : List Range). x ∷ xs) (range-by r (is_failed r.state)) (ranges rows)
 
 -- the row from which it goes on
-source : (o : Option Row) (r : Row) → option_map again o ≡ Some r → (q : Row) × (o ≡ Some q) × (r ≡ again q)
+source : (o : Option Row) (r : Row) → option_map restarted o ≡ Some r → (q : Row) × (o ≡ Some q) × (r ≡ restarted q)
 source None r e = absurd cc
 source (Some q) r e = (q, refl, cc)
 
-origin : (rows : List Row) (i : ℕ) (r : Row) → slice_get (map again rows) i ≡ Some r → (q : Row) × (slice_get rows i ≡ Some q) × (r ≡ again q)
-origin rows i r is = source (slice_get rows i) r (sym (slice_get-map again rows i) ∙ is)
+origin : (rows : List Row) (i : ℕ) (r : Row) → slice_get (map restarted rows) i ≡ Some r → (q : Row) × (slice_get rows i ≡ Some q) × (r ≡ restarted q)
+origin rows i r is = source (slice_get rows i) r (sym (slice_get-map restarted rows i) ∙ is)
 
-idle-again : RowsStaySound → UnfinishedRowsGoOn → (rows : List Row) → AreIdle rows → AreIdle (map again rows)
-idle-again stay go rows idle i r is =
+idle-restarted : RowsStaySound → UnfinishedRowsGoOn → (rows : List Row) → AreIdle rows → AreIdle (map restarted rows)
+idle-restarted stay go rows idle i r is =
     let from = origin rows i r is in
     let old = idle i from.0 from.1 in
     let failed = is_failed from.0.state in
     subst (λ (x : Row). IsSoundRow x × (is_running x.state ≡ false)) (sym from.2) (sound-by stay go from.0 failed refl old.0, still-by from.0 failed old.1)
 
-pub kept-again : RowsStaySound → UnfinishedRowsGoOn → (s : SavedRows) (rows : List Row) → IsSaved s → rows ≡ map again s.rows → IsSaved (record { step = s.step; rows = rows })
-kept-again stay go s rows kept e =
-    let len = length-map s.rows again in
+pub kept-restarted : RowsStaySound → UnfinishedRowsGoOn → (s : SavedRows) (rows : List Row) → IsSaved s → rows ≡ map restarted s.rows → IsSaved (record { step = s.step; rows = rows })
+kept-restarted stay go s rows kept e =
+    let len = length-map s.rows restarted in
     subst (λ (xs : List Row). IsSaved (record { step = s.step; rows = xs })) (sym e) (record {
       named = kept.named;
       some_rows = rw len kept.some_rows;
       few_rows = rw len kept.few_rows;
-      idle = idle-again stay go s.rows kept.idle;
+      idle = idle-restarted stay go s.rows kept.idle;
       disjoint = subst AreDisjoint (sym (ranges s.rows)) kept.disjoint;
     })
 
-pub unfailed-again : (s : SavedRows) (rows : List Row) → rows ≡ map again s.rows → AreUnfailed rows
-unfailed-again s rows e i r is =
+pub unfailed-restarted : (s : SavedRows) (rows : List Row) → rows ≡ map restarted s.rows → AreUnfailed rows
+unfailed-restarted s rows e i r is =
     let from = origin s.rows i r (subst (λ (xs : List Row). slice_get xs i ≡ Some r) e is) in
     subst (λ (x : Row). x.state ≢ Failed) (sym from.2) (unfailed-by from.0 (is_failed from.0.state) refl)

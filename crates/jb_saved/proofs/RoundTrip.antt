@@ -1,11 +1,12 @@
 -- Reading the tree of saved rows gives the rows.
-use Rattle.std.proofs.Common.{◌≡◌, ℕ, zero, suc, ◌≤◌, ◌&&◌, ◌++◌, Bool, true, false, cond, List, [], ◌∷◌, length, map, take, Option, Some, Ok, Err, Result, refl, sym, ap, ◌∙◌, subst, append_assoc, append-nil, arith, inl, inr, ◌⊎◌}
-use Rattle.std.specs.Prelude.{◌==◌, nat_le, MatchResult}
+use Rattle.std.proofs.Common.{◌≡◌, ℕ, zero, suc, ◌≤◌, ◌++◌, Bool, true, false, cond, List, [], ◌∷◌, length, map, take, Option, Some, Ok, Err, Result, refl, sym, ap, ◌∙◌, subst, append_assoc, append-nil, arith, inl, inr, ◌⊎◌}
+use Rattle.std.specs.Prelude.{◌==◌, MatchResult}
 use Rattle.std.proofs.lemmas.Bool.Decides.{nat_tests}
 use Rattle.std.proofs.lemmas.Bool.{cases_lt}
 use Rattle.serde_json.specs.Data.{Data, string}
 use Rattle.serde_json.specs.Events.{items_len}
 use Rattle.serde_json.specs.View.{items_of}
+use Rattle.jb_job.proofs.FieldTrees.{within}
 use Rattle.jb_rules.specs.declared.row.Row.{Row}
 use Rattle.jb_rules.specs.declared.row.RowState.{RowState}
 use Rattle.jb_rules.specs.declared.row.RowState.TheVariants.{Waiting, Running, Finished, Failed}
@@ -23,7 +24,7 @@ use Rattle.jb_saved.specs.SavedForm.{◌>>=◌, row_parts, row_of, rows_from, ro
 use Rattle.jb_base.specs.Limits.{max_name, max_partitions}
 use Rattle.jb_saved.specs.Answers.{AllFit, IsFirstUnfit, form_of, IsAnswer}
 use Rattle.jb_saved.specs.Reading.{GivesSaved}
-use Rattle.jb_saved.proofs.RowByRow.{apart_of}
+use Rattle.jb_repo.proofs.Ranges.{apart_of}
 
 -- a state's name is read back
 state-back : (s : RowState) → is_running s ≡ false → state_named (state_name s) ≡ Some s
@@ -71,9 +72,6 @@ rows-back n done (r ∷ rows) still held =
 items-len : (n : ℕ) (rows : List Row) → items_len (items_of (map (row_tree_in n) rows)) ≡ length rows
 items-len n [] = refl
 items-len n (r ∷ rows) = ap suc (items-len n rows)
-
-within : (low n high : ℕ) → low ≤ n → n ≤ high → (nat_le low n && nat_le n high) ≡ true
-within low n high a b = grind (arith, nat_tests)
 
 rows-of-back : (n : ℕ) (s : SavedRows) → IsSaved s → CanHold n s.rows → rows_of n (rows_tree_in n s.rows) ≡ Some s.rows
 unfolding rows_of

@@ -1,7 +1,8 @@
 -- What saved rows keep, row by row.
-use Rattle.std.proofs.Common.{◌≡◌, ℕ, zero, suc, ◌<◌, ◌≤◌, List, [], ◌∷◌, ◌++◌, map, length, get_or, slice_get, Some, None, Bool, true, false, cond, not, refl, sym, subst, arith}
+use Rattle.std.proofs.Common.{◌≡◌, ℕ, zero, suc, ◌<◌, ◌≤◌, List, [], ◌∷◌, ◌++◌, map, length, get_or, Some, None, Bool, true, false, cond, not, refl, sym, subst, arith}
 use Rattle.std.specs.Prelude.{nat_lt}
 use Rattle.std.specs.List.{prefix_len}
+use Rattle.std.proofs.lemmas.Bool.{not-true}
 use Rattle.std.proofs.lemmas.Bool.Decides.{nat_tests}
 use Rattle.std.proofs.lemmas.List.{get_or-map, length-map}
 use Rattle.std.proofs.lemmas.List.Sums.{prefix_len_passes}
@@ -11,6 +12,7 @@ use Rattle.jb_base.specs.Name.{IsName}
 use Rattle.jb_base.specs.Limits.{max_partitions}
 use Rattle.jb_plan.specs.Ranges.{HaveNoneInCommon, AreDisjoint}
 use Rattle.jb_repo.specs.Sound.{IsTable}
+use Rattle.jb_repo.proofs.Ranges.{Apart}
 use Rattle.jb_rules.specs.declared.counts.Counts.{Counts}
 use Rattle.jb_rules.specs.declared.row.Row.{Row}
 use Rattle.jb_rules.specs.Rows.{range_of}
@@ -25,23 +27,6 @@ still_more [] r still calm zero s is = let same : r ≡ s = cc in subst (λ (x :
 still_more [] r still calm (suc i) s is = cc
 still_more (x ∷ rows) r still calm zero s is = still zero s is
 still_more (x ∷ rows) r still calm (suc i) s is = still_more rows r (λ j t has. still (suc j) t has) calm i s is
-
--- each row beside each earlier one
-abbrev pub Apart : List Row → Type 0
-Apart rows = (i k : ℕ) (r s : Row) → i < k → slice_get rows i ≡ Some r → slice_get rows k ≡ Some s → HaveNoneInCommon (range_of r) (range_of s)
-
--- the range at a place of the list
-range_at : (rows : List Row) (i : ℕ) (r : Row) (d : Range) → slice_get rows i ≡ Some r → get_or (map range_of rows) i d ≡ range_of r
-range_at [] i r d is = absurd cc
-range_at (x ∷ rows) zero r d is = let e : x ≡ r = cc in cc
-range_at (x ∷ rows) (suc i) r d is = range_at rows i r d is
-
-pub apart_of : (rows : List Row) → AreDisjoint (map range_of rows) → Apart rows
-apart_of rows disjoint i k r s lt a b =
-    let within : k < length (map range_of rows) = let n = length-map rows range_of in let h = slice_get_within rows k s b in omega (arith, n, h) in
-    let both = disjoint i k (range_of r) lt within in
-    let half = subst (λ (x : Range). HaveNoneInCommon x (get_or (map range_of rows) k (range_of r))) (range_at rows i r (range_of r) a) both in
-    subst (λ (x : Range). HaveNoneInCommon (range_of r) x) (range_at rows k s (range_of r) b) half
 
 pub some-row : (rows : List Row) (i : ℕ) → i < length rows → Row
 some-row [] i lt = absurd (omega arith)
@@ -70,10 +55,6 @@ kept step rows named some few still fit = record {
 pub past_end : (n m : ℕ) → cond (nat_lt n m) (Some n) None ≡ None → m ≤ n
 past_end n m none = elim (nat_lt n m) as (λ b. nat_lt n m ≡ b → cond b (Some n) None ≡ None → m ≤ n) [ true ↦ λ e h. absurd cc | false ↦ λ e h. grind (arith, nat_tests) ] refl none
 
-unrun : (b : Bool) → not b ≡ true → b ≡ false
-unrun true e = cc
-unrun false e = refl
-
 abbrev still : Row → Bool
 still r = not (is_running r.state)
 
@@ -83,7 +64,7 @@ still_of rows none i r is =
     let end = past_end (prefix_len still rows) (length rows) none in
     let lt = slice_get_within rows i r is in
     let passes = prefix_len_passes still rows i r (omega (arith, end, lt)) in
-    unrun (is_running r.state) (subst (λ (x : Row). still x ≡ true) (get_or_from_slice_get rows i r r is) passes)
+    not-true (is_running r.state) (subst (λ (x : Row). still x ≡ true) (get_or_from_slice_get rows i r r is) passes)
 
 -- the rows of a snapshot in which none runs
 pub kept_of : (step : List ℕ) (rows copy : List Row) (totals : Counts) → IsName step → IsTable rows totals → first_running rows ≡ None → copy ≡ rows → IsSaved (record { step = step; rows = copy })

@@ -8,10 +8,7 @@ use Rattle.json.specs.Tree as tree
 use Rattle.json.proofs.Printed.Decimals.{IsNumber-decimal}
 use Rattle.json.proofs.Printed.Tokens.{tokens-print}
 use Rattle.json.proofs.Printed.Trees.{value-json_tokens, ArePrintable-json_tokens}
-use Rattle.std.proofs.Common.{IsUtf8}
-use Rattle.std.proofs.lemmas.Str.{is_utf8-from_IsUtf8}
-use Rattle.jb_job.specs.Reading.{tree_of}
-use Rattle.serde_json.specs.Data.{Data, Items, string}
+use Rattle.serde_json.specs.Data.{Items, string}
 use Rattle.serde_json.specs.Read.{read, max_depth, of_json, of_items}
 use Rattle.serde_json.specs.View.{items_of}
 use Rattle.serde_json.specs.Written.{compact_text, outline, items_outline}
@@ -85,5 +82,3 @@ text-read s kept =
     ∙ saved-json s kept
 
 -- bytes that are a text have the tree that is read of them
-pub tree_of_read : (bytes : List ℕ) (d : Data) → IsUtf8 bytes → read bytes ≡ Some d → tree_of bytes ≡ Some d
-tree_of_read bytes d utf8 is = rw (is_utf8-from_IsUtf8 bytes utf8) is

@@ -1,8 +1,8 @@
 -- The first row that doesn't fit, by tests.
 use Rattle.std.proofs.Common.{◌+◌, ◌≡◌, ℕ, ◌≤◌, ◌<◌, ◌⊎◌, inl, inr, Bool, true, false, cond, not, max, min, refl, sym, ap, ◌∙◌, subst, arith, List, [], ◌∷◌, take, length, get_or, slice_get, Some, None, Option, Ok, Err, Result}
-use Rattle.std.specs.Prelude.{◌||◌, nat_lt}
+use Rattle.std.specs.Prelude.{nat_lt}
 use Rattle.std.specs.List.{list_any, enumerate_from, prefix_len}
-use Rattle.std.proofs.lemmas.Bool.{cases_eq}
+use Rattle.std.proofs.lemmas.Bool.{cases_eq, not-false, not-true, or_cases, or_parts}
 use Rattle.std.proofs.lemmas.Bool.Decides.{nat_tests}
 use Rattle.std.proofs.lemmas.List.{get_or_default, get_or-take, length-take}
 use Rattle.std.proofs.lemmas.List.Folds.{list_any_at, Any-from_list_any}
@@ -18,7 +18,6 @@ use Rattle.jb_rules.specs.Sound.{IsSoundRow}
 use Rattle.jb_rules.specs.Laws.{RowsAreTested}
 use Rattle.jb_rules.specs.RowTest.{is_sound}
 use Rattle.jb_rules.specs.Rows.{range_of}
-use Rattle.jb_rules.proofs.RowTests.{or-cases}
 use Rattle.jb_saved.specs.declared.place.SavedPlace.{SavedPlace}
 use Rattle.jb_saved.specs.declared.place.SavedPlace.TheVariants.{Shape, Version}
 use Rattle.jb_saved.specs.SavedRows.{SavedRows, IsSaved}
@@ -35,18 +34,6 @@ overlapping r s e disjoint =
     let lt : max r.lo s.lo < min r.hi s.hi = grind (arith, nat_tests) in
     disjoint (max r.lo s.lo) (omega arith) (omega (arith, lt)) (omega arith) (omega (arith, lt))
 
-none-left : (a b : Bool) → (a || b) ≡ false → a ≡ false
-none-left true b e = cc
-none-left false b e = refl
-
-none-right : (a b : Bool) → (a || b) ≡ false → b ≡ false
-none-right true b e = cc
-none-right false b e = e
-
-unnot : (b : Bool) → not b ≡ false → b ≡ true
-unnot true e = refl
-unnot false e = cc
-
 abbrev overlaps : Row → Row → Bool
 overlaps r s = do_overlap (range_of s) (range_of r)
 
@@ -62,13 +49,13 @@ each-fails p rows i k s true e none lt is =
 
 fits-from : RowsAreTested → (rows : List Row) (i : ℕ) (r : Row) → is_unfit (take i rows) r ≡ false → IsSoundRow r × IsApartFromEarlier rows i r
 fits-from law rows i r e = (
-  (law r).0 (unnot (is_sound r) (none-left (not (is_sound r)) (list_any (overlaps r) (take i rows)) e)),
-  λ k s lt is. apart (range_of s) (range_of r) (each-fails (overlaps r) rows i k s (overlaps r s) refl (none-right (not (is_sound r)) (list_any (overlaps r) (take i rows)) e) lt is),
+  (law r).0 (not-false (is_sound r) (or_parts (not (is_sound r)) (list_any (overlaps r) (take i rows)) e).0),
+  λ k s lt is. apart (range_of s) (range_of r) (each-fails (overlaps r) rows i k s (overlaps r s) refl (or_parts (not (is_sound r)) (list_any (overlaps r) (take i rows)) e).1 lt is),
 )
 
 unfit-to : RowsAreTested → (rows : List Row) (i : ℕ) (r : Row) → is_unfit (take i rows) r ≡ true → IsSoundRow r → IsApartFromEarlier rows i r → ⊥
 unfit-to law rows i r e sound earlier =
-    elim (or-cases (not (is_sound r)) (list_any (overlaps r) (take i rows)) e) [
+    elim (or_cases (not (is_sound r)) (list_any (overlaps r) (take i rows)) e) [
       | inl bad ↦ let good = ap not ((law r).1 sound) in let no : true ≡ false = sym bad ∙ good in cc
       | inr any ↦
           let found = Any-from_list_any (overlaps r) (take i rows) any in
@@ -92,15 +79,11 @@ passed rows = prefix_len (fit rows) (enumerate_from 0 rows)
 numbered : (rows : List Row) (i : ℕ) (r : Row) → i < length rows → get_or (enumerate_from 0 rows) i (0, r) ≡ (i, get_or rows i r)
 numbered rows i r lt = get_or-enumerate_from 0 rows i (0, r) lt ∙ ap (λ (n : ℕ). (n, get_or rows i r)) (omega arith)
 
-unnot-true : (b : Bool) → not b ≡ true → b ≡ false
-unnot-true true e = cc
-unnot-true false e = refl
-
 fits-before : RowsAreTested → (rows : List Row) (i : ℕ) → i < passed rows → i < length rows → Fits rows i
 fits-before law rows i lt within r is =
     let pair = numbered rows i r within ∙ ap (λ (x : Row). (i, x)) (get_or_from_slice_get rows i r r is) in
     let passes = prefix_len_passes (fit rows) (enumerate_from 0 rows) i (0, r) lt in
-    fits-from law rows i r (unnot-true (is_unfit (take i rows) r) (subst (λ (x : ℕ × Row). fit rows x ≡ true) pair passes))
+    fits-from law rows i r (not-true (is_unfit (take i rows) r) (subst (λ (x : ℕ × Row). fit rows x ≡ true) pair passes))
 
 unfit-there : RowsAreTested → (rows : List Row) (d : Row) → passed rows < length rows → Fits rows (passed rows) → ⊥
 unfit-there law rows d lt fits =
@@ -109,7 +92,7 @@ unfit-there law rows d lt fits =
     let stops = prefix_len_stops (fit rows) (enumerate_from 0 rows) (0, d) (omega (arith, lt, len)) in
     let there = subst (λ (x : ℕ × Row). fit rows x ≡ false) (numbered rows n d lt) stops in
     let good = fits (get_or rows n d) (slice_get-get_or rows n d lt) in
-    unfit-to law rows n (get_or rows n d) (unnot (is_unfit (take n rows) (get_or rows n d)) there) good.0 good.1
+    unfit-to law rows n (get_or rows n d) (not-false (is_unfit (take n rows) (get_or rows n d)) there) good.0 good.1
 
 first-of : RowsAreTested → (rows : List Row) → passed rows < length rows → IsFirstUnfit rows (passed rows)
 first-of law rows lt = record {

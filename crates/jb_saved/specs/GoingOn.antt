@@ -13,12 +13,12 @@ use Rattle.jb_saved.specs.SavedRows.{SavedRows}
 
 -- A failed partition waits again (Jakarta Batch 2.1, "Restart Processing"), at its checkpoint and with its counts; another
 -- stands as it was saved.
-abbrev pub again : Row → Row
-again row = if is_failed row.state then dropped_row row else row
+abbrev pub restarted : Row → Row
+restarted row = if is_failed row.state then dropped_row row else row
 
 -- the rows with which the step goes on
 abbrev pub rows_restarted : SavedRows → List Row
-rows_restarted s = map again s.rows
+rows_restarted s = map restarted s.rows
 
 -- no partition has failed
 abbrev pub AreUnfailed : List Row → Type 0

@@ -1,5 +1,5 @@
 -- The saved rows that a text stands for, or its first fault: of its form, else of its rows.
-use Rattle.std.specs.Prelude.{◌≡◌, ℕ, ◌||◌, Bool, not, List, position, take, Option, Some, None, Result, Ok, Err}
+use Rattle.std.specs.Prelude.{ℕ, ◌||◌, Bool, not, List, position, take, Option, Some, None, Result, Ok, Err}
 use Rattle.std.specs.List.{list_any, enumerate_from}
 use Rattle.serde_json.specs.Data.{Data}
 use Rattle.jb_base.specs.Causes.{Cause, no_memory, of_fault, never, Answers}

@@ -2,18 +2,12 @@
 use Rattle.std.specs.Prelude.{◌≡◌, ℕ, ◌==◌, Bool, if◌then◌else◌, nat_le, ◌&&◌, List, [], ◌∷◌, ◌++◌, map, take, slice_get, Some, codes}
 use Rattle.json.specs.Token.{Token}
 use Rattle.json.specs.Tree.{json_tokens}
-use Rattle.serde_json.specs.Data.{Data, number, unsigned, string, array, object, member, no_members}
-use Rattle.serde_json.specs.View.{items_of}
+use Rattle.serde_json.specs.Data.{Data, string, object, member, no_members}
 use Rattle.serde_json.specs.Written.{outline}
+pub use Rattle.jb_job.specs.JobTree.{number_tree, list_tree}
 use Rattle.jb_rules.specs.declared.row.Row.{Row}
 use Rattle.jb_rules.specs.Numbers.{numbers_of, state_name}
 use Rattle.jb_saved.specs.SavedRows.{SavedRows}
-
-abbrev pub list_tree : List Data → Data
-list_tree ds = array (items_of ds)
-
-abbrev pub number_tree : ℕ → Data
-number_tree n = number (unsigned n)
 
 -- ---- versions
 

@@ -86,7 +86,7 @@ pub record WorkedSaved : Type 0 where
       saved_at (object (member (codes "rows") (rows_tree stopped.rows) (member (codes "size") (number_tree 3) (member (codes "step") (string (codes "s")) (member (codes "version") (number_tree 2) no_members)))))
       ≡ Err Shape
   -- going on: the failed row waits, and the faults come in their order
-  pub again : rows_restarted failed ≡ record failed_row { state = Waiting } ∷ row 4 6 6 4 2 1 Finished ∷ []
+  pub restarted : rows_restarted failed ≡ record failed_row { state = Waiting } ∷ row 4 6 6 4 2 1 Finished ∷ []
   pub faults : step_faults (codes "t") 5 failed ≡ Step ∷ Records ∷ []
   pub none : step_faults (codes "s") 6 failed ≡ []
   pub discarded : other_step (codes "t") failed ≡ Step ∷ []

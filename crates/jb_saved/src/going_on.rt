@@ -1,7 +1,7 @@
 //! Saved rows as a step goes on from them.
 
 ghost use Rattle.std.specs.Prelude.{◌≡◌, [], map, slice_get, OnOk, IfOk, IfErr};
-ghost use Rattle.jb_saved.specs.GoingOn.{again, is_past, step_faults, rows_restarted, AreUnfailed, Refuses};
+ghost use Rattle.jb_saved.specs.GoingOn.{restarted, is_past, step_faults, rows_restarted, AreUnfailed, Refuses};
 ghost use Rattle.jb_saved.specs.SavedRows.{IsSaved};
 
 use crate::error::StepError;
@@ -11,8 +11,8 @@ use jb_rules::{Row, RowState, rows_stay_sound, unfinished_rows_go_on};
 use std::alloc::{AllocError, Global};
 
 /// A failed partition waits again; another stands as it was saved.
-fn again(row: &Row) -> Row
-    ensures { result ≡ again row.now }
+fn restarted(row: &Row) -> Row
+    ensures { result ≡ restarted row.now }
 {
     if row.state.is_failed() {
         Row {
@@ -24,10 +24,10 @@ fn again(row: &Row) -> Row
     }
 }
 
-fn all_again(alloc: Global, rows: &[Row]) -> Result<Vec<Row>, AllocError>
-    ensures { IfOk result (λ v. v.items ≡ map again rows.now) }
+fn all_restarted(alloc: Global, rows: &[Row]) -> Result<Vec<Row>, AllocError>
+    ensures { IfOk result (λ v. v.items ≡ map restarted rows.now) }
 {
-    rows.iter().map(again).collect(alloc)
+    rows.iter().map(restarted).collect(alloc)
 }
 
 /// Whether some row ends past the last record.
@@ -73,6 +73,6 @@ pub fn rows_to_go_on(
     if let Some(place) = refusal(step_id, records, saved) {
         return Err(StepError::Saved(place));
     }
-    let rows = all_again(alloc, saved.rows())?;
+    let rows = all_restarted(alloc, saved.rows())?;
     Ok(rows)
 }

@@ -1,6 +1,7 @@
 -- One partition among the others.
 use Rattle.std.proofs.Common.{◌≡◌, ℕ, Bool, true, false, cond, List, [], ◌∷◌, ◌++◌, refl, ap, ap₂, sym, ◌∙◌, subst, map, append-nil}
-use Rattle.std.specs.Prelude.{nat_eq, filter, ◌&&◌}
+use Rattle.std.proofs.lemmas.Bool.{and_from, and_parts}
+use Rattle.std.specs.Prelude.{nat_eq, filter}
 use Rattle.std.specs.List.{list_all}
 use Rattle.std.proofs.lemmas.List.Elements.{filter-append}
 use Rattle.jb_rules.specs.declared.row.RowState.TheVariants as state
@@ -19,7 +20,7 @@ use Rattle.jb_step.specs.Rounds.{has_partition, tasks_in, attempts_in, attempts_
 use Rattle.jb_step.specs.Runs.{PlanRun, ArePlanRuns, all_attempts, table_after, rounds_of, rounds_run}
 use Rattle.jb_step.specs.Setup.{Setup}
 use Rattle.jb_step.proofs.Adding.{after_rounds-append}
-use Rattle.jb_step.proofs.Steady.{waits, same-partition}
+use Rattle.jb_step.proofs.Steady.{waits, same-partition, row_waits}
 
 pick-one : {X Y : Type 0} (q : Y → Bool) (h k : X → Bool) (f : X → Y) (b c : Bool) (x : X) (hs ks : List X) → q (f x) ≡ c → h x ≡ b → filter q (map f hs) ≡ map f (filter h ks)
     → filter q (map f (cond b (x ∷ hs) hs)) ≡ map f (filter h (cond c (x ∷ ks) ks))
@@ -86,44 +87,34 @@ heard_of_partition law p s start plans =
 
 -- ALONE
 
-abbrev row_waits : TaskState → Bool
-row_waits t = is_waiting t.row.state
-
--- the tasks that a round has wait
-abbrev WaitAll : List (List Pair) → List TaskState → Type 0
-WaitAll [] ts = Unit {0}
-WaitAll (set ∷ older) ts = WaitAll older ts × (list_all row_waits (tasks_in set (after_rounds older ts)) ≡ true)
-
-pub both : (a b : Bool) → a ≡ true → b ≡ true → (a && b) ≡ true
-both true b p q = q
-both false b p q = p
-
-pub left-of : (a b : Bool) → (a && b) ≡ true → a ≡ true
-left-of true b e = refl
-left-of false b e = e
-
-pub right-of : (a b : Bool) → (a && b) ≡ true → b ≡ true
-right-of true b e = e
-right-of false b e = cc
+pub others-wait : (b : Bool) (t : TaskState) (rest : List TaskState) → list_all row_waits (cond b (t ∷ rest) rest) ≡ true → list_all row_waits rest ≡ true
+others-wait true t rest all = (and_parts (row_waits t) (list_all row_waits rest) all).1
+others-wait false t rest all = all
 
 all-one : {X : Type 0} (w h : X → Bool) (b c : Bool) (x : X) (hs ks : List X) → h x ≡ b → list_all w (cond b (x ∷ hs) hs) ≡ true → (list_all w hs ≡ true → list_all w (filter h ks) ≡ true) → list_all w (filter h (cond c (x ∷ ks) ks)) ≡ true
 all-one w h true true x hs ks hb all more =
-    ap (λ v. list_all w (cond v (x ∷ filter h ks) (filter h ks))) hb ∙ both (w x) (list_all w (filter h ks)) (left-of (w x) (list_all w hs) all) (more (right-of (w x) (list_all w hs) all))
+    ap (λ v. list_all w (cond v (x ∷ filter h ks) (filter h ks))) hb ∙ and_from (w x) (list_all w (filter h ks)) (and_parts (w x) (list_all w hs) all).0 (more (and_parts (w x) (list_all w hs) all).1)
 all-one w h false true x hs ks hb all more = ap (λ v. list_all w (cond v (x ∷ filter h ks) (filter h ks))) hb ∙ more all
-all-one w h true false x hs ks hb all more = more (right-of (w x) (list_all w hs) all)
+all-one w h true false x hs ks hb all more = more (and_parts (w x) (list_all w hs) all).1
 all-one w h false false x hs ks hb all more = more all
 
 pub all-some : {X : Type 0} (w h k : X → Bool) (xs : List X) → list_all w (filter h xs) ≡ true → list_all w (filter h (filter k xs)) ≡ true
 all-some w h k [] all = refl
 all-some w h k (x ∷ xs) all = all-one w h (h x) (k x) x (filter h xs) (filter k xs) refl all (λ e. all-some w h k xs e)
 
-waits-at : (p : ℕ) (rounds : List (List Pair)) (ts : List TaskState) → CanRunAll rounds ts → WaitAll rounds (tasks_at p ts)
-waits-at p [] ts can = tt
-waits-at p (set ∷ older) ts can = (
-  waits-at p older ts can.0,
-  subst (λ us. list_all row_waits (tasks_in set us) ≡ true) (at-rounds p older ts)
-      (all-some row_waits (λ (t : TaskState). has_partition set t.partition) (λ (t : TaskState). nat_eq t.partition p) (after_rounds older ts) can.1.waiting),
-)
+-- the test holds of each task of each round when it is run
+abbrev pub AllIn : (TaskState → Bool) → List (List Pair) → List TaskState → Type 0
+AllIn test [] ts = Unit {0}
+AllIn test (set ∷ older) ts = AllIn test older ts × (list_all test (tasks_in set (after_rounds older ts)) ≡ true)
+
+pub at-in : (test : TaskState → Bool) (p : ℕ) (set : List Pair) (older : List (List Pair)) (ts : List TaskState) → list_all test (tasks_in set (after_rounds older ts)) ≡ true → list_all test (tasks_in set (after_rounds older (tasks_at p ts))) ≡ true
+at-in test p set older ts all =
+    subst (λ us. list_all test (tasks_in set us) ≡ true) (at-rounds p older ts)
+    (all-some test (λ (t : TaskState). has_partition set t.partition) (λ (t : TaskState). nat_eq t.partition p) (after_rounds older ts) all)
+
+pub waits-in : (p : ℕ) (rounds : List (List Pair)) (ts : List TaskState) → CanRunAll rounds ts → AllIn row_waits rounds (tasks_at p ts)
+waits-in p [] ts can = tt
+waits-in p (set ∷ older) ts can = (waits-in p older ts can.0, at-in row_waits p set older ts can.1.waiting)
 
 pub run-more : (t : TaskState) (es : List AttemptEnd) (s : TaskState) → IsRunOf t es s → s.row.state ≡ state.Waiting → IsRunOf t (es ++ attempt_of s ∷ []) (attempt_of s).task
 run-more t [] s run w =
@@ -137,10 +128,10 @@ IsLeft set t es ts = (left : TaskState) × (after_round set ts ≡ left ∷ []) 
 
 left-one : (b : Bool) (t u : TaskState) (es : List AttemptEnd) → IsRunOf t es u → list_all row_waits (cond b (u ∷ []) []) ≡ true
     → (left : TaskState) × (cond b (attempt_of u).task u ∷ [] ≡ left ∷ []) × IsRunOf t (es ++ map attempt_of (cond b (u ∷ []) [])) left
-left-one true t u es run all = ((attempt_of u).task, refl, run-more t es u run (waits u.row.state (left-of (row_waits u) true all)))
+left-one true t u es run all = ((attempt_of u).task, refl, run-more t es u run (waits u.row.state (and_parts (row_waits u) true all).0))
 left-one false t u es run all = (u, refl, subst (λ xs. IsRunOf t xs u) (sym (append-nil es)) run)
 
-single : (rounds : List (List Pair)) (t : TaskState) → WaitAll rounds (t ∷ []) → (left : TaskState) × (after_rounds rounds (t ∷ []) ≡ left ∷ []) × IsRunOf t (attempts_of rounds (t ∷ [])) left
+single : (rounds : List (List Pair)) (t : TaskState) → AllIn row_waits rounds (t ∷ []) → (left : TaskState) × (after_rounds rounds (t ∷ []) ≡ left ∷ []) × IsRunOf t (attempts_of rounds (t ∷ [])) left
 single [] t all = (t, refl, refl)
 single (set ∷ older) t all =
     let before = single older t all.0 in
@@ -160,7 +151,7 @@ pub attempts_are_alone : AttemptsAreAlone
 attempts_are_alone s start plans t runs one =
     let p = t.partition in
     let rounds = rounds_of plans in
-    let all = subst (λ ts. WaitAll rounds ts) one (waits-at p rounds start (runs-all s start plans runs)) in
+    let all = subst (λ ts. AllIn row_waits rounds ts) one (waits-in p rounds start (runs-all s start plans runs)) in
     let end = single rounds t all in (
       end.0,
       at-rounds p rounds start ∙ ap (after_rounds rounds) one ∙ end.1,

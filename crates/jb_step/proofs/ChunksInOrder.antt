@@ -1,10 +1,9 @@
 -- The next round of a plan can be run.
-use Rattle.std.proofs.Common.{◌≡◌, ℕ, suc, zero, ◌+◌, ◌-◌, ◌≤◌, ◌<◌, Bool, true, false, not, cond, List, [], ◌∷◌, ◌++◌, append-nil, length, get_or, map, reverse, Some, refl, ap, ap₂, sym, ◌∙◌, subst, arith, inl, inr, length-append}
+use Rattle.std.proofs.Common.{◌≡◌, ℕ, suc, zero, ◌+◌, ◌-◌, ◌≤◌, ◌<◌, Bool, true, false, not, cond, List, [], ◌∷◌, ◌++◌, append-nil, length, drop, get_or, map, reverse, Some, refl, ap, ap₂, sym, ◌∙◌, subst, arith, inl, inr, length-append, eqb-true}
 use Rattle.std.specs.Prelude.{nat_eq, ◌&&◌, ◌||◌, slice_get, slice_index, slice_index_or, Contains}
 use Rattle.std.specs.List.{list_all, list_any, enumerate_from, AllByRecursion}
-use Rattle.std.proofs.lemmas.Bool.{cases_lt}
-use Rattle.std.proofs.lemmas.Bool.Decides.{nat_tests}
-use Rattle.std.proofs.lemmas.List.{get_or_at, length-reverse}
+use Rattle.std.proofs.lemmas.Bool.{cases_lt, or_right, and_from, and_parts}
+use Rattle.std.proofs.lemmas.List.{get_or_at, length-reverse, drop-drop}
 use Rattle.jb_rules.specs.declared.row.Row.{Row}
 use Rattle.jb_rules.specs.declared.row.RowState.{RowState}
 use Rattle.jb_rules.specs.declared.row.RowState.TheVariants as state
@@ -20,9 +19,10 @@ use Rattle.jb_step.specs.Rounds.{is_commit, has_partition, has_task, tasks_in, a
 use Rattle.jb_step.specs.Setup.{Setup, row_now, counts_now}
 use Rattle.jb_step.specs.inside.Below.{ChunkLaws}
 use Rattle.jb_step.proofs.Adding.{sets-more}
-use Rattle.jb_step.proofs.Apart.{at-rounds, all-some, left-of, right-of, both}
+use Rattle.jb_step.proofs.Apart.{at-rounds, AllIn, at-in, waits-in, others-wait}
 use Rattle.jb_step.proofs.Holding.{apart-of, rest-of}
-use Rattle.jb_step.proofs.Steady.{IsSteady, steady, next-steady, waits, rem, falls-one, same-partition, same-count}
+use Rattle.jb_step.proofs.Steady.{IsSteady, steady, next-steady, waits, listing, rem, falls-one, drops-one, same-partition, same-count, row_waits}
+use Rattle.jb_step.proofs.Numbers.{add-next, itself}
 
 abbrev pub one_if : Bool → ℕ
 one_if true = 1
@@ -33,44 +33,51 @@ abbrev pub runs_of : ℕ → List (List Pair) → ℕ
 runs_of p [] = 0
 runs_of p (set ∷ older) = one_if (has_partition set p) + runs_of p older
 
--- the test holds of each task of each round when it is run
-abbrev pub AllIn : (TaskState → Bool) → List (List Pair) → List TaskState → Type 0
-AllIn test [] ts = Unit {0}
-AllIn test (set ∷ older) ts = AllIn test older ts × (list_all test (tasks_in set (after_rounds older ts)) ≡ true)
-
-abbrev pub row_waits : TaskState → Bool
-row_waits t = is_waiting t.row.state
-
 abbrev pub commits : TaskState → Bool
 commits t = is_commit (attempt_of t).outcome
 
 -- a task after quiet rounds
-record IsFallen (rounds : List (List Pair)) (t u : TaskState) : Type 0 where
-  steady : IsSteady u
-  item_count : u.item_count ≡ t.item_count
-  partition : u.partition ≡ t.partition
-  fallen : rem t.item_count u.row + runs_of t.partition rounds ≡ rem t.item_count t.row
+pub record IsFallen (rounds : List (List Pair)) (t u : TaskState) : Type 0 where
+  pub steady : IsSteady u
+  pub item_count : u.item_count ≡ t.item_count
+  pub partition : u.partition ≡ t.partition
+  pub fallen : rem t.item_count u.row + runs_of t.partition rounds ≡ rem t.item_count t.row
+  pub dropped : drop (runs_of t.partition rounds) (listing t) ≡ listing u
 
-abbrev IsFallenTo : List (List Pair) → TaskState → List TaskState → Type 0
+abbrev pub IsFallenTo : List (List Pair) → TaskState → List TaskState → Type 0
 IsFallenTo rounds t ts = (u : TaskState) × (ts ≡ u ∷ []) × IsFallen rounds t u
 
 fallen-one : ChunkLaws → (b : Bool) (set : List Pair) (older : List (List Pair)) (t u : TaskState) → has_partition set u.partition ≡ b → IsFallen older t u
     → list_all row_waits (cond b (u ∷ []) []) ≡ true → list_all commits (cond b (u ∷ []) []) ≡ true → IsFallenTo (set ∷ older) t (cond b (attempt_of u).task u ∷ [])
 fallen-one law true set older t u has f wait commit =
-    let w = waits u.row.state (left-of (row_waits u) true wait) in
-    let c = left-of (commits u) true commit in
-    let next = next-steady law u f.steady w in
+    let w = waits u.row.state (and_parts (row_waits u) true wait).0 in
+    let c = (and_parts (commits u) true commit).0 in
     let less : rem t.item_count (attempt_of u).task.row + 1 ≡ rem t.item_count u.row = subst (λ n. rem n (attempt_of u).task.row + 1 ≡ rem n u.row) f.item_count (falls-one law u f.steady w c) in
     let one : one_if (has_partition set t.partition) ≡ 1 = ap one_if (ap (has_partition set) (sym f.partition) ∙ has) in
-    let was = f.fallen in
-    ((attempt_of u).task, refl, record { steady = next; item_count = same-count u ∙ f.item_count; partition = same-partition u ∙ f.partition; fallen = omega (arith, less, one, was) })
+    let number : one_if (has_partition set t.partition) + runs_of t.partition older ≡ runs_of t.partition older + 1 = omega (arith, one) in
+    let was = f.fallen in (
+      (attempt_of u).task,
+      refl,
+      record {
+        steady = next-steady law u f.steady w;
+        item_count = same-count u ∙ f.item_count;
+        partition = same-partition u ∙ f.partition;
+        fallen = omega (arith, less, one, was);
+        dropped =
+            ap (λ n. drop n (listing t)) number
+            ∙ sym (drop-drop 1 (runs_of t.partition older) (listing t))
+            ∙ ap (drop 1) f.dropped
+            ∙ drops-one law u f.steady w c;
+      },
+    )
 fallen-one law false set older t u has f wait commit =
     let none : one_if (has_partition set t.partition) ≡ 0 = ap one_if (ap (has_partition set) (sym f.partition) ∙ has) in
+    let number : one_if (has_partition set t.partition) + runs_of t.partition older ≡ runs_of t.partition older = omega (arith, none) in
     let was = f.fallen in
-    (u, refl, record { steady = f.steady; item_count = f.item_count; partition = f.partition; fallen = omega (arith, none, was) })
+    (u, refl, record { steady = f.steady; item_count = f.item_count; partition = f.partition; fallen = omega (arith, none, was); dropped = ap (λ n. drop n (listing t)) number ∙ f.dropped })
 
-fallen-all : ChunkLaws → (rounds : List (List Pair)) (t : TaskState) → IsSteady t → AllIn row_waits rounds (t ∷ []) → AllIn commits rounds (t ∷ []) → IsFallenTo rounds t (after_rounds rounds (t ∷ []))
-fallen-all law [] t st wait commit = (t, refl, record { steady = st; item_count = refl; partition = refl; fallen = omega arith })
+pub fallen-all : ChunkLaws → (rounds : List (List Pair)) (t : TaskState) → IsSteady t → AllIn row_waits rounds (t ∷ []) → AllIn commits rounds (t ∷ []) → IsFallenTo rounds t (after_rounds rounds (t ∷ []))
+fallen-all law [] t st wait commit = (t, refl, record { steady = st; item_count = refl; partition = refl; fallen = omega arith; dropped = refl })
 fallen-all law (set ∷ older) t st wait commit =
     let before = fallen-all law older t st wait.0 commit.0 in
     let u = before.0 in
@@ -88,23 +95,11 @@ quiet-commits (t ∷ ts) e = one (commits t) (quiet-commits ts) e
     one true more q = more q
     one false more q = cc
 
-at-in : (test : TaskState → Bool) (p : ℕ) (set : List Pair) (older : List (List Pair)) (ts : List TaskState) → list_all test (tasks_in set (after_rounds older ts)) ≡ true → list_all test (tasks_in set (after_rounds older (tasks_at p ts))) ≡ true
-at-in test p set older ts all =
-    subst (λ us. list_all test (tasks_in set us) ≡ true) (at-rounds p older ts)
-    (all-some test (λ (t : TaskState). has_partition set t.partition) (λ (t : TaskState). nat_eq t.partition p) (after_rounds older ts) all)
-
-pub waits-in : (p : ℕ) (rounds : List (List Pair)) (ts : List TaskState) → CanRunAll rounds ts → AllIn row_waits rounds (tasks_at p ts)
-waits-in p [] ts can = tt
-waits-in p (set ∷ older) ts can = (waits-in p older ts can.0, at-in row_waits p set older ts can.1.waiting)
-
 pub commits-in : (p : ℕ) (rounds : List (List Pair)) (ts : List TaskState) → AreQuiet rounds ts → AllIn commits rounds (tasks_at p ts)
 commits-in p [] ts quiet = tt
 commits-in p (set ∷ older) ts quiet = (commits-in p older ts quiet.0, at-in commits p set older ts (quiet-commits (tasks_in set (after_rounds older ts)) quiet.1))
 
 -- COUNTS
-
-add-next : (k i : ℕ) → (k + 1) + i ≡ k + suc i
-add-next k i = omega arith
 
 abbrev IsCount : ℕ → List TaskState → List Row → ℕ → ℕ → Type 0
 IsCount c ts rows k i = (row : Row) × (slice_get rows i ≡ Some row) × (slice_index (remaining c (map (λ n. row_now ts n.0 n.1) (enumerate_from k rows))) i ≡ rem c (row_now ts (k + i) row))
@@ -144,11 +139,8 @@ pub member : (P : TaskState → Type 0) (ts : List TaskState) (p : ℕ) (t : Tas
 member P [] p t vs all e = let never : ⊥ = cc in absurd never
 member P (u ∷ ts) p t vs all e = member-one P (nat_eq u.partition p) u t (tasks_at p ts) vs all.0 (member P ts p t vs all.1) e
 
-named-eq : (m n : ℕ) → nat_eq m n ≡ true → m ≡ n
-named-eq m n e = grind (arith, nat_tests)
-
 named-one : (b : Bool) (p : ℕ) (u t : TaskState) (us vs : List TaskState) → nat_eq u.partition p ≡ b → (us ≡ t ∷ vs → t.partition ≡ p) → cond b (u ∷ us) us ≡ t ∷ vs → t.partition ≡ p
-named-one true p u t us vs n more e = ap (λ (v : TaskState). v.partition) (sym (head-is u t us vs e)) ∙ named-eq u.partition p n
+named-one true p u t us vs n more e = ap (λ (v : TaskState). v.partition) (sym (head-is u t us vs e)) ∙ eqb-true u.partition p n
 named-one false p u t us vs n more e = more e
 
 pub named : (ts : List TaskState) (p : ℕ) (t : TaskState) (vs : List TaskState) → tasks_at p ts ≡ t ∷ vs → t.partition ≡ p
@@ -194,7 +186,7 @@ IsChunkIn set p = (j : ℕ) × Contains set (p, j)
 chunk-one : (b : Bool) (x : Pair) (xs : List Pair) (p : ℕ) → nat_eq x.0 p ≡ b → (b || has_partition xs p) ≡ true → (has_partition xs p ≡ true → IsChunkIn xs p) → IsChunkIn (x ∷ xs) p
 chunk-one true x xs p n e more =
     let f : ℕ → Pair = λ q. (q, x.1) in
-    let same : x ≡ (p, x.1) = ap f (named-eq x.0 p n) in
+    let same : x ≡ (p, x.1) = ap f (eqb-true x.0 p n) in
     (x.1, (0, omega arith, same))
 chunk-one false x xs p n e more =
     let there = more e in
@@ -251,26 +243,19 @@ module _ (counts : List ℕ) (threads : ℕ) (sets : List (List Pair)) (lawful :
 all-members : (test : Pair → Bool) (xs : List Pair) → ((x : Pair) → Contains xs x → test x ≡ true) → list_all test xs ≡ true
 all-members test [] h = refl
 all-members test (x ∷ xs) h =
-    both (test x) (list_all test xs) (h x (0, omega arith, refl))
+    and_from (test x) (list_all test xs) (h x (0, omega arith, refl))
     (all-members test xs (λ y c. let k = c.0 in let lt = c.1 in h y (suc k, omega (arith, lt), c.2)))
 
-drop-one : (b : Bool) (u : TaskState) (us : List TaskState) → list_all row_waits (cond b (u ∷ us) us) ≡ true → list_all row_waits us ≡ true
-drop-one true u us all = right-of (row_waits u) (list_all row_waits us) all
-drop-one false u us all = all
-
 keep-one : (b : Bool) (u : TaskState) (us : List TaskState) → (b ≡ true → row_waits u ≡ true) → list_all row_waits us ≡ true → list_all row_waits (cond b (u ∷ us) us) ≡ true
-keep-one true u us here all = both (row_waits u) (list_all row_waits us) (here refl) all
+keep-one true u us here all = and_from (row_waits u) (list_all row_waits us) (here refl) all
 keep-one false u us here all = all
-
-itself : (n : ℕ) → nat_eq n n ≡ true
-itself n = grind (arith, nat_tests)
 
 members-wait : (set : List Pair) (ts : List TaskState) → ((p : ℕ) → has_partition set p ≡ true → list_all row_waits (tasks_at p ts) ≡ true) → list_all row_waits (tasks_in set ts) ≡ true
 members-wait set [] h = refl
 members-wait set (u ∷ ts) h =
     keep-one (has_partition set u.partition) u (tasks_in set ts)
-    (λ has. left-of (row_waits u) (list_all row_waits (tasks_at u.partition ts)) (subst (λ b. list_all row_waits (cond b (u ∷ tasks_at u.partition ts) (tasks_at u.partition ts)) ≡ true) (itself u.partition) (h u.partition has)))
-    (members-wait set ts (λ p has. drop-one (nat_eq u.partition p) u (tasks_at p ts) (h p has)))
+    (λ has. (and_parts (row_waits u) (list_all row_waits (tasks_at u.partition ts)) (subst (λ b. list_all row_waits (cond b (u ∷ tasks_at u.partition ts) (tasks_at u.partition ts)) ≡ true) (itself u.partition) (h u.partition has))).0)
+    (members-wait set ts (λ p has. others-wait (nat_eq u.partition p) u (tasks_at p ts) (h p has)))
 
 abbrev IsWaitingAt : ℕ → List TaskState → Type 0
 IsWaitingAt p ts = (u : TaskState) × (tasks_at p ts ≡ u ∷ []) × (row_waits u ≡ true)
@@ -321,14 +306,10 @@ next_can_run law s before rounds set left table lawful can quiet =
       waiting = members-wait set (after_rounds rounds before) (λ p has.
           let chunk = chunk-in set p has in
           let here = waiting p chunk.0 chunk.1 in
-          subst (λ ts. list_all row_waits ts ≡ true) (sym here.1) (both (row_waits here.0) true here.2 refl));
+          subst (λ ts. list_all row_waits ts ≡ true) (sym here.1) (and_from (row_waits here.0) true here.2 refl));
     }
 
 -- IN ORDER, AND ALL
-
-or-true : (a b : Bool) → b ≡ true → (a || b) ≡ true
-or-true true b e = refl
-or-true false b e = e
 
 pub chunk-has : (set : List Pair) (p j k : ℕ) → k < length set → slice_index_or set k (p, j) ≡ (p, j) → has_partition set p ≡ true
 chunk-has [] p j k lt e = absurd (omega arith)
@@ -336,7 +317,7 @@ chunk-has (x ∷ xs) p j zero lt e =
     let f : Pair → ℕ = λ y. y.0 in
     let same : nat_eq x.0 p ≡ true = ap (λ q. nat_eq q p) (ap f e) ∙ itself p in
     ap (λ b. b || has_partition xs p) same
-chunk-has (x ∷ xs) p j (suc k) lt e = or-true (nat_eq x.0 p) (has_partition xs p) (chunk-has xs p j k (omega arith) e)
+chunk-has (x ∷ xs) p j (suc k) lt e = or_right (nat_eq x.0 p) (has_partition xs p) (chunk-has xs p j k (omega arith) e)
 
 module _ (counts : List ℕ) (threads : ℕ) (sets : List (List Pair)) (lawful : IsLawful counts threads sets) where
   ge-here : (p i r : ℕ) → StandsIn sets r (p, i) → ((k t : ℕ) → StandsIn sets t (p, k) → t < r → k + 1 ≤ cnt sets p r) → i ≤ cnt sets p r
@@ -394,9 +375,6 @@ count-in s ts p lt =
     let there = count-at s.item_count ts s.rows 0 p (omega (arith, lt, length-counts s.item_count ts s.rows 0)) in
     let zero_add : 0 + p ≡ p = omega arith in
     (there.0, record { get = there.1; count = there.2 ∙ ap (λ m. rem s.item_count (row_now ts m there.0)) zero_add })
-
-same-row : (rows : List Row) (p : ℕ) (row other : Row) → slice_get rows p ≡ Some row → slice_get rows p ≡ Some other → row ≡ other
-same-row rows p row other a b = cc
 
 -- the counts of one partition with one task fall by one in each round that has it
 fall-at : ChunkLaws → (s : Setup) (before : List TaskState) (rounds : List (List Pair)) (p : ℕ) (t : TaskState) → IsTable s before → CanRunAll rounds before → AreQuiet rounds before → p < length s.rows
@@ -485,7 +463,7 @@ over-by c row state.Failed e = refl
 
 ended-at : (ts : List TaskState) → list_all (λ (t : TaskState). has_ended t.row.state) ts ≡ true → AllByRecursion (λ (t : TaskState). has_ended t.row.state ≡ true) ts
 ended-at [] e = tt
-ended-at (t ∷ ts) e = (left-of (has_ended t.row.state) (list_all (λ (u : TaskState). has_ended u.row.state) ts) e, ended-at ts (right-of (has_ended t.row.state) (list_all (λ (u : TaskState). has_ended u.row.state) ts) e))
+ended-at (t ∷ ts) e = ((and_parts (has_ended t.row.state) (list_all (λ (u : TaskState). has_ended u.row.state) ts) e).0, ended-at ts (and_parts (has_ended t.row.state) (list_all (λ (u : TaskState). has_ended u.row.state) ts) e).1)
 
 ended-by : ChunkLaws → (s : Setup) (before : List TaskState) (rounds : List (List Pair)) (p : ℕ) (us : List TaskState) → IsTable s before → CanRunAll rounds before → AreQuiet rounds before
     → list_all (λ (t : TaskState). has_ended t.row.state) (after_rounds rounds before) ≡ true → p < length s.rows → tasks_at p before ≡ us → slice_index (counts_now s before) p ≤ runs_of p rounds

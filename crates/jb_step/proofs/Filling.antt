@@ -1,8 +1,8 @@
 -- A table of which the unfinished tasks went on.
-use Rattle.std.proofs.Common.{◌≡◌, ℕ, ◌+◌, ◌≤◌, ◌<◌, Bool, true, false, not, cond, List, [], ◌∷◌, map, refl, ap, ap₂, sym, ◌∙◌, subst, arith}
+use Rattle.std.proofs.Common.{◌≡◌, ℕ, ◌+◌, ◌<◌, Bool, true, false, not, cond, List, [], ◌∷◌, map, refl, ap, ap₂, sym, ◌∙◌, subst, arith, eqb-true}
+use Rattle.std.proofs.lemmas.Bool.{and_from, and_parts}
 use Rattle.std.specs.Prelude.{nat_eq, filter}
 use Rattle.std.specs.List.{AllByRecursion}
-use Rattle.std.proofs.lemmas.Bool.Decides.{nat_tests}
 use Rattle.jb_rules.specs.declared.row.Row.{Row}
 use Rattle.jb_rules.specs.declared.row.RowState.{RowState}
 use Rattle.jb_rules.specs.declared.row.RowState.TheVariants as state
@@ -14,8 +14,8 @@ use Rattle.jb_step.specs.StepRuns.{newer, all_newer}
 use Rattle.jb_step.specs.Setup.{row_now}
 use Rattle.jb_step.specs.Alone.{AreOnTheWay, have_ended}
 use Rattle.jb_step.specs.inside.Round.{partitions_of}
-use Rattle.jb_step.proofs.Apart.{both, left-of, right-of}
-use Rattle.jb_step.proofs.Splitting.{rise-lower}
+use Rattle.jb_step.proofs.Splitting.{rise-one}
+use Rattle.jb_step.proofs.Numbers.{itself, differ, differ-back, head-of, tail-of}
 
 abbrev pub is_unfinished : TaskState → Bool
 is_unfinished t = not (is_finished t.row.state)
@@ -45,28 +45,6 @@ filled (t ∷ ts) us = taker (is_unfinished t) t us ∷ filled ts (others (is_un
 
 -- NUMBERS
 
-itself : (n : ℕ) → nat_eq n n ≡ true
-itself n = grind (arith, nat_tests)
-
-differ : (m n : ℕ) → m < n → nat_eq m n ≡ false
-differ m n lt = grind (arith, nat_tests)
-
-differ-back : (m n : ℕ) → m < n → nat_eq n m ≡ false
-differ-back m n lt = grind (arith, nat_tests)
-
-same-eq : (m n : ℕ) → nat_eq m n ≡ true → m ≡ n
-same-eq m n e = grind (arith, nat_tests)
-
-head-of : (m n : ℕ) (ms ns : List ℕ) → m ∷ ms ≡ n ∷ ns → m ≡ n
-head-of m n ms ns e = cc
-
-tail-of : (m n : ℕ) (ms ns : List ℕ) → m ∷ ms ≡ n ∷ ns → ms ≡ ns
-tail-of m n ms ns e = cc
-
-rise-one : (b : Bool) (k : ℕ) (t : TaskState) (us : List TaskState) → k ≤ t.partition → RiseFrom (t.partition + 1) (partitions_of us) → RiseFrom k (partitions_of (cond b (t ∷ us) us))
-rise-one true k t us le h = (le, h)
-rise-one false k t us le h = rise-lower k (t.partition + 1) (partitions_of us) (omega arith) h
-
 rise-open : (k : ℕ) (ts : List TaskState) → RiseFrom k (partitions_of ts) → RiseFrom k (partitions_of (open_tasks ts))
 rise-open k [] h = tt
 rise-open k (t ∷ ts) h = rise-one (is_unfinished t) k t (open_tasks ts) h.0 (rise-open (t.partition + 1) ts h.1)
@@ -77,14 +55,14 @@ pub row-none : (us : List TaskState) (k p : ℕ) (row : Row) → p < k → RiseF
 row-none [] k p row lt h = refl
 row-none (u ∷ us) k p row lt h =
     let from = h.0 in
-    ap (λ (b : Bool). cond b u.row (row_now us p row)) (differ-back p u.partition (omega (arith, lt, from)))
+    ap (λ (b : Bool). cond b u.row (row_now us p row)) (differ-back u.partition p (omega (arith, lt, from)))
     ∙ row-none us (u.partition + 1) p row (omega (arith, lt, from)) h.1
 
 newer-none : (us : List TaskState) (k p : ℕ) (work : ArtifactsMeaning) → p < k → RiseFrom k (partitions_of us) → newer (works_in us) p work ≡ work
 newer-none [] k p work lt h = refl
 newer-none (u ∷ us) k p work lt h =
     let from = h.0 in
-    ap (λ (b : Bool). cond b u.work (newer (works_in us) p work)) (differ-back p u.partition (omega (arith, lt, from)))
+    ap (λ (b : Bool). cond b u.work (newer (works_in us) p work)) (differ-back u.partition p (omega (arith, lt, from)))
     ∙ newer-none us (u.partition + 1) p work (omega (arith, lt, from)) h.1
 
 abbrev renewed : List TaskState → List (ℕ × ArtifactsMeaning) → List (ℕ × ArtifactsMeaning)
@@ -136,7 +114,7 @@ fill-open u t us ts all same rise f = record {
   names = ap₂ ◌∷◌ same f.names;
   open_ = ap (λ (xs : List TaskState). cond (is_unfinished u) (u ∷ xs) xs) f.open_;
   way = λ w. (w.0, f.way w.1);
-  ended = λ e. both (has_ended u.row.state) (have_ended all) (left-of (has_ended u.row.state) (have_ended us) e) (f.ended (right-of (has_ended u.row.state) (have_ended us) e));
+  ended = λ e. and_from (has_ended u.row.state) (have_ended all) (and_parts (has_ended u.row.state) (have_ended us) e).0 (f.ended (and_parts (has_ended u.row.state) (have_ended us) e).1);
   now = λ p row. now-open (nat_eq t.partition p) u t us ts all p row (ap (λ (n : ℕ). nat_eq n p) same) refl (f.now p row);
   works = ap₂ (λ (w : ℕ × ArtifactsMeaning) (rest : List (ℕ × ArtifactsMeaning)). w ∷ rest)
       (ap (λ (b : Bool). (t.partition, cond b u.work (newer (works_in us) t.partition t.work))) (ap (λ (n : ℕ). nat_eq n t.partition) same ∙ itself t.partition)
@@ -150,9 +128,9 @@ fill-closed t us ts all closed rise f = record {
   names = ap (λ (ns : List ℕ). t.partition ∷ ns) f.names;
   open_ = ap (λ (b : Bool). cond b (t ∷ open_tasks all) (open_tasks all)) closed ∙ f.open_;
   way = λ w. (record { attempts = []; run = refl }, f.way w);
-  ended = λ e. both (has_ended t.row.state) (have_ended all) (over-by t.row.state closed) (f.ended e);
+  ended = λ e. and_from (has_ended t.row.state) (have_ended all) (over-by t.row.state closed) (f.ended e);
   now = λ p row. now-closed (nat_eq t.partition p) t us ts all p row refl
-      (λ e. let is = same-eq t.partition p e in row-none us (t.partition + 1) p t.row (omega (arith, is)) rise)
+      (λ e. let is = eqb-true t.partition p e in row-none us (t.partition + 1) p t.row (omega (arith, is)) rise)
       (f.now p row);
   works = ap₂ (λ (work : ArtifactsMeaning) (rest : List (ℕ × ArtifactsMeaning)). (t.partition, work) ∷ rest)
       (newer-none us (t.partition + 1) t.partition t.work (omega arith) rise) f.works;
@@ -181,7 +159,7 @@ fill k [] us rise e = fill-none us e
 fill k (t ∷ ts) us rise e =
     fill-by (is_unfinished t) k t ts us refl rise.1 e (λ vs q. fill (t.partition + 1) ts vs rise.1 q)
 
--- what is so of each task of both is so of each task that is left
+-- what is so of each task of and_from is so of each task that is left
 pub filled-all : (P : TaskState → Type 0) (ts us : List TaskState) → AllByRecursion P ts → AllByRecursion P us → AllByRecursion P (filled ts us)
 filled-all P [] us a b = tt
 filled-all P (t ∷ ts) us a b = (taken (is_unfinished t) us b, filled-all P ts (others (is_unfinished t) us) a.1 (rest (is_unfinished t) us b))

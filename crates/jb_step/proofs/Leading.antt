@@ -1,9 +1,10 @@
 -- Rounds lead each partition along its own attempts.
 use Rattle.std.proofs.Common.{◌≡◌, Bool, true, false, cond, List, [], ◌∷◌, ◌++◌, refl, sym, subst, inl}
+use Rattle.std.proofs.lemmas.Bool.{and_parts}
 use Rattle.std.specs.List.{list_all}
 use Rattle.jb_base.proofs.Pairwise.{pairwise-itself, pairwise-one}
 use Rattle.jb_rules.specs.declared.row.RowState.TheVariants as state
-use Rattle.jb_rules.specs.States.{is_waiting, has_ended}
+use Rattle.jb_rules.specs.States.{has_ended}
 use Rattle.jb_cert.specs.Lawful.{Pair}
 use Rattle.jb_chunk.specs.Alone.{IsAlone, IsOnTheWay}
 use Rattle.jb_chunk.specs.Attempt.{attempt_of}
@@ -14,20 +15,13 @@ use Rattle.jb_step.specs.Rounds.{has_partition, tasks_in, after_round, after_rou
 use Rattle.jb_step.specs.Runs.{table_after, rounds_of, rounds_run}
 use Rattle.jb_step.specs.Alone.{AreOnTheWay, AreAlone, AreReady, have_ended}
 use Rattle.jb_step.proofs.Adding.{after_rounds-append}
-use Rattle.jb_step.proofs.Apart.{left-of, right-of, run-more}
-use Rattle.jb_step.proofs.Steady.{waits}
-
-abbrev row_waits : TaskState → Bool
-row_waits t = is_waiting t.row.state
+use Rattle.jb_step.proofs.Apart.{run-more, others-wait}
+use Rattle.jb_step.proofs.Steady.{waits, row_waits}
 
 -- the first task waits, if it is in the set
 first-waits : (b : Bool) (s : TaskState) (rest : List TaskState) → list_all row_waits (cond b (s ∷ rest) rest) ≡ true → b ≡ true → s.row.state ≡ state.Waiting
-first-waits true s rest all e = waits s.row.state (left-of (row_waits s) (list_all row_waits rest) all)
+first-waits true s rest all e = waits s.row.state (and_parts (row_waits s) (list_all row_waits rest) all).0
 first-waits false s rest all e = cc
-
-others-wait : (b : Bool) (s : TaskState) (rest : List TaskState) → list_all row_waits (cond b (s ∷ rest) rest) ≡ true → list_all row_waits rest ≡ true
-others-wait true s rest all = right-of (row_waits s) (list_all row_waits rest) all
-others-wait false s rest all = all
 
 way-one : (b : Bool) (t s : TaskState) → IsOnTheWay t s → (b ≡ true → s.row.state ≡ state.Waiting) → IsOnTheWay t (cond b (attempt_of s).task s)
 way-one true t s way waiting = record { attempts = way.attempts ++ attempt_of s ∷ []; run = run-more t way.attempts s way.run (waiting refl) }
@@ -62,7 +56,7 @@ alone-all law [] [] ready way ended = tt
 alone-all law [] (s ∷ ss) ready way ended = absurd way
 alone-all law (t ∷ ts) [] ready way ended = absurd way
 alone-all law (t ∷ ts) (s ∷ ss) ready way ended =
-    (law t s ready.0 way.0 (left-of (has_ended s.row.state) (have_ended ss) ended), alone-all law ts ss ready.1 way.1 (right-of (has_ended s.row.state) (have_ended ss) ended))
+    (law t s ready.0 way.0 (and_parts (has_ended s.row.state) (have_ended ss) ended).0, alone-all law ts ss ready.1 way.1 (and_parts (has_ended s.row.state) (have_ended ss) ended).1)
 
 pub steps_end_alone : WaysEnd → StepsEndAlone
 steps_end_alone law s start plans ready runs ended = alone-all law start (table_after plans start) ready (steps_are_on_the_way s start plans runs) ended
@@ -75,6 +69,6 @@ calm_steps_are_plain law [] [] ready waiting calm alone = tt
 calm_steps_are_plain law [] (s ∷ ss) ready waiting calm alone = absurd alone
 calm_steps_are_plain law (t ∷ ts) [] ready waiting calm alone = absurd alone
 calm_steps_are_plain law (t ∷ ts) (s ∷ ss) ready waiting calm alone = (
-  law t s ready.0 (inl (waits t.row.state (left-of (row_waits t) (list_all row_waits ts) waiting))) calm.0 alone.0,
-  calm_steps_are_plain law ts ss ready.1 (right-of (row_waits t) (list_all row_waits ts) waiting) calm.1 alone.1,
+  law t s ready.0 (inl (waits t.row.state (and_parts (row_waits t) (list_all row_waits ts) waiting).0)) calm.0 alone.0,
+  calm_steps_are_plain law ts ss ready.1 (and_parts (row_waits t) (list_all row_waits ts) waiting).1 calm.1 alone.1,
 )

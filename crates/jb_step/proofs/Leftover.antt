@@ -1,8 +1,7 @@
 -- The tasks as a step leaves them, put together again from what it answers.
 use Rattle.std.proofs.Common.{◌≡◌, ℕ, suc, zero, ◌+◌, ◌<◌, Bool, true, false, not, cond, List, [], ◌∷◌, length, map, refl, ap, ap₂, sym, ◌∙◌, subst, arith}
-use Rattle.std.specs.Prelude.{nat_eq, filter, slice_index_or}
+use Rattle.std.specs.Prelude.{filter, slice_index_or}
 use Rattle.std.specs.List.{enumerate_from, AllByRecursion}
-use Rattle.std.proofs.lemmas.Bool.Decides.{nat_tests}
 use Rattle.jb_rules.specs.declared.row.Row.{Row}
 use Rattle.jb_rules.specs.Rows.{fresh_row}
 use Rattle.jb_rules.specs.States.{is_finished}
@@ -20,6 +19,7 @@ use Rattle.jb_step.specs.Setup.{Setup, first_tasks, row_now, rows_now, unfinishe
 use Rattle.jb_step.specs.inside.Round.{partitions_of}
 use Rattle.jb_step.proofs.Holding.{first_from, is_open}
 use Rattle.jb_step.proofs.Steady.{same-rules}
+use Rattle.jb_step.proofs.Numbers.{itself, differ, add-next}
 
 -- THE RULES STAY
 
@@ -55,12 +55,6 @@ rules-after s works plans = rules-rounds s (rounds_of plans) (first_tasks s work
 
 -- EACH TASK'S ROW
 
-itself : (n : ℕ) → nat_eq n n ≡ true
-itself n = grind (arith, nat_tests)
-
-differ : (m n : ℕ) → m < n → nat_eq m n ≡ false
-differ m n lt = grind (arith, nat_tests)
-
 -- the row now of each task's partition is the task's
 abbrev pub AreRowsIn : List TaskState → List TaskState → Type 0
 AreRowsIn ts us = AllByRecursion (λ (u : TaskState). (row : Row) → row_now ts u.partition row ≡ u.row) us
@@ -82,9 +76,6 @@ rows-are (t ∷ ts) k rise = (
 )
 
 -- the row at a place
-add-next : (k i : ℕ) → (k + 1) + i ≡ k + suc i
-add-next k i = omega arith
-
 now-at : (ts : List TaskState) (rows : List Row) (k i : ℕ) (d : Row) → i < length rows → (row : Row) × (slice_index_or (map (λ (n : ℕ × Row). row_now ts n.0 n.1) (enumerate_from k rows)) i d ≡ row_now ts (k + i) row)
 now-at ts [] k i d lt = absurd (omega (arith, lt))
 now-at ts (row ∷ rows) k zero d lt = (row, ap (λ m. row_now ts m row) (let e : k ≡ k + 0 = omega arith in e))

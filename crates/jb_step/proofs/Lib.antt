@@ -12,6 +12,7 @@ mod Leading
 mod Leftover
 mod Listing
 mod Looping
+mod Numbers
 mod Overriding
 mod Placing
 mod Planning

@@ -1,63 +1,21 @@
 -- The chunks of a plan are the blocks that were left.
-use Rattle.std.proofs.Common.{◌≡◌, ℕ, suc, zero, ◌+◌, ◌<◌, Bool, true, false, cond, List, [], ◌∷◌, ◌++◌, length, get_or, drop, reverse, refl, ap, sym, ◌∙◌, subst, arith, length-append}
+use Rattle.std.proofs.Common.{◌≡◌, ℕ, suc, zero, ◌<◌, true, cond, List, [], ◌∷◌, ◌++◌, length, get_or, drop, reverse, refl, ap, sym, ◌∙◌, subst, arith, length-append}
+use Rattle.std.proofs.lemmas.Bool.{and_parts}
 use Rattle.std.specs.Prelude.{nat_eq, slice_get, Contains}
 use Rattle.std.specs.List.{list_all}
-use Rattle.std.proofs.lemmas.List.{get_or_at, length-reverse, drop-drop}
+use Rattle.std.proofs.lemmas.List.{get_or_at, length-reverse}
 use Rattle.jb_base.specs.declared.range.Range.{Range}
 use Rattle.jb_rules.specs.declared.row.RowState.TheVariants as state
 use Rattle.jb_cert.specs.Lawful.{Pair, IsLawful, StandsIn}
-use Rattle.jb_chunk.specs.Attempt.{attempt_of}
 use Rattle.jb_chunk.specs.Standing.{TaskState, IsReady}
 use Rattle.jb_step.specs.PlanLaws.{IsTable, ChunksAreBlocks}
 use Rattle.jb_step.specs.OnePartition.{tasks_at}
-use Rattle.jb_step.specs.Rounds.{has_partition, tasks_in, after_round, after_rounds, CanRunAll, AreQuiet}
+use Rattle.jb_step.specs.Rounds.{has_partition, tasks_in, after_rounds, CanRunAll, AreQuiet}
 use Rattle.jb_step.specs.Setup.{Setup, counts_now}
 use Rattle.jb_step.specs.inside.Below.{ChunkLaws}
-use Rattle.jb_step.proofs.Apart.{all-some, at-rounds, left-of}
-use Rattle.jb_step.proofs.ChunksInOrder.{AllIn, row_waits, commits, one_if, runs_of, runs-cnt, chunk-has, cnt-is, waits-in, commits-in, member, named, next_can_run}
-use Rattle.jb_step.proofs.Steady.{IsSteady, steady, next-steady, waits, listing, next-list, drops-one, same-partition}
-
-record IsDropped (rounds : List (List Pair)) (t u : TaskState) : Type 0 where
-  steady_now : IsSteady u
-  partition : u.partition ≡ t.partition
-  dropped : drop (runs_of t.partition rounds) (listing t) ≡ listing u
-
-abbrev IsDroppedTo : List (List Pair) → TaskState → List TaskState → Type 0
-IsDroppedTo rounds t ts = (u : TaskState) × (ts ≡ u ∷ []) × IsDropped rounds t u
-
-dropped-one : ChunkLaws → (b : Bool) (set : List Pair) (older : List (List Pair)) (t u : TaskState) → has_partition set u.partition ≡ b → IsDropped older t u
-    → list_all row_waits (cond b (u ∷ []) []) ≡ true → list_all commits (cond b (u ∷ []) []) ≡ true → IsDroppedTo (set ∷ older) t (cond b (attempt_of u).task u ∷ [])
-dropped-one law true set older t u has f wait commit =
-    let w = waits u.row.state (left-of (row_waits u) true wait) in
-    let c = left-of (commits u) true commit in
-    let next = next-steady law u f.steady_now w in
-    let one : one_if (has_partition set t.partition) ≡ 1 = ap one_if (ap (has_partition set) (sym f.partition) ∙ has) in
-    let number : one_if (has_partition set t.partition) + runs_of t.partition older ≡ runs_of t.partition older + 1 = omega (arith, one) in (
-      (attempt_of u).task,
-      refl,
-      record {
-        steady_now = next;
-        partition = same-partition u ∙ f.partition;
-        dropped =
-            ap (λ n. drop n (listing t)) number
-            ∙ sym (drop-drop 1 (runs_of t.partition older) (listing t))
-            ∙ ap (drop 1) f.dropped
-            ∙ drops-one law u f.steady_now w c;
-      },
-    )
-dropped-one law false set older t u has f wait commit =
-    let none : one_if (has_partition set t.partition) ≡ 0 = ap one_if (ap (has_partition set) (sym f.partition) ∙ has) in
-    let number : one_if (has_partition set t.partition) + runs_of t.partition older ≡ runs_of t.partition older = omega (arith, none) in
-    (u, refl, record { steady_now = f.steady_now; partition = f.partition; dropped = ap (λ n. drop n (listing t)) number ∙ f.dropped })
-
-dropped-all : ChunkLaws → (rounds : List (List Pair)) (t : TaskState) → IsSteady t → AllIn row_waits rounds (t ∷ []) → AllIn commits rounds (t ∷ []) → IsDroppedTo rounds t (after_rounds rounds (t ∷ []))
-dropped-all law [] t st wait commit = (t, refl, record { steady_now = st; partition = refl; dropped = refl })
-dropped-all law (set ∷ older) t st wait commit =
-    let before = dropped-all law older t st wait.0 commit.0 in
-    let u = before.0 in
-    let w : list_all row_waits (tasks_in set (u ∷ [])) ≡ true = subst (λ ts. list_all row_waits (tasks_in set ts) ≡ true) before.1 wait.1 in
-    let c : list_all commits (tasks_in set (u ∷ [])) ≡ true = subst (λ ts. list_all commits (tasks_in set ts) ≡ true) before.1 commit.1 in
-    subst (λ ts. IsDroppedTo (set ∷ older) t (after_round set ts)) (sym before.1) (dropped-one law (has_partition set u.partition) set older t u refl before.2 w c)
+use Rattle.jb_step.proofs.Apart.{AllIn, all-some, at-rounds, waits-in}
+use Rattle.jb_step.proofs.ChunksInOrder.{commits, runs_of, runs-cnt, chunk-has, cnt-is, commits-in, member, named, next_can_run, fallen-all}
+use Rattle.jb_step.proofs.Steady.{IsSteady, steady, row_waits, waits, listing, next-list}
 
 get-dropped : (xs : List Range) (j : ℕ) → slice_get xs j ≡ slice_get (drop j xs) 0
 get-dropped [] zero = refl
@@ -77,7 +35,7 @@ waits-now law s before rounds set left table lawful can quiet p j chunk u there 
     let at = all-some row_waits (λ (v : TaskState). has_partition set v.partition) (λ (v : TaskState). nat_eq v.partition p) (after_rounds rounds before) all in
     let one : list_all row_waits (tasks_in set (u ∷ [])) ≡ true = subst (λ ts. list_all row_waits (tasks_in set ts) ≡ true) there at in
     let its : has_partition set u.partition ≡ true = ap (has_partition set) (named (after_rounds rounds before) p u [] there) ∙ has in
-    waits u.row.state (left-of (row_waits u) true (subst (λ b. list_all row_waits (cond b (u ∷ []) []) ≡ true) its one))
+    waits u.row.state (and_parts (row_waits u) true (subst (λ b. list_all row_waits (cond b (u ∷ []) []) ≡ true) its one)).0
 
 pub chunks_are_blocks : ChunkLaws → ChunksAreBlocks
 chunks_are_blocks law s before rounds set left table lawful can quiet p j chunk t u here there =
@@ -90,9 +48,9 @@ chunks_are_blocks law s before rounds set left table lawful can quiet p j chunk 
     let its : IsReady t × (t.item_count ≡ s.item_count) = member (λ (v : TaskState). IsReady v × (v.item_count ≡ s.item_count)) before p t [] table.tasks here in
     let w = subst (λ ts. AllIn row_waits rounds ts) here (waits-in p rounds before can) in
     let c = subst (λ ts. AllIn commits rounds ts) here (commits-in p rounds before quiet) in
-    let end = dropped-all law rounds t (steady t its.0) w c in
+    let end = fallen-all law rounds t (steady t its.0) w c in
     let same : end.0 ≡ u = same-head end.0 u (sym (at-rounds p rounds before ∙ ap (after_rounds rounds) here ∙ end.1) ∙ there) in
     let waiting = waits-now law s before rounds set left table lawful can quiet p j chunk u there in
-    let st = subst (λ v. IsSteady v) same end.2.steady_now in
+    let st = subst (λ v. IsSteady v) same end.2.steady in
     let dropped : drop j (listing t) ≡ listing u = ap (λ m. drop m (listing t)) (sym (ap (λ q. runs_of q rounds) (named before p t [] here) ∙ number)) ∙ end.2.dropped ∙ ap listing same in
     get-dropped (listing t) j ∙ ap (λ xs. slice_get xs 0) (dropped ∙ next-list law u st (st.waiting waiting))

@@ -1,5 +1,5 @@
 -- A restart whose plan discards what was saved.
-use Rattle.std.proofs.Common.{◌≡◌, Bool, true, false, Result, Ok, Err, Option, None, refl, ap, sym, ◌∙◌}
+use Rattle.std.proofs.Common.{◌≡◌, Bool, true, false, Result, Ok, Err, None, refl, ap, sym, ◌∙◌}
 use Rattle.std.specs.Prelude.{is_none}
 use Rattle.jb_base.specs.declared.class.ClassId.{ClassId}
 use Rattle.jb_plan.specs.declared.plan.PartitionPlan.{PartitionPlan}

@@ -1,8 +1,7 @@
 -- Tasks that are taken out of their places for a round, and put back.
-use Rattle.std.proofs.Common.{◌≡◌, ℕ, suc, zero, ◌+◌, ◌≤◌, ◌<◌, Bool, true, false, cond, ◌||◌, List, [], ◌∷◌, ◌++◌, length, map, Option, Some, None, drop, get_or, append-nil, refl, ap, ap₂, sym, ◌∙◌, subst, arith, zero-add}
+use Rattle.std.proofs.Common.{◌≡◌, ℕ, suc, zero, ◌+◌, ◌≤◌, ◌<◌, Bool, true, false, cond, ◌||◌, List, [], ◌∷◌, ◌++◌, length, map, Option, Some, None, drop, get_or, append-nil, refl, ap, ap₂, sym, ◌∙◌, subst, arith, zero-add, eq-eqb, eqb-true}
 use Rattle.std.specs.Prelude.{nat_eq, slice_index_or, slice_set}
 use Rattle.std.specs.List.{cons_option}
-use Rattle.std.proofs.lemmas.Bool.Decides.{nat_tests}
 use Rattle.std.proofs.lemmas.List.{drop_more, at_drop_all}
 use Rattle.jb_artifacts.specs.Meaning.{ArtifactsMeaning}
 use Rattle.jb_cert.specs.Lawful.{Pair}
@@ -25,23 +24,9 @@ use Rattle.jb_step.specs.inside.Round.{partitions_of, AreDonesOf, AreWhole, task
 use Rattle.jb_step.proofs.Holding.{now-sound}
 use Rattle.jb_step.proofs.Splitting.{attempted, rise-lower, works-rise}
 use Rattle.jb_step.proofs.Steady.{same-partition}
+use Rattle.jb_step.proofs.Numbers.{differ, differ-back, below-of}
 
 -- NUMBERS
-
-same : (m n : ℕ) → m ≡ n → nat_eq m n ≡ true
-same m n e = grind (arith, nat_tests)
-
-differ : (m n : ℕ) → m < n → nat_eq m n ≡ false
-differ m n lt = grind (arith, nat_tests)
-
-differ-back : (m n : ℕ) → n < m → nat_eq m n ≡ false
-differ-back m n lt = grind (arith, nat_tests)
-
-same-of : (m n : ℕ) → nat_eq m n ≡ true → m ≡ n
-same-of m n e = grind (arith, nat_tests)
-
-below-of : (m n : ℕ) → nat_eq m n ≡ false → m ≤ n → m + 1 ≤ n
-below-of m n e le = grind (arith, nat_tests)
 
 -- each number is so high at least
 abbrev Above : ℕ → List ℕ → Type 0
@@ -72,7 +57,7 @@ at k p (o ∷ os) = cond (nat_eq k p) o (at (k + 1) p os)
 
 put-is : {X : Type 0} (k i : ℕ) (x : X) (os : List X) → put_at k (k + i) x os ≡ slice_set os i x
 put-is k i x [] = refl
-put-is k zero x (o ∷ os) = ap (λ (b : Bool). cond b (x ∷ os) (o ∷ put_at (k + 1) (k + 0) x os)) (same k (k + 0) (omega arith))
+put-is k zero x (o ∷ os) = ap (λ (b : Bool). cond b (x ∷ os) (o ∷ put_at (k + 1) (k + 0) x os)) (eq-eqb k (k + 0) (omega arith))
 put-is k (suc i) x (o ∷ os) =
     let next : k + suc i ≡ (k + 1) + i = omega arith in
     ap (λ (b : Bool). cond b (x ∷ os) (o ∷ put_at (k + 1) (k + suc i) x os)) (differ k (k + suc i) (omega arith))
@@ -80,7 +65,7 @@ put-is k (suc i) x (o ∷ os) =
 
 at-is : {T : Type 0} (k i : ℕ) (os : List (Option T)) → at k (k + i) os ≡ slice_index_or os i None
 at-is k i [] = refl
-at-is k zero (o ∷ os) = ap (λ (b : Bool). cond b o (at (k + 1) (k + 0) os)) (same k (k + 0) (omega arith))
+at-is k zero (o ∷ os) = ap (λ (b : Bool). cond b o (at (k + 1) (k + 0) os)) (eq-eqb k (k + 0) (omega arith))
 at-is k (suc i) (o ∷ os) =
     let next : k + suc i ≡ (k + 1) + i = omega arith in
     ap (λ (b : Bool). cond b o (at (k + 1) (k + suc i) os)) (differ k (k + suc i) (omega arith))
@@ -96,13 +81,13 @@ put-later : {X : Type 0} (k p : ℕ) (x o : X) (os : List X) → k + 1 ≤ p →
 put-later k p x o os le = ap (λ (b : Bool). cond b (x ∷ os) (o ∷ put_at (k + 1) p x os)) (differ k p (omega (arith, le)))
 
 put-here : {X : Type 0} (k p : ℕ) (x o : X) (os : List X) → k ≡ p → put_at k p x (o ∷ os) ≡ x ∷ os
-put-here k p x o os e = ap (λ (b : Bool). cond b (x ∷ os) (o ∷ put_at (k + 1) p x os)) (same k p e)
+put-here k p x o os e = ap (λ (b : Bool). cond b (x ∷ os) (o ∷ put_at (k + 1) p x os)) (eq-eqb k p e)
 
 at-later : {T : Type 0} (k p : ℕ) (o : Option T) (os : List (Option T)) → k + 1 ≤ p → at k p (o ∷ os) ≡ at (k + 1) p os
 at-later k p o os le = ap (λ (b : Bool). cond b o (at (k + 1) p os)) (differ k p (omega (arith, le)))
 
 at-here : {T : Type 0} (k p : ℕ) (o : Option T) (os : List (Option T)) → k ≡ p → at k p (o ∷ os) ≡ o
-at-here k p o os e = ap (λ (b : Bool). cond b o (at (k + 1) p os)) (same k p e)
+at-here k p o os e = ap (λ (b : Bool). cond b o (at (k + 1) p os)) (eq-eqb k p e)
 
 -- TAKEN OUT, AND PUT BACK, FROM PARTITION k ON
 
@@ -177,7 +162,7 @@ module _ {T : Type 0} (standing : T → TaskState) where
   has-none k (pair ∷ set) h = ap₂ ◌||◌ (differ-back pair.0 k (let le = h.0 in omega (arith, le))) (has-none k set h.1)
 
   has-here : (p : ℕ) (pair : Pair) (set : List Pair) → pair.0 ≡ p → has_partition (pair ∷ set) p ≡ true
-  has-here p pair set e = ap (λ (b : Bool). b || has_partition set p) (same pair.0 p e)
+  has-here p pair set e = ap (λ (b : Bool). b || has_partition set p) (eq-eqb pair.0 p e)
 
   taken-skip : (set : List Pair) (t : T) (ts : List T) → has_partition set (standing t).partition ≡ false → tasks_of_set standing set (t ∷ ts) ≡ tasks_of_set standing set ts
   taken-skip set t ts e = ap (λ (b : Bool). cond b (t ∷ tasks_of_set standing set ts) (tasks_of_set standing set ts)) e
@@ -213,13 +198,13 @@ module _ {T : Type 0} (standing : T → TaskState) where
       → ((more : List Pair) → RiseFrom (k + 1) (firsts more) → ArePlaced standing (k + 1) os → picked_from (k + 1) more os ≡ tasks_of_set standing more (held_in os))
       → picked_from k (pair ∷ set) (o ∷ os) ≡ tasks_of_set standing (pair ∷ set) (held_in (o ∷ os))
   works-by true k None os pair set e rise placed more =
-      let is : k ≡ pair.0 = same-of k pair.0 e in
+      let is : k ≡ pair.0 = eqb-true k pair.0 e in
       let up : RiseFrom (k + 1) (firsts set) = subst (λ (j : ℕ). RiseFrom (j + 1) (firsts set)) (sym is) rise.1 in
       let high : Above (pair.0 + 1) (partitions_of (map standing (held_in os))) = subst (λ (j : ℕ). Above (j + 1) (partitions_of (map standing (held_in os)))) is (rise-above (k + 1) _ (placed-rise (k + 1) os placed)) in
       ap₂ (λ (p : Option T) (xs : List (Option T)). cons_option p (picked_from k set xs)) (at-here k pair.0 None os is) (put-here k pair.0 None None os is)
       ∙ (picked-later k None set os (rise-above (k + 1) (firsts set) up) ∙ (more set up placed ∙ sym (taken-later pair set (held_in os) high)))
   works-by true k (Some t) os pair set e rise placed more =
-      let is : k ≡ pair.0 = same-of k pair.0 e in
+      let is : k ≡ pair.0 = eqb-true k pair.0 e in
       let up : RiseFrom (k + 1) (firsts set) = subst (λ (j : ℕ). RiseFrom (j + 1) (firsts set)) (sym is) rise.1 in
       let high : Above (pair.0 + 1) (partitions_of (map standing (held_in os))) = subst (λ (j : ℕ). Above (j + 1) (partitions_of (map standing (held_in os)))) is (rise-above (k + 1) _ (placed-rise (k + 1) os placed.1)) in
       ap₂ (λ (p : Option T) (xs : List (Option T)). cons_option p (picked_from k set xs)) (at-here k pair.0 (Some t) os is) (put-here k pair.0 None (Some t) os is)
@@ -270,7 +255,7 @@ module _ {T : Type 0} (standing : T → TaskState) where
       → AreDonesOf standing (t ∷ ts) ds → AreWhole ds
       → ((es : List (Done T)) → AreDonesOf standing ts es → AreWhole es → Above (k + 1) (parts es) × IsRound set (k + 1) before (filled_from (k + 1) es os))
       → IsRound all k (Some t ∷ before) (filled_from k ds (None ∷ os))
-  round-some k t set ts os before all [] is has same h m more = absurd h
+  round-some k t set ts os before all [] is has eq-eqb h m more = absurd h
   round-some k t set ts os before all (d ∷ ds) is has same_after h m more =
       let rest = more ds h.1 m.1 in
       let ended = attempted standing t d h.0 m.0 in
@@ -293,7 +278,7 @@ module _ {T : Type 0} (standing : T → TaskState) where
       → IsRound more (k + 1) os (filled_from (k + 1) es (emptied_from (k + 1) more os)))
       → IsRound (pair ∷ set) k (o ∷ os) (filled_from k ds (emptied_from k (pair ∷ set) (o ∷ os)))
   round-by true k None os pair set ds e rise placed h m more =
-      let is : k ≡ pair.0 = same-of k pair.0 e in
+      let is : k ≡ pair.0 = eqb-true k pair.0 e in
       let up : RiseFrom (k + 1) (firsts set) = subst (λ (j : ℕ). RiseFrom (j + 1) (firsts set)) (sym is) rise.1 in
       let high : Above (pair.0 + 1) (partitions_of (map standing (held_in os))) = subst (λ (j : ℕ). Above (j + 1) (partitions_of (map standing (held_in os)))) is (rise-above (k + 1) _ (placed-rise (k + 1) os placed)) in
       let own : AreDonesOf standing (tasks_of_set standing set (held_in os)) ds = subst (λ (us : List T). AreDonesOf standing us ds) (taken-later pair set (held_in os) high) h in
@@ -305,7 +290,7 @@ module _ {T : Type 0} (standing : T → TaskState) where
       subst (λ (xs : List (Option T)). IsRound (pair ∷ set) k (None ∷ os) xs) (sym now)
       (record { table = rest.table ∙ sym (after-later pair set (map standing (held_in os)) high); ready = rest.ready; placed = rest.placed })
   round-by true k (Some t) os pair set ds e rise placed h m more =
-      let is : k ≡ pair.0 = same-of k pair.0 e in
+      let is : k ≡ pair.0 = eqb-true k pair.0 e in
       let up : RiseFrom (k + 1) (firsts set) = subst (λ (j : ℕ). RiseFrom (j + 1) (firsts set)) (sym is) rise.1 in
       let high : Above (pair.0 + 1) (partitions_of (map standing (held_in os))) = subst (λ (j : ℕ). Above (j + 1) (partitions_of (map standing (held_in os)))) is (rise-above (k + 1) _ (placed-rise (k + 1) os placed.1)) in
       let own : AreDonesOf standing (t ∷ tasks_of_set standing set (held_in os)) ds = subst (λ (us : List T). AreDonesOf standing us ds) (taken-keep (pair ∷ set) t (held_in os) (has-here (standing t).partition pair set (sym is ∙ sym placed.0)) ∙ ap (λ (us : List T). t ∷ us) (taken-later pair set (held_in os) high)) h in
@@ -416,7 +401,7 @@ row-from standing k (suc i) (None ∷ os) row h =
     ap (λ (p : ℕ). row_now (map standing (held_in os)) p row) next ∙ row-from standing (k + 1) i os row h
 row-from standing k zero (Some t ∷ os) row h =
     let is = h.0 in
-    ap (λ (b : Bool). cond b (standing t).row (row_now (map standing (held_in os)) (k + 0) row)) (same (standing t).partition (k + 0) (omega (arith, is)))
+    ap (λ (b : Bool). cond b (standing t).row (row_now (map standing (held_in os)) (k + 0) row)) (eq-eqb (standing t).partition (k + 0) (omega (arith, is)))
 row-from standing k (suc i) (Some t ∷ os) row h =
     let is = h.0 in
     let next : k + suc i ≡ (k + 1) + i = omega arith in

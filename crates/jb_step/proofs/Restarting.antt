@@ -19,7 +19,7 @@ use Rattle.jb_cert.specs.Rising.{RiseFrom}
 use Rattle.jb_chunk.specs.Alone.{IsOnTheWay}
 use Rattle.jb_chunk.specs.Laws.{SamePlace, WaysJoin, WaysEnd, OneEnd, TasksStayReady}
 use Rattle.jb_chunk.specs.Standing.{TaskState, started}
-use Rattle.jb_saved.specs.GoingOn.{again, AreUnfailed}
+use Rattle.jb_saved.specs.GoingOn.{restarted, AreUnfailed}
 use Rattle.jb_saved.specs.Laws.{TreeIsRead}
 use Rattle.jb_saved.specs.Reading.{answer_of}
 use Rattle.jb_saved.specs.SavedRows.{SavedRows}
@@ -38,6 +38,7 @@ use Rattle.jb_step.proofs.Holding.{begins_with_table, is_open, partitions_stay}
 use Rattle.jb_step.proofs.Leading.{steps_are_on_the_way, alone-all, alone_is_one_place}
 use Rattle.jb_step.proofs.Leftover.{HaveRules, HaveCounts, AreBelow, no_row, all-again, below-named, needs-in, rows-are}
 use Rattle.jb_step.proofs.Turning.{ready-of, rise-needs}
+use Rattle.jb_step.proofs.Numbers.{head-of, tail-of}
 
 -- WHAT ONE RUN GIVES
 
@@ -91,12 +92,6 @@ numbers_from k rows = map (λ (n : ℕ × Row). n.0) (filter is_open (enumerate_
 open-one : (b : Bool) (t : TaskState) (xs : List (ℕ × Row)) (ts : List TaskState) → xs ≡ map numbered (open_tasks ts) → cond b (numbered t ∷ xs) xs ≡ map numbered (cond b (t ∷ open_tasks ts) (open_tasks ts))
 open-one true t xs ts e = ap (λ (ys : List (ℕ × Row)). numbered t ∷ ys) e
 open-one false t xs ts e = e
-
-head-of : (m n : ℕ) (ms ns : List ℕ) → m ∷ ms ≡ n ∷ ns → m ≡ n
-head-of m n ms ns e = cc
-
-tail-of : (m n : ℕ) (ms ns : List ℕ) → m ∷ ms ≡ n ∷ ns → ms ≡ ns
-tail-of m n ms ns e = cc
 
 now-open : (k : ℕ) (row : Row) (rows : List Row) (t : TaskState) (ts : List TaskState) → t.partition ≡ k
     → now_from (k + 1) rows ts ≡ map numbered (open_tasks ts) → now_from k (row ∷ rows) (t ∷ ts) ≡ map numbered (open_tasks (t ∷ ts))
@@ -318,7 +313,7 @@ good saved = Ok saved
 answered-ok : (one other : SavedRows) → good one ≡ good other → one ≡ other
 answered-ok one other e = cc
 
-unfailed-same : (b : Bool) (r : Row) → is_failed r.state ≡ b → r.state ≢ Failed → again r ≡ r
+unfailed-same : (b : Bool) (r : Row) → is_failed r.state ≡ b → r.state ≢ Failed → restarted r ≡ r
 unfailed-same true r is never = absurd (never (failed-is r.state is))
   where
     failed-is : (s : RowState) → is_failed s ≡ true → s ≡ Failed
@@ -328,7 +323,7 @@ unfailed-same true r is never = absurd (never (failed-is r.state is))
     failed-is state.Failed e = refl
 unfailed-same false r is never = ap (λ (b : Bool). cond b (dropped_row r) r) is
 
-rows-same : (rows : List Row) → AreUnfailed rows → map again rows ≡ rows
+rows-same : (rows : List Row) → AreUnfailed rows → map restarted rows ≡ rows
 rows-same [] never = refl
 rows-same (r ∷ rows) never = ap₂ (λ (x : Row) (xs : List Row). x ∷ xs) (unfailed-same (is_failed r.state) r refl (never zero r refl)) (rows-same rows (λ i s e. never (suc i) s e))
 
@@ -340,7 +335,7 @@ takes-up law step r n h =
     record {
       rows = h.prepared.prepared.rows
           ∙ (ap (λ (replace : Bool). opening_rows h.prepared.prepared.plan.ranges (gone_on replace (Some h.read))) h.goes_on
-          ∙ (ap (λ (s : SavedRows). map again s.rows) same ∙ rows-same r.snapshot.rows.items h.unfailed));
+          ∙ (ap (λ (s : SavedRows). map restarted s.rows) same ∙ rows-same r.snapshot.rows.items h.unfailed));
       tasks = h.tasks;
     }
 
@@ -410,7 +405,7 @@ restarts-fit law place join stay step first later saved s c unfailed kept saved_
     let l = left-by-all place join first later g up in
     let now = newest-gives-table step first later g c.restarts in
     let fit = subst (λ (ts : List TaskState). AllByRecursion FitsIfSound ts) l.open_ (fit-open stay (tasks_before first) (table_of first later) g.ready l.way) in
-    let same : s.rows ≡ r.snapshot.rows.items = rows_are ∙ (ap (map again) saved_is ∙ rows-same r.snapshot.rows.items unfailed) in
+    let same : s.rows ≡ r.snapshot.rows.items = rows_are ∙ (ap (map restarted) saved_is ∙ rows-same r.snapshot.rows.items unfailed) in
     let open_rows : unfinished s.rows ≡ map numbered (open_tasks (tasks_after r)) =
     ap unfinished (same ∙ now.rows) ∙ unfinished-now 0 r.setup.rows (tasks_after r) now.after in
     let works = again-works r.setup r.snapshot.rows.items r.left in

@@ -1,5 +1,6 @@
 -- The works of a round, and what comes of them.
 use Rattle.std.proofs.Common.{◌≡◌, ℕ, suc, zero, ◌+◌, ◌≤◌, ◌<◌, Bool, true, false, cond, List, [], ◌∷◌, length, map, refl, ap, ap₂, sym, ◌∙◌, subst, arith}
+use Rattle.std.proofs.lemmas.Bool.{and_parts}
 use Rattle.std.specs.Prelude.{slice_index_or}
 use Rattle.std.proofs.lemmas.List.{length-map}
 use Rattle.std.specs.List.{list_all}
@@ -19,7 +20,6 @@ use Rattle.jb_collect.specs.Heard.{endings_of, heard_in}
 use Rattle.jb_step.specs.inside.Adding.{heard_in_round}
 use Rattle.jb_step.specs.inside.Round.{tasks_of, partitions_of, AreDonesOf, AreWhole, had_memory, tasks_of_set, breaks_in}
 use Rattle.jb_step.specs.Alone.{AreReady}
-use Rattle.jb_step.proofs.Apart.{left-of, right-of}
 use Rattle.jb_step.proofs.Steady.{waits}
 
 attempt_by : (o : Outcome) (t : TaskState) (e : AttemptEnd) → IsAttemptBy o t e → had_memory o ≡ true → e ≡ attempt_of t
@@ -64,7 +64,7 @@ pub rise-lower : (j k : ℕ) (ns : List ℕ) → j ≤ k → RiseFrom k ns → R
 rise-lower j k [] le h = tt
 rise-lower j k (n ∷ ns) le h = (let from = h.0 in omega arith, h.1)
 
-rise-one : (b : Bool) (k : ℕ) (t : TaskState) (us : List TaskState) → k ≤ t.partition → RiseFrom (t.partition + 1) (partitions_of us) → RiseFrom k (partitions_of (cond b (t ∷ us) us))
+pub rise-one : (b : Bool) (k : ℕ) (t : TaskState) (us : List TaskState) → k ≤ t.partition → RiseFrom (t.partition + 1) (partitions_of us) → RiseFrom k (partitions_of (cond b (t ∷ us) us))
 rise-one true k t us le h = (le, h)
 rise-one false k t us le h = rise-lower k (t.partition + 1) (partitions_of us) (omega arith) h
 
@@ -112,9 +112,9 @@ module _ {T : Type 0} (standing : T → TaskState) where
   can-begin : (ws : List (Work T)) → AreReady (map standing (tasks_of ws)) → list_all (λ (t : TaskState). is_waiting t.row.state) (map standing (tasks_of ws)) ≡ true → (k : ℕ) (d : Work T) → k < length ws → CanBegin (standing (slice_index_or ws k d).task)
   can-begin [] r w k d lt = absurd (omega (arith, lt))
   can-begin (u ∷ ws) r w zero d lt =
-      record { waiting = waits (standing u.task).row.state (left-of (is_waiting (standing u.task).row.state) (list_all (λ (t : TaskState). is_waiting t.row.state) (map standing (tasks_of ws))) w); ready = r.0 }
+      record { waiting = waits (standing u.task).row.state (and_parts (is_waiting (standing u.task).row.state) (list_all (λ (t : TaskState). is_waiting t.row.state) (map standing (tasks_of ws))) w).0; ready = r.0 }
   can-begin (u ∷ ws) r w (suc k) d lt =
-      can-begin ws r.1 (right-of (is_waiting (standing u.task).row.state) (list_all (λ (t : TaskState). is_waiting t.row.state) (map standing (tasks_of ws))) w) k d (omega (arith, lt))
+      can-begin ws r.1 (and_parts (is_waiting (standing u.task).row.state) (list_all (λ (t : TaskState). is_waiting t.row.state) (map standing (tasks_of ws))) w).1 k d (omega (arith, lt))
 
   done-by : (ws : List (Work T)) (ds : List (Done T)) → AreDones standing ws ds → AreDonesOf standing (tasks_of ws) ds
   done-by [] [] h = tt

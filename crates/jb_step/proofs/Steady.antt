@@ -1,13 +1,11 @@
 -- One task and its attempts: what is left of its chunks after each.
-use Rattle.std.proofs.Common.{◌≡◌, ℕ, suc, ◌+◌, ◌≤◌, ◌<◌, Bool, true, false, cond, List, ◌∷◌, length, drop, refl, ap, sym, subst, ◌∙◌, arith}
+use Rattle.std.proofs.Common.{◌≡◌, ℕ, suc, ◌+◌, ◌≤◌, ◌<◌, Bool, true, false, cond, List, ◌∷◌, length, drop, refl, ap, sym, subst, ◌∙◌, arith, eqb-true}
 use Rattle.std.specs.Prelude.{◌==◌}
-use Rattle.std.proofs.lemmas.Bool.Decides.{nat_tests}
 use Rattle.jb_base.specs.declared.range.Range.{Range}
 use Rattle.jb_plan.specs.Blocks.{blocks, left}
 use Rattle.jb_rules.specs.declared.row.Row.{Row}
 use Rattle.jb_rules.specs.declared.row.RowState.{RowState}
 use Rattle.jb_rules.specs.declared.row.RowState.TheVariants as state
-use Rattle.jb_rules.specs.Sound.{IsSoundRow}
 use Rattle.jb_rules.specs.States.{is_waiting}
 use Rattle.jb_chunk.specs.declared.chunk_end.ChunkEnd.{ChunkEnd}
 use Rattle.jb_chunk.specs.declared.chunk_end.ChunkEnd.TheVariants.{Committed, Rolled, Failed}
@@ -15,8 +13,12 @@ use Rattle.jb_chunk.specs.Attempt.{attempt_of, block_of, end_of, ending_by, afte
 use Rattle.jb_chunk.specs.Laws.{RepeatsAreRetries}
 use Rattle.jb_chunk.specs.Standing.{TaskState, IsReady, HasItemCount}
 use Rattle.jb_rules.specs.Rows.{remaining_of}
+use Rattle.jb_chunk.proofs.RunsAlone.{below-at, left-waiting}
 use Rattle.jb_step.specs.Rounds.{is_commit}
 use Rattle.jb_step.specs.inside.Below.{ChunkLaws}
+
+abbrev pub row_waits : TaskState → Bool
+row_waits t = is_waiting t.row.state
 
 pub waits : (s : RowState) → is_waiting s ≡ true → s ≡ state.Waiting
 waits state.Waiting e = refl
@@ -56,23 +58,6 @@ pub record IsSteady (t : TaskState) : Type 0 where
   pub waiting : t.row.state ≡ state.Waiting → t.row.at < t.row.hi
   pub count : HasItemCount t.item_count
 
-same-of : (m n : ℕ) → (m == n) ≡ true → m ≡ n
-same-of m n e = grind (arith, nat_tests)
-
-differ-of : (m n : ℕ) → (m == n) ≡ false → m ≤ n → m < n
-differ-of m n e le = grind (arith, nat_tests)
-
-unlike : (s : RowState) → s ≡ state.Finished → s ≡ state.Waiting → 1 ≤ 0
-unlike s f w = cc
-
-left-by : (b : Bool) (row : Row) → (row.at == row.hi) ≡ b → row.at ≤ row.hi → (row.at ≡ row.hi → row.state ≡ state.Finished) → row.state ≡ state.Waiting → row.at < row.hi
-left-by true row e le finished waiting = let never = unlike row.state (finished (same-of row.at row.hi e)) waiting in omega (arith, never)
-left-by false row e le finished waiting = differ-of row.at row.hi e le
-
--- a Waiting row has a record left
-left-waiting : (row : Row) → IsSoundRow row → row.state ≡ state.Waiting → row.at < row.hi
-left-waiting row sound waiting = left-by (row.at == row.hi) row refl sound.placed.at_to (λ e. sound.finished.1 e) waiting
-
 pub steady : (t : TaskState) → IsReady t → IsSteady t
 steady t ready = record {
   at_to = ready.sound.placed.at_to;
@@ -81,14 +66,10 @@ steady t ready = record {
   count = ready.item_counted;
 }
 
-state-below : (b : Bool) (at hi : ℕ) → (at == hi) ≡ b → at ≤ hi → cond b state.Finished state.Waiting ≡ state.Waiting → at < hi
-state-below true at hi e le waiting = let never : ⊥ = cc in absurd never
-state-below false at hi e le waiting = differ-of at hi e le
-
 next-by : ChunkLaws → (t : TaskState) (again : ℕ) (e : ChunkEnd) → IsSteady t → t.row.state ≡ state.Waiting → IsSteady (ending_by t again e).task
 next-by law t again (Committed delta) st w =
     let next = law.follow.next t.row.at t.row.redo t.row.hi t.item_count (st.waiting w) st.redo_to st.count.some in
-    record { at_to = next.within; redo_to = st.redo_to; waiting = state-below ((block_of t).hi == t.row.hi) (block_of t).hi t.row.hi refl next.within; count = st.count }
+    record { at_to = next.within; redo_to = st.redo_to; waiting = below-at (block_of t).hi t.row.hi next.within; count = st.count }
 next-by law t again (Rolled class) st w =
     let next = law.follow.next t.row.at t.row.redo t.row.hi t.item_count (st.waiting w) st.redo_to st.count.some in
     let le = next.within in
@@ -137,7 +118,7 @@ abbrev pub rem : ℕ → Row → ℕ
 rem c row = remaining_of c row row.state
 
 rem-by : ChunkLaws → (b : Bool) (c : ℕ) (row : Row) → (row.at == row.hi) ≡ b → row.redo ≤ row.hi → remaining_of c row (cond b state.Finished state.Waiting) ≡ left row.at row.redo row.hi c
-rem-by law true c row e redo = sym (ap (λ a. left a row.redo row.hi c) (same-of row.at row.hi e) ∙ ap length (law.follow.none row.redo row.hi c redo))
+rem-by law true c row e redo = sym (ap (λ a. left a row.redo row.hi c) (eqb-true row.at row.hi e) ∙ ap length (law.follow.none row.redo row.hi c redo))
 rem-by law false c row e redo = refl
 
 left-falls : ChunkLaws → (t : TaskState) → IsSteady t → t.row.at < t.row.hi → left t.row.at t.row.redo t.row.hi t.item_count ≡ suc (left (block_of t).hi t.row.redo t.row.hi t.item_count)

@@ -42,18 +42,16 @@ fault-since base after calls fault h = sym (ap has_fault (since-is base after h.
 pub record IsLeft (r : StepRun) (fault : Option ClassId) : Type 0 where
   pub table : List TaskState
   pub ran : ℕ × ℕ
-  pub number : ℕ
   pub stopped : Bool
   pub told :
       AreHeardToEnd (record { setup = r.setup; start = tasks_before r; base = r.heard_before }) r.round_limit
       (record { moment = moment r.heard_after fault; table = table; ran = ran; notes = r.notes }) stopped
   pub rows : r.snapshot.rows.items ≡ rows_now r.setup.rows table
   pub left_is : r.left ≡ works_of table
-  pub number_is : number ≡ length r.notes
-  pub agree : r.snapshot.stopping ≡ false → (stopped ≡ false) × (r.snapshot.plans ≡ number) × (r.snapshot.events ≡ number + ran.0 + 2 * ran.1)
+  pub agree : r.snapshot.stopping ≡ false → (stopped ≡ false) × (r.snapshot.plans ≡ length r.notes) × (r.snapshot.events ≡ length r.notes + ran.0 + 2 * ran.1)
 
-number-of : (notes : List PlanNote) (plans : List PlanRun) (n : ℕ) → n ≡ length notes → notes ≡ notes_of plans → n ≡ length plans
-number-of notes plans n e is = e ∙ (ap length is ∙ (length-reverse (map note_of plans) ∙ length-map plans note_of))
+number-of : (notes : List PlanNote) (plans : List PlanRun) → notes ≡ notes_of plans → length notes ≡ length plans
+number-of notes plans is = ap length is ∙ (length-reverse (map note_of plans) ∙ length-map plans note_of)
 
 module _ (r : StepRun) (fault : Option ClassId) (h : IsLeft r fault) where
   rise : RiseFrom 0 (partitions_of h.table)
@@ -69,7 +67,7 @@ module _ (r : StepRun) (fault : Option ClassId) (h : IsLeft r fault) where
   unstopped going =
       let agree = h.agree going in
       let ended = h.told.rounds.unstopped agree.0 in
-      let number = number-of r.notes h.told.rounds.plans h.number h.number_is h.told.rounds.notes_are in
+      let number = number-of r.notes h.told.rounds.plans h.told.rounds.notes_are in
       let ran = h.told.rounds.ran_is in
       let tried = h.told.rounds.tried_is in
       let events = agree.2 in

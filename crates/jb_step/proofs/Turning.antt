@@ -1,5 +1,5 @@
 -- The turns of the loop, at its head.
-use Rattle.std.proofs.Common.{◌≡◌, ℕ, suc, zero, ◌+◌, ◌<◌, ◌≤◌, ◌⊎◌, inl, inr, Bool, true, false, cond, Option, Some, None, List, [], ◌∷◌, ◌++◌, length, map, filter, not, reverse, refl, ap, ap₂, sym, ◌∙◌, subst, arith, append-nil, get_or, zero-add}
+use Rattle.std.proofs.Common.{◌≡◌, ℕ, ◌+◌, ◌<◌, ◌≤◌, ◌⊎◌, inl, inr, Bool, true, false, cond, Option, Some, None, List, [], ◌∷◌, ◌++◌, length, map, filter, not, refl, ap, ap₂, sym, ◌∙◌, subst, arith, append-nil, get_or, zero-add}
 use Rattle.std.specs.Prelude.{MatchOption, IsSome}
 use Rattle.std.specs.List.{range_with_len, enumerate_from}
 use Rattle.std.proofs.lemmas.List.{get_or-map, reverse-append, length-append}
@@ -17,7 +17,6 @@ use Rattle.jb_cert.specs.declared.notes.PlanNote.{PlanNote}
 use Rattle.jb_step.specs.PlanLaws.{IsTable, AreTasksOf}
 use Rattle.jb_collect.specs.declared.calls.AnalyzerCall.{AnalyzerCall}
 use Rattle.jb_collect.specs.Heard.{heard_first}
-use Rattle.jb_collect.specs.Taken.{Taken}
 use Rattle.jb_step.specs.inside.Adding.{IsRoundMore, heard_in_round, heard_so_far, next_round, unrun, with_round}
 use Rattle.jb_step.specs.inside.Below.{LawsBelow}
 use Rattle.jb_step.specs.inside.Loop.{IsUnderWay}

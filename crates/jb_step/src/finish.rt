@@ -7,13 +7,14 @@ ghost use Rattle.jb_step.specs.Callbacks.{Grew};
 ghost use Rattle.jb_step.specs.Setup.{rows_now};
 ghost use Rattle.jb_step.specs.inside.Finish.{AreHeardToEnd};
 ghost use Rattle.jb_step.specs.inside.Places.{ArePlaced, held_in};
-ghost use Rattle.jb_step.specs.inside.Telling.{moment};
+ghost use Rattle.jb_step.specs.inside.Head.{beginning, progress};
 
 use crate::error::RunError;
 use crate::laws::laws_below;
 use crate::plan::row_of;
 use crate::prepared::Prepared;
-use crate::run::{Ran, run_rounds};
+use crate::ran::Ran;
+use crate::run::run_rounds;
 use crate::runner::RoundRunner;
 use crate::tell::tell_last;
 use jb_cert::PlanNote;
@@ -70,7 +71,7 @@ pub(crate) fn rows_shown<
     Ok(snapshot)
 }
 
-/// Runs the tasks in rounds, tells the analyzer all, and compares the rows.
+/// Runs the tasks in rounds, and tells the analyzer all.
 pub(crate) fn run_to_end<
     T: PartitionTask + Send + 'static,
     L: Ledger + Send + Sync + 'static,
@@ -83,18 +84,15 @@ pub(crate) fn run_to_end<
     tasks: Vec<Option<T>>,
     analyzer: &mut dyn Analyzer,
     round_limit: Option<u64>,
-) -> Result<(Ran<T>, Snapshot), RunError>
+) -> Result<Ran<T>, RunError>
     requires table { IsTable prepared.now (map T.standing (held_in tasks.items)) }
     requires placed { ArePlaced T.standing 0 tasks.items }
-    ensures heard { IfOk result (λ end. AreHeardToEnd (record { setup = prepared.now; start = map T.standing (held_in tasks.items); base = analyzed analyzer.old }) round_limit
-        (record { moment = moment (analyzed analyzer.new) end.0.fault; table = map T.standing (held_in end.0.held.items); ran = (end.0.rounds, end.0.attempts); notes = end.0.notes.items }) end.0.stopped) }
-    ensures rows { IfOk result (λ end. end.1.rows.items ≡ rows_now prepared.now.rows (map T.standing (held_in end.0.held.items))) }
+    ensures heard { IfOk result (λ ran. AreHeardToEnd (beginning T.standing prepared.now tasks.items (analyzed analyzer.old)) round_limit (progress T.standing (analyzed analyzer.new) ran) ran.stopped) }
+    ensures placed { IfOk result (λ ran. ArePlaced T.standing 0 ran.held.items) }
     ensures grew { Grew (analyzed analyzer.old) (analyzed analyzer.new) }
 {
     laws_below();
     let mut ran = run_rounds(runner, alloc, prepared, tasks, analyzer, round_limit)?;
-    let now_fault = tell_last(ran.held.as_slice(), ran.fault, analyzer)?;
-    ran.fault = now_fault;
-    let snapshot = rows_shown(runner, prepared, ran.held.as_slice())?;
-    Ok((ran, snapshot))
+    ran.fault = tell_last(ran.held.as_slice(), ran.fault, analyzer)?;
+    Ok(ran)
 }

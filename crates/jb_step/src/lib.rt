@@ -3,7 +3,7 @@
 //! - `preparing`: the plan of a step's partitions, and `prepared`: the rows that it begins with, new ones or those of a stopped
 //!   run; `start`: their tasks.
 //! - `step`: the step from its artifacts to its end; `run`: all its rounds, `plan`: the plan whose rounds are run, `round`: one
-//!   of them, `runner`: the desk that runs it, and `finish`: the rows compared at the end.
+//!   of them, `ran`: what they have left, `runner`: the desk that runs them, and `finish`: what is told and compared at the end.
 //! - `tell`: what the analyzer is told, `reduce`: what the reducer is, and how the step stands.
 //! - `error`: why its rounds have no end.
 //! - `laws`, `worked`: what holds of every run of a step and of its restarts, and its definitions computed on whole steps.
@@ -15,6 +15,7 @@ mod laws;
 mod plan;
 mod prepared;
 mod preparing;
+mod ran;
 mod reduce;
 mod round;
 mod run;

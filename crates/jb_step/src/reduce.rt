@@ -1,10 +1,10 @@
 //! The reducer's calls at a step's end, and the step's status.
 
-ghost use Rattle.std.specs.Prelude.{◌≡◌, ◌||◌, ◌⊎◌, true, false, not, IfOk, OnErr, [], ◌∷◌};
+ghost use Rattle.std.specs.Prelude.{◌≡◌, ◌||◌, ◌⊎◌, true, false, not, if◌then◌else◌, IfOk, OnErr, [], ◌∷◌};
 ghost use Rattle.std.specs.List.{list_any};
 ghost use Rattle.jb_rules.specs.States.{is_finished, is_failed};
 ghost use Rattle.jb_collect.specs.declared.calls.ReducerCall.TheVariants as act;
-ghost use Rattle.jb_collect.specs.declared.calls.Status.TheVariants.{Completed};
+ghost use Rattle.jb_collect.specs.declared.calls.Status.TheVariants.{Completed, Failed};
 ghost use Rattle.jb_collect.specs.ReducerCalls.{rolled_back};
 ghost use Rattle.jb_step.specs.Answers.{AreCallsUndone};
 ghost use Rattle.jb_step.specs.Callbacks.{Grew, since};
@@ -33,7 +33,7 @@ fn some_unfinished(rows: &[Row]) -> bool
 }
 
 /// How the step stands.
-fn status_now(rows: &[Row], callback_failed: bool) -> Status
+pub(crate) fn status_now(rows: &[Row], callback_failed: bool) -> Status
     ensures { result ≡ status_of rows.now callback_failed }
 {
     if callback_failed || some_failed(rows) {
@@ -104,41 +104,40 @@ fn begin_completion(reducer: &mut dyn Reducer) -> Result<bool, RunError>
     }
 }
 
-// The calls where each partition is completed and no callback failed.
-fn complete(rows: &[Row], faulted: bool, reducer: &mut dyn Reducer) -> Result<Status, RunError>
-    requires { status_of rows.now faulted ≡ Completed }
-    ensures ending { IfOk result (λ status. IsEnding rows.now faulted (reduced reducer.old) status (reduced reducer.new)) }
-    ensures memory { OnErr result (IsEndingInPart (reduced reducer.old) (reduced reducer.new)) }
-    ensures grew { Grew (reduced reducer.old) (reduced reducer.new) }
+// How the step stands after more calls, by whether one of them was answered with a fault.
+fn status_after(status: Status, faulted: bool) -> Status
+    ensures { result ≡ (if faulted then Failed else status) }
 {
-    let before = begin_completion(reducer)?;
-    if before {
-        let undone = undo(reducer)?;
-        let failed = either(faulted, either(before, undone));
-        return Ok(status_now(rows, failed));
-    }
-    let ended = reducer.after(PartitionStatus::Commit);
-    let failed = fault_in(ended)?;
-    Ok(status_now(rows, either(faulted, failed)))
+    if faulted { Status::Failed } else { status }
 }
 
-/// The reducer's calls at the step's end, and how the step stands then; `faulted` where the analyzer answered a fault. The
-/// only error is want of memory.
-pub(crate) fn end_step(
-    rows: &[Row],
-    faulted: bool,
-    reducer: &mut dyn Reducer,
-) -> Result<Status, RunError>
-    ensures ending { IfOk result (λ status. IsEnding rows.now faulted (reduced reducer.old) status (reduced reducer.new)) }
+// The calls where each partition is completed and no callback failed.
+fn complete(reducer: &mut dyn Reducer) -> Result<Status, RunError>
+    ensures ending { IfOk result (λ ended. IsEnding Completed (reduced reducer.old) ended (reduced reducer.new)) }
     ensures memory { OnErr result (IsEndingInPart (reduced reducer.old) (reduced reducer.new)) }
     ensures grew { Grew (reduced reducer.old) (reduced reducer.new) }
 {
-    match status_now(rows, faulted) {
-        Status::Completed => complete(rows, faulted, reducer),
+    let failed = begin_completion(reducer)?;
+    if failed {
+        undo(reducer)?;
+        return Ok(Status::Failed);
+    }
+    let ended = reducer.after(PartitionStatus::Commit);
+    let faulted = fault_in(ended)?;
+    Ok(status_after(Status::Completed, faulted))
+}
+
+/// The reducer's calls at the end of a step that stands so, and how it stands then. The only error is want of memory.
+pub(crate) fn end_step(status: Status, reducer: &mut dyn Reducer) -> Result<Status, RunError>
+    ensures ending { IfOk result (λ ended. IsEnding status (reduced reducer.old) ended (reduced reducer.new)) }
+    ensures memory { OnErr result (IsEndingInPart (reduced reducer.old) (reduced reducer.new)) }
+    ensures grew { Grew (reduced reducer.old) (reduced reducer.new) }
+{
+    match status {
+        Status::Completed => complete(reducer),
         Status::Started | Status::Stopped | Status::Failed => {
-            let failed = undo(reducer)?;
-            let any = either(faulted, failed);
-            Ok(status_now(rows, any))
+            let faulted = undo(reducer)?;
+            Ok(status_after(status, faulted))
         }
     }
 }

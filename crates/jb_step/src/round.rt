@@ -1,14 +1,15 @@
 //! One round over the tasks that a step holds.
 
-ghost use Rattle.std.specs.Prelude.{◌≡◌, ◌++◌, [], IfOk, None, OnOk, Some, length, map, slice_index_or, slice_set};
+ghost use Rattle.std.specs.Prelude.{◌≡◌, ◌+◌, ◌++◌, [], IfOk, None, OnOk, Some, map, slice_index_or, slice_set};
 ghost use Rattle.std.specs.List.{cons_option};
 ghost use Rattle.jb_cert.specs.Plans.{slot_pair};
 ghost use Rattle.jb_cert.specs.WrapAround.{slots_of_round};
 ghost use Rattle.jb_cert.specs.Rising.{Rise};
 ghost use Rattle.jb_step.specs.Callbacks.{Grew};
-ghost use Rattle.jb_step.specs.Rounds.{CanRun, after_round, attempts_in, breaks, is_commit};
+ghost use Rattle.jb_step.specs.Rounds.{CanRun, after_round, breaks, is_commit};
 ghost use Rattle.jb_collect.specs.Heard.{endings_of};
 ghost use Rattle.jb_step.specs.inside.Adding.{heard_in_round};
+ghost use Rattle.jb_step.specs.inside.Head.{one_round_more, table_of};
 ghost use Rattle.jb_step.specs.inside.Places.{ArePlaced, emptied, filled, held_in, picked};
 ghost use Rattle.jb_step.specs.inside.Round.{breaks_in, partitions_of, tasks_of, tasks_of_set};
 ghost use Rattle.jb_step.specs.Alone.{AreReady};
@@ -16,9 +17,9 @@ ghost use Rattle.jb_step.specs.inside.Telling.{IsHearing, moment};
 ghost use Rattle.jb_workers.specs.Works.{AllCanBegin, Rise as AreInOrder};
 
 use crate::error::RunError;
+use crate::ran::Ran;
 use crate::runner::RoundRunner;
 use crate::tell::tell_round;
-use jb_base::ClassId;
 use jb_cert::{Slot, lanes_are_found};
 use jb_chunk::{Done, Outcome, PartitionTask};
 use jb_collect::Analyzer;
@@ -28,19 +29,6 @@ use std::alloc::Global;
 use std::sync::Wait;
 use std::sync::ledger::Ledger;
 use std::thread::Threads;
-
-/// What a round left.
-#[derive(Drop)]
-pub(crate) struct Turn<T> {
-    /// The tasks, each in the place of its partition.
-    pub held: Vec<Option<T>>,
-    /// How many attempts were made.
-    pub attempts: u64,
-    /// Whether some partition was rolled back or failed.
-    pub breaks: bool,
-    /// The fault that the analyzer answered, in this round or before, if it did.
-    pub fault: Option<ClassId>,
-}
 
 /// The slots of a round, by rising lane and so by rising partition.
 pub(crate) fn slots_of(
@@ -105,14 +93,12 @@ fn put_task<T: PartitionTask>(places: &mut Vec<Option<T>>, task: T)
 }
 
 // Puts the tasks of the Dones back into their places.
-fn put_back<T: PartitionTask>(places: Vec<Option<T>>, dones: Vec<Done<T>>) -> Vec<Option<T>>
-    ensures { result.items ≡ filled T.standing dones.items places.items }
+fn put_back<T: PartitionTask>(places: &mut Vec<Option<T>>, dones: Vec<Done<T>>)
+    ensures { places.new.items ≡ filled T.standing dones.items places.old.items }
 {
-    let mut places = places;
     for done in dones {
-        put_task(&mut places, done.task);
+        put_task(places, done.task);
     }
-    places
 }
 
 fn is_committed<T: PartitionTask>(done: &Done<T>) -> bool
@@ -136,29 +122,36 @@ fn some_breaks<T: PartitionTask>(dones: &[Done<T>]) -> bool
     false
 }
 
-// The works of a round that can be run, and the places that they leave.
+// Takes the works of a round that can be run out of their places.
 fn chosen<T: PartitionTask>(
     alloc: Global,
-    held: Vec<Option<T>>,
+    places: &mut Vec<Option<T>>,
     slots: &[Slot],
-) -> Result<(Vec<Work<T>>, Vec<Option<T>>), RunError>
-    requires placed { ArePlaced T.standing 0 held.items }
+) -> Result<Vec<Work<T>>, RunError>
+    requires placed { ArePlaced T.standing 0 places.old.items }
     requires in_turn { Rise (map (λ slot. slot.partition) slots.now) }
-    requires rise { Rise (partitions_of (map T.standing (held_in held.items))) }
-    requires ready { AreReady (map T.standing (held_in held.items)) }
-    requires can_run { CanRun (map slot_pair slots.now) (map T.standing (held_in held.items)) }
-    ensures works { IfOk result (λ r. tasks_of r.0.items ≡ tasks_of_set T.standing (map slot_pair slots.now) (held_in held.items)) }
-    ensures places { IfOk result (λ r. r.1.items ≡ emptied (map slot_pair slots.now) held.items) }
-    ensures can { IfOk result (λ r. AllCanBegin T.standing r.0.items) }
-    ensures in_order { IfOk result (λ r. AreInOrder T.standing r.0.items) }
+    requires rise { Rise (partitions_of (map T.standing (held_in places.old.items))) }
+    requires ready { AreReady (map T.standing (held_in places.old.items)) }
+    requires can_run { CanRun (map slot_pair slots.now) (map T.standing (held_in places.old.items)) }
+    ensures works { IfOk result (λ works. tasks_of works.items ≡ tasks_of_set T.standing (map slot_pair slots.now) (held_in places.old.items)) }
+    ensures places { OnOk result (places.new.items ≡ emptied (map slot_pair slots.now) places.old.items) }
+    ensures can { IfOk result (λ works. AllCanBegin T.standing works.items) }
+    ensures in_order { IfOk result (λ works. AreInOrder T.standing works.items) }
 {
     let mut works = Vec::with_capacity(alloc, slots.len())?;
-    let mut places = held;
-    take_works(&mut works, &mut places, slots)?;
-    Ok((works, places))
+    take_works(&mut works, places, slots)?;
+    Ok(works)
 }
 
-/// One round: an attempt for each task of the slots' partitions, and for no other; and the analyzer is told.
+// The sum of two numbers of the history.
+fn sum(number: u64, more: u64) -> Result<u64, RunError>
+    ensures { IfOk result (λ sum. sum ≡ number + more) }
+{
+    number.checked_add(more).ok_or(RunError::Desk)
+}
+
+/// One round: an attempt for each task of the slots' partitions, and for no other; and the analyzer is told. Answers whether
+/// some partition was rolled back or failed.
 pub(crate) fn one_round<
     T: PartitionTask + Send + 'static,
     L: Ledger + Send + Sync + 'static,
@@ -167,34 +160,30 @@ pub(crate) fn one_round<
 >(
     runner: &RoundRunner<L, G, R>,
     alloc: Global,
-    held: Vec<Option<T>>,
+    ran: &mut Ran<T>,
     slots: &[Slot],
-    fault: Option<ClassId>,
     analyzer: &mut dyn Analyzer,
-) -> Result<Turn<T>, RunError>
-    requires placed { ArePlaced T.standing 0 held.items }
+) -> Result<bool, RunError>
+    requires placed { ArePlaced T.standing 0 ran.old.held.items }
     requires in_turn { Rise (map (λ slot. slot.partition) slots.now) }
-    requires rise { Rise (partitions_of (map T.standing (held_in held.items))) }
-    requires ready { AreReady (map T.standing (held_in held.items)) }
-    requires can_run { CanRun (map slot_pair slots.now) (map T.standing (held_in held.items)) }
-    ensures table { IfOk result (λ turn. map T.standing (held_in turn.held.items) ≡ after_round (map slot_pair slots.now) (map T.standing (held_in held.items))) }
-    ensures placed { IfOk result (λ turn. ArePlaced T.standing 0 turn.held.items) }
-    ensures ready { IfOk result (λ turn. AreReady (map T.standing (held_in turn.held.items))) }
-    ensures attempts { IfOk result (λ turn. turn.attempts ≡ length (attempts_in (map slot_pair slots.now) (map T.standing (held_in held.items)))) }
-    ensures breaks { IfOk result (λ turn. turn.breaks ≡ breaks (map slot_pair slots.now) (map T.standing (held_in held.items))) }
-    ensures heard { IfOk result (λ turn. IsHearing fault (analyzed analyzer.old) (heard_in_round (map slot_pair slots.now) (map T.standing (held_in held.items))) (moment (analyzed analyzer.new) turn.fault)) }
+    requires rise { Rise (partitions_of (table_of T.standing ran.old)) }
+    requires ready { AreReady (table_of T.standing ran.old) }
+    requires can_run { CanRun (map slot_pair slots.now) (table_of T.standing ran.old) }
+    ensures table { OnOk result (table_of T.standing ran.new ≡ after_round (map slot_pair slots.now) (table_of T.standing ran.old)) }
+    ensures placed { OnOk result (ArePlaced T.standing 0 ran.new.held.items) }
+    ensures ready { OnOk result (AreReady (table_of T.standing ran.new)) }
+    ensures counted { OnOk result ((ran.new.rounds, ran.new.attempts) ≡ one_round_more (ran.old.rounds, ran.old.attempts) (map slot_pair slots.now) (table_of T.standing ran.old)) }
+    ensures breaks { IfOk result (λ broke. broke ≡ breaks (map slot_pair slots.now) (table_of T.standing ran.old)) }
+    ensures heard { OnOk result (IsHearing ran.old.fault (analyzed analyzer.old) (heard_in_round (map slot_pair slots.now) (table_of T.standing ran.old)) (moment (analyzed analyzer.new) ran.new.fault)) }
+    ensures notes { OnOk result (ran.new.notes ≡ ran.old.notes) }
     ensures grew { Grew (analyzed analyzer.old) (analyzed analyzer.new) }
 {
-    let (works, places) = chosen(alloc, held, slots)?;
+    let works = chosen(alloc, &mut ran.held, slots)?;
     let dones = runner.run_round(alloc, works)?;
-    let now_fault = tell_round(dones.as_slice(), fault, analyzer)?;
-    let breaks = some_breaks(dones.as_slice());
-    let attempts = dones.as_slice().len() as u64;
-    let held = put_back(places, dones);
-    Ok(Turn {
-        held,
-        attempts,
-        breaks,
-        fault: now_fault,
-    })
+    ran.fault = tell_round(dones.as_slice(), ran.fault, analyzer)?;
+    ran.rounds = sum(ran.rounds, 1)?;
+    ran.attempts = sum(ran.attempts, dones.as_slice().len() as u64)?;
+    let broke = some_breaks(dones.as_slice());
+    put_back(&mut ran.held, dones);
+    Ok(broke)
 }

@@ -1,21 +1,20 @@
 //! All rounds of a step.
 
-ghost use Rattle.std.specs.Prelude.{◌≡◌, ◌+◌, ◌≤◌, ◌==◌, true, false, IfOk, OnOk, List, [], ◌∷◌, IsSome, map, filter, length, MatchOption};
+ghost use Rattle.std.specs.Prelude.{◌≡◌, ◌+◌, ◌≤◌, false, IfOk, OnOk, [], ◌∷◌, IsSome, map, MatchOption};
 ghost use Rattle.jb_step.specs.PlanLaws.{IsTable};
 ghost use Rattle.jb_step.specs.Callbacks.{Grew};
 ghost use Rattle.jb_step.specs.Alone.{have_ended};
-ghost use Rattle.jb_step.specs.inside.Head.{AreRounds, IsFinished};
+ghost use Rattle.jb_step.specs.inside.Head.{AreRounds, IsFinished, beginning, progress};
 ghost use Rattle.jb_step.specs.inside.Places.{ArePlaced, held_in};
-ghost use Rattle.jb_step.specs.inside.Telling.{moment};
 
 use crate::error::RunError;
 use crate::laws::laws_below;
 use crate::plan::{Open, closed, next_plan, take_note};
 use crate::prepared::Prepared;
+use crate::ran::Ran;
 use crate::round::{one_round, slots_of};
 use crate::runner::RoundRunner;
 use crate::tell::tell_first;
-use jb_base::ClassId;
 use jb_cert::PlanNote;
 use jb_chunk::PartitionTask;
 use jb_collect::Analyzer;
@@ -24,23 +23,6 @@ use std::alloc::Global;
 use std::sync::Wait;
 use std::sync::ledger::Ledger;
 use std::thread::Threads;
-
-/// The tasks after all rounds.
-#[derive(Drop)]
-pub(crate) struct Ran<T> {
-    /// The tasks, each in the place of its partition.
-    pub held: Vec<Option<T>>,
-    /// The plans, the first one first.
-    pub notes: Vec<PlanNote>,
-    /// The fault that the analyzer answered, if it did.
-    pub fault: Option<ClassId>,
-    /// How many rounds were run.
-    pub rounds: u64,
-    /// How many attempts were made.
-    pub attempts: u64,
-    /// Whether the rounds ended before the tasks.
-    pub stopped: bool,
-}
 
 // True where each task has ended.
 fn all_ended<T: PartitionTask>(held: &[Option<T>]) -> bool
@@ -109,19 +91,6 @@ fn end_rounds<L: Ledger + Send + Sync + 'static, G: Gate + Sync, R: Threads + Wa
     finish_notes(plan, notes)
 }
 
-// One round more, and so many attempts.
-fn counted(ran: u64, tried: u64, attempts: u64) -> Result<(u64, u64), RunError>
-    ensures { IfOk result (λ sums. (sums.0 ≡ ran + 1) × (sums.1 ≡ tried + attempts)) }
-{
-    let Some(more) = ran.checked_add(1) else {
-        return Err(RunError::Desk);
-    };
-    let Some(all) = tried.checked_add(attempts) else {
-        return Err(RunError::Desk);
-    };
-    Ok((more, all))
-}
-
 /// Runs the tasks in rounds, each of a least plan for what is left, until all have ended, or a stop, or the limit.
 pub(crate) fn run_rounds<
     T: PartitionTask + Send + 'static,
@@ -138,40 +107,32 @@ pub(crate) fn run_rounds<
 ) -> Result<Ran<T>, RunError>
     requires table { IsTable prepared.now (map T.standing (held_in tasks.items)) }
     requires placed { ArePlaced T.standing 0 tasks.items }
-    ensures rounds { IfOk result (λ ran. AreRounds (record { setup = prepared.now; start = map T.standing (held_in tasks.items); base = analyzed analyzer.old }) round_limit
-        (record { moment = moment (analyzed analyzer.new) ran.fault; table = map T.standing (held_in ran.held.items); ran = (ran.rounds, ran.attempts); notes = ran.notes.items }) ran.stopped) }
+    ensures rounds { IfOk result (λ ran. AreRounds (beginning T.standing prepared.now tasks.items (analyzed analyzer.old)) round_limit (progress T.standing (analyzed analyzer.new) ran) ran.stopped) }
     ensures placed { IfOk result (λ ran. ArePlaced T.standing 0 ran.held.items) }
     ensures grew { Grew (analyzed analyzer.old) (analyzed analyzer.new) }
 {
     laws_below();
-    let mut held = tasks;
-    let mut notes = Vec::new(alloc);
+    let fault = tell_first(prepared, analyzer)?;
+    let mut ran = Ran {
+        held: tasks,
+        notes: Vec::new(alloc),
+        fault,
+        rounds: 0,
+        attempts: 0,
+        stopped: false,
+    };
     let mut plan: Option<Open> = None;
-    let mut ran: u64 = 0;
-    let mut tried: u64 = 0;
-    let mut fault = tell_first(prepared, analyzer)?;
     for _ in runner.rt.forever() {
-        let stopped = !is_over(&plan, held.as_slice());
-        if !stopped || runner.is_stopping() || at_limit(round_limit, ran) {
-            end_rounds(runner, stopped, &plan, &mut notes)?;
-            return Ok(Ran {
-                held,
-                notes,
-                fault,
-                rounds: ran,
-                attempts: tried,
-                stopped,
-            });
+        let over = is_over(&plan, ran.held.as_slice());
+        if over || runner.is_stopping() || at_limit(round_limit, ran.rounds) {
+            ran.stopped = !over;
+            end_rounds(runner, !over, &plan, &mut ran.notes)?;
+            return Ok(ran);
         }
-        let next = next_plan(runner, alloc, prepared, held.as_slice(), plan)?;
+        let next = next_plan(runner, alloc, prepared, ran.held.as_slice(), plan)?;
         let slots = slots_of(alloc, &next.cursor, next.ran)?;
-        let turn = one_round(runner, alloc, held, slots.as_slice(), fault, analyzer)?;
-        let sums = counted(ran, tried, turn.attempts)?;
-        plan = closed(next, turn.breaks, &mut notes)?;
-        held = turn.held;
-        fault = turn.fault;
-        ran = sums.0;
-        tried = sums.1;
+        let broke = one_round(runner, alloc, &mut ran, slots.as_slice(), analyzer)?;
+        plan = closed(next, broke, &mut ran.notes)?;
     }
     unreachable!()
 }

@@ -1,24 +1,24 @@
 //! A step, from its artifacts to its end.
 
-ghost use Rattle.std.specs.Prelude.{◌≡◌, ◌⊎◌, ◌+◌, ◌*◌, ◌++◌, ◌∷◌, [], true, false, IfOk, IfErr, OnOk, is_some, map};
+ghost use Rattle.std.specs.Prelude.{◌≡◌, ◌⊎◌, ◌+◌, ◌*◌, ◌++◌, ◌∷◌, [], true, false, IfOk, IfErr, OnOk, length, map};
 ghost use Rattle.jb_step.specs.inside.Finish.{works_of};
 ghost use Rattle.jb_step.specs.inside.Places.{held_in};
 ghost use Rattle.jb_step.specs.Answers.{given_back, AreCallsAfter, AreCallsUndone, IsRunError, IsRunOfStep, IsStatus, tasks_left};
 ghost use Rattle.jb_step.specs.Prepare.{DoFit};
 ghost use Rattle.jb_step.specs.Callbacks.{Grew, has_fault, since};
 ghost use Rattle.jb_step.specs.Setup.{first_tasks};
+ghost use Rattle.jb_step.specs.Statuses.{status_of};
 ghost use Rattle.jb_step.specs.Alone.{AreAlone, AreOnTheWay};
 ghost use Rattle.jb_saved.specs.declared.error.StepError.TheVariants.{WrongArtifacts, Memory};
 
 use crate::error::RunError;
 use crate::finish::{rows_shown, run_to_end};
 use crate::prepared::Prepared;
-use crate::reduce::{end_step, undone};
-use crate::run::Ran;
+use crate::ran::Ran;
+use crate::reduce::{end_step, status_now, undone};
 use crate::runner::RoundRunner;
 use crate::start::start_all;
 use jb_artifacts::Meaning;
-use jb_base::ClassId;
 use jb_cert::PlanNote;
 use jb_chunk::PartitionTask;
 use jb_collect::{Analyzer, Reducer, Status};
@@ -40,15 +40,6 @@ pub struct StepEnd<A> {
     /// Its plans, the first one first.
     pub plans: Vec<PlanNote>,
     /// The artifacts, each with the number of its partition.
-    pub artifacts: Vec<(u32, A)>,
-}
-
-/// What a step's rounds left, before the reducer is told.
-#[derive(Drop)]
-pub(crate) struct Left<A> {
-    pub fault: Option<ClassId>,
-    pub snapshot: Snapshot,
-    pub plans: Vec<PlanNote>,
     pub artifacts: Vec<(u32, A)>,
 }
 
@@ -81,14 +72,16 @@ fn give_one<T: PartitionTask>(
 }
 
 // Whether the history's numbers are those of the run, unless it was stopped.
-fn are_numbers(snapshot: &Snapshot, stopped: bool, plans: u64, rounds: u64, attempts: u64) -> bool
-    ensures { result ≡ true → snapshot.now.stopping ≡ false → (stopped ≡ false) × (snapshot.now.plans ≡ plans) × (snapshot.now.events ≡ plans + rounds + 2 * attempts) }
+fn are_numbers<T: PartitionTask>(snapshot: &Snapshot, ran: &Ran<T>) -> bool
+    ensures { result ≡ true → snapshot.now.stopping ≡ false → (ran.now.stopped ≡ false) × (snapshot.now.plans ≡ length ran.now.notes.items) × (snapshot.now.events ≡ length ran.now.notes.items + ran.now.rounds + 2 * ran.now.attempts) }
 {
     if snapshot.stopping {
         return true;
     }
-    let events = u128::from(plans) + u128::from(rounds) + 2 * u128::from(attempts);
-    !stopped && snapshot.plans == plans && u128::from(snapshot.events) == events
+    let plans = ran.notes.len() as u64;
+    let attempts = ran.attempts;
+    let events = u128::from(plans) + u128::from(ran.rounds) + 2 * u128::from(attempts);
+    !ran.stopped && snapshot.plans == plans && u128::from(snapshot.events) == events
 }
 
 // The desk has the prepared rows, and no event yet.
@@ -106,7 +99,7 @@ fn is_new<
     Ok(())
 }
 
-// The rounds of a step whose artifacts fit.
+// The rounds of a step whose artifacts fit, and how it stands before the reducer is told.
 fn run_tasks<
     T: PartitionTask + Send + 'static,
     L: Ledger + Send + Sync + 'static,
@@ -119,47 +112,38 @@ fn run_tasks<
     artifacts: Vec<T::Artifacts>,
     analyzer: &mut dyn Analyzer,
     round_limit: Option<u64>,
-) -> Result<Left<T::Artifacts>, RunError>
+) -> Result<StepEnd<T::Artifacts>, RunError>
     requires { DoFit prepared.now (map T.Artifacts.meaning artifacts.items) }
-    ensures run { IfOk result (λ left. IsRunOfStep (record {
+    ensures run { IfOk result (λ end. IsRunOfStep (record {
       setup = prepared.now;
       works = map T.Artifacts.meaning artifacts.items;
       round_limit = round_limit;
       heard_before = analyzed analyzer.old;
       heard_after = analyzed analyzer.new;
-      notes = left.plans.items;
-      snapshot = left.snapshot;
-      left = given_back T.Artifacts.meaning left.artifacts.items;
+      notes = end.plans.items;
+      snapshot = end.snapshot;
+      left = given_back T.Artifacts.meaning end.artifacts.items;
     })) }
-    ensures alone { IfOk result (λ left. left.snapshot.stopping ≡ false →
-        AreAlone (first_tasks prepared.now (map T.Artifacts.meaning artifacts.items)) (tasks_left prepared.now left.snapshot (given_back T.Artifacts.meaning left.artifacts.items))) }
-    ensures on_the_way { IfOk result (λ left.
-        AreOnTheWay (first_tasks prepared.now (map T.Artifacts.meaning artifacts.items)) (tasks_left prepared.now left.snapshot (given_back T.Artifacts.meaning left.artifacts.items))) }
-    ensures fault { IfOk result (λ left. is_some left.fault ≡ has_fault (since (analyzed analyzer.old) (analyzed analyzer.new))) }
+    ensures alone { IfOk result (λ end. end.snapshot.stopping ≡ false →
+        AreAlone (first_tasks prepared.now (map T.Artifacts.meaning artifacts.items)) (tasks_left prepared.now end.snapshot (given_back T.Artifacts.meaning end.artifacts.items))) }
+    ensures on_the_way { IfOk result (λ end.
+        AreOnTheWay (first_tasks prepared.now (map T.Artifacts.meaning artifacts.items)) (tasks_left prepared.now end.snapshot (given_back T.Artifacts.meaning end.artifacts.items))) }
+    ensures status { IfOk result (λ end. end.status ≡ status_of end.snapshot.rows.items (has_fault (since (analyzed analyzer.old) (analyzed analyzer.new)))) }
     ensures grew { Grew (analyzed analyzer.old) (analyzed analyzer.new) }
 {
     is_new::<T, L, G, R>(runner, alloc, prepared)?;
     let tasks = start_all::<T>(alloc, prepared, artifacts)?;
-    let ended = run_to_end(runner, alloc, prepared, tasks, analyzer, round_limit)?;
-    let (ran, snapshot) = ended;
-    let Ran {
-        held,
-        notes,
-        fault,
-        rounds,
-        attempts,
-        stopped,
-    } = ran;
-    let plans = notes.as_slice().len() as u64;
-    let agree = are_numbers(&snapshot, stopped, plans, rounds, attempts);
-    if !agree {
+    let ran = run_to_end(runner, alloc, prepared, tasks, analyzer, round_limit)?;
+    let snapshot = rows_shown(runner, prepared, ran.held.as_slice())?;
+    if !are_numbers(&snapshot, &ran) {
         return Err(RunError::Desk);
     }
-    let artifacts = give_back(alloc, held)?;
-    Ok(Left {
-        fault,
+    let status = status_now(snapshot.rows.as_slice(), ran.fault.is_some());
+    let artifacts = give_back(alloc, ran.held)?;
+    Ok(StepEnd {
+        status,
         snapshot,
-        plans: notes,
+        plans: ran.notes,
         artifacts,
     })
 }
@@ -223,7 +207,7 @@ pub fn run_step<
     }
     let runner = RoundRunner { desk, gate, rt };
     let rows = prepared.rows().len() as u32;
-    let left = match run_tasks::<T, L, G, R>(
+    let mut end = match run_tasks::<T, L, G, R>(
         &runner,
         alloc,
         &prepared,
@@ -231,22 +215,14 @@ pub fn run_step<
         analyzer,
         round_limit,
     ) {
-        Ok(left) => left,
+        Ok(end) => end,
         Err(error) => return Err(undone(error.of_step(rows), reducer)),
     };
-    let Left {
-        fault,
-        snapshot,
-        plans,
-        artifacts,
-    } = left;
-    match end_step(snapshot.rows.as_slice(), fault.is_some(), reducer) {
-        Ok(status) => Ok(StepEnd {
-            status,
-            snapshot,
-            plans,
-            artifacts,
-        }),
+    match end_step(end.status, reducer) {
+        Ok(status) => {
+            end.status = status;
+            Ok(end)
+        }
         Err(_) => Err(StepError::Memory),
     }
 }

@@ -1,6 +1,6 @@
 //! Worked values of the definitions, and the ready artifacts, where there is memory enough and where it is refused.
 
-ghost use Rattle.std.specs.Prelude.{◌≡◌, ◌++◌, [], ◌∷◌, Some, None, codes, if◌then◌else◌, ◌==◌, true, false};
+ghost use Rattle.std.specs.Prelude.{◌≡◌, [], ◌∷◌, Some, None, codes, if◌then◌else◌, ◌==◌, true, false};
 ghost use Rattle.jb_artifacts.specs.declared.faults.FaultPlan.TheVariants.{Sound, Bad, Shaky};
 ghost use Rattle.jb_artifacts.specs.Collected.{count_text};
 ghost use Rattle.jb_artifacts.specs.Faults.{live, used};

@@ -1,6 +1,5 @@
 //! Tests of what no clause says: that calls succeed, values from outside, and printed texts.
 
-ghost use Rattle.std.specs.Prelude.{◌≡◌};
 ghost use Rattle.serde_json.specs.View.{items_view};
 ghost use Rattle.jb_job.specs.Reading.{Gives, each_at, shaped, whole_number};
 ghost use Rattle.jb_job.specs.Worked.{RangesRow, ClassesRow, RefusedRows};

@@ -1,4 +1,4 @@
-ghost use Rattle.std.specs.Prelude.{◌≡◌, ◌≤◌, ◌<◌, Some, None, slice_index, true, false};
+ghost use Rattle.std.specs.Prelude.{◌≡◌, Some, None, slice_index, true, false};
 ghost use Rattle.jb_rules.specs.Counts.{no_counts, is_delta};
 ghost use Rattle.jb_rules.specs.Decide.{choice_by, is_below};
 ghost use Rattle.jb_rules.specs.Rows.{fresh_row, begun_row, repeated_row, committed_row, rolled_row, failed_row, dropped_row};

@@ -202,11 +202,8 @@ fn goes_on(alloc: Global, saved: &Saved, id: &str, records: u64, want: &str) -> 
     Ok(answer.as_str() == want)
 }
 
-/// Seven records in three partitions after one round.
-const SEVEN_RECORDS: &str =
-    r#"[0,3,2,0,0,2,2,2,1,0,0,0,0,0,0,"waiting"],[3,5,5,3,0,2,2,2,1,0,0,0,0,0,0,"done"],[5,7,5,5,0,0,0,0,0,0,0,0,0,0,0,"waiting"]"#;
-
-/// Ids and numbers of records, and what is said of going on with them from those rows.
+/// Ids and numbers of records, and what is said of going on with them from the first rows, which are of seven
+/// records.
 fn restarts() -> [(&'static str, u64, &'static str); 4] {
     [
         ("t", 5, "Step"),
@@ -218,7 +215,8 @@ fn restarts() -> [(&'static str, u64, &'static str); 4] {
 
 #[test]
 fn going_on(rt: HostRuntime) -> Result<(), Fail> {
-    let saved = read_rows(rt.alloc(), SEVEN_RECORDS)?;
+    let line = ROWS.lines().next().ok_or("no rows")?;
+    let saved = read_rows(rt.alloc(), line)?;
     for (id, records, want) in restarts() {
         assert!(rt; goes_on(rt.alloc(), &saved, id, records, want)?);
     }

@@ -1,22 +1,22 @@
 -- Texts of which a writer took the front.
 use Rattle.std.proofs.Common.{◌≡◌, ℕ, zero, suc, ◌+◌, ◌-◌, zero-add, List, [], ◌∷◌, ◌++◌, Option, length, take, drop, ap, sym, ◌∙◌, append_assoc, length-drop, arith, Result, Ok, Err, OnErr}
+use Rattle.std.proofs.KnownBytes.{Appends-kept, Appends-trans}
 use Rattle.std.proofs.lemmas.List.{take_all}
 use Rattle.std.specs.Io.KnownBytes.{Appends, Keeps}
 use Rattle.jb_texts.specs.Front.{AppendsFront}
-use Rattle.jb_texts.proofs.Writing.{appends-both, appends-kept}
 
 -- some of the text was written, and then the front of what follows it
 pub front-after : (a b c : Option (List ℕ)) (before xs rest text : List ℕ) → Appends a b before → AppendsFront b c xs → before ++ xs ++ rest ≡ text → AppendsFront a c text
 front-after a b c before xs rest text first front is = (
   before ++ front.0,
   front.1 ++ rest,
-  appends-both a b c before front.0 first front.2,
+  Appends-trans a b c before front.0 first front.2,
   sym is ∙ ap (λ zs. before ++ zs ++ rest) front.3 ∙ ap (λ zs. zs ++ rest) (sym (append_assoc before front.0 front.1)) ∙ append_assoc (before ++ front.0) front.1 rest,
 )
 
 -- and then nothing more
 pub front-kept : (a b c : Option (List ℕ)) (before rest text : List ℕ) → Appends a b before → Keeps b c → before ++ rest ≡ text → AppendsFront a c text
-front-kept a b c before rest text first kept is = (before, rest, appends-kept a b c before first kept, sym is)
+front-kept a b c before rest text first kept is = (before, rest, Appends-kept a b c before first kept, sym is)
 
 -- ---- a text that is passed on in blocks: before and what is so far are passed on or wait, and more is to come
 

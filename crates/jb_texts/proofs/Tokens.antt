@@ -10,7 +10,7 @@ use Rattle.serde_json.proofs.Texts.{print-outline}
 use Rattle.json.specs.Token.{Token, begin_object, end_object, begin_array, end_array, key, string}
 use Rattle.json.specs.Print.{print, print_from, escape_byte}
 use Rattle.jb_collect.specs.declared.calls.Status.{Status}
-use Rattle.jb_saved.specs.SavedTree.{list_tree, saved_tree, tokens_of}
+use Rattle.jb_saved.specs.SavedTree.{saved_tree, tokens_of}
 use Rattle.jb_saved.proofs.Written.{list-tokens, list-written}
 use Rattle.jb_texts.specs.Statuses.{status_name}
 use Rattle.jb_texts.specs.Report.{StepReport, heard_tree, plans_tree, reducer_tree, texts_tree, step_tree, steps_tree, report_text}

@@ -1,19 +1,12 @@
 -- What several writes in turn append.
-use Rattle.std.proofs.Common.{◌≡◌, ℕ, ◌+◌, List, [], ◌∷◌, ◌++◌, map, Option, Some, None, get_or, length, take, ◌<◌, zero, suc, refl, ap, sym, ◌∙◌, append_assoc, append-nil, add-one, arith, subst}
-use Rattle.std.specs.Io.KnownBytes.{Appends, Keeps}
+use Rattle.std.proofs.Common.{◌≡◌, ℕ, ◌+◌, List, [], ◌∷◌, ◌++◌, map, Option, get_or, length, take, ◌<◌, zero, suc, refl, ap, sym, ◌∙◌, append_assoc, append-nil, add-one, arith, subst}
+use Rattle.std.specs.Io.KnownBytes.{Appends}
 use Rattle.std.specs.List.{concat, enumerate_from, range_with_len}
 use Rattle.jb_cert.specs.declared.plans.Slot.{Slot}
 use Rattle.jb_cert.specs.Load.{mcnaughton}
 use Rattle.jb_cert.specs.WrapAround.{slots_of_round, wrapped_rounds}
 use Rattle.jb_texts.specs.PlanText.{lines_of, round_line}
 use Rattle.std.proofs.lemmas.List.FromFn.{get_or-map-range_with_len, map-range_with_len_more}
-
--- one write and then another
-pub appends-both : (a b c : Option (List ℕ)) (xs ys : List ℕ) → Appends a b xs → Appends b c ys → Appends a c (xs ++ ys)
-appends-both None b c xs ys first second = tt
-appends-both (Some us) None c xs ys first second = absurd first
-appends-both (Some us) (Some vs) None xs ys first second = absurd second
-appends-both (Some us) (Some vs) (Some ws) xs ys first second = rw (second, first) (append_assoc us xs ys)
 
 -- one text by another name
 pub appends-text : (a b : Option (List ℕ)) (xs ys : List ℕ) → xs ≡ ys → Appends a b xs → Appends a b ys
@@ -58,9 +51,3 @@ lines-split threads n (suc k) [] = ([], refl)
 lines-split threads n (suc k) (x ∷ rounds) =
     let rest = lines-split threads (n + 1) k rounds in
     (rest.0, append_assoc (round_line threads n x) (lines_of threads (enumerate_from (n + 1) (take k rounds))) rest.0 ∙ ap (λ zs. round_line threads n x ++ zs) rest.1)
-
-pub appends-kept : (a b c : Option (List ℕ)) (xs : List ℕ) → Appends a b xs → Keeps b c → Appends a c xs
-appends-kept None b c xs first kept = tt
-appends-kept (Some us) None c xs first kept = absurd first
-appends-kept (Some us) (Some vs) None xs first kept = absurd kept
-appends-kept (Some us) (Some vs) (Some ws) xs first kept = kept ∙ first

@@ -8,14 +8,7 @@ use Rattle.jb_chunk.specs.declared.outcome.Done.{Done}
 use Rattle.jb_workers.specs.declared.round.error.RoundError.{RoundError}
 use Rattle.jb_workers.specs.declared.round.report.Report.{Report}
 use Rattle.jb_workers.specs.Round.{AreDoneBelow}
-use Rattle.jb_workers.specs.inside.Gathered.{AreAllDone, lower, IsFoundAt, IsFoundIn}
-
--- one attempt more, of one report more
-pub all_done-snoc : {T : Type 0} (rs : List (Report T)) (ds : List (Done T)) (r : Report T) (d : Done T) → AreAllDone rs ds → r.done ≡ Ok d → AreAllDone (rs ++ r ∷ []) (ds ++ d ∷ [])
-all_done-snoc [] [] r d h k = (k, tt)
-all_done-snoc (x ∷ rs) (y ∷ ds) r d h k = (h.0, all_done-snoc rs ds r d h.1 k)
-all_done-snoc [] (y ∷ ds) r d h k = absurd h
-all_done-snoc (x ∷ rs) [] r d h k = absurd h
+use Rattle.jb_workers.specs.inside.Gathered.{lower, IsFoundAt, IsFoundIn}
 
 is_ok-of : {T : Type 0} (r : Report T) (d : Done T) → r.done ≡ Ok d → IsOk r.done
 is_ok-of r d h = rw h refl

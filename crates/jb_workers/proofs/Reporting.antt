@@ -1,5 +1,6 @@
 -- What the reports of a round say of it.
-use Rattle.std.proofs.Common.{◌≡◌, ◌⊎◌, ◌++◌, ◌∷◌, [], List, false, inl, inr}
+use Rattle.std.proofs.Common.{◌≡◌, ◌⊎◌, List, false, Ok, inl, inr}
+use Rattle.jb_base.proofs.Pairwise.{pairwise-join}
 use Rattle.jb_chunk.specs.Standing.{TaskState}
 use Rattle.jb_chunk.specs.declared.outcome.Done.{Done}
 use Rattle.jb_repo.specs.declared.events.Event.TheVariants.{Round}
@@ -8,26 +9,15 @@ use Rattle.jb_workers.specs.declared.round.error.RoundError.{RoundError}
 use Rattle.jb_workers.specs.declared.round.error.RoundError.TheVariants as error
 use Rattle.jb_workers.specs.declared.worker.lane_work.Work.{Work}
 use Rattle.jb_workers.specs.declared.round.report.Report.{Report}
+use Rattle.jb_workers.specs.Turns.{IsDoneOf}
 use Rattle.jb_workers.specs.Works.{IsOrderOf}
 use Rattle.jb_workers.specs.Round.{AreDones, AreReports, AllAreDone, IsRefusedRound, IsReport, IsLowestRefusal, IsRoundError, is_refusal}
 use Rattle.jb_workers.specs.Lock.{IsRefused}
 use Rattle.jb_workers.specs.inside.Gathered.{AreAllDone}
 
--- one report more, on one work more
-pub reports-snoc : {T : Type 0} (standing : T → TaskState) (ws : List (Work T)) (rs : List (Report T)) (w : Work T) (r : Report T) → AreReports standing ws rs → IsReport standing w r → AreReports standing (ws ++ w ∷ []) (rs ++ r ∷ [])
-reports-snoc standing [] [] w r h k = (k, tt)
-reports-snoc standing (x ∷ ws) (y ∷ rs) w r h k = (h.0, reports-snoc standing ws rs w r h.1 k)
-reports-snoc standing [] (y ∷ rs) w r h k = absurd h
-reports-snoc standing (x ∷ ws) [] w r h k = absurd h
-
 -- the attempts that all reports are of are those of the works
 pub dones-from-reports : {T : Type 0} (standing : T → TaskState) (ws : List (Work T)) (rs : List (Report T)) (ds : List (Done T)) → AreReports standing ws rs → AreAllDone rs ds → AreDones standing ws ds
-dones-from-reports standing [] [] [] h k = tt
-dones-from-reports standing (w ∷ ws) (r ∷ rs) (d ∷ ds) h k = ((rw k.0 at h.0.meets), dones-from-reports standing ws rs ds h.1 k.1)
-dones-from-reports standing [] (r ∷ rs) ds h k = absurd h
-dones-from-reports standing (w ∷ ws) [] ds h k = absurd h
-dones-from-reports standing [] [] (d ∷ ds) h k = absurd k
-dones-from-reports standing (w ∷ ws) (r ∷ rs) [] h k = absurd k
+dones-from-reports standing = pairwise-join (IsReport standing) (λ r d. r.done ≡ Ok d) (IsDoneOf standing) (λ w r d is done. rw done at is.meets)
 
 -- what is no refusal of the desk needs no cause
 pub unrefused : {T : Type 0} (standing : T → TaskState) (ws : List (Work T)) (why : RoundError) → is_refusal why ≡ false → IsRoundError standing ws why

@@ -1,6 +1,7 @@
 -- A round of works: what comes of it, and why nothing does.
-use Rattle.std.specs.Prelude.{◌≡◌, ℕ, Bool, true, false, ◌<◌, ◌⊎◌, List, [], ◌∷◌, ◌++◌, All, Err}
+use Rattle.std.specs.Prelude.{◌≡◌, ℕ, Bool, true, false, ◌<◌, ◌⊎◌, List, ◌∷◌, ◌++◌, All, Err}
 use Rattle.std.specs.Result.{IsOk}
+use Rattle.jb_base.specs.Pairwise.{Pairwise}
 use Rattle.jb_chunk.specs.Standing.{TaskState}
 use Rattle.jb_chunk.specs.declared.outcome.Done.{Done}
 use Rattle.jb_repo.specs.declared.events.Event.TheVariants.{Round}
@@ -15,10 +16,7 @@ use Rattle.jb_workers.specs.Works.{IsOrderOf}
 
 -- what came of each work that was done, in the order of the works
 abbrev pub AreDones : {T : Type 0} → (T → TaskState) → List (Work T) → List (Done T) → Type 0
-AreDones standing [] [] = Unit {0}
-AreDones standing (work ∷ works) (done ∷ dones) = IsDoneOf standing work done × AreDones standing works dones
-AreDones standing [] (done ∷ dones) = ⊥
-AreDones standing (work ∷ works) [] = ⊥
+AreDones standing = Pairwise (IsDoneOf standing)
 
 -- these works were done, each once, and their attempts come by rising partition
 pub record AreRoundOf {T : Type 0} (standing : T → TaskState) (works : List (Work T)) (dones : List (Done T)) : Type 0 where
@@ -33,10 +31,7 @@ pub record IsReport {T : Type 0} (standing : T → TaskState) (work : Work T) (r
 
 -- a report for each work, in their order
 abbrev pub AreReports : {T : Type 0} → (T → TaskState) → List (Work T) → List (Report T) → Type 0
-AreReports standing [] [] = Unit {0}
-AreReports standing (work ∷ works) (report ∷ reports) = IsReport standing work report × AreReports standing works reports
-AreReports standing [] (report ∷ reports) = ⊥
-AreReports standing (work ∷ works) [] = ⊥
+AreReports standing = Pairwise (IsReport standing)
 
 -- each work was done
 abbrev pub AllAreDone : {T : Type 0} → List (Report T) → Type 0

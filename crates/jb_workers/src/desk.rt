@@ -96,7 +96,7 @@ impl<L: Ledger> Desk<L> {
 
     /// So many of the parts that no worker holds; `None` where there are fewer.
     pub(crate) fn take_parts<R: Wait>(&self, rt: &R, number: u64) -> Option<Parts<L>>
-        ensures taken { IfSome result (λ parts. parts.number ≡ number) }
+        ensures number { IfSome result (λ parts. parts.number ≡ number) }
         ensures few { IfNone result (0 < number) }
     {
         self.state.lock(rt).spare.take(number)

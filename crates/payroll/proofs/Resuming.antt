@@ -1,17 +1,15 @@
 -- A run that goes on from the files of an earlier one.
-use Rattle.std.proofs.Common.{◌≡◌, ℕ, List, [], ◌∷◌, map, Option, Some, None, Result, Ok, ap, sym, subst, ◌∙◌, refl}
-use Rattle.std.specs.Prelude.{IfSome}
+use Rattle.std.proofs.Common.{◌≡◌, ℕ, List, [], ◌∷◌, map, Option, Some, None, ap, sym, subst, ◌∙◌, refl}
+use Rattle.std.specs.Prelude.{IfSome, option_map}
 use Rattle.csv.specs.Machine.{Read, next_record}
 use Rattle.csv.specs.Reading.{Reached, default_config, strip_bom}
 use Rattle.csv.specs.declared.parser.State.TheVariants as st
 use Rattle.csv.specs.declared.parser.State.{State}
 use Rattle.csv.specs.declared.parser.Config.{Config}
 use Rattle.jb_ready.specs.Csv.{AreRowsOf, row_of}
-use Rattle.jb_records.specs.Earlier.{IsStoppedRun}
+use Rattle.jb_records.specs.Earlier.{IsOfStoppedRun}
 use Rattle.jb_records.specs.Shares.{joined}
-use Rattle.jb_saved.specs.SavedRows.{SavedRows}
-use Rattle.jb_saved.specs.declared.place.SavedPlace.{SavedPlace}
-use Rattle.payroll.specs.Earlier.{AreHeldBy, AreOfStoppedPayroll, AreOfStoppedRun}
+use Rattle.payroll.specs.Earlier.{AreOfStoppedPayroll, AreOfStoppedRun}
 use Rattle.payroll.specs.Payroll.{payroll}
 
 -- ---- FILES ARE READ IN ONE WAY ONLY
@@ -43,26 +41,14 @@ same-lines text lines others are were =
     ∙ ap (map row_of) (same-records default_config st.StartRecord (strip_bom text) are.records were.records are.read.0 were.read.0 are.read.1 were.read.1 are.read.2 are.read.3 were.read.2 were.read.3)
     ∙ sym were.are
 
-same-held : (o : Result SavedRows SavedPlace) (held other : SavedRows) → o ≡ Ok held → o ≡ Ok other → held ≡ other
-same-held o held other a b = cc
-
-pub stopped-run : (lines : List (List ℕ)) (rows slips : List ℕ) (saved : Option SavedRows) (earlier : List (List ℕ)) → AreOfStoppedRun lines rows slips → AreHeldBy rows slips saved earlier
-    → IsStoppedRun payroll lines saved earlier
-stopped-run lines rows slips saved earlier stopped held = record {
+pub stopped-run : (lines : List (List ℕ)) (rows slips : List ℕ) (results : List (List ℕ)) → AreOfStoppedRun lines rows slips → AreRowsOf slips results → IsOfStoppedRun payroll lines rows results
+stopped-run lines rows slips results stopped read = record {
   held = stopped.held;
-  given = held.given ∙ ap Some (same-held _ held.held stopped.held held.read stopped.read);
+  read = stopped.read;
   shares = stopped.shares;
   so_far = stopped.so_far;
-  results = same-lines slips (joined stopped.shares) earlier stopped.written held.lines_are;
+  results = same-lines slips (joined stopped.shares) results stopped.written read;
 }
-
--- what holds of a run that goes on from these saved rows and pay slips holds of the files that they were read from
-pub behind-files : {F P : Type 0} (rows slips : F → List ℕ) (o : Option F) (lines : List (List ℕ)) (saved : Option SavedRows) (earlier given : List (List ℕ))
-    → given ≡ earlier → IfSome o (λ files. AreHeldBy (rows files) (slips files) saved earlier) → (IsStoppedRun payroll lines saved given → P)
-    → IfSome o (λ files. AreOfStoppedRun lines (rows files) (slips files) → P)
-behind-files rows slips None lines saved earlier given same held goes = tt
-behind-files rows slips (Some files) lines saved earlier given same held goes =
-    λ stopped. goes (subst (IsStoppedRun payroll lines saved) (sym same) (stopped-run lines (rows files) (slips files) saved earlier stopped held))
 
 no-text : (bytes : List ℕ) → None ≡ Some bytes → ⊥
 no-text bytes e = cc
@@ -76,9 +62,14 @@ lines-again (Some bytes) rows slips lines read stopped =
     let same = same-lines bytes stopped.lines lines (subst (λ b. AreRowsOf b stopped.lines) (sym (same-text _ _ stopped.known)) stopped.sheets) read in
     subst (λ ls. AreOfStoppedRun ls rows slips) same stopped.stopped
 
--- what holds where the time sheets' lines are those of a stopped run holds of the bytes that the lines were read from
-pub behind-sheets : {F P Q : Type 0} (rows slips : F → List ℕ) (o : Option F) (text : Option (List ℕ)) (lines : List (List ℕ))
-    → IfSome text (λ bytes. AreRowsOf bytes lines) → IfSome o (λ files. AreOfStoppedRun lines (rows files) (slips files) → P) → (P → Q)
-    → IfSome o (λ files. AreOfStoppedPayroll text (rows files) (slips files) → Q)
-behind-sheets rows slips None text lines read goes so = tt
-behind-sheets rows slips (Some files) text lines read goes so = λ stopped. so (goes (lines-again text (rows files) (slips files) lines read stopped))
+-- what holds of a run behind these saved rows and pay slips holds of the bytes that they were read from
+pub behind-files : {V E P Q : Type 0} (rows : V → List ℕ) (saved : E → List ℕ) (results : E → List (List ℕ)) (o : Option V) (earlier : Option E) (slips : List ℕ) (text : Option (List ℕ)) (read lines : List (List ℕ))
+    → option_map saved earlier ≡ option_map rows o → IfSome earlier (λ e. results e ≡ read) → AreRowsOf slips read → IfSome text (λ bytes. AreRowsOf bytes lines)
+    → IfSome earlier (λ e. IsOfStoppedRun payroll lines (saved e) (results e) → P) → (P → Q)
+    → IfSome o (λ v. AreOfStoppedPayroll text (rows v) slips → Q)
+behind-files rows saved results None earlier slips text read lines same are were sheets goes so = tt
+behind-files rows saved results (Some v) None slips text read lines same are were sheets goes so = absurd cc
+behind-files rows saved results (Some v) (Some e) slips text read lines same are were sheets goes so =
+    λ stopped. so (goes (stopped-run lines (saved e) slips (results e)
+    (subst (λ bytes. AreOfStoppedRun lines bytes slips) (sym (same-text (saved e) (rows v) same)) (lines-again text (rows v) slips lines sheets stopped))
+    (subst (AreRowsOf slips) (sym are) were)))

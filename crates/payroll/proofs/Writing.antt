@@ -1,16 +1,11 @@
 -- What is written, slip by slip.
-use Rattle.std.proofs.Common.{◌≡◌, ℕ, ◌+◌, ◌++◌, ◌<◌, List, [], ◌∷◌, length, Option, Some, None, ap, subst, sym, ◌∙◌}
-use Rattle.std.proofs.lemmas.List.{append-nil, append_assoc, take_more}
+use Rattle.std.proofs.Common.{◌≡◌, ℕ, ◌+◌, ◌++◌, ◌<◌, List, [], ◌∷◌, length, Option, ap, subst, sym, ◌∙◌}
+use Rattle.std.proofs.KnownBytes.{Appends-trans}
+use Rattle.std.proofs.lemmas.List.{append-nil, take_more}
 use Rattle.std.proofs.lemmas.List.Folds.{concat-append}
 use Rattle.std.specs.Io.KnownBytes.{Appends}
 use Rattle.std.specs.List.{concat}
 use Rattle.std.specs.Prelude.{slice_index_or, take}
-
-appends-join : (a b c : Option (List ℕ)) (xs ys : List ℕ) → Appends a b xs → Appends b c ys → Appends a c (xs ++ ys)
-appends-join None b c xs ys first next = tt
-appends-join (Some x) None c xs ys first next = absurd first
-appends-join (Some x) (Some y) None xs ys first next = absurd next
-appends-join (Some x) (Some y) (Some z) xs ys first next = next ∙ ap (λ front. front ++ ys) first ∙ append_assoc x xs ys
 
 longer : (slips : List (List ℕ)) (i : ℕ) (slip : List ℕ) → i < length slips → slip ≡ slice_index_or slips i [] → concat (take (i + 1) slips) ≡ concat (take i slips) ++ slip
 longer slips i slip within is =
@@ -20,4 +15,4 @@ longer slips i slip within is =
 
 pub slip-written : (slips : List (List ℕ)) (i : ℕ) (slip : List ℕ) (a b c : Option (List ℕ)) → i < length slips → slip ≡ slice_index_or slips i []
     → Appends a b (concat (take i slips)) → Appends b c slip → Appends a c (concat (take (i + 1) slips))
-slip-written slips i slip a b c within is before now = subst (Appends a c) (sym (longer slips i slip within is)) (appends-join a b c (concat (take i slips)) slip before now)
+slip-written slips i slip a b c within is before now = subst (Appends a c) (sym (longer slips i slip within is)) (Appends-trans a b c (concat (take i slips)) slip before now)

@@ -7,13 +7,6 @@ use Rattle.jb_saved.specs.Reading.{answer_of}
 use Rattle.jb_saved.specs.SavedRows.{SavedRows}
 use Rattle.payroll.specs.Payroll.{payroll}
 
--- the saved rows that the one file is read as, and the pay slips that are the records of the other
-pub record AreHeldBy (rows slips : List ℕ) (saved : Option SavedRows) (lines : List (List ℕ)) : Type 0 where
-  pub held : SavedRows
-  pub given : saved ≡ Some held
-  pub read : answer_of (tree_of rows) ≡ Ok held
-  pub lines_are : AreRowsOf slips lines
-
 -- THE FILES OF A STOPPED RUN over these very time sheets: the slips are the shares of its partitions, joined
 pub record AreOfStoppedRun (lines : List (List ℕ)) (rows slips : List ℕ) : Type 0 where
   pub held : SavedRows

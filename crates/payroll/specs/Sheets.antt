@@ -1,17 +1,8 @@
 -- A time sheet and its pay slip, each a line of CSV.
-use Rattle.std.specs.Prelude.{ℕ, ◌≡◌, ◌+◌, ◌-◌, ◌*◌, ◌^◌, ◌&&◌, nat_le, nat_lt, Bool, false, if◌then◌else◌, List, [], ◌∷◌, length, map, Option, Some, None, bytes_eq, codes, decimal, option_map, option_and_then}
+use Rattle.std.specs.Prelude.{ℕ, ◌+◌, ◌-◌, ◌*◌, ◌^◌, ◌&&◌, nat_le, nat_lt, Bool, false, if◌then◌else◌, List, [], ◌∷◌, length, Option, Some, None, bytes_eq, codes, decimal, option_map, option_and_then}
 use Rattle.std.specs.Char.{is_ascii_digit}
-use Rattle.csv.specs.Machine.{next_record}
-use Rattle.csv.specs.Reading.{default_config, strip_bom}
 use Rattle.csv.specs.Records.{field_at}
-use Rattle.csv.specs.declared.parser.State.TheVariants as st
-use Rattle.jb_ready.specs.Csv.{row_of}
-
--- ---- lines of CSV
-
--- the fields of a line's first record, if it has one
-unfoldable pub fields_in : List ℕ → Option (List (List ℕ))
-fields_in line = option_map (λ p. p.0) (next_record default_config st.StartRecord [] [] (strip_bom line))
+use Rattle.jb_ready.specs.Csv.{first_fields, row_of}
 
 -- ---- numbers
 
@@ -63,7 +54,7 @@ slip_by (Some fields) = slip_with (pay_in fields)
 
 -- THE PAY SLIP OF A TIME SHEET, if it has one: its name, and its hours times its rate
 unfoldable pub slip_of : (line : List ℕ) → Option (List ℕ)
-slip_of line = slip_by (fields_in line)
+slip_of line = slip_by (first_fields line)
 
 -- ---- first tries
 
@@ -78,4 +69,4 @@ shaky_by (Some fields) = says_shaky (field_at fields 3)
 
 -- THE FIRST TRY AT A TIME SHEET FAILS: its record has a fourth field, and that is the word "shaky"
 unfoldable pub is_shaky : (line : List ℕ) → Bool
-is_shaky line = shaky_by (fields_in line)
+is_shaky line = shaky_by (first_fields line)

@@ -9,16 +9,10 @@ use jb_base::{ClassId, DEFAULT_RETRY_LIMIT, Rules};
 use jb_records::RecordFunction;
 use std::alloc::{AllocError, Global};
 
-/// The class of the fault of a time sheet that has no pay slip.
-const BROKEN: u8 = 0;
-
-/// The class of the fault of a first try that fails.
-const UNSTEADY: u8 = 1;
-
 /// A time sheet that has no pay slip is skipped, and a try that fails is made again.
 pub const RULES: Rules = Rules {
-    skippable: 1,
-    retryable: 2,
+    skippable: 1, // class 0
+    retryable: 2, // class 1
     no_rollback: 0,
     skip_limit: None,
     retry_limit: DEFAULT_RETRY_LIMIT,
@@ -34,18 +28,14 @@ impl RecordFunction for Clerk {
     ghost function = { λ _. payroll };
 
     fn refusal_of(&self, item: &[u8]) -> Result<Option<ClassId>, AllocError> {
-        match slip_of(self.alloc, item) {
-            Ok(Some(_)) => Ok(None),
-            Ok(None) => Ok(Some(broken())),
-            Err(_) => Err(AllocError),
+        match slip_of(self.alloc, item)? {
+            Some(_) => Ok(None),
+            None => Ok(Some(broken())),
         }
     }
 
     fn answer_of(&self, _number: u64, item: &[u8]) -> Result<Option<Item>, AllocError> {
-        match slip_of(self.alloc, item) {
-            Ok(slip) => Ok(slip),
-            Err(_) => Err(AllocError),
-        }
+        slip_of(self.alloc, item)
     }
 
     fn tries_of(
@@ -54,22 +44,24 @@ impl RecordFunction for Clerk {
         _number: u64,
         item: &[u8],
     ) -> Result<Vec<ClassId>, AllocError> {
-        match is_shaky(alloc, item) {
-            Ok(true) => Vec::from_slice(alloc, &[unsteady()]),
-            Ok(false) => Ok(Vec::new(alloc)),
-            Err(_) => Err(AllocError),
+        if is_shaky(alloc, item)? {
+            Vec::from_slice(alloc, &[unsteady()])
+        } else {
+            Ok(Vec::new(alloc))
         }
     }
 }
 
+/// The class of the fault of a time sheet that has no pay slip.
 fn broken() -> ClassId
     ensures { result ≡ broken_class }
 {
-    ClassId::new(BROKEN)
+    ClassId::new(0)
 }
 
+/// The class of the fault of a first try that fails.
 fn unsteady() -> ClassId
     ensures { result ≡ unsteady_class }
 {
-    ClassId::new(UNSTEADY)
+    ClassId::new(1)
 }

@@ -1,13 +1,11 @@
 //! Why there are no pay slips.
 
 ghost use Rattle.std.specs.Prelude.{◌≡◌};
-ghost use Rattle.jb_records.specs.declared.error.RecordsStepError.TheVariants as step;
 ghost use Rattle.payroll.specs.Failures.{failure_text};
 ghost use Rattle.payroll.specs.declared.failure.Failure.TheVariants.{Memory, Step, Stream};
 
 use jb_records::RecordsStepError;
-use jb_step::StepError;
-use std::alloc::{AllocError, AllocFailed};
+use std::alloc::AllocError;
 use std::{fmt, io};
 
 /// Why there are no pay slips.
@@ -27,23 +25,20 @@ impl fmt::Display for Failure {
     ghost output = { λ failure. failure_text failure };
 
     fn fmt<W: fmt::Write>(&self, f: &mut fmt::Formatter<W>) -> fmt::Result {
-        match self {
-            Failure::Usage => f.write_str("usage: payroll THREADS ROUNDS [SAVED SLIPS] < SHEETS"),
-            Failure::Step(RecordsStepError::Records) => {
-                f.write_str("more than 10,000,000 time sheets")
-            }
+        let text = match self {
+            Failure::Usage => "usage: payroll THREADS ROUNDS [SAVED SLIPS] < SHEETS",
+            Failure::Step(RecordsStepError::Records) => "more than 10,000,000 time sheets",
             Failure::Step(RecordsStepError::Results) => {
-                f.write_str("the earlier pay slips aren't those of the saved rows")
+                "the earlier pay slips aren't those of the saved rows"
             }
-            Failure::Step(RecordsStepError::SkippedTry) => {
-                f.write_str("a try that fails is skipped")
-            }
+            Failure::Step(RecordsStepError::SkippedTry) => "a try that fails is skipped",
             Failure::Step(RecordsStepError::Step(error)) => {
-                write!(f, "the step has no end: {error:?}")
+                return write!(f, "the step has no end: {error:?}");
             }
-            Failure::Stream(error) => write!(f, "a file or a stream failed: {error}"),
-            Failure::Step(RecordsStepError::Memory) | Failure::Memory => f.write_str("no memory"),
-        }
+            Failure::Stream(error) => return write!(f, "a file or a stream failed: {error}"),
+            Failure::Step(RecordsStepError::Memory) | Failure::Memory => "no memory",
+        };
+        f.write_str(text)
     }
 }
 
@@ -55,27 +50,11 @@ impl From<AllocError> for Failure {
     }
 }
 
-impl<T: Drop> From<AllocFailed<T>> for Failure {
-    ghost from_gives = { λ _ failure. failure ≡ Memory };
-
-    fn from(_: AllocFailed<T>) -> Failure {
-        Failure::Memory
-    }
-}
-
 impl From<io::Error> for Failure {
     ghost from_gives = { λ error failure. failure ≡ Stream error };
 
     fn from(error: io::Error) -> Failure {
         Failure::Stream(error)
-    }
-}
-
-impl From<StepError> for Failure {
-    ghost from_gives = { λ error failure. failure ≡ Step (step.Step error) };
-
-    fn from(error: StepError) -> Failure {
-        Failure::Step(RecordsStepError::Step(error))
     }
 }
 

@@ -9,16 +9,14 @@
 //!   there are no pay slips.
 #![tactic(auto)]
 
-ghost use Rattle.std.specs.Prelude.{◌≡◌, ◌≤◌, None, IfOk, OnOk, IfSome};
+ghost use Rattle.std.specs.Prelude.{◌≡◌, ◌≤◌, None, option_map, IfErr, IfOk, OnOk, IfSome};
 ghost use Rattle.std.specs.Io.KnownBytes.{Appends};
 ghost use Rattle.std.specs.List.{concat};
-ghost use Rattle.jb_base.specs.Limits.{max_parts, max_threads};
-ghost use Rattle.jb_collect.specs.declared.calls.Status.TheVariants.{Completed};
+ghost use Rattle.jb_base.specs.Limits.{max_threads};
 ghost use Rattle.jb_ready.specs.Csv.{AreRowsOf};
-ghost use Rattle.jb_records.specs.Earlier.{IsStoppedRun};
-ghost use Rattle.jb_records.specs.Shares.{IsSoFar, joined};
-ghost use Rattle.payroll.specs.Earlier.{AreHeldBy, AreOfStoppedPayroll, AreOfStoppedRun};
-ghost use Rattle.payroll.specs.Payroll.{IsPaid, IsPaidSoFar, all_slips, exit_status, payroll};
+ghost use Rattle.payroll.specs.Earlier.{AreOfStoppedPayroll};
+ghost use Rattle.payroll.specs.declared.failure.Failure.TheVariants.{Memory};
+ghost use Rattle.payroll.specs.Payroll.{IsPaid, IsPaidSoFar, exit_status};
 
 mod clerk;
 mod failure;
@@ -27,21 +25,18 @@ mod sheet;
 
 use clerk::{Clerk, RULES};
 use failure::Failure;
-use jb_base::{MAX_PARTS, MAX_THREADS, Name, PackedList};
+use jb_base::{MAX_THREADS, Name, PackedList};
 use jb_collect::Status;
-use jb_ready::csv_rows;
-use jb_records::{RecordsEnd, RecordsJob, RecordsStep};
-use jb_step::{Saved, read_saved};
+use jb_ready::csv_rows::flexible_records_of;
+use jb_records::{Earlier, RecordsEnd, RecordsStep, run_records_watched};
+use progress::Progress;
 use std::alloc::{AllocError, Global};
 use std::io::{Read, Write};
-use std::marker::Brand;
 use std::process::ExitCode;
-use std::sync::atomic::{AtomicBool, Ordering};
-use std::sync::ledger::{Blank, Ledger};
-use std::sync::{Arc, Wait};
+use std::sync::Wait;
 use std::thread::Threads;
 use std::time::Clock;
-use std::{env, fs, thread};
+use std::{env, fs};
 
 /// What the command line asks.
 #[derive(Drop)]
@@ -49,8 +44,10 @@ struct Asked {
     threads: u32,
     /// With none, the step runs to its end.
     rounds: Option<u64>,
-    /// The saved rows and the pay slips of an earlier run.
-    earlier: Option<(Vec<u8>, Vec<u8>)>,
+    /// The saved rows of an earlier run.
+    saved: Option<Vec<u8>>,
+    /// The pay slips of that run, if there is one.
+    slips: Vec<u8>,
     ghost few: { threads ≤ max_threads },
 }
 
@@ -63,65 +60,57 @@ fn words_of(rt: &HostRuntime) -> Result<Asked, Failure> {
     if threads > MAX_THREADS {
         return Err(Failure::Usage);
     }
-    let earlier = match (words.next(), words.next()) {
-        (None, _) => None,
-        (Some(saved), Some(slips)) => {
-            Some((fs::read(rt, saved.as_str())?, fs::read(rt, slips.as_str())?))
-        }
+    let (saved, slips) = match (words.next(), words.next()) {
+        (None, _) => (None, Vec::new(rt.alloc())),
+        (Some(saved), Some(slips)) => (
+            Some(fs::read(rt, saved.as_str())?),
+            fs::read(rt, slips.as_str())?,
+        ),
         _ => return Err(Failure::Usage),
     };
-    let rounds = if rounds == 0 { None } else { Some(rounds) };
     Ok(Asked {
         threads,
-        rounds,
-        earlier,
+        rounds: if rounds == 0 { None } else { Some(rounds) },
+        saved,
+        slips,
     })
 }
 
-/// The step's name in its saved rows.
-fn name(alloc: Global) -> Result<Name, AllocError> {
-    Ok(Name::new(String::from_str(alloc, "payroll")?))
-}
-
-/// Runs the step over its threads, while another thread tells how far it is.
-fn run<
-    L: Ledger + Send + Sync + 'static,
-    R: Threads + Wait + Clock + Eprint + Copy + Send + Sync + 'static,
->(
-    rt: &R,
-    alloc: Global,
-    blank: Blank,
-    lines: &PackedList,
-    asked: &Asked,
-    saved: Option<Saved>,
-    earlier: &PackedList,
-) -> Result<RecordsEnd, Failure>
-    requires name { blank.name ≡ L.name }
-    requires parts { blank.parts ≡ L.parts }
-    requires all { blank.parts ≡ max_parts }
-    ensures so_far { saved ≡ None → IfOk result (λ end. IsSoFar payroll lines.now end.snapshot.rows.items end.results.items) }
-    ensures all { saved ≡ None → IfOk result (λ end. end.status ≡ Completed → joined end.results.items ≡ all_slips lines.now) }
-    ensures goes_on { IsStoppedRun payroll lines.now saved earlier.now → IfOk result (λ end. IsSoFar payroll lines.now end.snapshot.rows.items end.results.items) }
-    ensures goes_on_whole { IsStoppedRun payroll lines.now saved earlier.now → IfOk result (λ end. end.status ≡ Completed → joined end.results.items ≡ all_slips lines.now) }
+/// How the step runs, over so many threads.
+fn step_over(alloc: Global, threads: u32) -> Result<RecordsStep, AllocError>
+    requires { threads ≤ max_threads }
 {
-    let step = RecordsStep {
-        id: name(alloc)?,
+    Ok(RecordsStep {
+        id: Name::new(String::from_str(alloc, "payroll")?),
         partitions: 8,
-        threads: asked.threads,
+        threads,
         item_count: 2,
         rules: RULES,
-    };
-    let job = RecordsJob::begin(alloc, &step, lines, saved, earlier)?;
-    let desk = Arc::new(alloc, job.prepared.desk::<L>(alloc, blank)?)?;
-    let over = Arc::new(alloc, AtomicBool::new(false))?;
-    let seen = (Arc::try_clone(&desk)?, Arc::try_clone(&over)?, *rt);
-    let teller = thread::spawn(rt, move || progress::tell(&seen.2, &seen.0, &seen.1));
-    let end = job.run(rt, alloc, &desk, Clerk { alloc }, lines, asked.rounds);
-    over.store(true, Ordering::SeqCst);
-    if let Ok(teller) = teller {
-        teller.join(rt);
+    })
+}
+
+/// The time sheets, or the pay slips, of a text.
+fn lines_of(alloc: Global, text: &[u8]) -> Result<PackedList, Failure>
+    ensures rows { IfOk result (λ lines. AreRowsOf text.now lines) }
+    ensures memory { IfErr result (λ failure. failure ≡ Memory) }
+{
+    match flexible_records_of(alloc, text) {
+        Ok(lines) => Ok(lines),
+        Err(_) => Err(Failure::Memory),
     }
-    Ok(end?)
+}
+
+/// The earlier run that left these saved rows and pay slips, if there is one.
+fn earlier_of<'a>(saved: &'a Option<Vec<u8>>, slips: &'a PackedList) -> Option<Earlier<'a>>
+    ensures none { saved.now ≡ None → result ≡ None }
+    ensures saved { option_map (λ e. e.saved.now) result ≡ option_map (λ rows. rows.items) saved.now }
+    ensures results { IfSome result (λ e. e.results.now ≡ slips.now) }
+{
+    let saved = saved.as_ref()?;
+    Some(Earlier {
+        saved,
+        results: slips,
+    })
 }
 
 fn write_slips<W: Write>(writer: &mut W, slips: &PackedList) -> Result<(), Failure>
@@ -134,53 +123,20 @@ fn write_slips<W: Write>(writer: &mut W, slips: &PackedList) -> Result<(), Failu
     Ok(())
 }
 
-/// The time sheets, or the pay slips, of a text.
-fn lines_of(alloc: Global, text: &[u8]) -> Result<PackedList, Failure>
-    ensures { IfOk result (λ lines. AreRowsOf text.now lines) }
-{
-    match csv_rows::flexible_records_of(alloc, text) {
-        Ok(lines) => Ok(lines),
-        Err(_) => Err(Failure::Memory),
-    }
-}
-
-/// The saved rows and the pay slips of an earlier run, if there is one.
-fn earlier_of(alloc: Global, asked: &Asked) -> Result<(Option<Saved>, PackedList), Failure>
-    ensures none { asked.now.earlier ≡ None → IfOk result (λ earlier. earlier.0 ≡ None) }
-    ensures some { IfSome asked.now.earlier (λ files. IfOk result (λ earlier. AreHeldBy files.0.items files.1.items earlier.0 earlier.1)) }
-{
-    match &asked.earlier {
-        None => Ok((None, PackedList::new(alloc))),
-        Some((saved, slips)) => Ok((Some(read_saved(alloc, saved)?), lines_of(alloc, slips)?)),
-    }
-}
-
-/// How the step over these time sheets ends, behind the earlier run if there is one.
-fn left_of<T: Threads + Wait + Clock + Eprint + Copy + Send + Sync + 'static>(
+/// The exit status. The rows of a step that was stopped are told on standard error.
+fn told<T: Eprint>(
     rt: &T,
     alloc: Global,
-    asked: &Asked,
-    lines: &PackedList,
-) -> Result<RecordsEnd, Failure>
-    ensures so_far { asked.now.earlier ≡ None → IfOk result (λ end. IsSoFar payroll lines.now end.snapshot.rows.items end.results.items) }
-    ensures all { asked.now.earlier ≡ None → IfOk result (λ end. end.status ≡ Completed → joined end.results.items ≡ all_slips lines.now) }
-    ensures goes_on { IfSome asked.now.earlier (λ files. AreOfStoppedRun lines.now files.0.items files.1.items → IfOk result (λ end. IsSoFar payroll lines.now end.snapshot.rows.items end.results.items)) }
-    ensures goes_on_whole { IfSome asked.now.earlier (λ files. AreOfStoppedRun lines.now files.0.items files.1.items → IfOk result (λ end. end.status ≡ Completed → joined end.results.items ≡ all_slips lines.now)) }
-{
-    let (saved, earlier) = earlier_of(alloc, asked)?;
-    let blank = Blank::new(MAX_PARTS);
-    run::<Brand, T>(rt, alloc, blank, lines, asked, saved, &earlier)
-}
-
-/// The exit status. The rows of a step that was stopped are told on standard error.
-fn told<R: Eprint>(rt: &R, alloc: Global, end: &RecordsEnd) -> Result<u8, Failure>
+    step: &RecordsStep,
+    end: &RecordsEnd,
+) -> Result<u8, Failure>
     ensures { IfOk result (λ status. status ≡ exit_status end.now.status) }
 {
     match end.status {
         Status::Completed => Ok(0),
         Status::Failed => Ok(1),
         Status::Stopped | Status::Started => {
-            let text = end.saved_text(alloc, &name(alloc)?)?;
+            let text = end.saved_text(alloc, &step.id)?;
             eprintln!(rt; "{text}")?;
             Ok(2)
         }
@@ -195,18 +151,30 @@ fn answer<T: Threads + Wait + Clock + Eprint + Copy + Send + Sync + 'static, R: 
     reader: &mut R,
     writer: &mut W,
 ) -> Result<u8, Failure>
-    ensures so_far { asked.now.earlier ≡ None → OnOk result (IsPaidSoFar (R.remaining reader.old) (W.contents writer.old) (W.contents writer.new)) }
-    ensures all { asked.now.earlier ≡ None → IfOk result (λ status. status ≡ 0 → IsPaid (R.remaining reader.old) (W.contents writer.old) (W.contents writer.new)) }
-    ensures goes_on { IfSome asked.now.earlier (λ files. AreOfStoppedPayroll (R.remaining reader.old) files.0.items files.1.items → OnOk result (IsPaidSoFar (R.remaining reader.old) (W.contents writer.old) (W.contents writer.new))) }
-    ensures goes_on_whole { IfSome asked.now.earlier (λ files. AreOfStoppedPayroll (R.remaining reader.old) files.0.items files.1.items → IfOk result (λ status. status ≡ 0 → IsPaid (R.remaining reader.old) (W.contents writer.old) (W.contents writer.new))) }
+    ensures so_far { asked.now.saved ≡ None → OnOk result (IsPaidSoFar (R.remaining reader.old) (W.contents writer.old) (W.contents writer.new)) }
+    ensures all { asked.now.saved ≡ None → IfOk result (λ status. status ≡ 0 → IsPaid (R.remaining reader.old) (W.contents writer.old) (W.contents writer.new)) }
+    ensures goes_on { IfSome asked.now.saved (λ saved. AreOfStoppedPayroll (R.remaining reader.old) saved.items asked.now.slips.items → OnOk result (IsPaidSoFar (R.remaining reader.old) (W.contents writer.old) (W.contents writer.new))) }
+    ensures goes_on_whole { IfSome asked.now.saved (λ saved. AreOfStoppedPayroll (R.remaining reader.old) saved.items asked.now.slips.items → IfOk result (λ status. status ≡ 0 → IsPaid (R.remaining reader.old) (W.contents writer.old) (W.contents writer.new))) }
 {
     let mut text = Vec::new(alloc);
     reader.read_to_end(&mut text)?;
     let lines = lines_of(alloc, &text)?;
-    let end = left_of(rt, alloc, asked, &lines)?;
-    let slips = end.all_results(alloc)?;
-    write_slips(writer, &slips)?;
-    told(rt, alloc, &end)
+    let slips = lines_of(alloc, &asked.slips)?;
+    let earlier = earlier_of(&asked.saved, &slips);
+    let step = step_over(alloc, asked.threads)?;
+    let end = run_records_watched(
+        rt,
+        alloc,
+        &step,
+        Clerk { alloc },
+        &lines,
+        earlier,
+        asked.rounds,
+        Progress { rt: *rt },
+    )?;
+    let paid = end.all_results(alloc)?;
+    write_slips(writer, &paid)?;
+    told(rt, alloc, &step, &end)
 }
 
 fn main(rt: HostRuntime) -> ExitCode {

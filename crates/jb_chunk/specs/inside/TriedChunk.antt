@@ -15,10 +15,13 @@ use Rattle.jb_chunk.specs.inside.Gathering.{Yield}
 use Rattle.jb_chunk.specs.Block.{MayBeUsed}
 use Rattle.jb_chunk.specs.Standing.{TaskState}
 
--- this holds of the task with these rules, this row, this item count and these artifacts, whatever its partition's number
+-- the task of this partition with this row, these rules, this item count and these artifacts
+abbrev pub task_at : (partition : ℕ) → Row → RulesRecord → (item_count : ℕ) → ArtifactsMeaning → TaskState
+task_at partition row rules item_count w = record { partition = partition; row = row; rules = rules; item_count = item_count; work = w }
+
+-- this holds of such a task, whatever its partition's number
 abbrev pub OfTask : RulesRecord → Row → (item_count : ℕ) → ArtifactsMeaning → (TaskState → Type 0) → Type 0
-OfTask rules row item_count w P =
-    (partition : ℕ) → P (record { partition = partition; row = row; rules = rules; item_count = item_count; work = w })
+OfTask rules row item_count w P = (partition : ℕ) → P (task_at partition row rules item_count w)
 
 -- a chunk of so many records that is committed adds what it may to the counts
 abbrev pub HasDelta : (records : ℕ) → ChunkEnd → Type 0

@@ -1,6 +1,5 @@
 //! A plan that someone made, and its certificate: the fields `rounds` and `certificate` of the document of `check`.
 
-ghost use Rattle.std.specs.Prelude.{◌≡◌};
 ghost use Rattle.serde_json.specs.View.{view};
 ghost use Rattle.jb_job.specs.declared.field.Field.TheVariants as field;
 ghost use Rattle.jb_job.specs.Reading.{Gives, GivesExactly, required};

@@ -3,7 +3,7 @@
 //! What these functions give is what the document's definition says. An `Err` that isn't `Memory` says nothing of the
 //! document: something in it isn't plain, and the tree has to decide.
 
-ghost use Rattle.std.specs.Prelude.{◌≡◌, ◌≤◌, length, IfOk};
+ghost use Rattle.std.specs.Prelude.{IfOk};
 ghost use Rattle.json.specs.Tree.{HasNumbers, ItemsHaveNumbers};
 ghost use Rattle.json.specs.Value.{value_view, items_view};
 ghost use Rattle.jb_job.specs.declared.field.Field.TheVariants as field;

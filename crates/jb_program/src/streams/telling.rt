@@ -1,6 +1,6 @@
 //! Telling why there is no answer.
 
-ghost use Rattle.std.specs.Prelude.{◌≡◌, IfOk, OnErr, OnOk};
+ghost use Rattle.std.specs.Prelude.{OnErr, OnOk};
 ghost use Rattle.std.specs.Io.KnownBytes.{Appends};
 ghost use Rattle.jb_texts.specs.Front.{AppendsFront};
 ghost use Rattle.jb_program.specs.FailureText.{failure_text};

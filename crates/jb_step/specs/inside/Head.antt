@@ -14,12 +14,14 @@ use Rattle.jb_cert.specs.declared.notes.PlanNote.{PlanNote}
 use Rattle.jb_step.specs.PlanLaws.{IsTable}
 use Rattle.jb_step.specs.inside.Loop.{IsUnderWay}
 use Rattle.jb_step.specs.inside.Adding.{heard_so_far}
-use Rattle.jb_step.specs.inside.Telling.{Moment, IsHeard}
+use Rattle.jb_step.specs.inside.Telling.{Moment, IsHeard, moment}
 use Rattle.jb_step.specs.Rounds.{attempts_in, last_breaks}
 use Rattle.jb_step.specs.Runs.{PlanRun, ArePlanRuns, IsLastOver, all_attempts, notes_of, rounds_of, rounds_run, table_after}
 use Rattle.jb_step.specs.Setup.{Setup, counts_now}
 use Rattle.jb_step.specs.Alone.{have_ended}
 use Rattle.jb_step.specs.declared.plan.Open.{Open}
+use Rattle.jb_step.specs.declared.ran.Ran.{Ran}
+use Rattle.jb_step.specs.inside.Places.{held_in}
 
 -- the chunks of a round of the load's plan, and all its rounds
 abbrev pub set_of_round : Load → ℕ → List Pair
@@ -47,6 +49,16 @@ pub record Progress : Type 0 where
   pub table : List TaskState
   pub ran : ℕ × ℕ
   pub notes : List PlanNote
+
+-- the tasks that are held, in a table
+abbrev pub table_of : {T : Type 0} → (T → TaskState) → Ran T → List TaskState
+table_of standing ran = map standing (held_in ran.held.items)
+
+abbrev pub beginning : {T : Type 0} → (T → TaskState) → Setup → List (Option T) → List (Taken AnalyzerCall) → Beginning
+beginning standing setup places calls = record { setup = setup; start = map standing (held_in places); base = calls }
+
+abbrev pub progress : {T : Type 0} → (T → TaskState) → List (Taken AnalyzerCall) → Ran T → Progress
+progress standing calls ran = record { moment = moment calls ran.fault; table = table_of standing ran; ran = (ran.rounds, ran.attempts); notes = ran.notes.items }
 
 -- the plans that were run so far, and what they left
 pub record IsRunSoFar (b : Beginning) (now : Progress) (plans : List PlanRun) : Type 0 where

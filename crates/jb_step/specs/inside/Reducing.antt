@@ -1,17 +1,16 @@
 -- What a reducer was called with between two moments.
-use Rattle.std.specs.Prelude.{◌≡◌, Bool, true, false, ◌||◌, Result, Ok, Err, List, ◌++◌}
+use Rattle.std.specs.Prelude.{◌≡◌, Bool, true, false, if◌then◌else◌, Result, Ok, Err, List, ◌++◌}
 use Rattle.jb_base.specs.declared.artifact_error.ArtifactError.{ArtifactError}
 use Rattle.jb_base.specs.declared.artifact_error.ArtifactError.TheVariants as artifact
-use Rattle.jb_rules.specs.declared.row.Row.{Row}
 use Rattle.jb_collect.specs.declared.calls.ReducerCall.{ReducerCall}
 use Rattle.jb_collect.specs.declared.calls.Status.{Status}
+use Rattle.jb_collect.specs.declared.calls.Status.TheVariants.{Failed}
 use Rattle.jb_collect.specs.ReducerCalls.{before_failed, calls_after, run_end}
 use Rattle.jb_collect.specs.Taken.{Taken, calls_of}
 use Rattle.jb_step.specs.declared.error.RunError.{RunError}
 use Rattle.jb_step.specs.declared.error.RunError.TheVariants as error
 use Rattle.jb_step.specs.Answers.{AreCallsInPart}
 use Rattle.jb_step.specs.Callbacks.{AreSome, has_fault}
-use Rattle.jb_step.specs.Statuses.{status_of}
 
 -- these calls were made; whether one was answered with a fault, and whether `before_completion` was
 pub record IsReducing (before : List (Taken ReducerCall)) (calls : List ReducerCall) (faulted at_before : Bool) (after : List (Taken ReducerCall)) : Type 0 where
@@ -39,10 +38,10 @@ pub record IsEndingInPart (before after : List (Taken ReducerCall)) : Type 0 whe
   pub after_is : after ≡ before ++ next
   pub in_part : AreCallsInPart next
 
--- the calls at a step's end, by how the step stands before them and by what `before_completion` answered, and the status
--- by the rows and all callbacks
-pub record IsEnding (rows : List Row) (faulted : Bool) (before : List (Taken ReducerCall)) (status : Status) (after : List (Taken ReducerCall)) : Type 0 where
+-- the calls at a step's end, by how the step stands before them and by what `before_completion` answered, and how it stands
+-- after them
+pub record IsEnding (status : Status) (before : List (Taken ReducerCall)) (ended : Status) (after : List (Taken ReducerCall)) : Type 0 where
   pub next : List (Taken ReducerCall)
   pub after_is : after ≡ before ++ next
-  pub calls_are : calls_of next ≡ calls_after (run_end (status_of rows faulted) (before_failed next))
-  pub status_is : status ≡ status_of rows (faulted || has_fault next)
+  pub calls_are : calls_of next ≡ calls_after (run_end status (before_failed next))
+  pub ended_is : ended ≡ (if has_fault next then Failed else status)

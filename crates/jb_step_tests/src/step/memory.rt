@@ -12,14 +12,14 @@ use std::thread::Threads;
 /// What the restart of a case comes to without faults.
 struct Unmet {
     /// The number of the case.
-    number: u64,
+    number: usize,
     /// Its records without their faults.
     records: &'static str,
     /// What its partitions come to where none of the faults was met, and where some were.
     partitions: [&'static str; 2],
 }
 
-const CASES: [Unmet; 4] = [
+const UNMET: [Unmet; 4] = [
     Unmet {
         number: 0,
         records: "abc/de/fg/",
@@ -126,7 +126,7 @@ fn tried<R: Threads + Wait + Abort + Sync>(
 /// test's own is refused, the test ends with that error.
 #[test]
 fn memory_refused(rt: HostRuntime) -> Result<(), Fail> {
-    for unmet in &CASES {
+    for unmet in &UNMET {
         tried(&rt, rt.alloc(), unmet)?;
     }
     Ok(())

@@ -20,25 +20,6 @@ use std::sync::ledger::{Blank, Ledger};
 use std::test::*;
 use std::thread::Threads;
 
-/// What is wrong with the desk of a step on two threads.
-#[derive(Clone, Copy, PartialEq, Eq)]
-enum Wrong {
-    /// It was made for other rows.
-    OtherRows,
-    /// A plan stands in its history.
-    Planned,
-    /// It was made for one thread, and refuses a plan for two.
-    OneThread,
-    /// Its partition had as many rollbacks as it may, and can't begin.
-    AtLimit,
-    /// The same of its second partition, while the first one commits.
-    SecondAtLimit,
-    /// Its partition has no room for the repeats in place of one more chunk, and can't begin.
-    RepeatsAtLimit,
-}
-
-const RECORDS: &str = "ab/c/";
-
 /// The saved row of one record, whose partition was rolled back 1,000,000,000,000 times.
 const AT_LIMIT: &str =
     "{\"rows\":[[0,1,0,0,0,0,0,0,0,1000000000000,0,0,0,0,0,\"waiting\"]],\"step\":\"step\",\"version\":2}";
@@ -79,30 +60,15 @@ const WHOLE: &str = "0 4 4 0 0 4 4 4 2 0 0 0 0 0 0 done xa xb xc xd
 4 6 6 4 0 2 2 2 1 0 0 0 0 0 0 done xe xf
 ";
 
-/// The records of the step and those of its desk's rows, the desk's threads, and the saved rows of both, if they have any.
+/// A step on two threads, and its desk: the records of both, the desk's threads, the saved rows of both, if they have any, and
+/// whether a plan stands in the desk's history.
 #[derive(Clone, Copy)]
-struct Rows {
+struct Case {
     own: &'static str,
     desk: &'static str,
     threads: u32,
     saved: Option<&'static str>,
-}
-
-fn rows_of(wrong: Wrong) -> Rows {
-    let (own, desk, threads, saved) = match wrong {
-        Wrong::OtherRows => (RECORDS, "ab/cd/", 2, None),
-        Wrong::Planned => (RECORDS, RECORDS, 2, None),
-        Wrong::OneThread => (RECORDS, RECORDS, 1, None),
-        Wrong::AtLimit => ("a/", "a/", 2, Some(AT_LIMIT)),
-        Wrong::SecondAtLimit => ("a/b/", "a/b/", 2, Some(SECOND_AT_LIMIT)),
-        Wrong::RepeatsAtLimit => ("a/", "a/", 2, Some(REPEATS_AT_LIMIT)),
-    };
-    Rows {
-        own,
-        desk,
-        threads,
-        saved,
-    }
+    planned: bool,
 }
 
 /// What the step of these records begins with, with the rows of the saved text, if there is one.
@@ -121,37 +87,28 @@ fn start(
     started(alloc, asked, records, reducer, saved)
 }
 
-fn desk_of<L: Ledger>(alloc: Global, blank: Blank, rows: &Rows) -> Result<Desk<L>, Fail>
-    requires name { blank.name ≡ L.name }
-    requires parts { blank.parts ≡ L.parts }
-    requires all { blank.parts ≡ max_parts }
-{
-    let mut other = ListReducer::new(alloc, None);
-    let prepared = start(alloc, rows.desk, rows.threads, rows.saved, &mut other)?;
-    Ok(prepared.desk::<L>(alloc, blank)?)
-}
-
-/// Why a step has no answer, how many calls its reducer took, and how many events and commits its desk has.
-type Answer = (StepError, usize, u64, u64);
-
-/// The desk of such rows, with what is wrong with it.
-fn wrong_desk<L: Ledger, R: Wait>(
+/// The desk of the case.
+fn desk_of<L: Ledger, R: Wait>(
     rt: &R,
     alloc: Global,
     blank: Blank,
-    rows: &Rows,
-    wrong: Wrong,
+    case: &Case,
 ) -> Result<Desk<L>, Fail>
     requires name { blank.name ≡ L.name }
     requires parts { blank.parts ≡ L.parts }
     requires all { blank.parts ≡ max_parts }
 {
-    let desk = desk_of::<L>(alloc, blank, rows)?;
-    if wrong == Wrong::Planned {
+    let mut other = ListReducer::new(alloc, None);
+    let prepared = start(alloc, case.desk, case.threads, case.saved, &mut other)?;
+    let desk = prepared.desk::<L>(alloc, blank)?;
+    if case.planned {
         desk.apply(rt, Event::Plan(1, Certificate::FullLoad))?;
     }
     Ok(desk)
 }
+
+/// Why a step has no answer, how many calls its reducer took, and how many events and commits its desk has.
+type Answer = (StepError, usize, u64, u64);
 
 /// Why the step has no answer on such a desk.
 fn error_on<L: Ledger + Send + Sync + 'static, R: Threads + Wait + Sync>(
@@ -182,37 +139,47 @@ fn refusal<L: Ledger + Send + Sync + 'static, R: Threads + Wait + Sync>(
     rt: &R,
     alloc: Global,
     blank: Blank,
-    wrong: Wrong,
+    case: &Case,
 ) -> Result<Answer, Fail>
     requires name { blank.name ≡ L.name }
     requires parts { blank.parts ≡ L.parts }
     requires all { blank.parts ≡ max_parts }
 {
-    let rows = rows_of(wrong);
     let mut reducer = ListReducer::new(alloc, None);
-    let prepared = start(alloc, rows.own, 2, rows.saved, &mut reducer)?;
-    let desk = wrong_desk::<L, R>(rt, alloc, blank, &rows, wrong)?;
-    let error = error_on(rt, alloc, &desk, prepared, rows.own, &mut reducer)?;
+    let prepared = start(alloc, case.own, 2, case.saved, &mut reducer)?;
+    let desk = desk_of::<L, R>(rt, alloc, blank, case)?;
+    let error = error_on(rt, alloc, &desk, prepared, case.own, &mut reducer)?;
     let after = desk.status(rt)?;
     let calls = reducer.calls().len();
     Ok((error, calls, after.events, after.totals.commit))
 }
 
 /// The first row that differs is named, else the number of rows; the reducer heard `begin`, `rollback` and `after`. Of a round that
-/// has no answer the Commits stand in the history, and Round doesn't.
+/// has no answer the Commits stand in the history, and Round doesn't. Each row ends with the partition that is named, or the number of
+/// rows, and the desk's events and Commits.
 #[test]
 fn desks_are_refused(rt: HostRuntime) -> Result<(), Fail> {
     let cases = [
-        (Wrong::OtherRows, 1, 0, 0),
-        (Wrong::Planned, 2, 1, 0),
-        (Wrong::OneThread, 2, 0, 0),
-        (Wrong::AtLimit, 1, 1, 0),
-        (Wrong::SecondAtLimit, 2, 3, 1),
-        (Wrong::RepeatsAtLimit, 1, 1, 0),
+        // Other rows; a plan in the history; one thread, where a plan for two is refused.
+        ("ab/c/", "ab/cd/", 2, None, false, (1, 0, 0)),
+        ("ab/c/", "ab/c/", 2, None, true, (2, 1, 0)),
+        ("ab/c/", "ab/c/", 1, None, false, (2, 0, 0)),
+        // A partition that can't begin: it had as many rollbacks as it may; the same of the second one, while the first one commits;
+        // there is no room for the repeats in place of one more chunk.
+        ("a/", "a/", 2, Some(AT_LIMIT), false, (1, 1, 0)),
+        ("a/b/", "a/b/", 2, Some(SECOND_AT_LIMIT), false, (2, 3, 1)),
+        ("a/", "a/", 2, Some(REPEATS_AT_LIMIT), false, (1, 1, 0)),
     ];
-    for (wrong, partition, events, commits) in cases {
+    for (own, desk, threads, saved, planned, (partition, events, commits)) in cases {
+        let case = Case {
+            own,
+            desk,
+            threads,
+            saved,
+            planned,
+        };
         let blank = Blank::new(MAX_PARTS);
-        let answer = refusal::<Brand, _>(&rt, rt.alloc(), blank, wrong)?;
+        let answer = refusal::<Brand, _>(&rt, rt.alloc(), blank, &case)?;
         let error = StepError::Repository(partition);
         assert!(rt; answer == (error, 3, events, commits));
     }

@@ -8,8 +8,8 @@ use crate::step::given::{
     Given, Letters, Works, all_works, saved_again, stopped_after, works, works_from,
 };
 use crate::step::rows::{
-    Asked, Case, FIRST_REPEATED, ONE_SKIP, PLAIN, SEVEN, add_course, add_heard, add_partition,
-    add_reduced, assert_text, case_at, left_of,
+    Asked, CASES, Case, FIRST_REPEATED, ONE_SKIP, PLAIN, SEVEN, add_course, add_heard,
+    add_partition, add_reduced, assert_text, left_of,
 };
 use crate::step::runs::started_or_not;
 use jb_artifacts::ArtifactsOf;
@@ -37,6 +37,8 @@ struct Journey {
     asked: Asked,
     /// What the first run saved, as a text of version 1, where the restarts begin with it.
     earlier: Option<&'static str>,
+    /// The threads that each run's plan asks for, and the run's greatest number of rounds.
+    legs: &'static [(u32, Option<u64>)],
     /// The partitions that each run needs artifacts for, and its course.
     courses: &'static str,
     /// What each partition comes to.
@@ -49,6 +51,7 @@ const STOPPED_ONCE: Journey = Journey {
     again: "abc/de/fg/",
     asked: PLAIN,
     earlier: None,
+    legs: &[(2, Some(1)), (2, None)],
     courses: "[0, 1, 2]
 Longest(0) 1 of 2
 0:2:2 1:5:2 1:5:2:end 1 Completed 0 Stopped 2 Stopped .
@@ -63,22 +66,23 @@ Completed 6
     partitions: SEVEN,
 };
 
-/// What the first run of a step saved, as a text of version 1: of these records after their first round, and of a chunk that was
-/// rolled back.
-const EARLIER: [&str; 2] = [
-    r#"{"rows":[[0,3,2,0,0,2,2,2,1,0,0,0,0,0,"waiting"],[3,5,5,3,0,2,2,2,1,0,0,0,0,0,"done"],[5,7,5,5,0,0,0,0,0,0,0,0,0,0,"waiting"]],"step":"step","version":1}"#,
-    r#"{"rows":[[0,2,0,2,1,0,0,0,0,1,0,0,0,0,"waiting"]],"step":"step","version":1}"#,
-];
+/// What the first run of a step saved, as a text of version 1: of these records after their first round.
+const EARLIER_ROUND: &str =
+    r#"{"rows":[[0,3,2,0,0,2,2,2,1,0,0,0,0,0,"waiting"],[3,5,5,3,0,2,2,2,1,0,0,0,0,0,"done"],[5,7,5,5,0,0,0,0,0,0,0,0,0,0,"waiting"]],"step":"step","version":1}"#;
 
-fn journey_at(number: u64) -> Option<Journey> {
-    Some(match number {
-        0 => STOPPED_ONCE,
-        1 => Journey {
-            records: "abc/de/fg/",
-            again: "abc/de/fg/",
-            asked: PLAIN,
-            earlier: None,
-            courses: "[0, 1, 2]
+/// The same of a chunk that was rolled back.
+const EARLIER_ROLLBACK: &str =
+    r#"{"rows":[[0,2,0,2,1,0,0,0,0,1,0,0,0,0,"waiting"]],"step":"step","version":1}"#;
+
+const JOURNEYS: [Journey; 8] = [
+    STOPPED_ONCE,
+    Journey {
+        records: "abc/de/fg/",
+        again: "abc/de/fg/",
+        asked: PLAIN,
+        earlier: None,
+        legs: &[(1, Some(1)), (1, Some(1)), (1, Some(1)), (1, Some(1))],
+        courses: "[0, 1, 2]
 FullLoad 1 of 4
 0:2:2 0 Stopped 1 Stopped 2 Stopped .
 Begin Rollback After(Rollback) .
@@ -99,14 +103,15 @@ Longest(2) 1 of 1
 Begin Before After(Commit) .
 Completed 4
 ",
-            partitions: SEVEN,
-        },
-        2 => Journey {
-            records: "a/b///",
-            again: "a/b///",
-            asked: PLAIN,
-            earlier: None,
-            courses: "[0, 1]
+        partitions: SEVEN,
+    },
+    Journey {
+        records: "a/b///",
+        again: "a/b///",
+        asked: PLAIN,
+        earlier: None,
+        legs: &[(2, Some(0)), (2, None)],
+        courses: "[0, 1]
 2 Completed 3 Completed 0 Stopped 1 Stopped .
 Begin Rollback After(Rollback) .
 Stopped 1
@@ -116,21 +121,22 @@ Longest(0) 1 of 1
 Begin Before After(Commit) .
 Completed 6
 ",
-            partitions: "0 1 1 0 0 1 1 1 1 0 0 0 0 0 0 done xa
+        partitions: "0 1 1 0 0 1 1 1 1 0 0 0 0 0 0 done xa
 1 2 2 1 0 1 1 1 1 0 0 0 0 0 0 done xb
 2 2 2 2 0 0 0 0 0 0 0 0 0 0 0 done
 2 2 2 2 0 0 0 0 0 0 0 0 0 0 0 done
 ",
+    },
+    Journey {
+        records: "a!bcd!/ef/",
+        again: "abcd/ef/",
+        asked: Asked {
+            rules: ONE_SKIP,
+            ..PLAIN
         },
-        3 => Journey {
-            records: "a!bcd!/ef/",
-            again: "abcd/ef/",
-            asked: Asked {
-                rules: ONE_SKIP,
-                ..PLAIN
-            },
-            earlier: None,
-            courses: "[0, 1]
+        earlier: None,
+        legs: &[(2, None), (2, None)],
+        courses: "[0, 1]
 Longest(0) 2 of 2
 0:2:1 1:6:2 1:6:2:end 1 Completed 0 Failed .
 Begin Rollback After(Rollback) .
@@ -141,16 +147,17 @@ Longest(0) 1 of 1
 Begin Before After(Commit) .
 Completed 4
 ",
-            partitions: "0 4 4 0 0 3 4 3 2 1 0 1 0 0 0 done xb xc xd
+        partitions: "0 4 4 0 0 3 4 3 2 1 0 1 0 0 0 done xb xc xd
 4 6 6 4 0 2 2 2 1 0 0 0 0 0 0 done xe xf
 ",
-        },
-        4 => Journey {
-            records: "a/b/c/",
-            again: "abc/",
-            asked: PLAIN,
-            earlier: None,
-            courses: "[0, 1, 2]
+    },
+    Journey {
+        records: "a/b/c/",
+        again: "abc/",
+        asked: PLAIN,
+        earlier: None,
+        legs: &[(2, Some(0)), (0, None)],
+        courses: "[0, 1, 2]
 0 Stopped 1 Stopped 2 Stopped .
 Begin Rollback After(Rollback) .
 Stopped 1
@@ -160,17 +167,18 @@ FullLoad 3 of 3
 Begin Before After(Commit) .
 Completed 10
 ",
-            partitions: "0 1 1 0 0 1 1 1 1 0 0 0 0 0 0 done xa
+        partitions: "0 1 1 0 0 1 1 1 1 0 0 0 0 0 0 done xa
 1 2 2 1 0 1 1 1 1 0 0 0 0 0 0 done xb
 2 3 3 2 0 1 1 1 1 0 0 0 0 0 0 done xc
 ",
-        },
-        5 => Journey {
-            records: "ab/c~d/",
-            again: "ab/cd/",
-            asked: PLAIN,
-            earlier: None,
-            courses: "[0, 1]
+    },
+    Journey {
+        records: "ab/c~d/",
+        again: "ab/cd/",
+        asked: PLAIN,
+        earlier: None,
+        legs: &[(2, None), (2, None)],
+        courses: "[0, 1]
 Memory 6 1
 .
 Begin Rollback After(Rollback) .
@@ -182,23 +190,24 @@ Longest(1) 1 of 1
 Begin Before After(Commit) .
 Completed 4
 ",
-            partitions: "0 2 2 0 0 2 2 2 1 0 0 0 0 0 0 done xa xb
+        partitions: "0 2 2 0 0 2 2 2 1 0 0 0 0 0 0 done xa xb
 2 4 4 2 0 2 2 2 1 0 0 0 0 0 0 done xc xd
 ",
+    },
+    Journey {
+        earlier: Some(EARLIER_ROUND),
+        ..STOPPED_ONCE
+    },
+    Journey {
+        records: "a?b*/",
+        again: "a?b*/",
+        asked: Asked {
+            rules: FIRST_REPEATED,
+            ..PLAIN
         },
-        6 => Journey {
-            earlier: Some(EARLIER[0]),
-            ..STOPPED_ONCE
-        },
-        7 => Journey {
-            records: "a?b*/",
-            again: "a?b*/",
-            asked: Asked {
-                rules: FIRST_REPEATED,
-                ..PLAIN
-            },
-            earlier: Some(EARLIER[1]),
-            courses: "[0]
+        earlier: Some(EARLIER_ROLLBACK),
+        legs: &[(1, Some(1)), (1, Some(1)), (1, None)],
+        courses: "[0]
 Longest(0) 1 of 1
 0 Stopped .
 Begin Rollback After(Rollback) .
@@ -214,25 +223,10 @@ Longest(0) 1 of 1
 Begin Before After(Commit) .
 Completed 4
 ",
-            partitions: "0 2 2 2 2 2 2 2 2 1 0 0 0 0 1 done xa xb
+        partitions: "0 2 2 2 2 2 2 2 2 1 0 0 0 0 1 done xa xb
 ",
-        },
-        _ => return None,
-    })
-}
-
-/// The threads that the plan of a journey's run asks for, and its greatest number of rounds.
-fn leg_at(journey: u64, run: u64) -> Option<(u32, Option<u64>)> {
-    Some(match (journey, run) {
-        (0 | 6, 0) => (2, Some(1)),
-        (1, 0..=3) | (7, 0..=1) => (1, Some(1)),
-        (2 | 4, 0) => (2, Some(0)),
-        (3 | 5, 0) | (0 | 2 | 3 | 5 | 6, 1) => (2, None),
-        (4, 1) => (0, None),
-        (7, 2) => (1, None),
-        _ => return None,
-    })
-}
+    },
+];
 
 /// What a run leaves: the rows, as they were saved and read again, and the artifacts of the partitions, each with its number.
 #[derive(Drop)]
@@ -516,16 +510,13 @@ pub(crate) fn add_answer(
 fn travelled<R: Threads + Wait + Sync>(
     rt: &R,
     alloc: Global,
-    number: u64,
     journey: &Journey,
 ) -> Result<(String, String), Fail> {
     let mut between = Between::first(alloc, journey.records)?;
     let mut courses = String::new(alloc);
-    for run in 0..4 {
-        if let Some(leg) = leg_at(number, run) {
-            let course = course_of_leg(rt, alloc, journey, run, leg, &mut between)?;
-            courses.push_str(course.as_str())?;
-        }
+    for (run, leg) in journey.legs.iter().enumerate() {
+        let course = course_of_leg(rt, alloc, journey, run, *leg, &mut between)?;
+        courses.push_str(course.as_str())?;
     }
     Ok((courses, between.partitions(alloc)?))
 }
@@ -535,7 +526,7 @@ fn course_of_leg<R: Threads + Wait + Sync>(
     rt: &R,
     alloc: Global,
     journey: &Journey,
-    run: u64,
+    run: usize,
     (threads, rounds): (u32, Option<u64>),
     between: &mut Between,
 ) -> Result<String, Fail> {
@@ -558,11 +549,8 @@ fn course_of_leg<R: Threads + Wait + Sync>(
 
 #[test]
 fn restarts(rt: HostRuntime) -> Result<(), Fail> {
-    for number in 0..8 {
-        let Some(journey) = journey_at(number) else {
-            return Err(Fail::from("a journey"));
-        };
-        let (courses, partitions) = travelled(&rt, rt.alloc(), number, &journey)?;
+    for journey in &JOURNEYS {
+        let (courses, partitions) = travelled(&rt, rt.alloc(), journey)?;
         assert_text(&rt, courses.as_str(), journey.courses);
         assert_text(&rt, partitions.as_str(), journey.partitions);
     }
@@ -626,11 +614,8 @@ fn is_unchanged<R: Threads + Wait + Sync>(
 
 #[test]
 fn stops_change_nothing(rt: HostRuntime) -> Result<(), Fail> {
-    for number in 0..20 {
-        let Some(case) = case_at(number) else {
-            return Err(Fail::from("a case"));
-        };
-        assert!(rt; is_unchanged(&rt, rt.alloc(), &case)?, "case {number}");
+    for case in &CASES {
+        assert!(rt; is_unchanged(&rt, rt.alloc(), case)?, "{}", case.records);
     }
     Ok(())
 }

@@ -85,216 +85,216 @@ pub(crate) const SEVEN: &str = "0 3 3 0 0 3 3 3 2 0 0 0 0 0 0 done xa xb xc
 5 7 7 5 0 2 2 2 1 0 0 0 0 0 0 done xf xg
 ";
 
-pub(crate) fn case_at(number: u64) -> Option<Case> {
-    Some(match number {
-        0 => Case {
-            records: "abc/de/fg/",
-            asked: PLAIN,
-            course: "Longest(0) 2 of 2
+/// The worked rows.
+pub(crate) const CASES: [Case; 20] = [
+    Case {
+        records: "abc/de/fg/",
+        asked: PLAIN,
+        course: "Longest(0) 2 of 2
 0:2:2 1:5:2 1:5:2:end 1 Completed 0:3:3 0:3:3:end 0 Completed 2:7:2 2:7:2:end 2 Completed .
 Begin Before After(Commit) .
 Completed 11
 ",
-            partitions: SEVEN,
+        partitions: SEVEN,
+    },
+    Case {
+        records: "abc/de/fg/",
+        asked: Asked {
+            threads: 1,
+            ..PLAIN
         },
-        1 => Case {
-            records: "abc/de/fg/",
-            asked: Asked {
-                threads: 1,
-                ..PLAIN
-            },
-            course: "FullLoad 4 of 4
+        course: "FullLoad 4 of 4
 0:2:2 0:3:3 0:3:3:end 0 Completed 1:5:2 1:5:2:end 1 Completed 2:7:2 2:7:2:end 2 Completed .
 Begin Before After(Commit) .
 Completed 13
 ",
-            partitions: SEVEN,
+        partitions: SEVEN,
+    },
+    Case {
+        records: "abc/de/fg/",
+        asked: Asked {
+            analyzer: Some(1),
+            ..PLAIN
         },
-        2 => Case {
-            records: "abc/de/fg/",
-            asked: Asked {
-                analyzer: Some(1),
-                ..PLAIN
-            },
-            course: "Longest(0) 2 of 2
+        course: "Longest(0) 2 of 2
 0:2:2 1:5:2 .
 Begin Rollback After(Rollback) .
 Failed 11
 ",
-            partitions: SEVEN,
+        partitions: SEVEN,
+    },
+    Case {
+        records: "ab/c/",
+        asked: Asked {
+            threads: 1,
+            ..PLAIN
         },
-        3 => Case {
-            records: "ab/c/",
-            asked: Asked {
-                threads: 1,
-                ..PLAIN
-            },
-            course: "FullLoad 2 of 2
+        course: "FullLoad 2 of 2
 0:2:2 0:2:2:end 0 Completed 1:3:1 1:3:1:end 1 Completed .
 Begin Before After(Commit) .
 Completed 7
 ",
-            partitions: "0 2 2 0 0 2 2 2 1 0 0 0 0 0 0 done xa xb
+        partitions: "0 2 2 0 0 2 2 2 1 0 0 0 0 0 0 done xa xb
 2 3 3 2 0 1 1 1 1 0 0 0 0 0 0 done xc
 ",
-        },
-        4 => Case {
-            records: "/",
-            asked: PLAIN,
-            course: "0 Completed .
+    },
+    Case {
+        records: "/",
+        asked: PLAIN,
+        course: "0 Completed .
 Begin Before After(Commit) .
 Completed 0
 ",
-            partitions: "0 0 0 0 0 0 0 0 0 0 0 0 0 0 0 done
+        partitions: "0 0 0 0 0 0 0 0 0 0 0 0 0 0 0 done
 ",
-        },
-        5 => Case {
-            records: "a/b///",
-            asked: PLAIN,
-            course: "Longest(0) 1 of 1
+    },
+    Case {
+        records: "a/b///",
+        asked: PLAIN,
+        course: "Longest(0) 1 of 1
 2 Completed 3 Completed 0:1:1 0:1:1:end 0 Completed 1:2:1 1:2:1:end 1 Completed .
 Begin Before After(Commit) .
 Completed 6
 ",
-            partitions: "0 1 1 0 0 1 1 1 1 0 0 0 0 0 0 done xa
+        partitions: "0 1 1 0 0 1 1 1 1 0 0 0 0 0 0 done xa
 1 2 2 1 0 1 1 1 1 0 0 0 0 0 0 done xb
 2 2 2 2 0 0 0 0 0 0 0 0 0 0 0 done
 2 2 2 2 0 0 0 0 0 0 0 0 0 0 0 done
 ",
+    },
+    Case {
+        records: "a!bcd!/ef/",
+        asked: Asked {
+            rules: ONE_SKIP,
+            ..PLAIN
         },
-        6 => Case {
-            records: "a!bcd!/ef/",
-            asked: Asked {
-                rules: ONE_SKIP,
-                ..PLAIN
-            },
-            course: "Longest(0) 2 of 2
+        course: "Longest(0) 2 of 2
 0:2:1 1:6:2 1:6:2:end 1 Completed 0 Failed .
 Begin Rollback After(Rollback) .
 Failed 9
 ",
-            partitions: "0 4 2 0 0 1 2 1 1 1 0 1 0 0 0 failed xb
+        partitions: "0 4 2 0 0 1 2 1 1 1 0 1 0 0 0 failed xb
 4 6 6 4 0 2 2 2 1 0 0 0 0 0 0 done xe xf
 ",
-        },
-        7 => Case {
-            records: "abc?d/",
-            asked: Asked {
-                item_count: 4,
-                rules: Rules {
-                    retryable: 2,
-                    ..STRICT
-                },
-                ..PLAIN
+    },
+    Case {
+        records: "abc?d/",
+        asked: Asked {
+            item_count: 4,
+            rules: Rules {
+                retryable: 2,
+                ..STRICT
             },
-            course: "Longest(0) 1 of 1
+            ..PLAIN
+        },
+        course: "Longest(0) 1 of 1
 Longest(0) 4 of 4
 0:1:1 0:2:2 0:3:3 0:4:4 0:4:4:end 0 Completed .
 Begin Before After(Commit) .
 Completed 17
 ",
-            partitions: "0 4 4 4 1 4 4 4 4 1 0 0 0 0 0 done xa xb xc xd
+        partitions: "0 4 4 4 1 4 4 4 4 1 0 0 0 0 0 done xa xb xc xd
 ",
-        },
-        8 => Case {
-            records: "ab!cd/",
-            asked: Asked {
-                rules: Rules {
-                    retryable: 1,
-                    ..ONE_SKIP
-                },
-                ..PLAIN
+    },
+    Case {
+        records: "ab!cd/",
+        asked: Asked {
+            rules: Rules {
+                retryable: 1,
+                ..ONE_SKIP
             },
-            course: "Longest(0) 1 of 2
+            ..PLAIN
+        },
+        course: "Longest(0) 1 of 2
 Longest(0) 3 of 3
 0:1:1 0:2:1 0:4:3 0:4:3:end 0 Completed .
 Begin Before After(Commit) .
 Completed 14
 ",
-            partitions: "0 4 4 2 1 3 4 3 3 1 0 1 0 0 0 done xa xc xd
+        partitions: "0 4 4 2 1 3 4 3 3 1 0 1 0 0 0 done xa xc xd
 ",
-        },
-        9 => Case {
-            records: "a!/",
-            asked: Asked {
-                item_count: 1,
-                rules: Rules {
-                    retryable: 1,
-                    ..STRICT
-                },
-                ..PLAIN
+    },
+    Case {
+        records: "a!/",
+        asked: Asked {
+            item_count: 1,
+            rules: Rules {
+                retryable: 1,
+                ..STRICT
             },
-            course: "Longest(0) 1 of 1
+            ..PLAIN
+        },
+        course: "Longest(0) 1 of 1
 Longest(0) 1 of 1
 Longest(0) 1 of 1
 0 Failed .
 Begin Rollback After(Rollback) .
 Failed 12
 ",
-            partitions: "0 1 0 1 2 0 0 0 0 3 0 0 0 0 0 failed
+        partitions: "0 1 0 1 2 0 0 0 0 3 0 0 0 0 0 failed
 ",
-        },
-        10 => Case {
-            records: "a<b?c/",
-            asked: Asked {
-                rules: Rules {
-                    retryable: 2,
-                    ..ONE_SKIP
-                },
-                ..PLAIN
+    },
+    Case {
+        records: "a<b?c/",
+        asked: Asked {
+            rules: Rules {
+                retryable: 2,
+                ..ONE_SKIP
             },
-            course: "Longest(0) 1 of 2
+            ..PLAIN
+        },
+        course: "Longest(0) 1 of 2
 Longest(0) 3 of 3
 0:1:0 0:2:1 0:3:2 0:3:2:end 0 Completed .
 Begin Before After(Commit) .
 Completed 14
 ",
-            partitions: "0 3 3 2 1 2 2 2 3 1 1 0 0 0 0 done xb xc
+        partitions: "0 3 3 2 1 2 2 2 3 1 1 0 0 0 0 done xb xc
 ",
+    },
+    Case {
+        records: "ab>c/",
+        asked: Asked {
+            item_count: 3,
+            rules: ONE_SKIP,
+            ..PLAIN
         },
-        11 => Case {
-            records: "ab>c/",
-            asked: Asked {
-                item_count: 3,
-                rules: ONE_SKIP,
-                ..PLAIN
-            },
-            course: "Longest(0) 1 of 1
+        course: "Longest(0) 1 of 1
 0:3:0 0:3:0:end 0 Completed .
 Begin Before After(Commit) .
 Completed 4
 ",
-            partitions: "0 3 3 0 0 0 3 0 1 0 0 0 0 1 0 done
+        partitions: "0 3 3 0 0 0 3 0 1 0 0 0 0 1 0 done
 ",
-        },
-        12 => Case {
-            records: "a<bc/",
-            asked: Asked {
-                rules: Rules {
-                    skippable: 1,
-                    ..STRICT
-                },
-                ..PLAIN
+    },
+    Case {
+        records: "a<bc/",
+        asked: Asked {
+            rules: Rules {
+                skippable: 1,
+                ..STRICT
             },
-            course: "Longest(0) 2 of 2
+            ..PLAIN
+        },
+        course: "Longest(0) 2 of 2
 0:2:1 0:3:2 0:3:2:end 0 Completed .
 Begin Before After(Commit) .
 Completed 7
 ",
-            partitions: "0 3 3 0 0 2 2 2 2 0 1 0 0 0 0 done xb xc
+        partitions: "0 3 3 0 0 2 2 2 2 0 1 0 0 0 0 done xb xc
 ",
-        },
-        13 => Case {
-            records: "a<b!c>d-e?/f(ghi)/jk/",
-            asked: Asked {
-                rules: Rules {
-                    retryable: 2,
-                    skip_limit: Some(3),
-                    ..ONE_SKIP
-                },
-                ..PLAIN
+    },
+    Case {
+        records: "a<b!c>d-e?/f(ghi)/jk/",
+        asked: Asked {
+            rules: Rules {
+                retryable: 2,
+                skip_limit: Some(3),
+                ..ONE_SKIP
             },
-            course: "Longest(0) 1 of 3
+            ..PLAIN
+        },
+        course: "Longest(0) 1 of 3
 Longest(1) 2 of 3
 Longest(0) 1 of 2
 Longest(1) 2 of 2
@@ -302,113 +302,116 @@ Longest(1) 2 of 2
 Begin Before After(Commit) .
 Completed 34
 ",
-            partitions: "0 6 6 6 1 1 5 1 4 1 1 1 1 1 0 done xe
+        partitions: "0 6 6 6 1 1 5 1 4 1 1 1 1 1 0 done xe
 6 10 10 10 2 4 4 4 4 2 0 0 0 0 0 done xf xg xh xi
 10 12 12 10 0 2 2 2 1 0 0 0 0 0 0 done xj xk
 ",
+    },
+    Case {
+        records: "abc?d/",
+        asked: Asked {
+            item_count: 4,
+            rules: REPEATED,
+            ..PLAIN
         },
-        14 => Case {
-            records: "abc?d/",
-            asked: Asked {
-                item_count: 4,
-                rules: REPEATED,
-                ..PLAIN
-            },
-            course: "Longest(0) 1 of 1
+        course: "Longest(0) 1 of 1
 0:4:4 0:4:4:end 0 Completed .
 Begin Before After(Commit) .
 Completed 4
 ",
-            partitions: "0 4 4 0 1 4 4 4 1 0 0 0 0 0 1 done xa xb xc xd
+        partitions: "0 4 4 0 1 4 4 4 1 0 0 0 0 0 1 done xa xb xc xd
 ",
-        },
-        15 => Case {
-            records: "a!/",
-            asked: Asked {
-                item_count: 1,
-                rules: Rules {
-                    retryable: 1,
-                    no_rollback: 1,
-                    ..STRICT
-                },
-                ..PLAIN
+    },
+    Case {
+        records: "a!/",
+        asked: Asked {
+            item_count: 1,
+            rules: Rules {
+                retryable: 1,
+                no_rollback: 1,
+                ..STRICT
             },
-            course: "Longest(0) 1 of 1
+            ..PLAIN
+        },
+        course: "Longest(0) 1 of 1
 0 Failed .
 Begin Rollback After(Rollback) .
 Failed 4
 ",
-            partitions: "0 1 0 0 2 0 0 0 0 1 0 0 0 0 2 failed
+        partitions: "0 1 0 0 2 0 0 0 0 1 0 0 0 0 2 failed
 ",
+    },
+    Case {
+        records: "ab)c/",
+        asked: Asked {
+            item_count: 3,
+            rules: REPEATED,
+            ..PLAIN
         },
-        16 => Case {
-            records: "ab)c/",
-            asked: Asked {
-                item_count: 3,
-                rules: REPEATED,
-                ..PLAIN
-            },
-            course: "Longest(0) 1 of 1
+        course: "Longest(0) 1 of 1
 0:3:3 0:3:3:end 0 Completed .
 Begin Before After(Commit) .
 Completed 4
 ",
-            partitions: "0 3 3 0 1 3 3 3 1 0 0 0 0 0 1 done xa xb xc
+        partitions: "0 3 3 0 1 3 3 3 1 0 0 0 0 0 1 done xa xb xc
 ",
+    },
+    Case {
+        records: "a*b?/",
+        asked: Asked {
+            rules: FIRST_REPEATED,
+            ..PLAIN
         },
-        17 => Case {
-            records: "a*b?/",
-            asked: Asked {
-                rules: FIRST_REPEATED,
-                ..PLAIN
-            },
-            course: "Longest(0) 1 of 1
+        course: "Longest(0) 1 of 1
 Longest(0) 2 of 2
 0:1:1 0:2:2 0:2:2:end 0 Completed .
 Begin Before After(Commit) .
 Completed 11
 ",
-            partitions: "0 2 2 2 2 2 2 2 2 1 0 0 0 0 1 done xa xb
+        partitions: "0 2 2 2 2 2 2 2 2 1 0 0 0 0 1 done xa xb
 ",
-        },
-        18 => Case {
-            records: "a?b!c*/",
-            asked: Asked {
-                item_count: 3,
-                rules: Rules {
-                    skippable: 1,
-                    skip_limit: Some(1),
-                    ..FIRST_REPEATED
-                },
-                ..PLAIN
+    },
+    Case {
+        records: "a?b!c*/",
+        asked: Asked {
+            item_count: 3,
+            rules: Rules {
+                skippable: 1,
+                skip_limit: Some(1),
+                ..FIRST_REPEATED
             },
-            course: "Longest(0) 1 of 1
+            ..PLAIN
+        },
+        course: "Longest(0) 1 of 1
 Longest(0) 3 of 3
 0:1:1 0:2:1 0:3:2 0:3:2:end 0 Completed .
 Begin Before After(Commit) .
 Completed 14
 ",
-            partitions: "0 3 3 3 2 2 3 2 3 1 0 1 0 0 1 done xa xc
+        partitions: "0 3 3 3 2 2 3 2 3 1 0 1 0 0 1 done xa xc
 ",
+    },
+    Case {
+        records: "a(b?c)/d(e?f/",
+        asked: Asked {
+            item_count: 3,
+            rules: REPEATED,
+            ..PLAIN
         },
-        19 => Case {
-            records: "a(b?c)/d(e?f/",
-            asked: Asked {
-                item_count: 3,
-                rules: REPEATED,
-                ..PLAIN
-            },
-            course: "Longest(0) 1 of 1
+        course: "Longest(0) 1 of 1
 0 Failed 1:6:3 1:6:3:end 1 Completed .
 Begin Rollback After(Rollback) .
 Failed 6
 ",
-            partitions: "0 3 0 0 2 0 0 0 0 1 0 0 0 0 2 failed
+        partitions: "0 3 0 0 2 0 0 0 0 1 0 0 0 0 2 failed
 3 6 6 3 2 3 3 3 1 0 0 0 0 0 2 done xd xe xf
 ",
-        },
-        _ => return None,
-    })
+    },
+];
+
+/// The worked row of this number.
+pub(crate) fn case_at(number: usize) -> Option<Case> {
+    CASES.get(number).copied()
 }
 
 /// Adds a line that tells how a partition stands: its row's numbers, its state and its outputs.
@@ -607,12 +610,9 @@ fn runs<R: Threads + Wait + Abort + Sync>(rt: &R, alloc: Global, case: &Case) ->
 
 #[test]
 fn steps(rt: HostRuntime) -> Result<(), Fail> {
-    for number in 0..20 {
-        let Some(case) = case_at(number) else {
-            return Err(Fail::from("a case"));
-        };
-        assert_text(&rt, alone(rt.alloc(), &case)?.as_str(), case.partitions);
-        runs(&rt, rt.alloc(), &case)?;
+    for case in &CASES {
+        assert_text(&rt, alone(rt.alloc(), case)?.as_str(), case.partitions);
+        runs(&rt, rt.alloc(), case)?;
     }
     Ok(())
 }

@@ -1,6 +1,6 @@
 //! A user's own reader, processor, writer and collector, none of them a ready one, run alone.
 
-ghost use Rattle.std.specs.Prelude.{◌≡◌, ◌≤◌, ◌++◌, ◌∷◌, [], map, vec_len, Some, codes};
+ghost use Rattle.std.specs.Prelude.{◌≤◌, ◌++◌, ◌∷◌, [], map, vec_len, Some, codes};
 ghost use Rattle.jb_artifacts.specs.declared.faults.FaultPlan.TheVariants.{Sound};
 ghost use Rattle.jb_artifacts.specs.Writer.{Writer, Appends};
 

@@ -1,6 +1,6 @@
 //! The reports of a job's steps, one after another.
 
-ghost use Rattle.std.specs.Prelude.{◌≡◌, ◌++◌, map, [], string_bytes, IfOk, OnOk};
+ghost use Rattle.std.specs.Prelude.{◌≡◌, ◌++◌, map, [], IfOk, OnOk};
 ghost use Rattle.std.specs.Str.Lossy.{utf8_lossy};
 ghost use Rattle.jb_saved.specs.SavedTree.{tokens_of};
 ghost use Rattle.jb_texts.specs.Report.{texts_tree};

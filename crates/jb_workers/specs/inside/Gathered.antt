@@ -1,5 +1,6 @@
 -- Gathering what came of the works of a round, report by report.
-use Rattle.std.specs.Prelude.{◌≡◌, ℕ, nat_lt, if◌then◌else◌, List, [], ◌∷◌, Ok, Option, Some, None}
+use Rattle.std.specs.Prelude.{◌≡◌, ℕ, nat_lt, if◌then◌else◌, List, Ok, Option, Some, None}
+use Rattle.jb_base.specs.Pairwise.{Pairwise}
 use Rattle.jb_chunk.specs.declared.outcome.Done.{Done}
 use Rattle.jb_workers.specs.declared.round.error.RoundError.{RoundError}
 use Rattle.jb_workers.specs.declared.round.report.Report.{Report}
@@ -7,10 +8,7 @@ use Rattle.jb_workers.specs.Round.{AllAreDone, IsLowestRefusal}
 
 -- each report is of the attempt at its place
 abbrev pub AreAllDone : {T : Type 0} → List (Report T) → List (Done T) → Type 0
-AreAllDone [] [] = Unit {0}
-AreAllDone (report ∷ reports) (done ∷ dones) = (report.done ≡ Ok done) × AreAllDone reports dones
-AreAllDone [] (done ∷ dones) = ⊥
-AreAllDone (report ∷ reports) [] = ⊥
+AreAllDone = Pairwise (λ report done. report.done ≡ Ok done)
 
 -- the refusal of the lower lane: the one found so far, or the lane's
 abbrev pub lower : Option (ℕ × RoundError) → ℕ → RoundError → Option (ℕ × RoundError)

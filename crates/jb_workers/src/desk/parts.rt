@@ -24,7 +24,7 @@ impl<L: Ledger> Parts<L> {
 
     /// So many of the parts, where there are as many.
     pub(crate) fn take(&mut self, number: u64) -> Option<Parts<L>>
-        ensures taken { IfSome result (λ parts. (parts.number ≡ number) × (self.new.number + number ≡ self.old.number)) }
+        ensures parts { IfSome result (λ parts. (parts.number ≡ number) × (self.new.number + number ≡ self.old.number)) }
         ensures few { IfNone result (self.old.number < number) }
     {
         if number > self.number {
@@ -34,16 +34,16 @@ impl<L: Ledger> Parts<L> {
             return Some(self.take_all());
         }
         let Parts { number: all, share } = self;
-        let taken = share.split_off(number, 0);
+        let part = share.split_off(number, 0);
         *all -= number;
         Some(Parts {
             number,
-            share: taken,
+            share: part,
         })
     }
 
     fn take_all(&mut self) -> Parts<L>
-        ensures taken { result.number ≡ self.old.number }
+        ensures all { result.number ≡ self.old.number }
         ensures none { self.new.number ≡ 0 }
     {
         let none = self.share.empty();

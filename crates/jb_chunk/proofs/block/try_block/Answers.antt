@@ -1,11 +1,8 @@
-use Rattle.std.proofs.Common.{ℕ, Result, Ok, Err, IfOk, OnErr, length, ap, sym, ◌∙◌, subst, arith}
+use Rattle.std.proofs.Common.{Result, Ok, Err, IfOk, OnErr, length, ap, sym, ◌∙◌, subst, arith}
 use Rattle.jb_base.specs.declared.range.Range.{Range}
-use Rattle.jb_artifacts.specs.Meaning.{ArtifactsMeaning}
-use Rattle.jb_rules.specs.declared.row.Row.{Row}
-use Rattle.jb_base.specs.Rules.{RulesRecord}
 use Rattle.jb_chunk.specs.inside.Repeats.{IsFinishAfter}
-use Rattle.jb_chunk.specs.Standing.{TaskState}
 use Rattle.jb_chunk.specs.inside.Gathering.{yield_of}
+use Rattle.jb_chunk.specs.inside.TriedChunk.{task_at}
 use Rattle.jb_chunk.proofs.TriedChunk.{tally-records}
 use Rattle.jb_chunk.proofs.WriteRepeats.{stopped-tried, finished-tried, settled-within, whole-within, whole-tally, whole-torn}
 use Rattle.jb_chunk.proofs.block.try_block.Goals as goal
@@ -17,9 +14,6 @@ if_ok-map (Err e) f p = tt
 on_err-map : {T E : Type 0} {P Q : Type 0} (r : Result T E) → (P → Q) → OnErr r P → OnErr r Q
 on_err-map (Ok v) f p = tt
 on_err-map (Err e) f p = f p
-
-abbrev task_at : (partition : ℕ) → Row → RulesRecord → (item_count : ℕ) → ArtifactsMeaning → TaskState
-task_at partition row rules item_count work = record { partition = partition; row = row; rules = rules; item_count = item_count; work = work }
 
 pub finish_block-requires-clause-few : goal.finish_block-requires-clause-few
 finish_block-requires-clause-few g c =

@@ -1,16 +1,10 @@
-use Rattle.std.proofs.Common.{ℕ, ap, arith}
-use Rattle.jb_base.specs.Rules.{RulesRecord}
+use Rattle.std.proofs.Common.{ap, arith}
 use Rattle.jb_base.specs.declared.range.Range.{Range}
-use Rattle.jb_rules.specs.declared.row.Row.{Row}
-use Rattle.jb_artifacts.specs.Meaning.{ArtifactsMeaning}
-use Rattle.jb_chunk.specs.Standing.{TaskState}
 use Rattle.jb_chunk.specs.inside.Gathering.{yield_of}
+use Rattle.jb_chunk.specs.inside.TriedChunk.{task_at}
 use Rattle.jb_chunk.proofs.RecordCounts.{tally-none, one_if-le}
 use Rattle.jb_chunk.proofs.DoneRecords.{gathering-none, gathering-more, gathering-settled, gathering-whole, gathering-torn, gathering-stands}
 use Rattle.jb_chunk.proofs.gather.gather.Goals as goal
-
-abbrev task_at : (partition : ℕ) → Row → RulesRecord → (item_count : ℕ) → ArtifactsMeaning → TaskState
-task_at partition row rules item_count work = record { partition = partition; row = row; rules = rules; item_count = item_count; work = work }
 
 pub loop-number-init : goal.loop-number-init
 loop-number-init g c =

@@ -5,8 +5,9 @@ use Rattle.json.specs.Print.{print}
 use Rattle.serde_json.specs.Read.{read}
 use Rattle.serde_json.proofs.Texts.{print-outline}
 use Rattle.jb_job.specs.Reading.{tree_of}
+use Rattle.jb_job.proofs.Texts.{tree_of-read}
 use Rattle.jb_saved.specs.SavedTree.{saved_tree, tokens_of}
-use Rattle.jb_saved.proofs.TextRead.{text-read, tree_of_read}
+use Rattle.jb_saved.proofs.TextRead.{text-read}
 use Rattle.jb_saved.proofs.text.saved_text.Goals as goal
 
 pub returns-clause-text : goal.returns-clause-text
@@ -25,5 +26,5 @@ returns-clause-reads_back c =
     let printed : c.into_inner.result.items ≡ print out.tokens = c.into_inner.ensures.items ∙ ap (λ b. b ++ print out.tokens) before in
     let bytes = printed ∙ ap print tokens ∙ print-outline (saved_tree c.args.saved.now) in
     let utf8 = subst IsUtf8 (sym printed) c.into_inner.ensures.utf8 in
-    let back = tree_of_read c.into_inner.result.items (saved_tree c.args.saved.now) utf8 (ap read bytes ∙ text-read c.args.saved.now c.rows.ensures.kept) in
+    let back = tree_of-read c.into_inner.result.items (saved_tree c.args.saved.now) utf8 (ap read bytes ∙ text-read c.args.saved.now c.rows.ensures.kept) in
     IfOk-weaker c.text_of.result _ _ (λ s is. ap tree_of is ∙ back) c.text_of.ensures

@@ -1,8 +1,9 @@
-use Rattle.std.proofs.Common.{◌≡◌, ℕ, zero, suc, ◌&&◌, nat_lt, Bool, true, false, List, [], ◌∷◌, ◌++◌, codes, refl, ap, ◌∙◌, arith}
+use Rattle.std.proofs.Common.{◌≡◌, ℕ, zero, suc, nat_lt, true, List, [], ◌∷◌, ◌++◌, codes, refl, ap, ◌∙◌, arith}
 use Rattle.std.specs.List.{list_all}
 use Rattle.std.specs.Fmt.{digits}
 use Rattle.std.specs.Str.{IsAscii}
 use Rattle.std.specs.Str.Lossy.{utf8_lossy}
+use Rattle.std.proofs.lemmas.Bool.{and_parts}
 use Rattle.std.proofs.lemmas.Bool.Decides.{nat_tests}
 use Rattle.std.proofs.lemmas.Str.{IsUtf8-from_ascii, utf8_lossy-IsUtf8}
 use Rattle.json.specs.Print.{print_from, escape_byte}
@@ -20,14 +21,10 @@ use Rattle.jb_texts.specs.Report.{PartitionReport, heard_tree, outputs_tree, pla
 use Rattle.jb_texts.specs.Worked.{finished_row, seven_records, seven_records_text}
 use Rattle.jb_tests.proofs.texts.worked_report.Goals as goal
 
-both : (a b : Bool) → (a && b) ≡ true → (a ≡ true) × (b ≡ true)
-both true b h = (refl, h)
-both false b h = absurd (cc h)
-
 ascii : (bytes : List ℕ) → list_all (λ b. nat_lt b 128) bytes ≡ true → IsAscii bytes
 ascii [] small i = omega arith
-ascii (b ∷ bytes) small zero = let first = (both (nat_lt b 128) (list_all (λ c. nat_lt c 128) bytes) small).0 in grind (arith, nat_tests, first)
-ascii (b ∷ bytes) small (suc i) = ascii bytes (both (nat_lt b 128) (list_all (λ c. nat_lt c 128) bytes) small).1 i
+ascii (b ∷ bytes) small zero = let first = (and_parts (nat_lt b 128) (list_all (λ c. nat_lt c 128) bytes) small).0 in grind (arith, nat_tests, first)
+ascii (b ∷ bytes) small (suc i) = ascii bytes (and_parts (nat_lt b 128) (list_all (λ c. nat_lt c 128) bytes) small).1 i
 
 -- what is ASCII stands for itself
 same : (bytes : List ℕ) → list_all (λ b. nat_lt b 128) bytes ≡ true → utf8_lossy bytes ≡ bytes

@@ -1,6 +1,6 @@
 use Rattle.std.proofs.Common.{take, drop, arith, sym}
 use Rattle.std.proofs.lemmas.List.{take-append-drop}
-use Rattle.jb_texts.proofs.Writing.{appends-both}
+use Rattle.std.proofs.KnownBytes.{Appends-trans}
 use Rattle.jb_texts.proofs.Fronts.{all-from, front-kept, on-err, take-then}
 use Rattle.jb_texts.proofs.whole.write_bytes.Goals as goal
 
@@ -17,7 +17,7 @@ loop-preserved g c =
     let n = c.in_ok-written.field-0 in
     record {
       within = grind (arith, c.in_ok-written.ensures.bound);
-      taken = rw (sym (take-then w n bytes)) (appends-both _ _ _ (take w bytes) (take n (drop w bytes)) c.loop.invariant.taken (rw (all-from w bytes) at c.in_ok-written.ensures.bytes));
+      taken = rw (sym (take-then w n bytes)) (Appends-trans _ _ _ (take w bytes) (take n (drop w bytes)) c.loop.invariant.taken (rw (all-from w bytes) at c.in_ok-written.ensures.bytes));
     }
 
 pub returns-clause-front : goal.returns-clause-front

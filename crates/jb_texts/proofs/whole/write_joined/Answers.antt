@@ -2,9 +2,9 @@ use Rattle.std.proofs.Common.{map, take, ap, sym, subst, ◌∙◌, append-nil, 
 use Rattle.std.specs.List.{concat}
 use Rattle.std.specs.Io.KnownBytes.{Appends}
 use Rattle.std.proofs.lemmas.List.{take_all}
+use Rattle.std.proofs.KnownBytes.{Appends-trans}
 use Rattle.jb_texts.proofs.Fronts.{front-after, front-kept, on-err}
 use Rattle.jb_texts.proofs.Joined.{joined-at, joined-more}
-use Rattle.jb_texts.proofs.Writing.{appends-both}
 use Rattle.jb_texts.proofs.whole.write_joined.Goals as goal
 
 pub returns-in_err-write_bytes-clause-front : goal.returns-in_err-write_bytes-clause-front
@@ -17,7 +17,7 @@ loop-text-preserved g c =
     let k = c.loop-text.text-index in
     subst (λ written. Appends (g.W.Write.contents c.args.writer.now) (g.W.Write.contents c.write_bytes.new.writer) written)
     (sym (ap (λ n. concat (map (λ t. t.now) (take n texts))) (add-one k) ∙ joined-more (λ t. t.now) texts k _ c.loop-text-test.true))
-    (appends-both _ _ _ _ _ c.loop-text.invariant c.in_ok-write_bytes.ensures.whole)
+    (Appends-trans _ _ _ _ _ c.loop-text.invariant c.in_ok-write_bytes.ensures.whole)
 
 pub returns-clause-front : goal.returns-clause-front
 returns-clause-front g c =

@@ -1,4 +1,3 @@
-use Rattle.serde_json.specs.View.{items_view}
 use Rattle.jb_documents.proofs.FaultOrder.{planned-in-order}
 use Rattle.jb_documents.proofs.run.fault_lists.planned_faults.Goals as goal
 

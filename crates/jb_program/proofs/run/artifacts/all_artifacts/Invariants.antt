@@ -1,4 +1,4 @@
-use Rattle.std.proofs.Common.{◌≡◌, ◌++◌, drop, length, map}
+use Rattle.std.proofs.Common.{◌≡◌, ◌++◌, drop, map}
 use Rattle.jb_step.specs.Setup.{unfinished}
 use Rattle.jb_program.specs.PartitionRun.{work_for}
 use Rattle.jb_program.proofs.Own.{own_work}

@@ -1,9 +1,10 @@
 use Rattle.std.proofs.Common.{◌++◌, ◌+◌, Some, sym, ◌∙◌, ap, append_assoc, arith}
 use Rattle.std.proofs.lemmas.Result.{on_err_weaker}
 use Rattle.std.proofs.lemmas.Slice.{between_to_end}
+use Rattle.std.proofs.KnownBytes.{Appends-trans}
 use Rattle.jb_cert.specs.WrapAround.{slots_of_round, wrapped_rounds}
 use Rattle.jb_texts.specs.PlanText.{round_line}
-use Rattle.jb_texts.proofs.Writing.{appends-both, appends-text, line-on, lines-split}
+use Rattle.jb_texts.proofs.Writing.{appends-text, line-on, lines-split}
 use Rattle.jb_texts.proofs.Fronts.{front-passing, front-waiting, on-err, waits-more}
 use Rattle.jb_texts.proofs.plan.lines.write_lines.Goals as goal
 
@@ -37,7 +38,7 @@ loop-round-preserved g c =
     let is = between_to_end c.write_round-begin.new.line c.write_round-begin.result 2070 (omega (arith, c.write_round-begin.array_long)) ∙ c.write_round-begin.ensures.line in
     let waits = waits-more before.0 c.loop-round.block.items c.write_all.new.self.items line c.args.block.items _ _ before.2 (appends-text (Some c.loop-round.block.items) (Some c.write_all.new.self.items) _ line is c.in_ok-write_all.ensures.bytes) next in (
       before.0 ++ on.0,
-      appends-both _ _ _ before.0 on.0 before.1 on.1,
+      Appends-trans _ _ _ before.0 on.0 before.1 on.1,
       append_assoc before.0 on.0 c.pass_on.new.block.items ∙ ap (λ zs. before.0 ++ zs) (sym on.2) ∙ waits,
     )
 

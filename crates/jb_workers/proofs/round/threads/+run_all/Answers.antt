@@ -1,9 +1,10 @@
 use Rattle.std.proofs.Common.{rules, ◌≡◌, ◌++◌, ◌∷◌, [], refl}
 use Rattle.std.proofs.lemmas.List.Elements.{All-pop}
+use Rattle.jb_base.proofs.Pairwise.{pairwise-push}
+use Rattle.jb_workers.specs.Round.{IsReport}
 use Rattle.jb_workers.specs.Turns.{MeetsWork}
 use Rattle.jb_workers.specs.Works.{CanBegin}
 use Rattle.jb_workers.specs.declared.round.report.Report.{Report}
-use Rattle.jb_workers.proofs.Reporting.{reports-snoc}
 use Rattle.jb_workers.proofs.round.threads.+run_all.Goals as goal
 
 pub run_all-reports-requires-clause-can : goal.run_all-reports-requires-clause-can
@@ -14,4 +15,4 @@ returns-clause-reports g t c =
     let report : Report _ = record { lane = c.in-Some.next.lane; done = c.join-done.result.0 } in
     let pushed : c.in_ok-reports.reports.items ≡ c.in_ok-before.before.items ++ report ∷ [] = search rules in
     let kept : MeetsWork g.T.PartitionTask.standing c.in-Some.next c.join-done.result.0 = search rules in
-    rw (c.in-Some.ensures.items, pushed) (reports-snoc g.T.PartitionTask.standing _ _ c.in-Some.next report c.in_ok-before.ensures.reports (record { lane = refl; meets = kept }))
+    rw (c.in-Some.ensures.items, pushed) (pairwise-push (IsReport g.T.PartitionTask.standing) _ _ c.in-Some.next report c.in_ok-before.ensures.reports (record { lane = refl; meets = kept }))

@@ -1,7 +1,5 @@
--- What an attempt keeps of a task, and how it takes its row further.
-use Rattle.std.proofs.Common.{◌≡◌, ℕ, ◌+◌, ◌-◌, ◌≤◌, ◌<◌, Bool, true, false, cond, ◌∷◌, length, length-append, refl, ap, sym, ◌∙◌, subst, arith}
-use Rattle.std.specs.Prelude.{◌==◌}
-use Rattle.std.proofs.lemmas.Bool.Decides.{nat_tests}
+-- What an attempt keeps of a task: it stays on its course.
+use Rattle.std.proofs.Common.{◌≡◌, ℕ, ◌+◌, ◌-◌, ◌≤◌, ◌<◌, ◌∷◌, length, length-append, refl, ap, ap₂, sym, ◌∙◌, subst, arith}
 use Rattle.jb_plan.specs.Blocks.{blocks, ChunksFollow}
 use Rattle.jb_rules.specs.declared.counts.Counts.{Counts}
 use Rattle.jb_rules.specs.declared.row.RowState.{RowState}
@@ -10,10 +8,10 @@ use Rattle.jb_base.specs.Limits.{max_rollbacks, max_in_place}
 use Rattle.jb_base.specs.declared.range.Range.{Range}
 use Rattle.jb_rules.specs.declared.row.Row.{Row}
 use Rattle.jb_rules.specs.Counts.{IsDelta}
-use Rattle.jb_rules.specs.Rows.{repeated_row, committed_row, rolled_row, failed_row}
 use Rattle.jb_rules.specs.Laws.{RowsStaySound}
 use Rattle.jb_artifacts.specs.Reader.{Reader}
 use Rattle.jb_artifacts.specs.Writer.{Writer, texts_of}
+use Rattle.jb_artifacts.proofs.Writing.{length-texts}
 use Rattle.jb_chunk.specs.declared.chunk_end.ChunkEnd.{ChunkEnd}
 use Rattle.jb_chunk.specs.declared.chunk_end.ChunkEnd.TheVariants.{Committed, Rolled, Failed}
 use Rattle.jb_chunk.specs.declared.outcome.Outcome.{Outcome}
@@ -21,12 +19,12 @@ use Rattle.jb_chunk.specs.declared.outcome.Outcome.TheVariants as outcome
 use Rattle.jb_chunk.specs.Alone.{is_rolled, retries_left, attempts_left}
 use Rattle.jb_chunk.specs.Entries.{one_if}
 use Rattle.jb_chunk.specs.Attempt.{AttemptEnd, after_repeats, block_of, again_of, end_of, attempt_of, ending_by, work_left, IsAttemptBy}
-use Rattle.jb_chunk.specs.Laws.{blocks_of, IsStepOfLife, RowsLiveOn}
+use Rattle.jb_chunk.specs.Laws.{blocks_of, CommitsHaveDeltas}
 use Rattle.jb_chunk.specs.Standing.{TaskState, IsReady, HasItemCount}
 use Rattle.jb_chunk.proofs.AddedCounts.{IsAdded, kept_results, end-added}
 use Rattle.jb_chunk.proofs.AfterRepeats.{after_repeats-row, after_repeats-block, after_repeats-work, after_repeats-left, after_repeats-in_place, after_repeats-ready}
-use Rattle.jb_chunk.proofs.AttemptLeaves.{length-texts, ready-by}
-use Rattle.jb_chunk.proofs.RunsAlone.{block-in, rolled-below, left-waiting}
+use Rattle.jb_chunk.proofs.AttemptLeaves.{ready-by}
+use Rattle.jb_chunk.proofs.RunsAlone.{block-in, rolled-below, below-at, left-waiting}
 
 -- the task stands at a checkpoint within its range, and has a record left while it waits
 pub record IsOnCourse (t : TaskState) : Type 0 where
@@ -46,10 +44,6 @@ ready-course t ready = record {
   place = ready.place;
   count = ready.count;
 }
-
-below-at : (b : Bool) (at hi : ℕ) → (at == hi) ≡ b → at ≤ hi → cond b state.Finished state.Waiting ≡ state.Waiting → at < hi
-below-at true at hi e le waiting = cc
-below-at false at hi e le waiting = grind (arith, nat_tests)
 
 never : (s : RowState) → s ≡ state.Failed → s ≡ state.Waiting → ⊥
 never s f w = cc
@@ -76,7 +70,7 @@ course-by t again (Committed delta) is on b =
         at_to = le;
         redo_to = on.redo_to;
         item_counted = on.item_counted;
-        some_left = λ w. below-at ((block_of t).hi == t.row.hi) (block_of t).hi t.row.hi refl le w;
+        some_left = λ w. below-at (block_of t).hi t.row.hi le w;
         place = refl;
         count = length-append t.work.writer.written (texts_of (kept_results t delta)) ∙ omega (arith, count, more, length-texts (kept_results t delta));
       },
@@ -193,7 +187,7 @@ ready-next law stay t ready waiting room repeats =
     let there = after_repeats-ready stay t ready (omega (arith, repeats, grown)) in
     ready-end stay s (again_of t) (end_of s) refl there (has-block law s (ready-course s there) (after_repeats-waits t waiting)) room
 
--- STEPS
+-- COMMITS
 
 taken-by : ChunksFollow → (t : TaskState) (again : ℕ) (e : ChunkEnd) (delta : Counts) → IsOnCourse t → t.row.at < t.row.hi → (ending_by t again e).outcome ≡ outcome.Committed delta → blocks_of t ≡ block_of t ∷ blocks_of (ending_by t again e).task
 taken-by law t again (Committed d) delta on lt o = (law.next t.row.at t.row.redo t.row.hi t.item_count lt on.redo_to on.item_counted.some).others
@@ -218,32 +212,20 @@ again-by t again (Failed class) = refl
 pub again-in : (t : TaskState) (e : ChunkEnd) → (ending_by (after_repeats t) (again_of t) e).again ≡ again_of t
 again-in t e = again-by (after_repeats t) (again_of t) e
 
-step-by : (t : TaskState) (again : ℕ) (e : ChunkEnd) (row : Row) → end_of t ≡ e → t.row.at ≤ (block_of t).hi → t.row ≡ repeated_row row again → IsStepOfLife (ending_by t again e).outcome again row (block_of t).hi (ending_by t again e).task.row
-step-by t again (Committed delta) row is le grown =
-    let added : IsAdded t (Committed delta) = subst (IsAdded t) is (end-added t) in
-    (subst (λ (x : Row). IsDelta ((block_of t).hi - x.at) delta) grown (added.1 le), ap (λ x. committed_row x (block_of t).hi delta) grown)
-step-by t again (Rolled class) row is le grown = ap (λ x. rolled_row x (block_of t).hi) grown
-step-by t again (Failed class) row is le grown = ap failed_row grown
+delta-by : (t : TaskState) (again : ℕ) (e : ChunkEnd) (delta : Counts) → end_of t ≡ e → t.row.at ≤ (block_of t).hi → (ending_by t again e).outcome ≡ outcome.Committed delta → IsDelta ((block_of t).hi - t.row.at) delta
+delta-by t again (Committed d) delta is le o =
+    let added : IsAdded t (Committed d) = subst (IsAdded t) is (end-added t) in
+    let same : d ≡ delta = cc in
+    subst (IsDelta ((block_of t).hi - t.row.at)) same (added.1 le)
+delta-by t again (Rolled class) delta is le o = absurd cc
+delta-by t again (Failed class) delta is le o = absurd cc
 
-attempted-step : ChunksFollow → (t : TaskState) (e : AttemptEnd) → IsReady t → t.row.state ≡ state.Waiting → e ≡ attempt_of t → IsStepOfLife e.outcome e.again t.row (block_of t).hi e.task.row
-attempted-step law t e ready waiting is =
+-- the counts of a commit are those of a chunk
+pub commits-have-deltas : ChunksFollow → CommitsHaveDeltas
+commits-have-deltas law t e delta ready waiting is committed =
     let s = after_repeats t in
-    let there = after_repeats-course t (ready-course t ready) in
-    let b = has-block law s there (after_repeats-waits t waiting) in
+    let b = has-block law s (after_repeats-course t (ready-course t ready)) (after_repeats-waits t waiting) in
     let lt = b.0 in
-    let step = step-by s (again_of t) (end_of s) t.row refl (omega (arith, lt)) (after_repeats-row t) in
-    let hi = ap (λ (x : Range). x.hi) (after_repeats-block t) in
-    let x = ending_by s (again_of t) (end_of s) in
-    let here = subst (λ h. IsStepOfLife x.outcome (again_of t) t.row h x.task.row) hi step in
-    let whole = subst (λ n. IsStepOfLife x.outcome n t.row (block_of t).hi x.task.row) (sym (again-in t (end_of s))) here in
-    subst (λ (y : AttemptEnd). IsStepOfLife y.outcome y.again t.row (block_of t).hi y.task.row) (sym is) whole
-
-rows-by : ChunksFollow → (t : TaskState) (e : AttemptEnd) (o : Outcome) → o ≡ e.outcome → IsReady t → t.row.state ≡ state.Waiting → IsAttemptBy o t e → IsStepOfLife e.outcome e.again t.row (block_of t).hi e.task.row
-rows-by law t e (outcome.Committed d) h ready waiting is = attempted-step law t e ready waiting is
-rows-by law t e (outcome.Rolled class) h ready waiting is = attempted-step law t e ready waiting is
-rows-by law t e (outcome.Failed class) h ready waiting is = attempted-step law t e ready waiting is
-rows-by law t e outcome.NoMemory h ready waiting is =
-    subst (λ (o : Outcome). IsStepOfLife o e.again t.row (block_of t).hi e.task.row) h (ap (λ (s : TaskState). s.row) is.2.task)
-
-pub rows-live-on : ChunksFollow → RowsLiveOn
-rows-live-on law t e ready waiting is = rows-by law t e e.outcome refl ready waiting is
+    let whole : e ≡ attempt_of t = subst (λ (o : Outcome). IsAttemptBy o t e) committed is in
+    let made = delta-by s (again_of t) (end_of s) delta refl (omega (arith, lt)) (sym (ap (λ (x : AttemptEnd). x.outcome) whole) ∙ committed) in
+    subst (λ n. IsDelta n delta) (ap₂ ◌-◌ (ap (λ (x : Range). x.hi) (after_repeats-block t)) (ap (λ (x : Row). x.at) (after_repeats-row t))) made

@@ -1,13 +1,13 @@
 use Rattle.std.proofs.Common.{◌≢◌, ◌∙◌}
 use Rattle.csv.specs.declared.writer.QuoteStyle.TheVariants as style
 use Rattle.jb_ready.specs.Csv.{row_of}
-use Rattle.jb_ready.proofs.csv_text.row_bytes.Goals as goal
+use Rattle.jb_ready.proofs.csv_rows.row_of.Goals as goal
 
-pub returns-in-Ok : goal.returns-in-Ok
+pub returns-in-Ok-into_inner : goal.returns-in-Ok-into_inner
 unfolding row_of
-returns-in-Ok c =
+returns-in-Ok-into_inner c =
     let from = c.from_writer-writer.ensures in
     let plain : c.from_writer-writer.result.cfg.style ≢ style.NonNumeric = rw (from.cfg, c.new.ensures) (λ e. cc e) in
-    let h = c.in_ok-write_byte_record.ensures.bytes from.fields from.wrote plain in
+    let h = c.in-Ok.ensures.bytes from.fields from.wrote plain in
     let text = rw (from.cfg, c.new.ensures, from.wtr, c.new-2.ensures.items, from.empty) at h in
-    c.in-Ok.ensures.ok ∙ text
+    c.in-Ok-into_inner.ensures.ok ∙ text

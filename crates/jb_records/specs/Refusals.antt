@@ -1,0 +1,12 @@
+-- Why a step's rows have no text.
+use Rattle.std.specs.Prelude.{List}
+use Rattle.jb_rules.specs.declared.row.Row.{Row}
+use Rattle.jb_saved.specs.Answers.{RefusesRunning, first_running}
+use Rattle.jb_records.specs.declared.error.RecordsStepError.{RecordsStepError}
+use Rattle.jb_records.specs.declared.error.RecordsStepError.TheVariants.{Memory, Step}
+
+-- a row runs on a lane, or memory ran out
+abbrev pub IsUnsaved : List Row → RecordsStepError → Type 0
+IsUnsaved rows (Step why) = RefusesRunning why (first_running rows)
+IsUnsaved rows Memory = Unit {0}
+IsUnsaved rows _ = ⊥
