@@ -5,13 +5,16 @@ ghost use Rattle.jb_base.specs.declared.artifact_error.ArtifactError.TheVariants
 
 use crate::class::ClassId;
 use std::alloc::{AllocError, AllocFailed};
+use thiserror::Error;
 
 /// Why an artifact (a reader, a processor, a writer, a mapper, an analyzer or a reducer) has no result.
-#[derive(Clone, Copy, Debug, PartialEq, Eq)]
+#[derive(Clone, Copy, Debug, PartialEq, Eq, Error)]
 pub enum ArtifactError {
     /// The artifact failed with a fault of this class.
+    #[error("a fault of class {}", .0.number())]
     Fault(ClassId),
     /// There was no memory for the answer.
+    #[error("no memory")]
     Memory,
 }
 

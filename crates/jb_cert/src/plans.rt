@@ -1,6 +1,6 @@
 //! Plans of slots, and why a plan is not lawful.
-use std::error::Error;
 use std::fmt;
+use thiserror::Error;
 
 /// One chunk of one partition, and the lane that runs it in its round. All three are counted from 0.
 #[derive(Clone, Copy, Debug, PartialEq, Eq)]
@@ -17,7 +17,7 @@ pub struct Plan {
 }
 
 /// Why a plan is not lawful, or could not be checked.
-#[derive(Clone, Copy, Debug, PartialEq, Eq)]
+#[derive(Clone, Copy, Debug, PartialEq, Eq, Error)]
 pub enum PlanFault {
     /// A lane is not below the number of threads.
     LaneRange,
@@ -51,5 +51,3 @@ impl fmt::Display for PlanFault {
         })
     }
 }
-
-impl Error for PlanFault {}

@@ -5,11 +5,11 @@ ghost use Rattle.jb_job.specs.declared.error.JobError.TheVariants.{Memory};
 
 use crate::field::Field;
 use std::alloc::{AllocError, AllocFailed};
-use std::error::Error;
 use std::fmt;
+use thiserror::Error;
 
 /// The first fault of a text or a tree that is read by a table of fields.
-#[derive(Clone, Copy, Debug, PartialEq, Eq)]
+#[derive(Clone, Copy, Debug, PartialEq, Eq, Error)]
 pub enum JobError {
     /// The text has no JSON tree.
     NotJson,
@@ -43,8 +43,6 @@ impl fmt::Display for JobError {
         }
     }
 }
-
-impl Error for JobError {}
 
 impl From<AllocError> for JobError {
     ghost from_gives = { λ _ e. e ≡ Memory };

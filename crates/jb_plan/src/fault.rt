@@ -1,10 +1,10 @@
 //! What can be wrong with a partition plan.
 
-use std::error::Error;
 use std::fmt;
+use thiserror::Error;
 
 /// Why a partition plan is refused. Partitions are named by their places in the plan's list of ranges, from 0.
-#[derive(Clone, Copy, Debug, PartialEq, Eq)]
+#[derive(Clone, Copy, Debug, PartialEq, Eq, Error)]
 pub enum PlanError {
     /// The plan has no range.
     NoPartition,
@@ -41,5 +41,3 @@ impl fmt::Display for PlanError {
         }
     }
 }
-
-impl Error for PlanError {}

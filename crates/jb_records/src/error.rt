@@ -20,7 +20,7 @@ pub enum RecordsStepError {
     #[error("a try fails with a class that is skipped")]
     SkippedTry,
     /// The step has no end.
-    #[error("the step has no end: {0:?}")]
+    #[error("the step has no end: {0}")]
     Step(StepError),
     /// There was no memory.
     #[error("out of memory")]

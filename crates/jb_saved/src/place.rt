@@ -1,10 +1,10 @@
 //! What of saved rows is refused.
 
-use std::error::Error;
 use std::fmt;
+use thiserror::Error;
 
 /// What of saved rows is refused, in the order in which it is looked for.
-#[derive(Clone, Copy, Debug, PartialEq, Eq)]
+#[derive(Clone, Copy, Debug, PartialEq, Eq, Error)]
 pub enum SavedPlace {
     /// The text has no JSON tree.
     NotJson,
@@ -38,5 +38,3 @@ impl fmt::Display for SavedPlace {
         }
     }
 }
-
-impl Error for SavedPlace {}

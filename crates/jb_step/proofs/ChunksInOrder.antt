@@ -10,18 +10,18 @@ use Rattle.jb_rules.specs.declared.row.RowState.TheVariants as state
 use Rattle.jb_rules.specs.States.{is_waiting, has_ended}
 use Rattle.jb_cert.specs.Lawful.{Pair, IsLawful, StandsIn}
 use Rattle.jb_chunk.specs.Attempt.{AttemptEnd, attempt_of}
-use Rattle.jb_chunk.specs.Standing.{TaskState, IsReady}
+use Rattle.jb_chunk.specs.Standing.{TaskState}
 use Rattle.jb_rules.specs.Rows.{remaining_of}
 use Rattle.jb_repo.specs.Rows.{remaining}
-use Rattle.jb_step.specs.PlanLaws.{IsTable, NextCanRun, RunsInOrder, RunsAll}
+use Rattle.jb_step.specs.PlanLaws.{NextCanRun, RunsInOrder, RunsAll}
 use Rattle.jb_step.specs.OnePartition.{tasks_at}
-use Rattle.jb_step.specs.Rounds.{is_commit, has_partition, has_task, tasks_in, after_round, after_rounds, CanRunAll, AreQuiet}
+use Rattle.jb_step.specs.Rounds.{CanRun, is_commit, has_partition, has_task, tasks_in, after_round, after_rounds, CanRunAll, AreQuiet}
 use Rattle.jb_step.specs.Setup.{Setup, row_now, counts_now}
 use Rattle.jb_step.specs.inside.Below.{ChunkLaws}
 use Rattle.jb_step.proofs.Adding.{sets-more}
 use Rattle.jb_step.proofs.Apart.{at-rounds, AllIn, at-in, waits-in, others-wait}
 use Rattle.jb_step.proofs.Holding.{apart-of, rest-of}
-use Rattle.jb_step.proofs.Steady.{IsSteady, steady, next-steady, waits, listing, rem, falls-one, drops-one, same-partition, same-count, row_waits}
+use Rattle.jb_step.proofs.Steady.{IsSteady, IsSteadyIn, IsSteadyTable, next-steady, steady-table, waits, listing, rem, falls-one, drops-one, same-partition, same-count, row_waits}
 use Rattle.jb_step.proofs.Numbers.{add-next, itself}
 
 abbrev pub one_if : Bool → ℕ
@@ -261,16 +261,16 @@ abbrev IsWaitingAt : ℕ → List TaskState → Type 0
 IsWaitingAt p ts = (u : TaskState) × (tasks_at p ts ≡ u ∷ []) × (row_waits u ≡ true)
 
 by-tasks : ChunkLaws → (s : Setup) (before : List TaskState) (rounds : List (List Pair)) (p j : ℕ) (row : Row) (us : List TaskState)
-    → IsTable s before → CanRunAll rounds before → AreQuiet rounds before → slice_get s.rows p ≡ Some row → j < rem s.item_count (row_now before p row) → runs_of p rounds ≤ j
+    → IsSteadyTable s before → CanRunAll rounds before → AreQuiet rounds before → slice_get s.rows p ≡ Some row → j < rem s.item_count (row_now before p row) → runs_of p rounds ≤ j
     → tasks_at p before ≡ us → IsWaitingAt p (after_rounds rounds before)
 by-tasks law s before rounds p j row [] table can quiet get less few e =
     let idle = ap (rem s.item_count) (none-now before p row e) ∙ idle-by s.item_count row row.state (rest-of s before table p row get e) in
     absurd (omega (arith, idle, less))
 by-tasks law s before rounds p j row (t ∷ []) table can quiet get less few e =
-    let both_are : IsReady t × (t.item_count ≡ s.item_count) = member (λ (u : TaskState). IsReady u × (u.item_count ≡ s.item_count)) before p t [] table.tasks e in
+    let both_are : IsSteadyIn s t = member (IsSteadyIn s) before p t [] table.tasks e in
     let w = subst (λ ts. AllIn row_waits rounds ts) e (waits-in p rounds before can) in
     let c = subst (λ ts. AllIn commits rounds ts) e (commits-in p rounds before quiet) in
-    let end = fallen-all law rounds t (steady t both_are.0) w c in
+    let end = fallen-all law rounds t both_are.0 w c in
     let u = end.0 in
     let at : tasks_at p (after_rounds rounds before) ≡ u ∷ [] = at-rounds p rounds before ∙ ap (after_rounds rounds) e ∙ end.1 in
     let runs : runs_of t.partition rounds ≡ runs_of p rounds = ap (λ q. runs_of q rounds) (named before p t [] e) in
@@ -283,8 +283,10 @@ by-tasks law s before rounds p j row (t ∷ (v ∷ vs)) table can quiet get less
     let two = ap length e in
     absurd (omega (arith, one, two))
 
-pub next_can_run : ChunkLaws → NextCanRun
-next_can_run law s before rounds set left table lawful can quiet =
+pub next-can-run : ChunkLaws → (s : Setup) (before : List TaskState) (rounds : List (List Pair)) (set : List Pair) (left : List (List Pair))
+    → IsSteadyTable s before → IsLawful (counts_now s before) s.threads (reverse rounds ++ set ∷ left)
+    → CanRunAll rounds before → AreQuiet rounds before → CanRun set (after_rounds rounds before)
+next-can-run law s before rounds set left table lawful can quiet =
     let sets = reverse rounds ++ set ∷ left in
     let n = length rounds in
     let counts = counts_now s before in
@@ -308,6 +310,9 @@ next_can_run law s before rounds set left table lawful can quiet =
           let here = waiting p chunk.0 chunk.1 in
           subst (λ ts. list_all row_waits ts ≡ true) (sym here.1) (and_from (row_waits here.0) true here.2 refl));
     }
+
+pub next_can_run : ChunkLaws → NextCanRun
+next_can_run law s before rounds set left table = next-can-run law s before rounds set left (steady-table s before table)
 
 -- IN ORDER, AND ALL
 
@@ -377,16 +382,16 @@ count-in s ts p lt =
     (there.0, record { get = there.1; count = there.2 ∙ ap (λ m. rem s.item_count (row_now ts m there.0)) zero_add })
 
 -- the counts of one partition with one task fall by one in each round that has it
-fall-at : ChunkLaws → (s : Setup) (before : List TaskState) (rounds : List (List Pair)) (p : ℕ) (t : TaskState) → IsTable s before → CanRunAll rounds before → AreQuiet rounds before → p < length s.rows
+fall-at : ChunkLaws → (s : Setup) (before : List TaskState) (rounds : List (List Pair)) (p : ℕ) (t : TaskState) → IsSteadyTable s before → CanRunAll rounds before → AreQuiet rounds before → p < length s.rows
     → tasks_at p before ≡ t ∷ [] → slice_index (counts_now s (after_rounds rounds before)) p + runs_of p rounds ≡ slice_index (counts_now s before) p
 fall-at law s before rounds p t table can quiet lt e =
     let after = after_rounds rounds before in
     let one = count-in s before p lt in
     let two = count-in s after p lt in
-    let both_are : IsReady t × (t.item_count ≡ s.item_count) = member (λ (u : TaskState). IsReady u × (u.item_count ≡ s.item_count)) before p t [] table.tasks e in
+    let both_are : IsSteadyIn s t = member (IsSteadyIn s) before p t [] table.tasks e in
     let w = subst (λ ts. AllIn row_waits rounds ts) e (waits-in p rounds before can) in
     let c = subst (λ ts. AllIn commits rounds ts) e (commits-in p rounds before quiet) in
-    let end = fallen-all law rounds t (steady t both_are.0) w c in
+    let end = fallen-all law rounds t both_are.0 w c in
     let u = end.0 in
     let at : tasks_at p after ≡ u ∷ [] = at-rounds p rounds before ∙ ap (after_rounds rounds) e ∙ end.1 in
     let runs : runs_of t.partition rounds ≡ runs_of p rounds = ap (λ q. runs_of q rounds) (named before p t [] e) in
@@ -396,16 +401,22 @@ fall-at law s before rounds p t table can quiet lt e =
     omega (arith, runs, was, now, fallen)
 
 -- and its one task stays one
-pub by-at : ChunkLaws → (s : Setup) (before : List TaskState) (rounds : List (List Pair)) (p : ℕ) (t : TaskState) → IsTable s before → CanRunAll rounds before → AreQuiet rounds before → tasks_at p before ≡ t ∷ []
+pub by-at : ChunkLaws → (s : Setup) (before : List TaskState) (rounds : List (List Pair)) (p : ℕ) (t : TaskState) → IsSteadyTable s before → CanRunAll rounds before → AreQuiet rounds before → tasks_at p before ≡ t ∷ []
     → (u : TaskState) × (tasks_at p (after_rounds rounds before) ≡ u ∷ [])
 by-at law s before rounds p t table can quiet e =
-    let both_are : IsReady t × (t.item_count ≡ s.item_count) = member (λ (u : TaskState). IsReady u × (u.item_count ≡ s.item_count)) before p t [] table.tasks e in
+    let both_are : IsSteadyIn s t = member (IsSteadyIn s) before p t [] table.tasks e in
     let w = subst (λ ts. AllIn row_waits rounds ts) e (waits-in p rounds before can) in
     let c = subst (λ ts. AllIn commits rounds ts) e (commits-in p rounds before quiet) in
-    let end = fallen-all law rounds t (steady t both_are.0) w c in
+    let end = fallen-all law rounds t both_are.0 w c in
     (end.0, at-rounds p rounds before ∙ ap (after_rounds rounds) e ∙ end.1)
 
-order-by : ChunkLaws → (s : Setup) (before : List TaskState) (rounds : List (List Pair)) (p j : ℕ) (us : List TaskState) → IsTable s before → CanRunAll rounds before → AreQuiet rounds before → p < length s.rows
+-- a partition with no task has no chunk left
+pub idle-at : (s : Setup) (before : List TaskState) → IsSteadyTable s before → (p : ℕ) → p < length s.rows → tasks_at p before ≡ [] → slice_index (counts_now s before) p ≡ 0
+idle-at s before table p lt e =
+    let one = count-in s before p lt in
+    one.1.count ∙ ap (rem s.item_count) (none-now before p one.0 e) ∙ idle-by s.item_count one.0 one.0.state (rest-of s before table p one.0 one.1.get e)
+
+order-by : ChunkLaws → (s : Setup) (before : List TaskState) (rounds : List (List Pair)) (p j : ℕ) (us : List TaskState) → IsSteadyTable s before → CanRunAll rounds before → AreQuiet rounds before → p < length s.rows
     → j < slice_index (counts_now s before) p → runs_of p rounds ≡ j → tasks_at p before ≡ us → slice_index (counts_now s (after_rounds rounds before)) p + j ≡ slice_index (counts_now s before) p
 order-by law s before rounds p j [] table can quiet lt less runs e =
     let one = count-in s before p lt in
@@ -426,9 +437,9 @@ runs_in_order law s before rounds set left table lawful can quiet p j c =
     let stands : StandsIn sets n (p, j) = (long, subst (λ (x : List Pair). Contains x (p, j)) (sym at) c) in
     let known = lawful.known n p j stands in
     let within : p < length s.rows = let low = known.0 in omega (arith, low, length-counts s.item_count before s.rows 0) in
-    order-by law s before rounds p j (tasks_at p before) table can quiet within known.1 (runs-cnt p rounds (set ∷ left) ∙ cnt-is (counts_now s before) s.threads sets lawful p j n stands) refl
+    order-by law s before rounds p j (tasks_at p before) (steady-table s before table) can quiet within known.1 (runs-cnt p rounds (set ∷ left) ∙ cnt-is (counts_now s before) s.threads sets lawful p j n stands) refl
 
-all-by : ChunkLaws → (s : Setup) (before : List TaskState) (rounds : List (List Pair)) (p : ℕ) (us : List TaskState) → IsTable s before → CanRunAll rounds before → AreQuiet rounds before → p < length s.rows
+all-by : ChunkLaws → (s : Setup) (before : List TaskState) (rounds : List (List Pair)) (p : ℕ) (us : List TaskState) → IsSteadyTable s before → CanRunAll rounds before → AreQuiet rounds before → p < length s.rows
     → slice_index (counts_now s before) p ≤ runs_of p rounds → tasks_at p before ≡ us → slice_index (counts_now s (after_rounds rounds before)) p ≡ 0
 all-by law s before rounds p [] table can quiet lt few e =
     let after = after_rounds rounds before in
@@ -445,13 +456,18 @@ all-by law s before rounds p (t ∷ (v ∷ vs)) table can quiet lt few e =
     let two = ap length e in
     absurd (omega (arith, one, two))
 
-pub runs_all : ChunkLaws → RunsAll
-runs_all law s before rounds table lawful can quiet p lt =
+pub runs-all-chunks : ChunkLaws → (s : Setup) (before : List TaskState) (rounds : List (List Pair))
+    → IsSteadyTable s before → IsLawful (counts_now s before) s.threads (reverse rounds)
+    → CanRunAll rounds before → AreQuiet rounds before → (p : ℕ) → p < length s.rows → slice_index (counts_now s (after_rounds rounds before)) p ≡ 0
+runs-all-chunks law s before rounds table lawful can quiet p lt =
     let sets = reverse rounds in
     let within : p < length (counts_now s before) = omega (arith, lt, length-counts s.item_count before s.rows 0) in
     let many = cnt-all (counts_now s before) s.threads sets lawful p (slice_index (counts_now s before) p) within (omega arith) in
     let runs : runs_of p rounds ≡ cnt sets p (length sets) = runs-cnt p rounds [] ∙ ap₂ (λ xs n. cnt xs p n) (append-nil sets) (sym (length-reverse rounds)) in
     all-by law s before rounds p (tasks_at p before) table can quiet lt (omega (arith, many, runs)) refl
+
+pub runs_all : ChunkLaws → RunsAll
+runs_all law s before rounds table = runs-all-chunks law s before rounds (steady-table s before table)
 
 -- WHERE NO PARTITION WAITS
 
@@ -465,7 +481,7 @@ ended-at : (ts : List TaskState) → list_all (λ (t : TaskState). has_ended t.r
 ended-at [] e = tt
 ended-at (t ∷ ts) e = ((and_parts (has_ended t.row.state) (list_all (λ (u : TaskState). has_ended u.row.state) ts) e).0, ended-at ts (and_parts (has_ended t.row.state) (list_all (λ (u : TaskState). has_ended u.row.state) ts) e).1)
 
-ended-by : ChunkLaws → (s : Setup) (before : List TaskState) (rounds : List (List Pair)) (p : ℕ) (us : List TaskState) → IsTable s before → CanRunAll rounds before → AreQuiet rounds before
+ended-by : ChunkLaws → (s : Setup) (before : List TaskState) (rounds : List (List Pair)) (p : ℕ) (us : List TaskState) → IsSteadyTable s before → CanRunAll rounds before → AreQuiet rounds before
     → list_all (λ (t : TaskState). has_ended t.row.state) (after_rounds rounds before) ≡ true → p < length s.rows → tasks_at p before ≡ us → slice_index (counts_now s before) p ≤ runs_of p rounds
 ended-by law s before rounds p [] table can quiet ended lt e =
     let one = count-in s before p lt in
@@ -485,6 +501,6 @@ ended-by law s before rounds p (t ∷ (v ∷ vs)) table can quiet ended lt e =
     let two = ap length e in
     absurd (omega (arith, one, two))
 
-pub runs-from-ended : ChunkLaws → (s : Setup) (before : List TaskState) (rounds : List (List Pair)) → IsTable s before → CanRunAll rounds before → AreQuiet rounds before
+pub runs-from-ended : ChunkLaws → (s : Setup) (before : List TaskState) (rounds : List (List Pair)) → IsSteadyTable s before → CanRunAll rounds before → AreQuiet rounds before
     → list_all (λ (t : TaskState). has_ended t.row.state) (after_rounds rounds before) ≡ true → (p : ℕ) → p < length s.rows → slice_index (counts_now s before) p ≤ runs_of p rounds
 runs-from-ended law s before rounds table can quiet ended p lt = ended-by law s before rounds p (tasks_at p before) table can quiet ended lt refl

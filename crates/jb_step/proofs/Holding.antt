@@ -12,13 +12,14 @@ use Rattle.jb_rules.specs.States.{is_waiting, is_finished}
 use Rattle.jb_base.specs.Limits.{max_retry_limit}
 use Rattle.jb_artifacts.specs.Meaning.{ArtifactsMeaning, Fits}
 use Rattle.jb_chunk.specs.Standing.{TaskState, IsReady, HasItemCount, started}
-use Rattle.jb_step.specs.PlanLaws.{IsTable, AreTasksOf, BeginsWithTable, PartitionsStay}
+use Rattle.jb_step.specs.PlanLaws.{AreTasksOf, BeginsWithTable, PartitionsStay}
 use Rattle.jb_step.specs.OnePartition.{tasks_at}
 use Rattle.jb_step.specs.Prepare.{FitRows}
 use Rattle.jb_step.specs.Rounds.{has_partition}
 use Rattle.jb_step.specs.Setup.{Setup, IsSetup, row_now, unfinished}
 use Rattle.jb_step.specs.inside.Starting.{AreBegun}
 use Rattle.jb_step.proofs.Apart.{stays}
+use Rattle.jb_step.proofs.Steady.{IsSteadyTable}
 
 abbrev pub is_open : ℕ × Row → Bool
 is_open n = not (is_finished n.1.state)
@@ -111,7 +112,7 @@ at-names p (t ∷ ts) = at-one (nat_eq t.partition p) p t (tasks_at p ts) (named
 none-mapped : (us : List TaskState) → us ≡ [] → map (λ (u : TaskState). u.partition) us ≡ []
 none-mapped us e = ap (λ vs. map (λ (u : TaskState). u.partition) vs) e
 
-pub apart-of : (s : Setup) (ts : List TaskState) → IsTable s ts → (p : ℕ) → length (tasks_at p ts) ≤ 1
+pub apart-of : (s : Setup) (ts : List TaskState) → IsSteadyTable s ts → (p : ℕ) → length (tasks_at p ts) ≤ 1
 apart-of s ts table p =
     let names = at-names p ts ∙ ap (named_in p) table.partitions in
     let same = ap length names in
@@ -119,7 +120,7 @@ apart-of s ts table p =
     let long = length-map (tasks_at p ts) (λ (u : TaskState). u.partition) in
     omega (arith, same, few, long)
 
-pub rest-of : (s : Setup) (ts : List TaskState) → IsTable s ts → (p : ℕ) (row : Row) → slice_get s.rows p ≡ Some row → tasks_at p ts ≡ [] → is_waiting row.state ≡ false
+pub rest-of : (s : Setup) (ts : List TaskState) → IsSteadyTable s ts → (p : ℕ) (row : Row) → slice_get s.rows p ≡ Some row → tasks_at p ts ≡ [] → is_waiting row.state ≡ false
 rest-of s ts table p row get none =
     let names = sym (at-names p ts ∙ ap (named_in p) table.partitions) ∙ none-mapped (tasks_at p ts) none in
     let zero_add : p ≡ 0 + p = omega arith in

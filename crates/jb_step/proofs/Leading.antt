@@ -19,7 +19,7 @@ use Rattle.jb_step.proofs.Apart.{run-more, others-wait}
 use Rattle.jb_step.proofs.Steady.{waits, row_waits}
 
 -- the first task waits, if it is in the set
-first-waits : (b : Bool) (s : TaskState) (rest : List TaskState) → list_all row_waits (cond b (s ∷ rest) rest) ≡ true → b ≡ true → s.row.state ≡ state.Waiting
+pub first-waits : (b : Bool) (s : TaskState) (rest : List TaskState) → list_all row_waits (cond b (s ∷ rest) rest) ≡ true → b ≡ true → s.row.state ≡ state.Waiting
 first-waits true s rest all e = waits s.row.state (and_parts (row_waits s) (list_all row_waits rest) all).0
 first-waits false s rest all e = cc
 

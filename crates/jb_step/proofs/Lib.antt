@@ -6,6 +6,7 @@ mod Filling
 mod Finishing
 mod ChunksInOrder
 mod Growing
+mod Heading
 mod Hearing
 mod Holding
 mod Leading

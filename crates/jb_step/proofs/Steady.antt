@@ -1,6 +1,7 @@
 -- One task and its attempts: what is left of its chunks after each.
-use Rattle.std.proofs.Common.{◌≡◌, ℕ, suc, ◌+◌, ◌≤◌, ◌<◌, Bool, true, false, cond, List, ◌∷◌, length, drop, refl, ap, sym, subst, ◌∙◌, arith, eqb-true}
-use Rattle.std.specs.Prelude.{◌==◌}
+use Rattle.std.proofs.Common.{◌≡◌, ℕ, suc, ◌+◌, ◌≤◌, ◌<◌, Bool, true, false, cond, List, [], ◌∷◌, length, drop, refl, ap, sym, subst, ◌∙◌, arith, eqb-true}
+use Rattle.std.specs.Prelude.{◌==◌, map}
+use Rattle.std.specs.List.{AllByRecursion}
 use Rattle.jb_base.specs.declared.range.Range.{Range}
 use Rattle.jb_plan.specs.Blocks.{blocks, left}
 use Rattle.jb_rules.specs.declared.row.Row.{Row}
@@ -14,7 +15,9 @@ use Rattle.jb_chunk.specs.Laws.{RepeatsAreRetries}
 use Rattle.jb_chunk.specs.Standing.{TaskState, IsReady, HasItemCount}
 use Rattle.jb_rules.specs.Rows.{remaining_of}
 use Rattle.jb_chunk.proofs.RunsAlone.{below-at, left-waiting}
+use Rattle.jb_step.specs.PlanLaws.{AreTasksOf, IsTable}
 use Rattle.jb_step.specs.Rounds.{is_commit}
+use Rattle.jb_step.specs.Setup.{Setup, needs}
 use Rattle.jb_step.specs.inside.Below.{ChunkLaws}
 
 abbrev pub row_waits : TaskState → Bool
@@ -65,6 +68,21 @@ steady t ready = record {
   waiting = left-waiting t.row ready.sound;
   count = ready.item_counted;
 }
+
+-- a table of the step, of which the rows alone count
+abbrev pub IsSteadyIn : Setup → TaskState → Type 0
+IsSteadyIn s t = IsSteady t × (t.item_count ≡ s.item_count)
+
+pub record IsSteadyTable (s : Setup) (ts : List TaskState) : Type 0 where
+  pub tasks : AllByRecursion (IsSteadyIn s) ts
+  pub partitions : map (λ (t : TaskState). t.partition) ts ≡ needs s.rows
+
+steady-tasks : (s : Setup) (ts : List TaskState) → AreTasksOf s ts → AllByRecursion (IsSteadyIn s) ts
+steady-tasks s [] tasks = tt
+steady-tasks s (t ∷ ts) tasks = ((steady t tasks.0.0, tasks.0.1), steady-tasks s ts tasks.1)
+
+pub steady-table : (s : Setup) (ts : List TaskState) → IsTable s ts → IsSteadyTable s ts
+steady-table s ts table = record { tasks = steady-tasks s ts table.tasks; partitions = table.partitions }
 
 next-by : ChunkLaws → (t : TaskState) (again : ℕ) (e : ChunkEnd) → IsSteady t → t.row.state ≡ state.Waiting → IsSteady (ending_by t again e).task
 next-by law t again (Committed delta) st w =

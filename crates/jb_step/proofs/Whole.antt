@@ -15,6 +15,7 @@ use Rattle.jb_step.specs.Alone.{have_ended}
 use Rattle.jb_step.specs.inside.Below.{ChunkLaws}
 use Rattle.jb_step.proofs.Adding.{after_rounds-append, parted, quiet-more}
 use Rattle.jb_step.proofs.ChunksInOrder.{next_can_run, cnt-le, runs-cnt, runs-from-ended, length-counts}
+use Rattle.jb_step.proofs.Steady.{steady-table}
 
 -- the first sets of a lawful list of sets are lawful, if each chunk stands in one of them
 module _ (counts : List ℕ) (threads : ℕ) (one more : List (List Pair)) (lawful : IsLawful counts threads (one ++ more)) where
@@ -52,7 +53,7 @@ ends_whole law s before rounds left table least can quiet ended =
     let known = lawful.known r p j at in
     let within = known.0 in
     let few = known.1 in
-    let most = runs-from-ended law s before rounds table can quiet ended p (omega (arith, within, length-counts s.item_count before s.rows 0)) in
+    let most = runs-from-ended law s before rounds (steady-table s before table) can quiet ended p (omega (arith, within, length-counts s.item_count before s.rows 0)) in
     let runs = runs-cnt p rounds left in
     elim (cases_lt r (length one)) [
       | inl lt ↦ lt

@@ -10,6 +10,7 @@ pub mod Prepare
 pub mod Answers
 pub mod Laws
 pub mod PlanLaws
+pub mod Headline
 pub mod StepRuns
 pub mod Restarts
 pub mod Worked

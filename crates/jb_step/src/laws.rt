@@ -1,6 +1,7 @@
 //! What holds of every run of a step. Nothing is done here: the clauses are the laws.
 
 ghost use Rattle.jb_step.specs.PlanLaws.{BeginsWithRows, BeginsWithTable, ChunksAreBlocks, EndsWhole, NextCanRun, PartitionsStay, RunsAll, RunsInOrder};
+ghost use Rattle.jb_step.specs.Headline.{HeadlineHolds, UnstoppedRunsAgree};
 ghost use Rattle.jb_step.specs.Laws.{StepsAreOnTheWay, StepsEndAlone, AloneIsOnePlace, CalmStepsArePlain};
 ghost use Rattle.jb_step.specs.inside.Below.{LawsBelow};
 ghost use Rattle.jb_step.specs.OnePartition.{AttemptsAreAlone, HeardOfPartition, OthersDontCount};
@@ -13,6 +14,18 @@ use jb_chunk::{
 use jb_collect::{calls_end_at_a_fault, partitions_are_heard_apart};
 use jb_plan::chunks_follow_one_another;
 use jb_saved::answers_are_computed;
+
+/// The headline: what every run of a step did, by what `run_step` answers alone.
+///
+/// Each of its plans has exactly the chunks not yet committed, in the fewest rounds of all lawful plans, with a certificate of
+/// it, and runs each partition's in order; and unstopped it leaves each partition where its attempts alone end.
+pub fn headline()
+    ensures holds { HeadlineHolds }
+    ensures agree { UnstoppedRunsAgree }
+{
+    laws_below();
+    runs_end_alike();
+}
 
 /// What a run of a step does to each partition.
 pub fn partitions_run_alone()

@@ -28,7 +28,8 @@ mod worked;
 pub use jb_cert::PlanNote;
 pub use jb_saved::{Saved, SavedPlace, StepError, read_saved, saved_text};
 pub use laws::{
-    others_dont_count, overrides_begin_anew, partitions_run_alone, plans_can_be_run, restarts_go_on,
+    headline, others_dont_count, overrides_begin_anew, partitions_run_alone, plans_can_be_run,
+    restarts_go_on,
 };
 pub use prepared::Prepared;
 pub use preparing::prepare;

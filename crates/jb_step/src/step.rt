@@ -6,6 +6,7 @@ ghost use Rattle.jb_step.specs.inside.Places.{held_in};
 ghost use Rattle.jb_step.specs.Answers.{given_back, AreCallsAfter, AreCallsUndone, IsRunError, IsRunOfStep, IsStatus, tasks_left};
 ghost use Rattle.jb_step.specs.Prepare.{DoFit};
 ghost use Rattle.jb_step.specs.Callbacks.{Grew, has_fault, since};
+ghost use Rattle.jb_step.specs.Headline.{Headline};
 ghost use Rattle.jb_step.specs.Setup.{first_tasks};
 ghost use Rattle.jb_step.specs.Statuses.{status_of};
 ghost use Rattle.jb_step.specs.Alone.{AreAlone, AreOnTheWay};
@@ -13,6 +14,7 @@ ghost use Rattle.jb_saved.specs.declared.error.StepError.TheVariants.{WrongArtif
 
 use crate::error::RunError;
 use crate::finish::{rows_shown, run_to_end};
+use crate::laws::laws_below;
 use crate::prepared::Prepared;
 use crate::ran::Ran;
 use crate::reduce::{end_step, status_now, undone};
@@ -124,6 +126,16 @@ fn run_tasks<
       snapshot = end.snapshot;
       left = given_back T.Artifacts.meaning end.artifacts.items;
     })) }
+    ensures headline { IfOk result (λ end. Headline (record {
+      setup = prepared.now;
+      works = map T.Artifacts.meaning artifacts.items;
+      round_limit = round_limit;
+      heard_before = analyzed analyzer.old;
+      heard_after = analyzed analyzer.new;
+      notes = end.plans.items;
+      snapshot = end.snapshot;
+      left = given_back T.Artifacts.meaning end.artifacts.items;
+    })) }
     ensures alone { IfOk result (λ end. end.snapshot.stopping ≡ false →
         AreAlone (first_tasks prepared.now (map T.Artifacts.meaning artifacts.items)) (tasks_left prepared.now end.snapshot (given_back T.Artifacts.meaning end.artifacts.items))) }
     ensures on_the_way { IfOk result (λ end.
@@ -131,6 +143,7 @@ fn run_tasks<
     ensures status { IfOk result (λ end. end.status ≡ status_of end.snapshot.rows.items (has_fault (since (analyzed analyzer.old) (analyzed analyzer.new)))) }
     ensures grew { Grew (analyzed analyzer.old) (analyzed analyzer.new) }
 {
+    laws_below();
     is_new::<T, L, G, R>(runner, alloc, prepared)?;
     let tasks = start_all::<T>(alloc, prepared, artifacts)?;
     let ran = run_to_end(runner, alloc, prepared, tasks, analyzer, round_limit)?;
@@ -173,6 +186,18 @@ pub fn run_step<
     gate: &G,
 ) -> Result<StepEnd<T::Artifacts>, StepError>
     ensures run { IfOk result (λ end. IsRunOfStep (record {
+      setup = prepared;
+      works = map T.Artifacts.meaning artifacts.items;
+      round_limit = round_limit;
+      heard_before = analyzed analyzer.old;
+      heard_after = analyzed analyzer.new;
+      notes = end.plans.items;
+      snapshot = end.snapshot;
+      left = given_back T.Artifacts.meaning end.artifacts.items;
+    })) }
+
+    // What the run did: its plans, and where they left each partition.
+    ensures headline { IfOk result (λ end. Headline (record {
       setup = prepared;
       works = map T.Artifacts.meaning artifacts.items;
       round_limit = round_limit;

@@ -7,9 +7,10 @@ ghost use Rattle.payroll.specs.declared.failure.Failure.TheVariants.{Memory, Ste
 use jb_records::RecordsStepError;
 use std::alloc::AllocError;
 use std::{fmt, io};
+use thiserror::Error;
 
 /// Why there are no pay slips.
-#[derive(Debug, Drop)]
+#[derive(Debug, Drop, Error)]
 pub enum Failure {
     /// The words of the command line ask for nothing.
     Usage,

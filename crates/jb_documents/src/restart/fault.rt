@@ -2,11 +2,11 @@
 
 use jb_job::JobError;
 use jb_saved::SavedPlace;
-use std::error::Error;
 use std::fmt;
+use thiserror::Error;
 
 /// The first fault of a document of `restart`.
-#[derive(Clone, Copy, Debug, PartialEq, Eq)]
+#[derive(Clone, Copy, Debug, PartialEq, Eq, Error)]
 pub enum RestartFault {
     /// A fault of the text or of a field, or want of memory.
     Document(JobError),
@@ -28,8 +28,6 @@ impl fmt::Display for RestartFault {
         }
     }
 }
-
-impl Error for RestartFault {}
 
 impl From<JobError> for RestartFault {
     ghost use Rattle.std.specs.Prelude.{◌≡◌};

@@ -10,9 +10,10 @@ use jb_plan::PlanError;
 use jb_saved::SavedPlace;
 use std::alloc::{AllocError, AllocFailed};
 use std::{fmt, io};
+use thiserror::Error;
 
 /// Why the program gives no report.
-#[derive(Debug, Drop)]
+#[derive(Debug, Drop, Error)]
 pub enum Failure {
     /// The words of the command line ask for nothing.
     Usage(UsageFault),

@@ -4,9 +4,10 @@ ghost use Rattle.std.specs.Prelude.{◌≡◌};
 
 use std::alloc::AllocError;
 use std::fmt;
+use thiserror::Error;
 
 /// What is wrong with the words.
-#[derive(Debug, Drop)]
+#[derive(Debug, Drop, Error)]
 pub enum UsageFault {
     /// There is none.
     NoWord,
@@ -38,11 +39,13 @@ impl fmt::Display for UsageFault {
 }
 
 /// Why the command line asks for nothing.
-#[derive(Debug, Drop)]
+#[derive(Debug, Drop, Error)]
 pub enum LineFault {
     /// The words are wrong.
+    #[error("{0}")]
     Usage(UsageFault),
     /// There was no memory to read them.
+    #[error("no memory")]
     Memory,
 }
 

@@ -1,4 +1,4 @@
-use Rattle.std.proofs.Common.{◌≡◌, map, rules, List, false, not, sym, ap, ◌∙◌, subst}
+use Rattle.std.proofs.Common.{◌≡◌, map, rules, List, not, sym, ap, ◌∙◌, subst}
 use Rattle.std.proofs.lemmas.Bool.{not-false}
 use Rattle.jb_cert.specs.Lawful.{Pair}
 use Rattle.jb_cert.specs.Plans.{slot_pair}

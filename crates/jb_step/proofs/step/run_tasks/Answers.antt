@@ -4,6 +4,8 @@ use Rattle.jb_step.specs.Answers.{StepRun, given_back}
 use Rattle.jb_step.specs.Statuses.{status_of}
 use Rattle.jb_step.specs.inside.Finish.{AreHeardToEnd}
 use Rattle.jb_step.specs.inside.Head.{progress, table_of}
+use Rattle.jb_step.specs.PlanLaws.{IsTable}
+use Rattle.jb_step.proofs.Heading.{headline-of}
 use Rattle.jb_step.proofs.Stepping.{IsLeft, run-is, alone-is, way-is, heard-fault}
 use Rattle.jb_step.proofs.step.run_tasks.Goals as goal
 
@@ -39,6 +41,12 @@ left g c =
 
 pub returns-clause-run : goal.returns-clause-run
 returns-clause-run g c = run-is (run-of g c) c.in_ok-ran.ran.fault (left g c)
+
+pub returns-clause-headline : goal.returns-clause-headline
+returns-clause-headline g c =
+    let r = run-of g c in
+    let first = subst (λ (ts : List TaskState). IsTable r.setup ts) c.in_ok-tasks.ensures.tasks c.in_ok-tasks.ensures.table in
+    headline-of c.laws_below.ensures r first (run-is r c.in_ok-ran.ran.fault (left g c))
 
 pub returns-clause-alone : goal.returns-clause-alone
 returns-clause-alone g c = alone-is (run-of g c) c.in_ok-ran.ran.fault (left g c)
