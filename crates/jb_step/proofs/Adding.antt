@@ -21,7 +21,7 @@ quiet-more [] ts quiet last = tt
 quiet-more (set ∷ older) ts quiet last = (quiet, last)
 
 -- the next set moves from those that are left to those that were run
-pub sets-more : (rounds left : List (List Pair)) (set : List Pair) → reverse (set ∷ rounds) ++ left ≡ reverse rounds ++ set ∷ left
+pub sets-more : {X : Type 0} (rounds left : List X) (set : X) → reverse (set ∷ rounds) ++ left ≡ reverse rounds ++ set ∷ left
 sets-more rounds left set = ap (λ xs. xs ++ left) (reverse-append (set ∷ []) rounds) ∙ append_assoc (reverse rounds) (set ∷ []) left
 
 -- the next round is behind those that were run, and before the others

@@ -21,7 +21,8 @@ use Rattle.jb_step.specs.inside.Below.{ChunkLaws}
 use Rattle.jb_step.proofs.Adding.{sets-more}
 use Rattle.jb_step.proofs.Apart.{at-rounds, AllIn, at-in, waits-in, others-wait}
 use Rattle.jb_step.proofs.Holding.{apart-of, rest-of}
-use Rattle.jb_step.proofs.Steady.{IsSteady, IsSteadyIn, IsSteadyTable, next-steady, steady-table, waits, listing, rem, falls-one, drops-one, same-partition, same-count, row_waits}
+use Rattle.jb_step.proofs.Staying.{steady-held}
+use Rattle.jb_step.proofs.Steady.{IsSteady, IsSteadyIn, IsSteadyTable, next-steady, waits, listing, rem, falls-one, drops-one, same-partition, same-count, row_waits}
 use Rattle.jb_step.proofs.Numbers.{add-next, itself}
 
 abbrev pub one_if : Bool → ℕ
@@ -312,7 +313,7 @@ next-can-run law s before rounds set left table lawful can quiet =
     }
 
 pub next_can_run : ChunkLaws → NextCanRun
-next_can_run law s before rounds set left table = next-can-run law s before rounds set left (steady-table s before table)
+next_can_run law s before rounds set left held = next-can-run law s before rounds set left (steady-held law s before held)
 
 -- IN ORDER, AND ALL
 
@@ -429,7 +430,7 @@ order-by law s before rounds p j (t ∷ (v ∷ vs)) table can quiet lt less runs
     absurd (omega (arith, one, two))
 
 pub runs_in_order : ChunkLaws → RunsInOrder
-runs_in_order law s before rounds set left table lawful can quiet p j c =
+runs_in_order law s before rounds set left held lawful can quiet p j c =
     let sets = reverse rounds ++ set ∷ left in
     let n = length rounds in
     let at : get_or sets n [] ≡ set = get_or_at (reverse rounds) set left [] n (length-reverse rounds) in
@@ -437,7 +438,7 @@ runs_in_order law s before rounds set left table lawful can quiet p j c =
     let stands : StandsIn sets n (p, j) = (long, subst (λ (x : List Pair). Contains x (p, j)) (sym at) c) in
     let known = lawful.known n p j stands in
     let within : p < length s.rows = let low = known.0 in omega (arith, low, length-counts s.item_count before s.rows 0) in
-    order-by law s before rounds p j (tasks_at p before) (steady-table s before table) can quiet within known.1 (runs-cnt p rounds (set ∷ left) ∙ cnt-is (counts_now s before) s.threads sets lawful p j n stands) refl
+    order-by law s before rounds p j (tasks_at p before) (steady-held law s before held) can quiet within known.1 (runs-cnt p rounds (set ∷ left) ∙ cnt-is (counts_now s before) s.threads sets lawful p j n stands) refl
 
 all-by : ChunkLaws → (s : Setup) (before : List TaskState) (rounds : List (List Pair)) (p : ℕ) (us : List TaskState) → IsSteadyTable s before → CanRunAll rounds before → AreQuiet rounds before → p < length s.rows
     → slice_index (counts_now s before) p ≤ runs_of p rounds → tasks_at p before ≡ us → slice_index (counts_now s (after_rounds rounds before)) p ≡ 0
@@ -467,7 +468,7 @@ runs-all-chunks law s before rounds table lawful can quiet p lt =
     all-by law s before rounds p (tasks_at p before) table can quiet lt (omega (arith, many, runs)) refl
 
 pub runs_all : ChunkLaws → RunsAll
-runs_all law s before rounds table = runs-all-chunks law s before rounds (steady-table s before table)
+runs_all law s before rounds held = runs-all-chunks law s before rounds (steady-held law s before held)
 
 -- WHERE NO PARTITION WAITS
 

@@ -1,56 +1,68 @@
 -- The headline, from the laws.
-use Rattle.std.proofs.Common.{◌≡◌, ℕ, ◌<◌, Bool, true, false, cond, List, [], ◌∷◌, ◌++◌, append-nil, length, get_or, reverse, drop, take, refl, ap, sym, ◌∙◌, subst, arith, inl, inr, length-append}
+use Rattle.std.proofs.Common.{◌≡◌, ℕ, suc, zero, ◌+◌, ◌-◌, ◌≤◌, ◌<◌, Bool, true, false, List, [], ◌∷◌, ◌++◌, append-nil, length, get_or, map, reverse, drop, take, refl, ap, sym, ◌∙◌, subst, arith, inl, inr, length-append}
 use Rattle.std.specs.Prelude.{Contains, slice_index, ◌⊎◌}
-use Rattle.std.proofs.lemmas.List.{get_or_at, length-reverse, length-drop, reverse-reverse, take-append-drop}
-use Rattle.std.specs.List.{AllByRecursion, list_all}
+use Rattle.std.proofs.lemmas.List.{get_or_at, length-reverse, length-drop, map-append, reverse-append, reverse-reverse, take-append-drop, take_more}
 use Rattle.jb_rules.specs.declared.row.Row.{Row}
-use Rattle.jb_rules.specs.declared.row.RowState.TheVariants as state
 use Rattle.jb_cert.specs.Lawful.{Pair, IsLawful, StandsIn}
-use Rattle.jb_chunk.specs.Attempt.{attempt_of}
+use Rattle.jb_cert.specs.declared.notes.PlanNote.{PlanNote}
 use Rattle.jb_chunk.specs.Laws.{OneEnd}
 use Rattle.jb_chunk.specs.Standing.{TaskState}
 use Rattle.jb_step.specs.Alone.{AreAlone}
 use Rattle.jb_step.specs.Answers.{IsRunOfStep, StepRun, tasks_after, tasks_before}
-use Rattle.jb_step.specs.Headline.{Headline, HeadlineHolds, IsNextBlock, IsPlanOf, NoneIsLeft, RanInOrder, UnstoppedRunsAgree}
+use Rattle.jb_step.specs.Headline.{ArePlansOf, GoQuietly, Headline, HeadlineHolds, IsNextBlock, IsPlanOf, NoneIsLeft, RunInOrder, UnstoppedRunsAgree, left_by, rounds_made}
 use Rattle.jb_step.specs.OnePartition.{tasks_at}
 use Rattle.jb_step.specs.PlanLaws.{IsTable}
-use Rattle.jb_step.specs.Rounds.{AreQuiet, CanRunAll, after_round, after_rounds, has_partition, last_breaks, tasks_in}
-use Rattle.jb_step.specs.Runs.{ArePlanRuns, IsLastOver, IsOver, PlanRun, rounds_of, rounds_run, table_after}
+use Rattle.jb_step.specs.Rounds.{AreQuiet, CanRunAll, after_round, after_rounds, breaks, last_breaks}
+use Rattle.jb_step.specs.Runs.{ArePlanRuns, IsLastOver, IsOver, PlanRun, note_of, notes_of, rounds_of, rounds_run, table_after}
 use Rattle.jb_step.specs.Setup.{Setup, counts_now, rows_now}
 use Rattle.jb_step.specs.inside.Below.{ChunkLaws, LawsBelow}
 use Rattle.jb_step.proofs.Adding.{after_rounds-append, quiet-more, sets-more}
-use Rattle.jb_step.proofs.Apart.{others-wait, runs-all}
 use Rattle.jb_step.proofs.ChunksInOrder.{by-at, idle-at, length-counts, runs-all-chunks}
-use Rattle.jb_step.proofs.Holding.{apart-of, begins_with_table, partitions_stay}
-use Rattle.jb_step.proofs.Leading.{alone_is_one_place, first-waits, steps_end_alone}
+use Rattle.jb_step.proofs.Holding.{apart-of, begins_with_table}
+use Rattle.jb_step.proofs.Leading.{alone_is_one_place, steps_end_alone}
 use Rattle.jb_step.proofs.Listing.{chunks-are-blocks}
-use Rattle.jb_step.proofs.Steady.{IsSteadyIn, IsSteadyTable, next-steady, row_waits, same-count, steady-table}
+use Rattle.jb_step.proofs.Staying.{steady-after}
+use Rattle.jb_step.proofs.Steady.{IsSteadyTable}
 use Rattle.jb_step.proofs.Turning.{ready-of}
 
--- THE TABLES
+-- ROUNDS ONE AFTER ANOTHER
 
-steady-one : ChunkLaws → (s : Setup) (b : Bool) (t : TaskState) → IsSteadyIn s t → (b ≡ true → t.row.state ≡ state.Waiting) → IsSteadyIn s (cond b (attempt_of t).task t)
-steady-one law s true t here waiting = (next-steady law t here.0 (waiting refl), same-count t ∙ here.1)
-steady-one law s false t here waiting = here
+-- the last round behind the earlier ones
+last-behind : (older : List (List Pair)) (set : List Pair) → reverse (set ∷ older) ≡ reverse older ++ set ∷ []
+last-behind older set = reverse-append (set ∷ []) older
 
-steady-round : ChunkLaws → (s : Setup) (set : List Pair) (ts : List TaskState) → AllByRecursion (IsSteadyIn s) ts → list_all row_waits (tasks_in set ts) ≡ true → AllByRecursion (IsSteadyIn s) (after_round set ts)
-steady-round law s set [] tasks waiting = tt
-steady-round law s set (t ∷ ts) tasks waiting =
-    let b = has_partition set t.partition in
-    (steady-one law s b t tasks.0 (first-waits b t (tasks_in set ts) waiting), steady-round law s set ts tasks.1 (others-wait b t (tasks_in set ts) waiting))
+-- what rounds leave, be they told from the first one or from the last one
+left-back : (rounds : List (List Pair)) (ts : List TaskState) → left_by rounds ts ≡ after_rounds (reverse rounds) ts
+left-back [] ts = refl
+left-back (set ∷ later) ts =
+    left-back later (after_round set ts) ∙ sym (after_rounds-append (reverse later) (set ∷ []) ts) ∙ ap (λ (rs : List (List Pair)). after_rounds rs ts) (sym (last-behind later set))
 
-steady-rounds : ChunkLaws → (s : Setup) (rounds : List (List Pair)) (ts : List TaskState) → IsSteadyTable s ts → CanRunAll rounds ts → IsSteadyTable s (after_rounds rounds ts)
-steady-rounds law s [] ts table can = table
-steady-rounds law s (set ∷ older) ts table can =
-    let before = steady-rounds law s older ts table can.0 in
-    record {
-      tasks = steady-round law s set (after_rounds older ts) before.tasks can.1.waiting;
-      partitions = partitions_stay set (after_rounds older ts) ∙ before.partitions;
-    }
+left-again : (rounds : List (List Pair)) (ts : List TaskState) → left_by (reverse rounds) ts ≡ after_rounds rounds ts
+left-again rounds ts = left-back (reverse rounds) ts ∙ ap (λ (rs : List (List Pair)). after_rounds rs ts) (reverse-reverse rounds)
 
--- what the plans of a run leave is steady
-steady-after : ChunkLaws → (s : Setup) (start : List TaskState) (plans : List PlanRun) → IsSteadyTable s start → ArePlanRuns s start plans → IsSteadyTable s (table_after plans start)
-steady-after law s start plans table runs = steady-rounds law s (rounds_of plans) start table (runs-all s start plans runs)
+quiet-append : (one more : List (List Pair)) (ts : List TaskState) → GoQuietly one ts → GoQuietly more (left_by one ts) → GoQuietly (one ++ more) ts
+quiet-append [] more ts here behind = behind
+quiet-append (set ∷ one) more ts here behind = (here.0, quiet-append one more (after_round set ts) here.1 behind)
+
+quiet-behind : (one more : List (List Pair)) (ts : List TaskState) → GoQuietly (one ++ more) ts → GoQuietly more (left_by one ts)
+quiet-behind [] more ts all = all
+quiet-behind (set ∷ one) more ts all = quiet-behind one more (after_round set ts) all.1
+
+go-quietly : (rounds : List (List Pair)) (ts : List TaskState) → AreQuiet rounds ts → GoQuietly (reverse rounds) ts
+go-quietly [] ts quiet = tt
+go-quietly (set ∷ older) ts quiet =
+    subst (λ (rs : List (List Pair)). GoQuietly rs ts) (sym (last-behind older set))
+    (quiet-append (reverse older) (set ∷ []) ts (go-quietly older ts quiet.0) (ap (breaks set) (left-again older ts) ∙ quiet.1, tt))
+
+last-quiet : (rounds : List (List Pair)) (ts : List TaskState) → GoQuietly (reverse rounds) ts → last_breaks rounds ts ≡ false
+last-quiet [] ts quiet = refl
+last-quiet (set ∷ older) ts quiet =
+    let last = quiet-behind (reverse older) (set ∷ []) ts (subst (λ (rs : List (List Pair)). GoQuietly rs ts) (last-behind older set) quiet) in
+    ap (breaks set) (sym (left-again older ts)) ∙ last.0
+
+order-append : (before now : List TaskState) (one more : List (List Pair)) → RunInOrder before now one → RunInOrder before (left_by one now) more → RunInOrder before now (one ++ more)
+order-append before now [] more here behind = behind
+order-append before now (set ∷ one) more here behind = (here.0, order-append before (after_round set now) one more here.1 behind)
 
 -- ONE ROUND
 
@@ -67,8 +79,8 @@ module _ (law : ChunkLaws) (s : Setup) (before : List TaskState) (table : IsStea
       record {
         was = t;
         is = now.0;
-        was_there = e;
-        is_there = now.1;
+        stood = e;
+        stands = now.1;
         next = chunks-are-blocks law s before rounds set left table lawful can quiet p j chunk t now.0 e now.1;
       }
   block-by rounds set left lawful can quiet p j chunk lt less (t ∷ (v ∷ vs)) e =
@@ -92,11 +104,14 @@ module _ (law : ChunkLaws) (s : Setup) (before : List TaskState) (table : IsStea
   rest-quiet [] quiet = tt
   rest-quiet (set ∷ older) quiet = quiet.0
 
-  in-order : (rounds left : List (List Pair)) → IsLawful (counts_now s before) s.threads (reverse rounds ++ left) → CanRunAll rounds before → AreQuiet (drop 1 rounds) before → RanInOrder before rounds
+  in-order : (rounds left : List (List Pair)) → IsLawful (counts_now s before) s.threads (reverse rounds ++ left) → CanRunAll rounds before → AreQuiet (drop 1 rounds) before → RunInOrder before before (reverse rounds)
   in-order [] left lawful can quiet = tt
   in-order (set ∷ older) left lawful can quiet =
       let moved = subst (λ (sets : List (List Pair)). IsLawful (counts_now s before) s.threads sets) (sets-more older left set) lawful in
-      (in-order older (set ∷ left) moved can.0 (rest-quiet older quiet), λ p j chunk. next-block older set left moved can.0 quiet p j chunk)
+      let last : RunInOrder before (left_by (reverse older) before) (set ∷ []) =
+      subst (λ (now : List TaskState). RunInOrder before now (set ∷ [])) (sym (left-again older before)) (λ p j chunk. next-block older set left moved can.0 quiet p j chunk, tt) in
+      subst (λ (rs : List (List Pair)). RunInOrder before before rs) (sym (last-behind older set))
+      (order-append before before (reverse older) (set ∷ []) (in-order older (set ∷ left) moved can.0 (rest-quiet older quiet)) last)
 
 -- ONE PLAN
 
@@ -114,15 +129,36 @@ quietly : (b : Bool) (P : Type 0) → P ⊎ (b ≡ true) → b ≡ false → P
 quietly b P (inl it) quiet = it
 quietly b P (inr broke) quiet = let both : false ≡ true = sym quiet ∙ broke in let never : ⊥ = cc in absurd never
 
+-- the rounds that were run, from the first one on
+made-is : (plan : PlanRun) → reverse (rounds_run plan) ≡ rounds_made plan
+made-is plan = reverse-reverse (take plan.ran plan.rounds)
+
+-- no round before the last one that was run broke
+no-further : (plan : PlanRun) (ts : List TaskState) → plan.ran ≤ length plan.rounds → AreQuiet (drop 1 (rounds_run plan)) ts → GoQuietly (take (plan.ran - 1) plan.rounds) ts
+no-further plan ts among quiet = by plan.ran refl
+  where
+    by : (n : ℕ) → plan.ran ≡ n → GoQuietly (take (plan.ran - 1) plan.rounds) ts
+    by zero e = subst (λ (n : ℕ). GoQuietly (take (n - 1) plan.rounds) ts) (sym e) tt
+    by (suc n) e =
+        let earlier : List (List Pair) = take n plan.rounds in
+        let one : suc n ≡ n + 1 = omega arith in
+        let less : n < length plan.rounds = omega (arith, among, e) in
+        let rounds : rounds_run plan ≡ get_or plan.rounds n [] ∷ reverse earlier =
+        ap (λ (m : ℕ). reverse (take m plan.rounds)) (e ∙ one) ∙ (ap reverse (take_more plan.rounds n [] less) ∙ reverse-append earlier (get_or plan.rounds n [] ∷ [])) in
+        let before : AreQuiet (reverse earlier) ts = subst (λ (rs : List (List Pair)). AreQuiet (drop 1 rs) ts) rounds quiet in
+        let made : GoQuietly earlier ts = subst (λ (rs : List (List Pair)). GoQuietly rs ts) (reverse-reverse earlier) (go-quietly (reverse earlier) ts before) in
+        let fewer : n ≡ plan.ran - 1 = omega (arith, e) in
+        subst (λ (m : ℕ). GoQuietly (take m plan.rounds) ts) fewer made
+
 module _ (law : ChunkLaws) (s : Setup) (start : List TaskState) where
   none-left : (plan : PlanRun) (older : List PlanRun) → ArePlanRuns s start (plan ∷ older) → IsSteadyTable s (table_after older start) → plan.ran ≡ length plan.rounds
-      → last_breaks (rounds_run plan) (table_after older start) ≡ false → NoneIsLeft s (table_after (plan ∷ older) start)
+      → last_breaks (rounds_run plan) (table_after older start) ≡ false → NoneIsLeft s (left_by (rounds_made plan) (table_after older start))
   none-left plan older runs table all quiet p lt =
       let before = table_after older start in
       let one = runs.2 in
       let whole : plan.rounds ≡ reverse (rounds_run plan) = halves plan ∙ (ap (λ xs. reverse (rounds_run plan) ++ xs) (none-beyond plan.rounds plan.ran all) ∙ append-nil (reverse (rounds_run plan))) in
       let lawful = subst (λ (xs : List (List Pair)). IsLawful (counts_now s before) s.threads xs) whole one.least.lawful in
-      subst (λ (ts : List TaskState). slice_index (counts_now s ts) p ≡ 0) (sym (after_rounds-append (rounds_run plan) (rounds_of older) start))
+      subst (λ (ts : List TaskState). slice_index (counts_now s ts) p ≡ 0) (sym (left-back (rounds_made plan) before))
       (runs-all-chunks law s before (rounds_run plan) table lawful one.run (quiet-more (rounds_run plan) before one.quiet quiet) p lt)
 
   -- a plan among others was run
@@ -138,29 +174,45 @@ module _ (law : ChunkLaws) (s : Setup) (start : List TaskState) where
 
 -- THE RUN
 
+notes-turned : (plans : List PlanRun) → map note_of (reverse plans) ≡ notes_of plans
+notes-turned [] = refl
+notes-turned (plan ∷ older) =
+    ap (map note_of) (reverse-append (plan ∷ []) older)
+    ∙ (map-append note_of (reverse older) (plan ∷ []) ∙ (ap (λ (ns : List PlanNote). ns ++ note_of plan ∷ []) (notes-turned older) ∙ sym (reverse-append (note_of plan ∷ []) (map note_of older))))
+
 module _ (below : LawsBelow) (r : StepRun) (first : IsTable r.setup (tasks_before r)) (run : IsRunOfStep r) where
-  each-plan : (newer : List PlanRun) (plan : PlanRun) (older : List PlanRun) → run.plans ≡ newer ++ plan ∷ older
-      → IsPlanOf r newer (table_after older (tasks_before r)) (table_after (plan ∷ older) (tasks_before r)) plan
-  each-plan newer plan older e =
+  each-plan : (later : List PlanRun) (plan : PlanRun) (older : List PlanRun) → run.plans ≡ reverse later ++ plan ∷ older → IsPlanOf r (table_after older (tasks_before r)) plan later
+  each-plan later plan older e =
       let s = r.setup in
-      let before = table_after older (tasks_before r) in
-      let all = subst (λ (ps : List PlanRun). ArePlanRuns s (tasks_before r) ps) e run.run in
-      let runs = runs-at below.chunks s (tasks_before r) newer plan older all in
-      let table = steady-after below.chunks s (tasks_before r) older (steady-table s (tasks_before r) first) runs.0 in
+      let start = tasks_before r in
+      let before = table_after older start in
+      let all = subst (λ (ps : List PlanRun). ArePlanRuns s start ps) e run.run in
+      let runs = runs-at below.chunks s start (reverse later) plan older all in
+      let table = steady-after below.chunks s start older first runs.0 in
       let one = runs.2 in
       let lawful = subst (λ (xs : List (List Pair)). IsLawful (counts_now s before) s.threads xs) (halves plan) one.least.lawful in
       record {
-        fewest = one.least;
+        exactly = one.least.lawful;
+        fewest = one.least.least;
         certified = one.certified;
         among = one.among;
-        left = after_rounds-append (rounds_run plan) (rounds_of older) (tasks_before r);
-        in_order = in-order below.chunks s before table (rounds_run plan) (drop plan.ran plan.rounds) lawful one.run one.quiet;
+        in_order = subst (λ (rs : List (List Pair)). RunInOrder before before rs) (made-is plan) (in-order below.chunks s before table (rounds_run plan) (drop plan.ran plan.rounds) lawful one.run one.quiet);
+        no_further = no-further plan before one.among one.quiet;
         whole = λ unended.
-            let over = over-at below.chunks s (tasks_before r) newer plan older all
-            (λ none. subst (λ (ps : List PlanRun). IsLastOver ps (tasks_before r)) e (run.unstopped (unended.unstopped none)).over) in
-            let ran = quietly (last_breaks (rounds_run plan) before) (plan.ran ≡ length plan.rounds) over unended.quiet in
-            (ran, none-left below.chunks s (tasks_before r) plan older runs table ran unended.quiet);
+            let over = over-at below.chunks s start (reverse later) plan older all
+            (λ none. subst (λ (ps : List PlanRun). IsLastOver ps start) e (run.unstopped (unended.unstopped (sym (reverse-reverse later) ∙ ap reverse none))).over) in
+            let quiet = last-quiet (rounds_run plan) before (subst (λ (rs : List (List Pair)). GoQuietly rs before) (sym (made-is plan)) unended.quiet) in
+            let ran = quietly (last_breaks (rounds_run plan) before) (plan.ran ≡ length plan.rounds) over quiet in
+            (ran, none-left below.chunks s start plan older runs table ran quiet);
       }
+
+  all-plans : (later older : List PlanRun) → run.plans ≡ reverse later ++ older → ArePlansOf r (table_after older (tasks_before r)) later
+  all-plans [] older e = run.tasks ∙ ap (λ (ps : List PlanRun). table_after ps (tasks_before r)) e
+  all-plans (plan ∷ later) older e =
+      let moved : run.plans ≡ reverse later ++ plan ∷ older = e ∙ sets-more later older plan in
+      let left : left_by (rounds_made plan) (table_after older (tasks_before r)) ≡ table_after (plan ∷ older) (tasks_before r) =
+      left-back (rounds_made plan) (table_after older (tasks_before r)) ∙ sym (after_rounds-append (rounds_run plan) (rounds_of older) (tasks_before r)) in
+      (each-plan later plan older moved, subst (λ (ts : List TaskState). ArePlansOf r ts later) (sym left) (all-plans later (plan ∷ older) moved))
 
   alone-all : r.snapshot.stopping ≡ false → AreAlone (tasks_before r) (tasks_after r)
   alone-all going =
@@ -172,12 +224,11 @@ module _ (below : LawsBelow) (r : StepRun) (first : IsTable r.setup (tasks_befor
 
   pub headline-of : Headline r
   headline-of = record {
-    plans = run.plans;
-    noted = run.notes_are;
-    each = each-plan;
-    last = run.tasks;
-    rows = rows-left;
+    plans = reverse run.plans;
+    each = all-plans (reverse run.plans) [] (sym (append-nil (reverse (reverse run.plans)) ∙ reverse-reverse run.plans));
+    noted = run.notes_are ∙ sym (notes-turned run.plans);
     alone = alone-all;
+    rows = rows-left;
   }
 
 pub headline_holds : LawsBelow → HeadlineHolds

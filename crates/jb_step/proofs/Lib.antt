@@ -21,6 +21,7 @@ mod CallsInPart
 mod Restarting
 mod Splitting
 mod Starting
+mod Staying
 mod Steady
 mod Stepping
 mod Telling

@@ -16,7 +16,8 @@ use Rattle.jb_step.specs.Setup.{Setup, counts_now}
 use Rattle.jb_step.specs.inside.Below.{ChunkLaws}
 use Rattle.jb_step.proofs.Apart.{AllIn, all-some, at-rounds, waits-in}
 use Rattle.jb_step.proofs.ChunksInOrder.{commits, runs_of, runs-cnt, chunk-has, cnt-is, commits-in, member, named, next-can-run, fallen-all}
-use Rattle.jb_step.proofs.Steady.{IsSteady, IsSteadyIn, IsSteadyTable, steady-table, row_waits, waits, listing, next-list}
+use Rattle.jb_step.proofs.Staying.{steady-held}
+use Rattle.jb_step.proofs.Steady.{IsSteady, IsSteadyIn, IsSteadyTable, row_waits, waits, listing, next-list}
 
 get-dropped : (xs : List Range) (j : ℕ) → slice_get xs j ≡ slice_get (drop j xs) 0
 get-dropped [] zero = refl
@@ -61,4 +62,4 @@ chunks-are-blocks law s before rounds set left table lawful can quiet p j chunk 
     get-dropped (listing t) j ∙ ap (λ xs. slice_get xs 0) (dropped ∙ next-list law u st (st.waiting waiting))
 
 pub chunks_are_blocks : ChunkLaws → ChunksAreBlocks
-chunks_are_blocks law s before rounds set left table = chunks-are-blocks law s before rounds set left (steady-table s before table)
+chunks_are_blocks law s before rounds set left held = chunks-are-blocks law s before rounds set left (steady-held law s before held)

@@ -13,7 +13,7 @@ use Rattle.jb_step.specs.Heard.{heard}
 use Rattle.jb_step.specs.Callbacks.{has_fault, since}
 use Rattle.jb_step.specs.Runs.{PlanRun, note_of, notes_of, table_after}
 use Rattle.jb_step.specs.Setup.{rows_now}
-use Rattle.jb_step.specs.Alone.{AreAlone, AreOnTheWay, have_ended}
+use Rattle.jb_step.specs.Alone.{AreOnTheWay, have_ended}
 use Rattle.jb_step.specs.inside.Finish.{AreHeardToEnd, works_of}
 use Rattle.jb_step.specs.inside.Round.{partitions_of}
 use Rattle.jb_step.specs.inside.Telling.{moment}
@@ -89,9 +89,6 @@ module _ (r : StepRun) (fault : Option ClassId) (h : IsLeft r fault) where
     heard_is = (fault, h.told.heard_is);
     unstopped = unstopped;
   }
-
-  pub alone-is : r.snapshot.stopping ≡ false → AreAlone (tasks_before r) (tasks_after r)
-  alone-is going = subst (λ (ts : List TaskState). AreAlone (tasks_before r) ts) (sym back) (h.told.alone (h.agree going).0)
 
   pub way-is : AreOnTheWay (tasks_before r) (tasks_after r)
   way-is = subst (λ (ts : List TaskState). AreOnTheWay (tasks_before r) ts) (sym back) h.told.on_the_way

@@ -19,16 +19,15 @@ use Rattle.jb_collect.specs.declared.calls.AnalyzerCall.{AnalyzerCall}
 use Rattle.jb_collect.specs.Heard.{heard_first}
 use Rattle.jb_step.specs.inside.Adding.{IsRoundMore, heard_in_round, heard_so_far, next_round, unrun, with_round}
 use Rattle.jb_step.specs.inside.Below.{LawsBelow}
-use Rattle.jb_step.specs.inside.Loop.{IsUnderWay}
 use Rattle.jb_step.specs.Rounds.{CanRun, after_round, attempts_in, breaks, has_partition, last_breaks}
-use Rattle.jb_step.specs.Runs.{PlanRun, IsOver, all_attempts, note_of, notes_of, rounds_of, rounds_run, table_after}
+use Rattle.jb_step.specs.Runs.{ArePlanRuns, PlanRun, IsOver, all_attempts, note_of, notes_of, rounds_of, rounds_run, table_after}
 use Rattle.jb_step.specs.Setup.{Setup, counts_now}
 use Rattle.jb_step.specs.Alone.{AreReady, have_ended}
 use Rattle.jb_step.proofs.Holding.{partitions_stay}
 use Rattle.jb_step.proofs.Planning.{least-planned}
 use Rattle.jb_step.proofs.Steady.{same-count}
 use Rattle.jb_step.proofs.Looping.{loop_goes_on, loop_plans}
-use Rattle.jb_step.proofs.Whole.{open_plan_goes_on, new_plan_begins, last_plan_is_over}
+use Rattle.jb_step.proofs.Whole.{held-after, open_plan_goes_on, new_plan_begins, last_plan_is_over}
 use Rattle.jb_step.specs.declared.plan.Open.{Open}
 use Rattle.jb_step.specs.inside.Head.{AreRounds, Beginning, IsAfterRound, IsBetween, IsClosed, IsFinished, IsNextPlan, IsOpen, IsRunSoFar, Progress, note_at, one_round_more, planned_certificate, planned_sets, set_of_round}
 use Rattle.jb_step.specs.inside.Round.{partitions_of}
@@ -83,13 +82,14 @@ abbrev round_more : Progress → Moment → List Pair → Progress
 round_more now later set = record { moment = later; table = after_round set now.table; ran = one_round_more now.ran set now.table; notes = now.notes }
 
 so-far-more : LawsBelow → (b : Beginning) (now : Progress) (later : Moment) (plans more : List PlanRun) (set : List Pair)
-    → IsRunSoFar b now plans → IsUnderWay b.setup b.start more → IsRoundMore b.setup b.start plans more set → AreReady (after_round set now.table) → HearsMore now.moment (heard_in_round set now.table) later
+    → IsRunSoFar b now plans → ArePlanRuns b.setup b.start more → IsRoundMore b.setup b.start plans more set → AreReady (after_round set now.table) → HearsMore now.moment (heard_in_round set now.table) later
     → IsRunSoFar b (round_more now later set) more
-so-far-more below b now later plans more set so_far way one ready heard =
+so-far-more below b now later plans more set so_far runs one ready heard =
     let same = so_far.table_is in
     let earlier = heard_so_far b.setup b.start plans in
     record {
-      under_way = way;
+      first = so_far.first;
+      run = runs;
       heard_is =
           subst (λ (cs : List AnalyzerCall). IsHeard b.base cs later)
           (ap (λ (ts : List TaskState). earlier ++ heard_in_round set ts) (sym same) ∙ sym one.heard)
@@ -131,9 +131,8 @@ on-the-way plan load rounds sets is more = record {
 open-can-run : LawsBelow → (b : Beginning) (now : Progress) (load : Load) (rounds : ℕ) → IsOpen b now load rounds → CanRun (next_set load rounds) now.table
 open-can-run below b now load rounds o =
     let there = on-the-way o.plan load rounds o.sets o.rounds_are o.more in
-    let way = o.so_far.under_way in
     subst (λ (set : List Pair). CanRun set now.table) there.next_is
-    (subst (λ (ts : List TaskState). CanRun (next_round o.plan) ts) o.so_far.table_is (open_plan_goes_on below.chunks b.setup b.start o.plan o.older way.run way.tables.1 there.before_end o.quiet))
+    (subst (λ (ts : List TaskState). CanRun (next_round o.plan) ts) o.so_far.table_is (open_plan_goes_on below.chunks b.setup b.start o.plan o.older o.so_far.first o.so_far.run there.before_end o.quiet))
 
 -- what a round of this set makes of a turn
 abbrev Turns : Beginning → Progress → Moment → Load → ℕ → List Pair → Type 0
@@ -151,7 +150,7 @@ open-turns below b now later load rounds o =
       older = o.older;
       so_far =
           so-far-more below b now later (o.plan ∷ o.older) (with_round o.plan ∷ o.older) (next_round o.plan) o.so_far
-          (loop_goes_on below b.setup b.start o.plan o.older o.so_far.under_way there.before_end o.quiet) one ready more;
+          (loop_goes_on below b.setup b.start o.plan o.older o.so_far.first o.so_far.run there.before_end o.quiet) one ready more;
       notes_are = o.notes_are;
       sets = o.sets;
       certificate_is = o.certificate_is;
@@ -194,7 +193,7 @@ some-sets load some = let all = long-plan load in omega (arith, some, all)
 new-can-run : LawsBelow → (s : Setup) (table : List TaskState) (load : Load) → IsTable s table → IsLoadOf s table load → CanRun (next_set load 0) table
 new-can-run below s table load holds l =
     subst (λ (set : List Pair). CanRun set table) (at-place (set_of_round load) (mcnaughton load.counts load.threads) 0 l.some_round)
-    (new_plan_begins below.chunks s table (planned_certificate load) (planned_sets load) holds (some-sets load l.some_round) (least-of below s table load (planned_sets load) l refl))
+    (new_plan_begins below.chunks s table (planned_certificate load) (planned_sets load) (held-after s table [] holds tt) (some-sets load l.some_round) (least-of below s table load (planned_sets load) l refl))
 
 new-turns : LawsBelow → (b : Beginning) (now : Progress) (later : Moment) (load : Load) → IsClosed b now → IsLoadOf b.setup now.table load → Turns b now later load 1 (next_set load 0)
 new-turns below b now later load o l =
@@ -204,17 +203,15 @@ new-turns below b now later load o l =
     let some = some-sets load l.some_round in
     let plan : PlanRun = new_plan load in
     let one = round_opens b.setup b.start o.plans certificate sets some in
-    let way =
-    loop_plans below b.setup b.start o.plans certificate sets o.so_far.under_way o.over
-    (subst (λ (ts : List TaskState). IsTable b.setup ts) (sym same) o.so_far.holds)
-    some
+    let runs =
+    loop_plans below b.setup b.start o.plans certificate sets o.so_far.first o.so_far.run o.over some
     (subst (λ (ts : List TaskState). IsLeast (counts_now b.setup ts) b.setup.threads sets) (sym same) (least-of below b.setup now.table load sets l refl))
     (subst (λ (ts : List TaskState). Holds (counts_now b.setup ts) b.setup.threads (length sets) certificate) (sym same) (holds-of below b.setup now.table load sets l refl)) in
     subst (λ (set : List Pair). Turns b now later load 1 set) (at-place (set_of_round load) (mcnaughton load.counts load.threads) 0 l.some_round)
     (λ ready more. record {
       plan = with_round plan;
       older = o.plans;
-      so_far = so-far-more below b now later o.plans (with_round plan ∷ o.plans) (next_round plan) o.so_far way one ready more;
+      so_far = so-far-more below b now later o.plans (with_round plan ∷ o.plans) (next_round plan) o.so_far runs one ready more;
       notes_are = o.notes_are;
       sets = refl;
       certificate_is = refl;
@@ -246,7 +243,8 @@ noted_as now notes = record { moment = now.moment; table = now.table; ran = now.
 
 so-far-noted : (b : Beginning) (now : Progress) (notes : List PlanNote) (plans : List PlanRun) → IsRunSoFar b now plans → IsRunSoFar b (noted_as now notes) plans
 so-far-noted b now notes plans so_far = record {
-  under_way = so_far.under_way;
+  first = so_far.first;
+  run = so_far.run;
   heard_is = so_far.heard_is;
   table_is = so_far.table_is;
   holds = so_far.holds;
@@ -307,8 +305,7 @@ unended below b now (Some plan) between some = by-test (have_ended now.table) re
     by-test : (e : Bool) → have_ended now.table ≡ e → have_ended now.table ≡ false
     by-test false e = e
     by-test true e =
-        let way = between.so_far.under_way in
-        absurd (never (last_plan_is_over below.chunks b.setup b.start between.plan between.older way.run way.tables.1 (subst (λ (ts : List TaskState). have_ended ts ≡ true) (sym between.so_far.table_is) e)))
+        absurd (never (last_plan_is_over below.chunks b.setup b.start between.plan between.older between.so_far.first between.so_far.run (subst (λ (ts : List TaskState). have_ended ts ≡ true) (sym between.so_far.table_is) e)))
 
 pub table-of : (b : Beginning) (now : Progress) (plan : Option Open) → IsBetween b now plan → IsTable b.setup now.table
 table-of b now None between = between.so_far.holds
@@ -326,7 +323,8 @@ pub begins : (b : Beginning) (m : Moment) → IsTable b.setup b.start → IsHear
 begins b m table heard = record {
   plans = [];
   so_far = record {
-    under_way = record { run = tt; tables = tt };
+    first = table;
+    run = tt;
     heard_is = subst (λ (cs : List AnalyzerCall). IsHeard b.base cs m) (sym (append-nil (heard_first b.setup.begun_anew b.setup.rows))) heard;
     table_is = refl;
     holds = table;
@@ -383,7 +381,7 @@ pub ends : LawsBelow → (b : Beginning) (now : Progress) (noted : List PlanNote
     → AreRounds b limit (noted_as now noted) stopped
 ends below b now noted None limit stopped between f few ended = record {
   plans = between.plans;
-  run = between.so_far.under_way.run;
+  run = between.so_far.run;
   notes_are = f ∙ between.notes_are;
   few = within limit now.ran.0 (length (rounds_of between.plans)) between.so_far.ran_is few;
   table_is = sym between.so_far.table_is;
@@ -394,10 +392,9 @@ ends below b now noted None limit stopped between f few ended = record {
   unstopped = λ u. (ended u, between.over);
 }
 ends below b now noted (Some plan) limit stopped between f few ended =
-    let way = between.so_far.under_way in
     record {
       plans = between.plan ∷ between.older;
-      run = way.run;
+      run = between.so_far.run;
       notes_are = notes-more now.notes noted between.plan between.older plan.cursor plan.ran between.notes_are (note-is between.plan plan.cursor plan.ran between.sets between.certificate_is between.rounds_are) f;
       few = within limit now.ran.0 (length (rounds_of (between.plan ∷ between.older))) between.so_far.ran_is few;
       table_is = sym between.so_far.table_is;
@@ -408,7 +405,7 @@ ends below b now noted (Some plan) limit stopped between f few ended =
       unstopped =
           λ u. (
             ended u,
-            last_plan_is_over below.chunks b.setup b.start between.plan between.older way.run way.tables.1 (subst (λ (ts : List TaskState). have_ended ts ≡ true) (sym between.so_far.table_is) (ended u)),
+            last_plan_is_over below.chunks b.setup b.start between.plan between.older between.so_far.first between.so_far.run (subst (λ (ts : List TaskState). have_ended ts ≡ true) (sym between.so_far.table_is) (ended u)),
           );
     }
 

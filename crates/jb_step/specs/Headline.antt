@@ -1,66 +1,98 @@
 -- The headline: what any run of a step did, whatever its ranges, its item count, its thread number and the order of its commits
--- were. Nothing is asked but that `run_step` answered.
-use Rattle.std.specs.Prelude.{◌≡◌, ℕ, ◌<◌, ◌≤◌, false, List, [], ◌∷◌, ◌++◌, length, slice_index, slice_get, Contains, Some}
+-- were. Nothing is asked but that `run_step` answered. Plans and rounds stand in the order in which they were made and run.
+use Rattle.std.specs.Prelude.{◌≡◌, ℕ, ◌<◌, ◌≤◌, ◌-◌, false, List, [], ◌∷◌, length, map, take, slice_index, slice_get, Contains, Some}
 use Rattle.jb_plan.specs.Blocks.{blocks}
 use Rattle.jb_cert.specs.Certificates.{Holds}
-use Rattle.jb_cert.specs.Lawful.{Pair, IsLeast}
+use Rattle.jb_cert.specs.Lawful.{Pair, IsLawful, NoneIsShorter}
 use Rattle.jb_chunk.specs.Attempt.{block_of}
 use Rattle.jb_chunk.specs.Standing.{TaskState}
 use Rattle.jb_step.specs.Alone.{AreAlone}
 use Rattle.jb_step.specs.Answers.{StepRun, tasks_before, tasks_after}
 use Rattle.jb_step.specs.OnePartition.{tasks_at}
-use Rattle.jb_step.specs.Rounds.{after_rounds, last_breaks}
-use Rattle.jb_step.specs.Runs.{PlanRun, notes_of, rounds_run, table_after}
+use Rattle.jb_step.specs.Rounds.{after_round, breaks}
+use Rattle.jb_step.specs.Runs.{PlanRun, note_of}
 use Rattle.jb_step.specs.Setup.{IsSetup, Setup, counts_now, rows_now}
 use Rattle.jb_step.specs.StepRuns.{IsAnswered}
 
--- chunk j of the partition is block j of those that it had left as the plan was made, and the next one that it has left now
+-- ---- rounds, run one after another
+
+-- the table that they leave
+abbrev pub left_by : List (List Pair) → List TaskState → List TaskState
+left_by [] now = now
+left_by (set ∷ later) now = left_by later (after_round set now)
+
+-- none of them has a rollback or a failure
+abbrev pub GoQuietly : List (List Pair) → List TaskState → Type 0
+GoQuietly [] now = Unit {0}
+GoQuietly (set ∷ later) now = (breaks set now ≡ false) × GoQuietly later (after_round set now)
+
+-- in the table the partition has this task, and no other
+abbrev pub StandsAt : (p : ℕ) → List TaskState → TaskState → Type 0
+StandsAt p table task = tasks_at p table ≡ task ∷ []
+
+-- chunk j of the partition is block j of those that it had left before, and the next one that it has left now
 pub record IsNextBlock (before now : List TaskState) (p j : ℕ) : Type 0 where
   pub was : TaskState
   pub is : TaskState
-  pub was_there : tasks_at p before ≡ was ∷ []
-  pub is_there : tasks_at p now ≡ is ∷ []
+  pub stood : StandsAt p before was
+  pub stands : StandsAt p now is
   pub next : slice_get (blocks was.row.at was.row.redo was.row.hi was.item_count) j ≡ Some (block_of is)
 
--- these rounds were run, the newest first: each chunk was its partition's next block when its round began
-abbrev pub RanInOrder : (before : List TaskState) → List (List Pair) → Type 0
-RanInOrder before [] = Unit {0}
-RanInOrder before (set ∷ older) =
-    RanInOrder before older × ((p j : ℕ) → Contains set (p, j) → IsNextBlock before (after_rounds older before) p j)
+-- each of their chunks is its partition's next block when its round begins; `before` is the table that they were planned for
+abbrev pub RunInOrder : (before now : List TaskState) → List (List Pair) → Type 0
+RunInOrder before now [] = Unit {0}
+RunInOrder before now (set ∷ later) =
+    ((p j : ℕ) → Contains set (p, j) → IsNextBlock before now p j) × RunInOrder before (after_round set now) later
 
--- no partition has a chunk left
+-- ---- a plan
+
+-- the rounds that were run: its first ones
+abbrev pub rounds_made : PlanRun → List (List Pair)
+rounds_made plan = take plan.ran plan.rounds
+
+-- no partition has a chunk that isn't committed yet, but for those that failed
 abbrev pub NoneIsLeft : Setup → List TaskState → Type 0
 NoneIsLeft s now = (p : ℕ) → p < length s.rows → slice_index (counts_now s now) p ≡ 0
 
--- nothing ended the plan: the last of its rounds that was run had no rollback and no failure, and if no plan is newer, the step
--- wasn't stopped
-pub record IsUnended (r : StepRun) (newer : List PlanRun) (before : List TaskState) (plan : PlanRun) : Type 0 where
-  pub quiet : last_breaks (rounds_run plan) before ≡ false
-  pub unstopped : newer ≡ [] → r.snapshot.stopping ≡ false
+-- nothing ended the plan: no rollback, no failure, and no stop, which can end a step's last plan only
+pub record IsUnended (r : StepRun) (before : List TaskState) (plan : PlanRun) (later : List PlanRun) : Type 0 where
+  pub quiet : GoQuietly (rounds_made plan) before
+  pub unstopped : later ≡ [] → r.snapshot.stopping ≡ false
 
--- a plan of the run, with those that are newer: `before` is the table for which it was made, `after` the one that it left
-pub record IsPlanOf (r : StepRun) (newer : List PlanRun) (before after : List TaskState) (plan : PlanRun) : Type 0 where
-  -- it has the chunks not yet committed, each once, in the fewest rounds of all lawful plans, with a certificate of it
-  pub fewest : IsLeast (counts_now r.setup before) r.setup.threads plan.rounds
+-- a plan that the step made for the tasks as they stood before it, and those that it made later
+pub record IsPlanOf (r : StepRun) (before : List TaskState) (plan : PlanRun) (later : List PlanRun) : Type 0 where
+  -- it has exactly the chunks not yet committed, each of them once, each partition's in order,
+  pub exactly : IsLawful (counts_now r.setup before) r.setup.threads plan.rounds
+  -- in the fewest rounds of all lawful plans,
+  pub fewest : NoneIsShorter (counts_now r.setup before) r.setup.threads (length plan.rounds)
+  -- with a certificate of it;
   pub certified : Holds (counts_now r.setup before) r.setup.threads (length plan.rounds) plan.certificate
-  -- its first rounds were run, and no others, each partition's chunks in order
+  -- its first rounds were run, each partition's chunks in order,
   pub among : plan.ran ≤ length plan.rounds
-  pub left : after ≡ after_rounds (rounds_run plan) before
-  pub in_order : RanInOrder before (rounds_run plan)
-  -- unless something ended it, it was run whole, and all its chunks are committed
-  pub whole : IsUnended r newer before plan → (plan.ran ≡ length plan.rounds) × NoneIsLeft r.setup after
+  pub in_order : RunInOrder before before (rounds_made plan)
+  -- none behind one with a rollback or a failure,
+  pub no_further : GoQuietly (take (plan.ran - 1) plan.rounds) before
+  -- and, unless something ended it, all of them: then no chunk is left
+  pub whole : IsUnended r before plan later → (plan.ran ≡ length plan.rounds) × NoneIsLeft r.setup (left_by (rounds_made plan) before)
 
--- Each of the step's plans is as it should be, and an unstopped step left each partition where its attempts alone end: its
--- artifacts, so its outputs, and its row, so its checkpoint and its counts. The other rows are as they were prepared.
+-- the plans, each made for what the one before it left; the last one leaves the tasks as the step left them
+abbrev pub ArePlansOf : StepRun → (before : List TaskState) → List PlanRun → Type 0
+ArePlansOf r before [] = tasks_after r ≡ before
+ArePlansOf r before (plan ∷ later) = IsPlanOf r before plan later × ArePlansOf r (left_by (rounds_made plan) before) later
+
+-- ---- the headline
+
 pub record Headline (r : StepRun) : Type 0 where
+  -- each plan has exactly the chunks not yet committed, each partition's in order, in the fewest rounds of all lawful plans, with
+  -- a certificate of it; and these are its notes,
   pub plans : List PlanRun
-  pub noted : r.notes ≡ notes_of plans
-  pub each :
-      (newer : List PlanRun) (plan : PlanRun) (older : List PlanRun) → plans ≡ newer ++ plan ∷ older
-      → IsPlanOf r newer (table_after older (tasks_before r)) (table_after (plan ∷ older) (tasks_before r)) plan
-  pub last : tasks_after r ≡ table_after plans (tasks_before r)
-  pub rows : r.snapshot.rows.items ≡ rows_now r.setup.rows (tasks_after r)
+  pub each : ArePlansOf r (tasks_before r) plans
+  pub noted : r.notes ≡ map note_of plans
+  -- a step that returns unstopped has, for every thread number and order of commits, the artifacts (the outputs) and the rows (the
+  -- checkpoints and the counts) of its partitions run alone,
   pub alone : r.snapshot.stopping ≡ false → AreAlone (tasks_before r) (tasks_after r)
+  -- and the rows are the tasks' own; a partition without a task has the one that was prepared
+  pub rows : r.snapshot.rows.items ≡ rows_now r.setup.rows (tasks_after r)
 
 -- it holds of each run that `run_step` answers, on rows that `prepare` gave
 abbrev pub HeadlineHolds : Type 0

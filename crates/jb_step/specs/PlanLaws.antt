@@ -9,6 +9,7 @@ use Rattle.jb_chunk.specs.Standing.{TaskState, IsReady}
 use Rattle.jb_step.specs.OnePartition.{tasks_at}
 use Rattle.jb_step.specs.Prepare.{DoFit}
 use Rattle.jb_step.specs.Rounds.{CanRun, CanRunAll, AreQuiet, after_round, after_rounds}
+use Rattle.jb_step.specs.Runs.{PlanRun, ArePlanRuns, table_after}
 use Rattle.jb_step.specs.Setup.{Setup, IsSetup, counts_now, needs, first_tasks, rows_now}
 use Rattle.jb_step.specs.Alone.{have_ended}
 
@@ -21,7 +22,15 @@ pub record IsTable (s : Setup) (ts : List TaskState) : Type 0 where
   pub tasks : AreTasksOf s ts
   pub partitions : map (λ t. t.partition) ts ≡ needs s.rows
 
--- the step begins with such a table, if the artifacts fit
+-- a table that the step holds: what some of its plans, or none of them, left of its first one
+pub record IsHeld (s : Setup) (ts : List TaskState) : Type 0 where
+  pub start : List TaskState
+  pub plans : List PlanRun
+  pub first : IsTable s start
+  pub run : ArePlanRuns s start plans
+  pub left : ts ≡ table_after plans start
+
+-- the step begins with a table of its own, if the artifacts fit
 abbrev pub BeginsWithTable : Type 0
 BeginsWithTable =
     (s : Setup) (works : List ArtifactsMeaning) → IsSetup s → DoFit s works → IsTable s (first_tasks s works)
@@ -39,7 +48,7 @@ PartitionsStay = (set : List Pair) (ts : List TaskState) → map (λ t. t.partit
 abbrev pub NextCanRun : Type 0
 NextCanRun =
     (s : Setup) (before : List TaskState) (rounds : List (List Pair)) (set : List Pair) (left : List (List Pair))
-    → IsTable s before → IsLawful (counts_now s before) s.threads (reverse rounds ++ set ∷ left)
+    → IsHeld s before → IsLawful (counts_now s before) s.threads (reverse rounds ++ set ∷ left)
     → CanRunAll rounds before → AreQuiet rounds before → CanRun set (after_rounds rounds before)
 
 -- Each partition's chunks are run in their order: when a round has chunk j of a partition, just j of the chunks that the
@@ -47,7 +56,7 @@ NextCanRun =
 abbrev pub RunsInOrder : Type 0
 RunsInOrder =
     (s : Setup) (before : List TaskState) (rounds : List (List Pair)) (set : List Pair) (left : List (List Pair))
-    → IsTable s before → IsLawful (counts_now s before) s.threads (reverse rounds ++ set ∷ left)
+    → IsHeld s before → IsLawful (counts_now s before) s.threads (reverse rounds ++ set ∷ left)
     → CanRunAll rounds before → AreQuiet rounds before → (p j : ℕ) → Contains set (p, j)
     → slice_index (counts_now s (after_rounds rounds before)) p + j ≡ slice_index (counts_now s before) p
 
@@ -55,7 +64,7 @@ RunsInOrder =
 abbrev pub ChunksAreBlocks : Type 0
 ChunksAreBlocks =
     (s : Setup) (before : List TaskState) (rounds : List (List Pair)) (set : List Pair) (left : List (List Pair))
-    → IsTable s before → IsLawful (counts_now s before) s.threads (reverse rounds ++ set ∷ left)
+    → IsHeld s before → IsLawful (counts_now s before) s.threads (reverse rounds ++ set ∷ left)
     → CanRunAll rounds before → AreQuiet rounds before → (p j : ℕ) → Contains set (p, j)
     → (t u : TaskState) → tasks_at p before ≡ t ∷ [] → tasks_at p (after_rounds rounds before) ≡ u ∷ []
     → slice_get (blocks t.row.at t.row.redo t.row.hi t.item_count) j ≡ Some (block_of u)
@@ -64,7 +73,7 @@ ChunksAreBlocks =
 abbrev pub RunsAll : Type 0
 RunsAll =
     (s : Setup) (before : List TaskState) (rounds : List (List Pair))
-    → IsTable s before → IsLawful (counts_now s before) s.threads (reverse rounds)
+    → IsHeld s before → IsLawful (counts_now s before) s.threads (reverse rounds)
     → CanRunAll rounds before → AreQuiet rounds before → (p : ℕ) → p < length s.rows
     → slice_index (counts_now s (after_rounds rounds before)) p ≡ 0
 
@@ -72,5 +81,5 @@ RunsAll =
 abbrev pub EndsWhole : Type 0
 EndsWhole =
     (s : Setup) (before : List TaskState) (rounds left : List (List Pair))
-    → IsTable s before → IsLeast (counts_now s before) s.threads (reverse rounds ++ left)
+    → IsHeld s before → IsLeast (counts_now s before) s.threads (reverse rounds ++ left)
     → CanRunAll rounds before → AreQuiet rounds before → have_ended (after_rounds rounds before) ≡ true → left ≡ []

@@ -9,7 +9,7 @@ ghost use Rattle.jb_step.specs.Callbacks.{Grew, has_fault, since};
 ghost use Rattle.jb_step.specs.Headline.{Headline};
 ghost use Rattle.jb_step.specs.Setup.{first_tasks};
 ghost use Rattle.jb_step.specs.Statuses.{status_of};
-ghost use Rattle.jb_step.specs.Alone.{AreAlone, AreOnTheWay};
+ghost use Rattle.jb_step.specs.Alone.{AreOnTheWay};
 ghost use Rattle.jb_saved.specs.declared.error.StepError.TheVariants.{WrongArtifacts, Memory};
 
 use crate::error::RunError;
@@ -136,8 +136,6 @@ fn run_tasks<
       snapshot = end.snapshot;
       left = given_back T.Artifacts.meaning end.artifacts.items;
     })) }
-    ensures alone { IfOk result (λ end. end.snapshot.stopping ≡ false →
-        AreAlone (first_tasks prepared.now (map T.Artifacts.meaning artifacts.items)) (tasks_left prepared.now end.snapshot (given_back T.Artifacts.meaning end.artifacts.items))) }
     ensures on_the_way { IfOk result (λ end.
         AreOnTheWay (first_tasks prepared.now (map T.Artifacts.meaning artifacts.items)) (tasks_left prepared.now end.snapshot (given_back T.Artifacts.meaning end.artifacts.items))) }
     ensures status { IfOk result (λ end. end.status ≡ status_of end.snapshot.rows.items (has_fault (since (analyzed analyzer.old) (analyzed analyzer.new)))) }
@@ -196,7 +194,8 @@ pub fn run_step<
       left = given_back T.Artifacts.meaning end.artifacts.items;
     })) }
 
-    // What the run did: its plans, and where they left each partition.
+    // The headline: each plan has exactly the chunks not yet committed, each partition's in order, in the fewest rounds of all lawful
+    // plans, with a certificate of it; and unstopped the step has what its partitions have that run alone.
     ensures headline { IfOk result (λ end. Headline (record {
       setup = prepared;
       works = map T.Artifacts.meaning artifacts.items;
@@ -208,9 +207,7 @@ pub fn run_step<
       left = given_back T.Artifacts.meaning end.artifacts.items;
     })) }
 
-    // Where nothing stopped it, each partition ends where it ends alone; else it stands on its way there.
-    ensures alone { IfOk result (λ end. end.snapshot.stopping ≡ false →
-        AreAlone (first_tasks prepared (map T.Artifacts.meaning artifacts.items)) (tasks_left prepared end.snapshot (given_back T.Artifacts.meaning end.artifacts.items))) }
+    // Stopped, each partition stands on the way to where its attempts alone end.
     ensures on_the_way { IfOk result (λ end.
         AreOnTheWay (first_tasks prepared (map T.Artifacts.meaning artifacts.items)) (tasks_left prepared end.snapshot (given_back T.Artifacts.meaning end.artifacts.items))) }
 

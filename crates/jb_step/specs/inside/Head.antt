@@ -12,7 +12,6 @@ use Rattle.jb_collect.specs.declared.calls.AnalyzerCall.{AnalyzerCall}
 use Rattle.jb_collect.specs.Taken.{Taken}
 use Rattle.jb_cert.specs.declared.notes.PlanNote.{PlanNote}
 use Rattle.jb_step.specs.PlanLaws.{IsTable}
-use Rattle.jb_step.specs.inside.Loop.{IsUnderWay}
 use Rattle.jb_step.specs.inside.Adding.{heard_so_far}
 use Rattle.jb_step.specs.inside.Telling.{Moment, IsHeard, moment}
 use Rattle.jb_step.specs.Rounds.{attempts_in, last_breaks}
@@ -62,7 +61,8 @@ progress standing calls ran = record { moment = moment calls ran.fault; table = 
 
 -- the plans that were run so far, and what they left
 pub record IsRunSoFar (b : Beginning) (now : Progress) (plans : List PlanRun) : Type 0 where
-  pub under_way : IsUnderWay b.setup b.start plans
+  pub first : IsTable b.setup b.start
+  pub run : ArePlanRuns b.setup b.start plans
   pub heard_is : IsHeard b.base (heard_so_far b.setup b.start plans) now.moment
   pub table_is : table_after plans b.start ≡ now.table
   pub holds : IsTable b.setup now.table

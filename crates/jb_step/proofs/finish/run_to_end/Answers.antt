@@ -8,4 +8,4 @@ returns-clause-heard g c =
     let ran = c.in_ok-ran.ran in
     heard-to-end c.laws_below.ensures (beginning g.T.PartitionTask.standing c.args.prepared.now c.args.tasks.items _) c.args.round_limit
     (progress g.T.PartitionTask.standing _ ran) (moment _ _) ran.stopped
-    c.requires.table c.in_ok-ran.ensures.rounds (rw c.as_slice.ensures.value at c.in_ok-ran-2.ensures.heard)
+    c.in_ok-ran.ensures.rounds (rw c.as_slice.ensures.value at c.in_ok-ran-2.ensures.heard)

@@ -6,7 +6,7 @@ use Rattle.jb_step.specs.inside.Finish.{AreHeardToEnd}
 use Rattle.jb_step.specs.inside.Head.{progress, table_of}
 use Rattle.jb_step.specs.PlanLaws.{IsTable}
 use Rattle.jb_step.proofs.Heading.{headline-of}
-use Rattle.jb_step.proofs.Stepping.{IsLeft, run-is, alone-is, way-is, heard-fault}
+use Rattle.jb_step.proofs.Stepping.{IsLeft, run-is, way-is, heard-fault}
 use Rattle.jb_step.proofs.step.run_tasks.Goals as goal
 
 -- the run that is answered
@@ -47,9 +47,6 @@ returns-clause-headline g c =
     let r = run-of g c in
     let first = subst (λ (ts : List TaskState). IsTable r.setup ts) c.in_ok-tasks.ensures.tasks c.in_ok-tasks.ensures.table in
     headline-of c.laws_below.ensures r first (run-is r c.in_ok-ran.ran.fault (left g c))
-
-pub returns-clause-alone : goal.returns-clause-alone
-returns-clause-alone g c = alone-is (run-of g c) c.in_ok-ran.ran.fault (left g c)
 
 pub returns-clause-on_the_way : goal.returns-clause-on_the_way
 returns-clause-on_the_way g c = way-is (run-of g c) c.in_ok-ran.ran.fault (left g c)
