@@ -185,7 +185,8 @@ seen_at at read write commit last =
 
 -- WHERE THEY LEAD
 
--- at, redo, retries, written, READ, WRITE, COMMIT, ROLLBACK, READ_SKIP, PROCESS_SKIP, FILTER, WRITE_SKIP, repeats in place
+-- what a row says behind its range: checkpoint, redo, retries, results; of its counts what was read and written, the commits and the
+-- rollbacks, then skips of reads and of process calls, filtered items, skips of writes; and the repeats in place
 abbrev pub numbers : Row → List ℕ
 numbers r =
     r.at ∷ r.redo ∷ r.retries ∷ r.written
@@ -208,7 +209,7 @@ pub record RunsTo (t : TaskState) (row_numbers : List ℕ) (row_state : RowState
 
 -- THE ROWS
 
--- the first run: three records, ranges [0,2) and [2,3), item count 2
+-- the first run: a partition whose two records are one chunk, and one of a single record
 pub record FirstRun : Type 0 where
   pub first :
       RunsTo first_task
@@ -219,7 +220,7 @@ pub record FirstRun : Type 0 where
       (3 ∷ 2 ∷ 0 ∷ 1 ∷ 1 ∷ 1 ∷ 1 ∷ 0 ∷ 0 ∷ 0 ∷ 0 ∷ 0 ∷ 0 ∷ []) Finished
       (codes "xc" ∷ []) (codes "1:3:1" ∷ codes "1:3:1:end" ∷ [])
 
--- everything filtered: four records that begin with z, which the processor filters, in one chunk
+-- everything filtered: each item of the only chunk begins with a z, so none has a result
 abbrev pub filtered_task : TaskState
 filtered_task = record (task 0 0 4 4 strict sound sound sound) {
   work = record (works 0 sound sound sound) {
@@ -234,13 +235,14 @@ EverythingFiltered =
     (4 ∷ 0 ∷ 0 ∷ 0 ∷ 4 ∷ 0 ∷ 1 ∷ 0 ∷ 0 ∷ 0 ∷ 4 ∷ 0 ∷ 0 ∷ []) Finished
     [] (codes "0:4:0" ∷ codes "0:4:0:end" ∷ [])
 
--- no record at all: no attempt is made
+-- an empty range: the partition is at its end without an attempt
 abbrev pub NoRecord : Type 0
 NoRecord =
     RunsTo recordless_task
     (0 ∷ 0 ∷ 0 ∷ 0 ∷ 0 ∷ 0 ∷ 0 ∷ 0 ∷ 0 ∷ 0 ∷ 0 ∷ 0 ∷ 0 ∷ []) Finished [] []
 
--- a retry rolls back to single records: item count 4, record 2 fails once and is retryable
+-- a retry rolls back to single records: of a chunk of four the third can't be processed at first, with a class that is retried; in the
+-- redo each record is a chunk of its own
 abbrev pub RetryToSingles : Type 0
 RetryToSingles =
     RunsTo retried_task
@@ -248,7 +250,8 @@ RetryToSingles =
     (codes "xa" ∷ codes "xb" ∷ codes "xc" ∷ codes "xd" ∷ [])
     (codes "0:1:1" ∷ codes "0:2:2" ∷ codes "0:3:3" ∷ codes "0:4:4" ∷ codes "0:4:4:end" ∷ [])
 
--- a skip in the single-record redo: item count 2, record 1 always fails, is retryable and skippable, skip limit 1
+-- a skip in the single-record redo: of a chunk of two the second can never be processed, with a class that is retried and that is
+-- skipped once; retrying comes first, and in the redo the record is skipped
 abbrev pub SkipInRedo : Type 0
 SkipInRedo =
     RunsTo skipped_task
@@ -256,8 +259,8 @@ SkipInRedo =
     (codes "xa" ∷ codes "xc" ∷ codes "xd" ∷ [])
     (codes "0:1:1" ∷ codes "0:2:1" ∷ codes "0:4:3" ∷ codes "0:4:3:end" ∷ [])
 
--- one failed partition: item count 2, records 0 and 3 always fail and are skippable, skip limit 1. The other partition
--- has skips of its own.
+-- one failed partition: two of its records can never be processed, and one may be skipped. The other partition has skips of its
+-- own, and goes on.
 pub record OneFailed : Type 0 where
   pub failed :
       RunsTo failed_task
@@ -268,15 +271,15 @@ pub record OneFailed : Type 0 where
       (6 ∷ 4 ∷ 0 ∷ 2 ∷ 2 ∷ 2 ∷ 1 ∷ 0 ∷ 0 ∷ 0 ∷ 0 ∷ 0 ∷ 0 ∷ []) Finished
       (codes "xe" ∷ codes "xf" ∷ []) (codes "1:6:2" ∷ codes "1:6:2:end" ∷ [])
 
--- a torn write that is skipped: item count 3, the writer always fails at record 1. No output is left of it.
+-- a torn write that is skipped: of three results in one call the second can never be written. The first isn't kept either.
 abbrev pub TornWrite : Type 0
 TornWrite =
     RunsTo torn_task
     (3 ∷ 0 ∷ 0 ∷ 0 ∷ 3 ∷ 0 ∷ 1 ∷ 0 ∷ 0 ∷ 0 ∷ 0 ∷ 1 ∷ 0 ∷ []) Finished
     [] (codes "0:3:0" ∷ codes "0:3:0:end" ∷ [])
 
--- a write that fails once with E, which is retryable: item count 2, at record 1. The result before it isn't kept, and is
--- written again in the single-record redo.
+-- a write call that fails once behind its first result, with a class that is retried: that result isn't kept, and is written again in
+-- the single-record redo
 abbrev pub WriteRetried : Type 0
 WriteRetried =
     RunsTo rewritten_task
@@ -284,15 +287,15 @@ WriteRetried =
     (codes "xa" ∷ codes "xb" ∷ codes "xc" ∷ codes "xd" ∷ [])
     (codes "0:1:1" ∷ codes "0:2:2" ∷ codes "0:4:4" ∷ codes "0:4:4:end" ∷ [])
 
--- a write that always fails with E, where F alone is skippable and retryable: item count 2, at record 3. The partition
--- fails, and the result before it isn't kept.
+-- the second write call fails behind its first result with E, where F alone is retried and skipped: the partition fails, and keeps
+-- what the first call wrote
 abbrev pub WriteFailed : Type 0
 WriteFailed =
     RunsTo unwritable_task
     (2 ∷ 0 ∷ 0 ∷ 2 ∷ 2 ∷ 2 ∷ 1 ∷ 1 ∷ 0 ∷ 0 ∷ 0 ∷ 0 ∷ 0 ∷ []) Failed
     (codes "xa" ∷ codes "xb" ∷ []) (codes "0:2:2" ∷ [])
 
--- a write that fails first with E, which is retryable, and then with F, which is skippable: item count 3, at record 1
+-- a result that can't be written at first by a fault E, which is retried, nor in the redo by a fault F, which is skipped
 abbrev pub ShakyWrite : Type 0
 ShakyWrite =
     RunsTo shaky_writes_task
@@ -300,78 +303,78 @@ ShakyWrite =
     (codes "xa" ∷ codes "xc" ∷ [])
     (codes "0:1:1" ∷ codes "0:2:1" ∷ codes "0:3:2" ∷ codes "0:3:2:end" ∷ [])
 
--- the retry limit reached: one record that always fails, retryable, retry limit 2
+-- the retry limit reached: two retries are allowed, and the record can't be processed at the third try either
 abbrev pub RetryLimit : Type 0
 RetryLimit =
     RunsTo retried_out_task
     (0 ∷ 1 ∷ 2 ∷ 0 ∷ 0 ∷ 0 ∷ 0 ∷ 3 ∷ 0 ∷ 0 ∷ 0 ∷ 0 ∷ 0 ∷ []) Failed [] []
 
--- a read that is skipped: item count 2, the read of record 0 always fails and is skippable
+-- a read that is skipped: the first record can never be read, and its chunk has the one behind it
 abbrev pub ReadSkip : Type 0
 ReadSkip =
     RunsTo read_skipped_task
     (3 ∷ 0 ∷ 0 ∷ 2 ∷ 2 ∷ 2 ∷ 2 ∷ 0 ∷ 1 ∷ 0 ∷ 0 ∷ 0 ∷ 0 ∷ []) Finished
     (codes "xb" ∷ codes "xc" ∷ []) (codes "0:2:1" ∷ codes "0:3:2" ∷ codes "0:3:2:end" ∷ [])
 
--- the skips before a write count at its fault: item count 2, the read of record 0 and the write of record 1 always fail, skip
--- limit 1. The write call isn't skipped, and the partition fails.
+-- the skips before a write count at its fault: one is allowed, and the chunk's first read takes it. So the write call, which fails at
+-- the other record, isn't skipped, and the partition fails.
 abbrev pub SkippedBeforeWrite : Type 0
 SkippedBeforeWrite =
     RunsTo skipped_and_unwritable_task
     (0 ∷ 0 ∷ 0 ∷ 0 ∷ 0 ∷ 0 ∷ 0 ∷ 1 ∷ 0 ∷ 0 ∷ 0 ∷ 0 ∷ 0 ∷ []) Failed [] []
 
--- a rolled-back skip isn't counted: the read of record 0 is skipped, with skip limit 1, and record 1 fails once with F, which is retryable alone
+-- a skip is forgotten with the chunk that is rolled back: the only one that is allowed is taken by a read, then a process call of the
+-- chunk fails with F, which is retried; in the redo the same read takes it again
 abbrev pub RolledBackSkip : Type 0
 RolledBackSkip =
     RunsTo rolled_back_task
     (3 ∷ 2 ∷ 1 ∷ 2 ∷ 2 ∷ 2 ∷ 3 ∷ 1 ∷ 1 ∷ 0 ∷ 0 ∷ 0 ∷ 0 ∷ []) Finished
     (codes "xb" ∷ codes "xc" ∷ []) (codes "0:1:0" ∷ codes "0:2:1" ∷ codes "0:3:2" ∷ codes "0:3:2:end" ∷ [])
 
--- a repeat in place: item count 4, record 2 fails once, is retryable and rolls nothing back
+-- a repeat in place: the third of four process calls fails once, and is made again; the chunk goes on
 abbrev pub Repeat : Type 0
 Repeat =
     RunsTo repeated_task
     (4 ∷ 0 ∷ 1 ∷ 4 ∷ 4 ∷ 4 ∷ 1 ∷ 0 ∷ 0 ∷ 0 ∷ 0 ∷ 0 ∷ 1 ∷ []) Finished
     (codes "xa" ∷ codes "xb" ∷ codes "xc" ∷ codes "xd" ∷ []) (codes "0:4:4" ∷ codes "0:4:4:end" ∷ [])
 
--- the retry limit reached by repeats: one record that always fails, retry limit 2
+-- the retry limit reached by repeats: the call is made three times in all, and the partition fails
 abbrev pub RepeatLimit : Type 0
 RepeatLimit =
     RunsTo repeated_out_task
     (0 ∷ 0 ∷ 2 ∷ 0 ∷ 0 ∷ 0 ∷ 0 ∷ 1 ∷ 0 ∷ 0 ∷ 0 ∷ 0 ∷ 2 ∷ []) Failed [] []
 
--- a write that is repeated: item count 3, at record 1
+-- a write that is repeated: the call fails once behind its first result, which is cut back before all three are written
 abbrev pub RepeatedWrite : Type 0
 RepeatedWrite =
     RunsTo repeated_write_task
     (3 ∷ 0 ∷ 1 ∷ 3 ∷ 3 ∷ 3 ∷ 1 ∷ 0 ∷ 0 ∷ 0 ∷ 0 ∷ 0 ∷ 1 ∷ []) Finished
     (codes "xa" ∷ codes "xb" ∷ codes "xc" ∷ []) (codes "0:3:3" ∷ codes "0:3:3:end" ∷ [])
 
--- a repeat in a block that is rolled back counts: item count 2, record 0 fails once with E, which rolls nothing back, and
--- record 1 once with F, which does
+-- a repeat in a block that is rolled back counts: the first process call is repeated, for a fault E; the second fails with F, which
+-- rolls the block back
 abbrev pub RepeatedAndRolled : Type 0
 RepeatedAndRolled =
     RunsTo repeated_and_rolled_task
     (2 ∷ 2 ∷ 2 ∷ 2 ∷ 2 ∷ 2 ∷ 2 ∷ 1 ∷ 0 ∷ 0 ∷ 0 ∷ 0 ∷ 1 ∷ []) Finished
     (codes "xa" ∷ codes "xb" ∷ []) (codes "0:1:1" ∷ codes "0:2:2" ∷ codes "0:2:2:end" ∷ [])
 
--- a fault that is repeated until the retry limit and then skipped: item count 2, record 1 always fails, skip limit 1, retry
--- limit 2; nothing is rolled back
+-- a call that fails each time, and is repeated as often as there may be retries and then skipped; nothing is rolled back
 abbrev pub RepeatedThenSkipped : Type 0
 RepeatedThenSkipped =
     RunsTo repeated_then_skipped_task
     (4 ∷ 0 ∷ 2 ∷ 3 ∷ 4 ∷ 3 ∷ 2 ∷ 0 ∷ 0 ∷ 1 ∷ 0 ∷ 0 ∷ 2 ∷ []) Finished
     (codes "xa" ∷ codes "xc" ∷ codes "xd" ∷ []) (codes "0:2:1" ∷ codes "0:4:3" ∷ codes "0:4:3:end" ∷ [])
 
--- a skip before a repeat stands: item count 2, the read of record 0 always fails and is skippable, record 1 fails once
+-- a skip before a repeat stands: the chunk's first read is skipped, and the process call of its other record is repeated
 abbrev pub SkippedAndRepeated : Type 0
 SkippedAndRepeated =
     RunsTo skipped_and_repeated_task
     (3 ∷ 0 ∷ 1 ∷ 2 ∷ 2 ∷ 2 ∷ 2 ∷ 0 ∷ 1 ∷ 0 ∷ 0 ∷ 0 ∷ 1 ∷ []) Finished
     (codes "xb" ∷ codes "xc" ∷ []) (codes "0:2:1" ∷ codes "0:3:2" ∷ codes "0:3:2:end" ∷ [])
 
--- in the single-record redo a fault is skipped before it is repeated: record 0 fails once with F, which rolls the block back,
--- record 1 once with E, which is skippable and rolls nothing back
+-- in the single-record redo a fault is skipped before it is repeated: a fault F rolled the block back; E, which the other record meets
+-- in the redo, may be skipped and may be repeated, and is skipped
 abbrev pub SkippedInRedo : Type 0
 SkippedInRedo =
     RunsTo skipped_in_redo_task
@@ -392,7 +395,7 @@ AllSeen =
     (codes "xm" ∷ codes "xn" ∷ codes "xe" ∷ codes "xf" ∷ [])
     (seen_at 45 32 3 10 0 ∷ seen_at 46 33 4 11 0 ∷ seen_at 46 33 4 11 1 ∷ [])
 
--- the Plain runs of seven records' first partition, item count 2, and of everything filtered
+-- the Plain runs of three records in two chunks, and of the partition whose items are all filtered
 pub record PlainRuns : Type 0 where
   pub counts : numbers (plain_row (task 0 0 3 2 strict sound sound sound)) ≡ 3 ∷ 0 ∷ 0 ∷ 3 ∷ 3 ∷ 3 ∷ 2 ∷ 0 ∷ 0 ∷ 0 ∷ 0 ∷ 0 ∷ 0 ∷ []
   pub outputs : plain_outputs (task 0 0 3 2 strict sound sound sound) ≡ codes "xa" ∷ codes "xb" ∷ codes "xc" ∷ []
