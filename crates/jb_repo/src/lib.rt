@@ -37,3 +37,4 @@ pub use refused::Refused;
 pub use repository::Repo;
 pub use run::run_events;
 pub use snapshot::Snapshot;
+pub use table::is_at_limit;

@@ -23,7 +23,8 @@ pub enum Refused {
     /// The lane runs no chunk.
     #[error("NotRunning")]
     NotRunning,
-    /// The counts or the number of results are not those of a commit of the partition's next chunk.
+    /// The counts or the number of results are not those of a commit of the partition's next chunk, or more than 100,000 calls of the
+    /// chunk were repeated in place.
     #[error("BadDelta")]
     BadDelta,
     /// A lane runs, or a plan is open.
@@ -38,7 +39,8 @@ pub enum Refused {
     /// There was no memory for the event.
     #[error("no memory")]
     Memory,
-    /// The history would pass 1,000,000,000 events, or the partition is at its limit of rollbacks.
+    /// The history would pass 1,000,000,000 events, or the partition has as many rollbacks as it may have, or no room for 100,000
+    /// repeats in place.
     #[error("Full")]
     Full,
 }

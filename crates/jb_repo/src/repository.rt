@@ -131,8 +131,10 @@ impl Repo {
     ///
     /// - `Plan`: Stopping; StillRunning (a lane runs, or a plan is open); BadPlan; Full; Memory.
     /// - `Begin`: Stopping; NoPartition; LaneRange; LaneBusy (the lane began a chunk in this round); NotIdle (the
-    ///   partition did, or is finished or failed); PastPlan (no plan is open); Full; Memory.
-    /// - `Commit`: LaneRange; NotRunning; BadDelta. `Roll`, `Fail`, `Drop`: LaneRange; NotRunning.
+    ///   partition did, or is finished or failed); PastPlan (no plan is open); Full (no two places, or the partition has as
+    ///   many rollbacks as it may have, or no room for 100,000 repeats in place); Memory.
+    /// - `Commit`: LaneRange; NotRunning; BadDelta (it isn't one of the next block, or comes after more than 100,000 repeats).
+    /// - `Roll`, `Fail`: LaneRange; NotRunning; BadDelta (after more than 100,000 repeats). `Drop`: LaneRange; NotRunning.
     /// - `Round`: StillRunning; PastPlan; Full; Memory. `Stop`: Full; Memory.
     ///
     /// A Begin reserves the place of its outcome, so Commit, Roll, Fail and Drop take no memory. Memory is the answer only

@@ -1,7 +1,7 @@
 //! Questions about rows, and counts over the table of rows.
 
-ghost use Rattle.std.specs.Prelude.{◌≡◌, ◌≤◌, ℕ, length, take, slice_get, Some};
-ghost use Rattle.jb_base.specs.Limits.{max_item_count};
+ghost use Rattle.std.specs.Prelude.{◌≡◌, ◌+◌, ◌≤◌, ◌<◌, ℕ, false, length, take, slice_get, Some};
+ghost use Rattle.jb_base.specs.Limits.{max_item_count, max_rollbacks, max_retry_limit, max_in_place};
 ghost use Rattle.jb_rules.specs.Sound.{IsSoundRow};
 ghost use Rattle.jb_repo.specs.inside.Fit.{CountsFit};
 ghost use Rattle.jb_repo.specs.Rows.{remaining, total_counts};
@@ -20,16 +20,14 @@ pub fn is_ended(row: Option<Row>) -> bool
     }
 }
 
-/// Whether the row has as many rollbacks as it may have, or no room for the repeats of one more chunk.
-pub fn is_at_limit(row: Option<Row>) -> bool
-    ensures { result ≡ is_at_limit row }
+/// Whether the row is at its limits: it has as many rollbacks as it may have, or no room for 100,000 repeats in place, as many as one
+/// chunk may make. No chunk of it is begun or attempted then.
+pub fn is_at_limit(row: &Row) -> bool
+    ensures test { result ≡ is_at_limit (Some row.now) }
+    ensures rollbacks { result ≡ false → row.now.counts.rollback < max_rollbacks }
+    ensures repeats { result ≡ false → row.now.in_place + max_retry_limit ≤ max_in_place }
 {
-    match row {
-        Some(row) => {
-            row.counts.rollback >= MAX_ROLLBACKS || row.in_place > MAX_IN_PLACE - MAX_RETRY_LIMIT
-        }
-        None => false,
-    }
+    row.counts.rollback >= MAX_ROLLBACKS || row.in_place > MAX_IN_PLACE - MAX_RETRY_LIMIT
 }
 
 /// Writes how many chunks each row has left.

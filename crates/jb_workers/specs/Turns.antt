@@ -1,11 +1,11 @@
 -- What a worker's turns of the lock say of its work: its Begin first, and last the event of what came of it.
-use Rattle.std.specs.Prelude.{◌≡◌, ◌≤◌, ◌<◌, ◌-◌, ◌⊎◌, Result, MatchResult}
-use Rattle.jb_base.specs.Limits.{max_rollbacks, max_retry_limit, max_in_place}
+use Rattle.std.specs.Prelude.{◌≡◌, ◌⊎◌, IsTrue, Some, Result, MatchResult}
 use Rattle.jb_chunk.specs.Standing.{TaskState}
 use Rattle.jb_chunk.specs.declared.outcome.Done.{Done}
 use Rattle.jb_repo.specs.declared.events.Event.TheVariants.{Begin}
 use Rattle.jb_repo.specs.declared.refused.Refused.{Refused}
 use Rattle.jb_repo.specs.declared.refused.Refused.TheVariants.{Full}
+use Rattle.jb_repo.specs.Table.{is_at_limit}
 use Rattle.jb_workers.specs.declared.round.error.RoundError.{RoundError}
 use Rattle.jb_workers.specs.declared.round.error.RoundError.TheVariants as error
 use Rattle.jb_workers.specs.declared.worker.lane_work.Work.{Work}
@@ -33,9 +33,9 @@ pub record IsEndRefused {T : Type 0} (standing : T → TaskState) (work : Work T
   pub attempted : IsAttemptOf standing work.task done
   pub refuses : IsRefused (event_of work.lane done.outcome (standing done.task).row.written done.again) refused
 
--- the task is at its limit of rollbacks, or has no room for the repeats in place of one more chunk
+-- the task's row has as many rollbacks as there may be, or no room for the repeats in place of one more chunk
 abbrev pub IsAtLimit : TaskState → Type 0
-IsAtLimit task = (max_rollbacks ≤ task.row.counts.rollback) ⊎ (max_in_place - max_retry_limit < task.row.in_place)
+IsAtLimit task = IsTrue (is_at_limit (Some task.row))
 
 -- the work was begun, and has no attempt in the history: its task was at its limit, or its outcome was refused
 pub record IsGivenUp {T : Type 0} (standing : T → TaskState) (work : Work T) (refused : Refused) : Type 0 where

@@ -1,7 +1,6 @@
 //! What one worker of a round does.
 
-ghost use Rattle.std.specs.Prelude.{◌≡◌, ◌+◌, ◌-◌, ◌≤◌, ◌<◌, ◌⊎◌, true, false, IfOk, IfErr, MatchResult};
-ghost use Rattle.jb_base.specs.Limits.{max_rollbacks, max_retry_limit, max_in_place};
+ghost use Rattle.std.specs.Prelude.{◌≡◌, ◌+◌, IfOk, IfErr, MatchResult};
 ghost use Rattle.jb_workers.specs.Events.{commit_of};
 ghost use Rattle.jb_workers.specs.Works.{CanBegin};
 ghost use Rattle.jb_workers.specs.Turns.{IsDoneOf, IsKeptOut};
@@ -14,10 +13,8 @@ use crate::gate::Gate;
 use crate::round::RoundError;
 use crate::worker::entry::event_of;
 use crate::worker::lane_work::Work;
-use jb_base::{MAX_IN_PLACE, MAX_RETRY_LIMIT, MAX_ROLLBACKS};
 use jb_chunk::{Done, PartitionTask};
-use jb_repo::Refused;
-use jb_rules::Row;
+use jb_repo::{Refused, is_at_limit};
 use std::alloc::Global;
 use std::sync::Wait;
 use std::sync::ledger::{Ledger, Share};
@@ -64,12 +61,4 @@ pub fn work<L: Ledger, T: PartitionTask, G: Gate, R: Wait>(
         Ok(()) => (Ok(done), share),
         Err(refused) => (Err(RoundError::Refused(refused)), share),
     }
-}
-
-/// Whether the row has as many rollbacks as it may have, or no room for the repeats in place of one more chunk.
-fn is_at_limit(row: &Row) -> bool
-    ensures yes { result ≡ true → (max_rollbacks ≤ row.now.counts.rollback) ⊎ (max_in_place - max_retry_limit < row.now.in_place) }
-    ensures no { result ≡ false → (row.now.counts.rollback < max_rollbacks) × (row.now.in_place + max_retry_limit ≤ max_in_place) }
-{
-    row.counts.rollback >= MAX_ROLLBACKS || row.in_place > MAX_IN_PLACE - MAX_RETRY_LIMIT
 }

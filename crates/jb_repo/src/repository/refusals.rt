@@ -44,7 +44,7 @@ impl Repo {
             Some(Refused::NotIdle)
         } else if !self.is_plan_open() {
             Some(Refused::PastPlan)
-        } else if self.is_full(2) || is_at_limit(row) {
+        } else if self.is_full(2) || row.is_some_and(|row| is_at_limit(&row)) {
             Some(Refused::Full)
         } else {
             None

@@ -6,7 +6,7 @@ use thiserror::Error;
 /// Why a round has no answer. Then no lane runs, and Round is not in the history.
 #[derive(Clone, Copy, Debug, PartialEq, Eq, Error)]
 pub enum RoundError {
-    /// The desk refused an event of the lowest lane that was refused one, or that lane's task was at its limit of rollbacks;
+    /// The desk refused an event of the lowest lane that was refused one, or that lane's task was at its limit of rollbacks or of repeats;
     /// or the desk refused Round.
     #[error("{0}")]
     Refused(Refused),
