@@ -1,8 +1,8 @@
 //! A reader that notes the faults of another.
 
-ghost use Rattle.std.specs.Prelude.{◌≡◌, ◌<◌, Ok, None, Some, IfOk, OnOk};
+ghost use Rattle.std.specs.Prelude.{◌≡◌, ◌≤◌, ◌<◌, Ok, None, Some, IfOk, OnOk};
 ghost use Rattle.jb_artifacts.specs.Answers.{IfFault, IfNoMemory};
-ghost use Rattle.jb_artifacts.specs.Reader.{reader_end, record_at, read_fault, after_read};
+ghost use Rattle.jb_artifacts.specs.Reader.{reader_end, opened, record_at, read_fault, after_read};
 ghost use Rattle.jb_ready.specs.Notes.{NotesCall};
 
 use crate::notes::{Note, Notes};
@@ -31,7 +31,12 @@ impl<R: ItemReader> ItemReader for NotingReader<R> {
         self.inner.place()
     }
 
-    fn open_at(&mut self, at: u64) {
+    fn open_at(&mut self, at: u64)
+        requires from { (R.reader self.old.inner).first ≤ at }
+        requires to { at ≤ reader_end (R.reader self.old.inner) }
+        ensures reader { R.reader self.new.inner ≡ opened (R.reader self.old.inner) at }
+        ensures notes { self.new.notes ≡ self.old.notes }
+    {
         self.inner.open_at(at);
     }
 

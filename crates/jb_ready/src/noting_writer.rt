@@ -1,8 +1,8 @@
 //! A writer that notes the faults of another.
 
-ghost use Rattle.std.specs.Prelude.{◌≡◌, length, map, None, Some, IfOk, OnOk};
+ghost use Rattle.std.specs.Prelude.{◌≡◌, ◌≤◌, length, map, None, Some, IfOk, OnOk};
 ghost use Rattle.jb_artifacts.specs.Answers.{IfFault, IfNoMemory};
-ghost use Rattle.jb_artifacts.specs.Writer.{write_fault, after_write, torn_write};
+ghost use Rattle.jb_artifacts.specs.Writer.{cut, write_fault, after_write, torn_write};
 ghost use Rattle.jb_ready.specs.Notes.{NotesWrite};
 
 use crate::notes::{Notes, WriteNote};
@@ -25,7 +25,11 @@ impl<W: ItemWriter> ItemWriter for NotingWriter<W> {
         self.inner.count()
     }
 
-    fn open_at(&mut self, count: u64) {
+    fn open_at(&mut self, count: u64)
+        requires { count ≤ length (W.writer self.old.inner).written }
+        ensures writer { W.writer self.new.inner ≡ cut (W.writer self.old.inner) count }
+        ensures notes { self.new.notes ≡ self.old.notes }
+    {
         self.inner.open_at(count);
     }
 
