@@ -170,13 +170,23 @@ fn lends(reader: &mut NotingReader<CheckedReader<NotEmpty>>, bytes: &[u8]) -> bo
     number < reader.end() && reader.record(number) == bytes && reader.pass_item() == Ok(())
 }
 
-/// Whether a refused record is passed by and noted, and the records round it are read, or lent.
-fn notes_a_read(alloc: Global) -> Result<bool, RecordsError> {
+/// Whether the record of this number is refused where the reader is opened at it.
+fn refuses(reader: &mut NotingReader<CheckedReader<NotEmpty>>, number: u64) -> bool {
+    if number < reader.first() || number > reader.end() {
+        return false;
+    }
+    reader.open_at(number);
+    fault_of(reader.read_item()) == Some(fault())
+}
+
+/// Whether a refused record is passed by and noted, each time that it is read, and the records round it are read, or lent.
+fn notes_each_read(alloc: Global) -> Result<bool, RecordsError> {
     let mut reader = a_reader(alloc)?;
     let before = holds(&reader.read_item(), b"a");
-    let refused = fault_of(reader.read_item()) == Some(fault());
+    let refused = refuses(&mut reader, 6) && refuses(&mut reader, 6);
     let behind = lends(&mut reader, b"b") && reader.place() == reader.end();
-    Ok(before && refused && behind && reader.notes.kept() == [note_of(6)].as_slice())
+    let noted = reader.notes.kept() == [note_of(6), note_of(6)].as_slice();
+    Ok(before && refused && behind && noted && reader.notes.lost() == 0)
 }
 
 /// Whether a fault of a function's processor is noted, and its answer is the function's.
@@ -228,13 +238,27 @@ fn ends_its_numbers(alloc: Global) -> Result<bool, AllocError> {
     Ok(all)
 }
 
-/// A fault of each kind of artifact is noted, and numbers that are too many are refused.
+/// Whether a text of 1,000 records is read into as many, in each form.
+fn reads_many(alloc: Global) -> Result<bool, RecordsError> {
+    let mut text = Vec::new(alloc);
+    for _ in 0..1_000 {
+        text.extend_from_slice(b"1\n")?;
+    }
+    let mut all = true;
+    for form in [Form::Lines, Form::Csv, Form::Flexible, Form::Json] {
+        all = all && read(alloc, form, &text)?.len() == 1_000;
+    }
+    Ok(all)
+}
+
+/// A fault of each kind of artifact is noted, numbers that are too many are refused, and many records are read.
 #[test]
 fn ready_artifacts_answer(rt: HostRuntime) -> Result<(), RecordsError> {
     let alloc = rt.alloc();
-    assert!(rt; notes_a_read(alloc)?);
+    assert!(rt; notes_each_read(alloc)?);
     assert!(rt; notes_a_process_call(alloc)?);
     assert!(rt; notes_a_write_call(alloc)?);
     assert!(rt; ends_its_numbers(alloc)?);
+    assert!(rt; reads_many(alloc)?);
     Ok(())
 }
