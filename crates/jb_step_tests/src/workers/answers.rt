@@ -17,8 +17,8 @@ use jb_base::{ArtifactError, ClassId, MAX_PARTS, MAX_ROLLBACKS, Rules};
 use jb_cert::Certificate;
 use jb_chunk::{Done, Outcome, PartitionTask, Task};
 use jb_repo::{Event, Refused, Snapshot};
-use jb_rules::{Counts, Row};
-use jb_workers::{Desk, NoGate, RoundError, Work, work};
+use jb_rules::{Counts, Row, RowState};
+use jb_workers::{Desk, Gate, RoundError, Work, work};
 use std::alloc::{AllocError, Global};
 use std::marker::Brand;
 use std::sync::atomic::{AtomicU64, Ordering};
@@ -229,6 +229,75 @@ impl ItemProcessor for Counted {
     }
 }
 
+/// A gate that counts who comes by.
+#[derive(Drop)]
+struct Counter<'a, L: Ledger, R> {
+    rt: &'a R,
+    desk: &'a Desk<L>,
+    arrived: AtomicU64,
+    left: AtomicU64,
+    /// Those that arrived before their chunk was begun, left before it was ended, or came by in another round than the first.
+    astray: AtomicU64,
+}
+
+impl<'a, L: Ledger, R: Wait> Counter<'a, L, R> {
+    fn new(rt: &'a R, desk: &'a Desk<L>) -> Counter<'a, L, R> {
+        Counter {
+            rt,
+            desk,
+            arrived: AtomicU64::new(0),
+            left: AtomicU64::new(0),
+            astray: AtomicU64::new(0),
+        }
+    }
+
+    /// Whether the lane has a chunk now, where there is memory for the table.
+    fn is_running(&self, lane: u32) -> Option<bool> {
+        let table = self.desk.status(self.rt).ok()?;
+        Some(
+            table
+                .rows
+                .iter()
+                .any(|row| row.state == RowState::Running(lane)),
+        )
+    }
+
+    fn count(&self, passed: &AtomicU64, is_well: bool) {
+        passed.fetch_add(1, Ordering::SeqCst);
+        if !is_well {
+            self.astray.fetch_add(1, Ordering::SeqCst);
+        }
+    }
+
+    /// Whether as many came by, on both ways, as chunks were begun in this history.
+    fn counted(&self, history: &History) -> bool {
+        let begun = begun_in(history);
+        self.arrived.load(Ordering::SeqCst) == begun
+            && self.left.load(Ordering::SeqCst) == begun
+            && self.astray.load(Ordering::SeqCst) == 0
+    }
+}
+
+impl<L: Ledger + Send + Sync, R: Wait + Sync> Gate for Counter<'_, L, R> {
+    fn arrive(&self, lane: u32, round: u64) {
+        let is_begun = self.is_running(lane) == Some(true);
+        self.count(&self.arrived, is_begun && round == 0);
+    }
+
+    fn leave(&self, lane: u32, round: u64) {
+        let is_ended = self.is_running(lane) == Some(false);
+        self.count(&self.left, is_ended && round == 0);
+    }
+}
+
+/// How many chunks were begun in this history.
+fn begun_in(history: &History) -> u64 {
+    let events = history.iter().flatten();
+    events
+        .filter(|event| matches!(event, Event::Begin(_, _)))
+        .count() as u64
+}
+
 /// The processor of partition 0.
 fn counting(alloc: Global, first: &First, calls: &Arc<AtomicU64, Global>) -> Result<Counted, Fail> {
     Ok(Counted {
@@ -282,7 +351,7 @@ fn desk_of<L: Ledger>(alloc: Global, rt: &impl Wait, blank: Blank, case: &Case) 
     Some(desk)
 }
 
-/// Runs the case's round, and compares its answer and the table after it; `None` for want of what it is run on.
+/// Runs the case's round, and compares its answer, the table after it and who came by the gate; `None` for want of what it is run on.
 fn judge<
     L: Ledger + Send + Sync + 'static,
     T: PartitionTask + Send + 'static,
@@ -301,7 +370,9 @@ fn judge<
 {
     let works = works_of::<T>(alloc, case, first, other)?;
     let desk = desk_of::<L>(alloc, rt, blank, case)?;
-    let round = desk.run_round(rt, alloc, &NoGate, works);
+    let gate = Counter::new(rt, &desk);
+    let round = desk.run_round(rt, alloc, &gate, works);
+    let came_by = gate.counted(&case.history);
     let after = desk.status(rt).ok()?;
     let left = is_left(alloc, &case.history, &after)?;
     let left_so = match &case.or {
@@ -310,7 +381,7 @@ fn judge<
     };
     let classes = (desk.failure(rt, 0), desk.failure(rt, 1));
     let told = classes == (class_of(&case.answer), None);
-    Some(is_answered(case, &round, &after) && left_so && told)
+    Some(is_answered(case, &round, &after) && left_so && told && came_by)
 }
 
 /// The class by which partition 0 failed.
@@ -322,7 +393,7 @@ fn class_of(answer: &Result<Outcome, RoundError>) -> Option<ClassId> {
 }
 
 /// The same of the work of partition 0 alone, with no round about it.
-fn judge_work<L: Ledger, T: PartitionTask, R: Wait>(
+fn judge_work<L: Ledger + Send + Sync, T: PartitionTask, R: Wait + Sync>(
     rt: &R,
     alloc: Global,
     blank: Blank,
@@ -340,12 +411,14 @@ fn judge_work<L: Ledger, T: PartitionTask, R: Wait>(
     let lane = case.lane;
     let desk = desk_of::<L>(alloc, rt, blank, case)?;
     let share = desk.take_share(rt)?;
-    let (done, share) = work(&desk, rt, alloc, &NoGate, Work { lane, task }, share);
+    let gate = Counter::new(rt, &desk);
+    let (done, share) = work(&desk, rt, alloc, &gate, Work { lane, task }, share);
+    let came_by = gate.counted(&case.history);
     desk.give_back(rt, share);
     let after = desk.status(rt).ok()?;
     let [plan, begin, end, ..] = case.history;
     let left = is_left(alloc, &[plan, begin, end, None, None, None], &after)?;
-    Some(left && case.answer == done.map(|done| done.outcome))
+    Some(left && came_by && case.answer == done.map(|done| done.outcome))
 }
 
 /// Whether the round's answer is the case's. The table has the row of the first Done.
