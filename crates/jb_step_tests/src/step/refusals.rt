@@ -50,12 +50,15 @@ const RECORDS: &str = "ab/c/";
 struct Failing {
     class: ClassId,
     lacking: bool,
+    /// How often it was asked.
+    asked: u64,
 }
 
 impl PartitionMapper for Failing {
     ghost mapping = { λ m _. Err m.class };
 
     fn map(&mut self, _records: u64) -> Result<PartitionPlan, ArtifactError> {
+        self.asked = self.asked.saturating_add(1);
         if self.lacking {
             return Err(ArtifactError::Memory);
         }
@@ -77,18 +80,22 @@ fn run_own<L: Ledger + Send + Sync + 'static, R: Threads + Wait + Sync>(
     Some(())
 }
 
-/// What the step begins with, unless its plan is refused.
+/// What the step begins with, unless its plan is refused; `asked` is then how often a mapper that fails was asked.
 fn start(
     alloc: Global,
     wrong: Wrong,
     reducer: &mut Lacking,
+    asked: &mut u64,
 ) -> Result<Result<Prepared, StepError>, Fail> {
     if matches!(wrong, Wrong::Mapper | Wrong::MapperMemory) {
         let mut failing = Failing {
             class: ClassId::new(3),
             lacking: wrong == Wrong::MapperMemory,
+            asked: 0,
         };
-        return begun(alloc, 2, RULES, 3, &mut failing, reducer);
+        let answer = begun(alloc, 2, RULES, 3, &mut failing, reducer);
+        *asked = failing.asked;
+        return answer;
     }
     let threads = if wrong == Wrong::Threads { 5_000 } else { 2 };
     let mut mapper = FixedMapper::new(Given::read(alloc, RECORDS)?.plan(threads));
@@ -128,19 +135,20 @@ fn refusal_of<L: Ledger + Send + Sync + 'static, R: Threads + Wait + Sync>(
     Ok(end.err().ok_or("no answer")?)
 }
 
-/// Why the step has no answer.
+/// Why the step has no answer; `asked` is how often a mapper that fails was asked.
 fn refusal<L: Ledger + Send + Sync + 'static, R: Threads + Wait + Sync>(
     rt: &R,
     alloc: Global,
     blank: Blank,
     wrong: Wrong,
     reducer: &mut Lacking,
+    asked: &mut u64,
 ) -> Result<StepError, Fail>
     requires name { blank.name ≡ L.name }
     requires parts { blank.parts ≡ L.parts }
     requires all { blank.parts ≡ max_parts }
 {
-    match start(alloc, wrong, reducer)? {
+    match start(alloc, wrong, reducer, asked)? {
         Ok(prepared) => refusal_of::<L, R>(rt, alloc, blank, wrong, prepared, reducer),
         Err(error) => Ok(error),
     }
@@ -160,7 +168,8 @@ fn assert_calls(
 }
 
 /// The first refusal in the order is answered. Where `begin` was answered well, the reducer is rolled back then, as far as it finds
-/// memory; each row has the number of its call that is answered with a fault, and the one that finds no memory.
+/// memory; each row has the number of its call that is answered with a fault, and the one that finds no memory. A mapper that fails is
+/// asked once, and only where `begin` was answered well.
 #[test]
 fn refusals(rt: HostRuntime) -> Result<(), Fail> {
     let class = ClassId::new(3);
@@ -174,23 +183,39 @@ fn refusals(rt: HostRuntime) -> Result<(), Fail> {
     let no_rollback = "Begin After(Rollback) .\n";
     let plan = StepError::Plan(PlanError::Threads);
     let cases = [
-        (Wrong::Mapper, None, None, StepError::Mapper(class), all),
-        (Wrong::Mapper, Some(0), None, fault, "Begin .\n"),
-        (Wrong::Mapper, None, begin, memory, ".\n"),
-        (Wrong::Mapper, None, rollback, memory, no_rollback),
-        (Wrong::MapperMemory, None, None, memory, all),
-        (Wrong::Threads, None, None, plan, all),
-        (Wrong::Threads, None, after, memory, "Begin Rollback .\n"),
-        (Wrong::OneShort, None, None, unfit, all),
-        (Wrong::OneShort, None, rollback, memory, no_rollback),
-        (Wrong::OwnRound, None, None, StepError::Repository(0), all),
-        (Wrong::OneShortOwnRound, None, None, unfit, all),
+        (Wrong::Mapper, None, None, StepError::Mapper(class), 1, all),
+        (Wrong::Mapper, Some(0), None, fault, 0, "Begin .\n"),
+        (Wrong::Mapper, None, begin, memory, 0, ".\n"),
+        (Wrong::Mapper, None, rollback, memory, 1, no_rollback),
+        (Wrong::MapperMemory, None, None, memory, 1, all),
+        (Wrong::Threads, None, None, plan, 0, all),
+        (Wrong::Threads, None, after, memory, 0, "Begin Rollback .\n"),
+        (Wrong::OneShort, None, None, unfit, 0, all),
+        (Wrong::OneShort, None, rollback, memory, 0, no_rollback),
+        (
+            Wrong::OwnRound,
+            None,
+            None,
+            StepError::Repository(0),
+            0,
+            all,
+        ),
+        (Wrong::OneShortOwnRound, None, None, unfit, 0, all),
     ];
-    for (wrong, fault, lacking, error, calls) in cases {
+    for (wrong, fault, lacking, error, asked, calls) in cases {
         let mut reducer = Lacking::new(rt.alloc(), fault, lacking);
         let blank = Blank::new(MAX_PARTS);
-        let answer = refusal::<Brand, _>(&rt, rt.alloc(), blank, wrong, &mut reducer)?;
+        let mut so_often = 0;
+        let answer = refusal::<Brand, _>(
+            &rt,
+            rt.alloc(),
+            blank,
+            wrong,
+            &mut reducer,
+            &mut so_often,
+        )?;
         assert_eq!(rt; answer, error);
+        assert_eq!(rt; so_often, asked);
         assert_calls(&rt, rt.alloc(), &reducer, calls)?;
     }
     Ok(())
