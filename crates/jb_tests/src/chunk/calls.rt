@@ -4,211 +4,29 @@ ghost use Rattle.std.specs.Prelude.{◌≡◌, ◌+◌, ◌≤◌, ◌<◌, true
 ghost use Rattle.jb_rules.specs.declared.row.RowState.TheVariants.{Waiting};
 ghost use Rattle.jb_base.specs.Limits.{max_rollbacks, max_retry_limit, max_in_place};
 
+use super::counted::{
+    AllCalls, CountedCollector, CountedProcessor, CountedReader, CountedWriter, Counting, packed,
+    unpacked,
+};
 use jb_artifacts::{
-    Artifacts, ArtifactsOf, Collector, CountCollector, FaultList, FaultPlan, FaultPlans, Item,
-    ItemProcessor, ItemReader, ItemWriter, ListWriter, PrefixProcessor, RowView, TableReader,
+    Artifacts, ArtifactsOf, CountCollector, FaultList, FaultPlan, FaultPlans, Item, ItemWriter,
+    ListWriter, PrefixProcessor, RowView, TableReader,
 };
 use jb_base::{
-    ArtifactError, ClassId, MAX_IN_PLACE, MAX_RETRY_LIMIT, MAX_ROLLBACKS, PackedList, Range, Rules,
+    ClassId, MAX_IN_PLACE, MAX_ITEM_COUNT, MAX_RETRY_LIMIT, MAX_ROLLBACKS, PackedList, Range, Rules,
 };
-use jb_chunk::{ChunkResults, Outcome, PartitionArtifacts, PartitionTask, Task};
+use jb_chunk::{ChunkResults, Done, Outcome, PartitionArtifacts, PartitionTask, Task};
 use jb_rules::{Counts, Row};
 use std::alloc::{AllocError, Global};
-use std::sync::Arc;
-use std::sync::atomic::{AtomicU64, Ordering};
 use std::test::*;
-
-/// The calls of an artifact so far.
-#[derive(Drop)]
-struct Calls {
-    made: Arc<AtomicU64, Global>,
-}
-
-impl Calls {
-    fn new(alloc: Global) -> Result<Calls, AllocError> {
-        let made = Arc::new(alloc, AtomicU64::new(0))?;
-        Ok(Calls { made })
-    }
-
-    fn shared(&self) -> Result<Calls, Fail> {
-        let made = Arc::try_clone(&self.made)?;
-        Ok(Calls { made })
-    }
-
-    fn count(&self) {
-        self.made.fetch_add(1, Ordering::SeqCst);
-    }
-
-    /// How many were made since this was asked last.
-    fn taken(&self) -> u64 {
-        self.made.swap(0, Ordering::SeqCst)
-    }
-}
-
-/// A call of a reader, a processor or a writer.
-#[derive(Clone, Copy, Debug, PartialEq, Eq)]
-enum Call {
-    /// It was opened at this place.
-    Open(u64),
-    /// The record of this number was to be read.
-    Read(u64),
-    /// An item that begins with this letter was to be processed, that of the record of this number.
-    Process(u64, char),
-    /// So many results were to be written.
-    Write(usize),
-}
-
-/// Notes a call, where there is memory.
-fn note(noted: &mut Vec<Call>, call: Call) {
-    let _unnoted = noted.push(call);
-}
-
-#[derive(Drop)]
-struct CountedReader {
-    table: TableReader,
-    calls: Calls,
-    noted: Vec<Call>,
-}
-
-impl ItemReader for CountedReader {
-    ghost reader = { λ r. ⟦<TableReader as ItemReader>⟧.reader r.table };
-
-    fn first(&self) -> u64 {
-        self.table.first()
-    }
-
-    fn end(&self) -> u64 {
-        self.table.end()
-    }
-
-    fn place(&self) -> u64 {
-        self.table.place()
-    }
-
-    fn open_at(&mut self, at: u64) {
-        note(&mut self.noted, Call::Open(at));
-        self.table.open_at(at);
-    }
-
-    fn read_item(&mut self) -> Result<Option<Item>, ArtifactError> {
-        self.calls.count();
-        note(&mut self.noted, Call::Read(self.table.place()));
-        self.table.read_item()
-    }
-}
-
-/// A processor that finds no memory for one call at record `forgets`.
-#[derive(Drop)]
-struct CountedProcessor {
-    prefixer: PrefixProcessor,
-    forgets: Option<u64>,
-    calls: Calls,
-    noted: Vec<Call>,
-}
-
-impl ItemProcessor for CountedProcessor {
-    ghost processor = { λ p. ⟦<PrefixProcessor as ItemProcessor>⟧.processor p.prefixer };
-
-    fn process_item(&mut self, number: u64, item: &[u8]) -> Result<Option<Item>, ArtifactError> {
-        self.calls.count();
-        let letter = item.first().map_or(' ', |letter| char::from(*letter));
-        note(&mut self.noted, Call::Process(number, letter));
-        if self.forgets == Some(number) {
-            self.forgets = None;
-            return Err(ArtifactError::Memory);
-        }
-        self.prefixer.process_item(number, item)
-    }
-}
-
-#[derive(Drop)]
-struct CountedWriter {
-    list: ListWriter,
-    calls: Calls,
-    noted: Vec<Call>,
-}
-
-impl ItemWriter for CountedWriter {
-    ghost writer = { λ w. ⟦<ListWriter as ItemWriter>⟧.writer w.list };
-
-    fn count(&self) -> u64 {
-        self.list.count()
-    }
-
-    fn open_at(&mut self, count: u64) {
-        note(&mut self.noted, Call::Open(count));
-        self.list.open_at(count);
-    }
-
-    fn write_items(&mut self, results: &[(u64, Item)]) -> Result<(), ArtifactError> {
-        self.calls.count();
-        note(&mut self.noted, Call::Write(results.len()));
-        self.list.write_items(results)
-    }
-
-    fn item_at(&self, i: u64) -> Option<&[u8]> {
-        self.list.item_at(i)
-    }
-}
-
-#[derive(Drop)]
-struct CountedCollector {
-    counter: CountCollector,
-    calls: Calls,
-}
-
-impl Collector for CountedCollector {
-    ghost collected = { λ c. ⟦<CountCollector as Collector>⟧.collected c.counter };
-
-    fn collect(&self, view: &RowView) -> Result<Item, AllocError> {
-        self.calls.count();
-        self.counter.collect(view)
-    }
-}
-
-type Counting = ArtifactsOf<CountedReader, CountedProcessor, CountedWriter, CountedCollector>;
-
-/// The calls of reader, processor, writer and collector.
-#[derive(Drop)]
-struct AllCalls {
-    reads: Calls,
-    processes: Calls,
-    writes: Calls,
-    collects: Calls,
-}
-
-impl AllCalls {
-    fn new(alloc: Global) -> Result<AllCalls, AllocError> {
-        Ok(AllCalls {
-            reads: Calls::new(alloc)?,
-            processes: Calls::new(alloc)?,
-            writes: Calls::new(alloc)?,
-            collects: Calls::new(alloc)?,
-        })
-    }
-
-    /// A line of an attempt that ended so and left this row: the calls in it, of reader, processor, writer and collector, and
-    /// where the row stands.
-    fn line(&self, alloc: Global, end: &str, row: &Row) -> Result<String, AllocError> {
-        let reads = self.reads.taken();
-        let processes = self.processes.taken();
-        let writes = self.writes.taken();
-        let collects = self.collects.taken();
-        let at = row.at;
-        let written = row.written;
-        format!(in alloc;
-            "{end} {reads} {processes} {writes} {collects} at {at}, {written} written\n"
-        )
-    }
-}
 
 /// The fault of a record's calls.
 #[derive(Clone, Copy)]
-struct Fault {
-    record: u64,
-    class: ClassId,
+pub(super) struct Fault {
+    pub(super) record: u64,
+    pub(super) class: ClassId,
     /// At each call, or at the first alone.
-    always: bool,
+    pub(super) always: bool,
 }
 
 fn always(record: u64, class: ClassId) -> Fault {
@@ -219,7 +37,7 @@ fn always(record: u64, class: ClassId) -> Fault {
     }
 }
 
-fn once(record: u64, class: ClassId) -> Fault {
+pub(super) fn once(record: u64, class: ClassId) -> Fault {
     Fault {
         record,
         class,
@@ -227,15 +45,16 @@ fn once(record: u64, class: ClassId) -> Fault {
     }
 }
 
-/// A partition, and what is told of its records: faults in reading, processing and writing, and the record at which the processor
-/// finds no memory once.
+/// A partition, the most records of a chunk, and what is told of the records: faults in reading, processing and writing, and the record
+/// at which the processor finds no memory once.
 #[derive(Clone, Copy)]
-struct Told<'a> {
-    lines: &'a str,
-    reads: &'a [Fault],
-    processes: &'a [Fault],
-    writes: &'a [Fault],
-    forgets: Option<u64>,
+pub(super) struct Told<'a> {
+    pub(super) lines: &'a str,
+    pub(super) item_count: u64,
+    pub(super) reads: &'a [Fault],
+    pub(super) processes: &'a [Fault],
+    pub(super) writes: &'a [Fault],
+    pub(super) forgets: Option<u64>,
 }
 
 impl Told<'_> {
@@ -260,8 +79,8 @@ fn plans(alloc: Global, faults: &[Fault]) -> Result<FaultPlans, Fail> {
     Ok(plans)
 }
 
-fn reader_of(alloc: Global, told: &Told<'_>, calls: &AllCalls) -> Result<CountedReader, Fail> {
-    let calls = calls.reads.shared()?;
+fn reader_of(alloc: Global, told: &Told<'_>, all: &AllCalls) -> Result<CountedReader, Fail> {
+    let calls = all.reads.shared()?;
     let faults = plans(alloc, told.reads)?;
     let mut lines = PackedList::new(alloc);
     for line in told.lines.lines() {
@@ -271,6 +90,7 @@ fn reader_of(alloc: Global, told: &Told<'_>, calls: &AllCalls) -> Result<Counted
     Ok(CountedReader {
         table,
         calls,
+        lends: all.lends.shared()?,
         noted: Vec::new(alloc),
     })
 }
@@ -316,9 +136,16 @@ fn counting(alloc: Global, told: &Told<'_>, calls: &AllCalls) -> Result<Counting
     })
 }
 
-/// A task over so many records, two at a time, if the artifacts serve them. Faults of class 0 are skipped, those of class 1
+/// A task over so many records, in chunks of so many, if the artifacts serve them. Faults of class 0 are skipped, those of class 1
 /// retried, and those of class 2 retried in place.
-pub(crate) fn begun<A: PartitionArtifacts + Send>(hi: u64, artifacts: A) -> Option<Task<A>> {
+pub(super) fn begun<A: PartitionArtifacts + Send>(
+    hi: u64,
+    item_count: u64,
+    artifacts: A,
+) -> Option<Task<A>> {
+    if item_count < 1 || item_count > MAX_ITEM_COUNT {
+        return None;
+    }
     let row = Row::fresh(Range { lo: 0, hi });
     if !row.sound() || !row.state.is_waiting() || !Task::fits(&artifacts, &row) {
         return None;
@@ -330,11 +157,11 @@ pub(crate) fn begun<A: PartitionArtifacts + Send>(hi: u64, artifacts: A) -> Opti
         skip_limit: None,
         retry_limit: 10,
     };
-    Some(Task::start(0, row, rules, 2, artifacts))
+    Some(Task::start(0, row, rules, item_count, artifacts))
 }
 
 /// Whether a chunk may be attempted after this row.
-pub(crate) fn waits(row: &Row) -> bool
+pub(super) fn waits(row: &Row) -> bool
     ensures state { result ≡ true → row.now.state ≡ Waiting }
     ensures rollbacks { result ≡ true → row.now.counts.rollback < max_rollbacks }
     ensures repeats { result ≡ true → row.now.in_place + max_retry_limit ≤ max_in_place }
@@ -353,37 +180,91 @@ fn name_of(outcome: &Outcome) -> &'static str {
     }
 }
 
-/// Attempts one chunk after another, each of which adds its line to the log. Without memory the row stays as it was.
+/// What came of attempts.
+#[derive(Drop)]
+struct Course {
+    /// A line for each: how it ended, the calls in it, and where the row stands.
+    lines: String,
+    /// What each answered: its outcome, the row, how often calls were repeated in place, and the collector's texts.
+    answers: Vec<u8>,
+}
+
+impl Course {
+    fn new(alloc: Global) -> Course {
+        Course {
+            lines: String::new(alloc),
+            answers: Vec::new(alloc),
+        }
+    }
+
+    fn add<T: PartitionTask>(
+        &mut self,
+        alloc: Global,
+        calls: &AllCalls,
+        done: &Done<T>,
+    ) -> Result<(), Fail> {
+        let row = done.task.row();
+        let line = calls.line(alloc, name_of(&done.outcome), row)?;
+        self.lines.push_str(line.as_str())?;
+        let answer = format!(in alloc; "{:?} {row:?} {}\n", done.outcome, done.again)?;
+        self.answers.extend_from_slice(answer.as_bytes())?;
+        for value in &done.values {
+            self.answers.extend_from_slice(value.as_slice())?;
+        }
+        Ok(())
+    }
+}
+
+/// Attempts one chunk after another, up to the second that finds no memory. Without memory the row stays as it was.
 fn attempts<T: PartitionTask>(
     alloc: Global,
     mut task: T,
     calls: &AllCalls,
-    log: &mut String,
+    course: &mut Course,
 ) -> Result<T, Fail> {
+    let mut found_none = false;
     for _ in 0..20 {
         let row = *task.row();
         if !task.is_ready() || !waits(&row) {
             break;
         }
         let done = task.attempt(alloc);
+        course.add(alloc, calls, &done)?;
         task = done.task;
-        let line = calls.line(alloc, name_of(&done.outcome), task.row())?;
-        log.push_str(line.as_str())?;
-        if (*task.row() == row) != (done.outcome == Outcome::NoMemory) {
+        let wants_memory = done.outcome == Outcome::NoMemory;
+        if (*task.row() == row) != wants_memory {
             return Err(Fail::from("a row"));
         }
+        if wants_memory && found_none {
+            break;
+        }
+        found_none = found_none || wants_memory;
     }
     Ok(task)
 }
 
-/// A partition whose chunks were attempted: its row, a line for each attempt, its outputs, each with a blank behind it, and a line for
-/// each of reader, processor and writer: its calls.
+/// A partition whose chunks were attempted: its row, what came of the attempts, its outputs, each with a blank behind it, and the
+/// artifacts, which noted their calls.
 #[derive(Drop)]
-struct Ran {
+pub(super) struct Ran {
     row: Row,
-    log: String,
+    course: Course,
     outputs: Vec<u8>,
-    noted: String,
+    artifacts: Counting,
+}
+
+impl Ran {
+    /// Whether the attempts came to the same, by the same calls.
+    fn is_as(&self, other: &Ran) -> bool {
+        self.row == other.row
+            && self.course.lines.as_str() == other.course.lines.as_str()
+            && self.course.answers.as_slice() == other.course.answers.as_slice()
+            && self.outputs.as_slice() == other.outputs.as_slice()
+            && self.artifacts.reader.noted.as_slice() == other.artifacts.reader.noted.as_slice()
+            && self.artifacts.processor.noted.as_slice()
+                == other.artifacts.processor.noted.as_slice()
+            && self.artifacts.writer.noted.as_slice() == other.artifacts.writer.noted.as_slice()
+    }
 }
 
 fn add_output(outputs: &mut Vec<u8>, text: Option<&[u8]>) -> Result<(), Fail> {
@@ -409,23 +290,59 @@ fn noted_in(alloc: Global, artifacts: &Counting) -> Result<String, AllocError> {
     )
 }
 
-/// Attempts what was told.
-fn run(alloc: Global, told: &Told<'_>) -> Result<Ran, Fail> {
-    let calls = AllCalls::new(alloc)?;
-    let mut log = String::new(alloc);
-    let artifacts = counting(alloc, told, &calls)?;
-    let task = begun(told.records(), artifacts).ok_or("a task")?;
-    let task = attempts(alloc, task, &calls, &mut log)?;
+/// Attempts what was told with these artifacts, and gives them back with the row.
+fn attempted<A: PartitionArtifacts + Send>(
+    alloc: Global,
+    told: &Told<'_>,
+    calls: &AllCalls,
+    artifacts: A,
+    course: &mut Course,
+) -> Result<(Row, A), Fail> {
+    let task = begun(told.records(), told.item_count, artifacts).ok_or("a task")?;
+    let task = attempts(alloc, task, calls, course)?;
     let row = *task.row();
-    let artifacts = task.into_artifacts();
+    Ok((row, task.into_artifacts()))
+}
+
+fn came_of(alloc: Global, row: Row, course: Course, artifacts: Counting) -> Result<Ran, Fail> {
     let outputs = outputs_of(alloc, &artifacts.writer)?;
-    let noted = noted_in(alloc, &artifacts)?;
     Ok(Ran {
         row,
-        log,
+        course,
         outputs,
-        noted,
+        artifacts,
     })
+}
+
+/// Attempts what was told with artifacts that own what they carry.
+fn owned(alloc: Global, told: &Told<'_>) -> Result<Ran, Fail> {
+    let calls = AllCalls::new(alloc)?;
+    let mut course = Course::new(alloc);
+    let artifacts = counting(alloc, told, &calls)?;
+    let (row, artifacts) = attempted(alloc, told, &calls, artifacts, &mut course)?;
+    came_of(alloc, row, course, artifacts)
+}
+
+/// And with the same artifacts where they lend and pack it: a record is lent for each call that processes it.
+fn lent(alloc: Global, told: &Told<'_>) -> Result<Ran, Fail> {
+    let calls = AllCalls::new(alloc)?;
+    let mut course = Course::new(alloc);
+    let artifacts = packed(counting(alloc, told, &calls)?);
+    let (row, artifacts) = attempted(alloc, told, &calls, artifacts, &mut course)?;
+    let artifacts = unpacked(artifacts);
+    if calls.lends.taken() != artifacts.processor.noted.len() as u64 {
+        return Err(Fail::from("a record lent for each call that processes it"));
+    }
+    came_of(alloc, row, course, artifacts)
+}
+
+/// Attempts what was told with both: they come to the same, by the same calls.
+pub(super) fn run(alloc: Global, told: &Told<'_>) -> Result<Ran, Fail> {
+    let ran = owned(alloc, told)?;
+    if !ran.is_as(&lent(alloc, told)?) {
+        return Err(Fail::from("the same where records are lent"));
+    }
+    Ok(ran)
 }
 
 /// The attempts at thirteen records: a chunk with a filtered item, one in which a read is skipped after it had found no memory, a
@@ -464,28 +381,30 @@ fn a_partition_with_skips_and_rollbacks(rt: HostRuntime) -> Result<(), Fail> {
     let (skipped, retried) = (ClassId::new(0), ClassId::new(1));
     let told = Told {
         lines: "a\nzb\nc\nd\ne\nf\nzg\nzh\ni\nj\nk\nl\nm",
+        item_count: 2,
         reads: &[always(2, skipped)],
         processes: &[once(5, retried)],
         writes: &[always(9, skipped), once(10, retried)],
         forgets: Some(3),
     };
     let ran = run(rt.alloc(), &told)?;
-    assert!(rt; ran.log.as_str() == LOG);
+    assert!(rt; ran.course.lines.as_str() == LOG);
     assert!(rt; ran.row.counts == COUNTS);
     assert!(rt; ran.outputs.as_slice() == b"xa xd xe xf xk xl xm ".as_slice());
     Ok(())
 }
 
 /// Whether the attempts at what was told are these lines.
-fn is_logged(alloc: Global, told: &Told<'_>, log: &str) -> Result<bool, Fail> {
+pub(super) fn is_logged(alloc: Global, told: &Told<'_>, lines: &str) -> Result<bool, Fail> {
     let ran = run(alloc, told)?;
-    Ok(ran.log.as_str() == log)
+    Ok(ran.course.lines.as_str() == lines)
 }
 
-/// Three records without a fault.
-fn no_fault() -> Told<'static> {
+/// Three records without a fault, two at a time.
+pub(super) fn no_fault() -> Told<'static> {
     Told {
         lines: "a\nb\nc",
+        item_count: 2,
         reads: &[],
         processes: &[],
         writes: &[],
@@ -526,6 +445,7 @@ fn a_fault_that_was_met_is_used_up(rt: HostRuntime) -> Result<(), Fail> {
 fn faults<'a>(reads: &'a [Fault], processes: &'a [Fault], writes: &'a [Fault]) -> Told<'a> {
     Told {
         lines: "a\nb\nc\nd",
+        item_count: 2,
         reads,
         processes,
         writes,
@@ -536,8 +456,8 @@ fn faults<'a>(reads: &'a [Fault], processes: &'a [Fault], writes: &'a [Fault]) -
 /// What comes of a partition: a line for each attempt, the calls of reader, processor and writer, and the row's numbers.
 fn story_of(alloc: Global, told: &Told<'_>) -> Result<String, Fail> {
     let ran = run(alloc, told)?;
-    let mut story = ran.log;
-    story.push_str(ran.noted.as_str())?;
+    let mut story = ran.course.lines;
+    story.push_str(noted_in(alloc, &ran.artifacts)?.as_str())?;
     story.push_str(format!(in alloc; "{:?}\n", ran.row.numbers())?.as_str())?;
     Ok(story)
 }
@@ -661,23 +581,34 @@ fn view_of(range: Range) -> RowView {
     }
 }
 
-/// The calls of the artifacts, bare or each in a box, when a record was done.
-fn calls_at_a_record(alloc: Global, are_boxed: bool) -> Result<String, Fail> {
+/// How artifacts are handed in.
+#[derive(Clone, Copy)]
+enum Form {
+    Bare,
+    Boxed,
+    Packed,
+}
+
+/// The calls of the artifacts when a record was done.
+fn calls_at_a_record(alloc: Global, form: Form) -> Result<String, Fail> {
     let calls = AllCalls::new(alloc)?;
-    if are_boxed {
-        do_a_record(alloc, boxed(alloc, &no_fault(), &calls)?)?;
-    } else {
-        do_a_record(alloc, counting(alloc, &no_fault(), &calls)?)?;
+    let told = no_fault();
+    match form {
+        Form::Bare => do_a_record(alloc, counting(alloc, &told, &calls)?)?,
+        Form::Boxed => do_a_record(alloc, boxed(alloc, &told, &calls)?)?,
+        Form::Packed => do_a_record(alloc, packed(counting(alloc, &told, &calls)?))?,
     }
     let row = Row::fresh(Range { lo: 0, hi: 1 });
     Ok(calls.line(alloc, "done", &row)?)
 }
 
-/// A call of artifacts in boxes is one call of what stands in the box, as it is without boxes.
+/// A call of artifacts in boxes is one call of what stands in the box, as it is without boxes, and where a record is lent and its result
+/// packed.
 #[test]
 fn artifacts_in_boxes(rt: HostRuntime) -> Result<(), Fail> {
     let line = "done 1 1 1 1 at 0, 0 written\n";
-    assert!(rt; calls_at_a_record(rt.alloc(), false)?.as_str() == line);
-    assert!(rt; calls_at_a_record(rt.alloc(), true)?.as_str() == line);
+    for form in [Form::Bare, Form::Boxed, Form::Packed] {
+        assert!(rt; calls_at_a_record(rt.alloc(), form)?.as_str() == line);
+    }
     Ok(())
 }

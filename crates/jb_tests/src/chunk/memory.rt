@@ -26,7 +26,7 @@ fn letters(alloc: Global) -> Option<Plain> {
         writer: ListWriter::new(PackedList::new(alloc), FaultPlans::new(alloc)),
         collector: CountCollector::new(alloc),
     };
-    begun(2, artifacts)
+    begun(2, 2, artifacts)
 }
 
 /// An attempt at the task's chunk, if it may be attempted.
