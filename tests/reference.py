@@ -47,19 +47,30 @@ def no_constant(name):
     raise ValueError(name)
 
 
+class Members(dict):
+    """An object: of a repeated key it has the last value, and `written` every key and value."""
+
+    def __init__(self, pairs):
+        super().__init__(pairs)
+        self.written = [part for pair in pairs for part in pair]
+
+
 def check_texts_and_depth(tree, depth=0):
     if isinstance(tree, str):
         tree.encode()  # refuses a lone surrogate
-    elif isinstance(tree, (list, dict)):
+    elif isinstance(tree, (list, Members)):
         if depth == 127:
             raise ValueError("too deep")
-        for member in [*tree, *tree.values()] if isinstance(tree, dict) else tree:
+        for member in tree.written if isinstance(tree, Members) else tree:
             check_texts_and_depth(member, depth + 1)
+
+
+READ = {"parse_int": whole, "parse_float": other_number, "parse_constant": no_constant, "object_pairs_hook": Members}
 
 
 def tree_of(document):
     try:
-        tree = json.loads(document.decode(), parse_int=whole, parse_float=other_number, parse_constant=no_constant)
+        tree = json.loads(document.decode(), **READ)
         check_texts_and_depth(tree)
     except (ValueError, RecursionError):
         raise Refused("NotJson") from None
