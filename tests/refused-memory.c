@@ -1,5 +1,6 @@
-/* Preloaded into a program: counts its requests for memory, and refuses the one that REFUSED names (from 1; 0: none).
- * At the end the count is written to the descriptor that COUNTS names. */
+/* Preloaded into a program: counts its requests for memory, and refuses the one that REFUSED names (from 1; 0: none), with a '+' behind
+ * its number that one and all after it. At the end the count is written to the descriptor that COUNTS names. */
+#include <limits.h>
 #include <stdio.h>
 #include <stdlib.h>
 #include <errno.h>
@@ -11,12 +12,14 @@ void *__libc_calloc(size_t, size_t);
 void *__libc_realloc(void *, size_t);
 void *__libc_memalign(size_t, size_t);
 
-static unsigned long asked, refused;
+static unsigned long asked, first, last;
 static int counting, counts;
 
 __attribute__((constructor)) static void begin(void) {
     const char *number = getenv("REFUSED");
-    refused = number ? strtoul(number, NULL, 10) : 0;
+    char *behind = "";
+    first = number ? strtoul(number, &behind, 10) : 0;
+    last = *behind == '+' ? ULONG_MAX : first;
     number = getenv("COUNTS");
     counts = number ? atoi(number) : -1;
     counting = 1;
@@ -39,7 +42,9 @@ void _exit(int status) {
 
 /* Whether the program gets this request, from whichever of its threads. */
 static int given(void) {
-    if (!counting || __atomic_add_fetch(&asked, 1, __ATOMIC_RELAXED) != refused) return 1;
+    if (!counting) return 1;
+    unsigned long number = __atomic_add_fetch(&asked, 1, __ATOMIC_RELAXED);
+    if (number < first || number > last) return 1;
     errno = ENOMEM;
     return 0;
 }
