@@ -4,7 +4,7 @@ use Rattle.std.specs.List.{enumerate_from}
 use Rattle.jb_base.specs.declared.class.ClassId.{ClassId}
 use Rattle.jb_base.specs.declared.artifact_error.ArtifactError.{ArtifactError}
 use Rattle.jb_collect.specs.Listed.{Listed, planned_at, answer_with, taken_of}
-use Rattle.jb_collect.specs.Taken.{Taken, TakesCall, calls_of}
+use Rattle.jb_collect.specs.Taken.{Taken, TakesCall, calls_of, well}
 
 module _ {C : Type 0} where
   -- the calls from a number on
@@ -27,6 +27,11 @@ module _ {C : Type 0} where
   from_calls : (fault : Option (ℕ × ClassId)) (n : ℕ) (calls : List C) → calls_of (taken_from fault n calls) ≡ calls
   from_calls fault n [] = refl
   from_calls fault n (c ∷ rest) = ap (λ (cs : List C). c ∷ cs) (from_calls fault (n + 1) rest)
+
+  -- calls that were all answered well
+  pub well_calls : (calls : List C) → calls_of (map well calls) ≡ calls
+  well_calls [] = refl
+  well_calls (c ∷ rest) = ap (λ (cs : List C). c ∷ cs) (well_calls rest)
 
   pub calls_taken : (list : Listed C) → calls_of (taken_of list) ≡ list.calls
   calls_taken list = from_calls list.fault 0 list.calls

@@ -1,7 +1,10 @@
 mod Begun
+mod Calling
+mod Causes
 mod Evenly
 mod Going
 mod Joining
+mod LeavingOut
 mod Putting
 mod Resuming
 mod Sharing

@@ -1,9 +1,9 @@
 -- The partitions, over a whole run of its step.
-use Rattle.std.proofs.Common.{◌≡◌, ℕ, zero, suc, ◌+◌, ◌-◌, ◌≤◌, Bool, true, false, not, cond, List, [], ◌∷◌, length, Some, Option, refl, ap, sym, subst, ◌∙◌, arith}
+use Rattle.std.proofs.Common.{◌≡◌, ℕ, zero, suc, ◌+◌, ◌-◌, ◌≤◌, Bool, true, false, not, cond, List, [], ◌∷◌, length, Some, Option, refl, ap, ap₂, sym, subst, ◌∙◌, arith}
 use Rattle.std.proofs.lemmas.Bool.{or_parts}
-use Rattle.std.proofs.Math.Seq.{take-length}
-use Rattle.std.specs.Prelude.{◌==◌, ◌||◌, filter, map, nat_eq, slice_get, take}
-use Rattle.std.specs.List.{enumerate_from, filter_map, list_any, range_with_len, zip}
+use Rattle.std.proofs.Math.Seq.{drop-nil, take-length}
+use Rattle.std.specs.Prelude.{◌==◌, ◌||◌, drop, filter, map, nat_eq, slice_get, take}
+use Rattle.std.specs.List.{AllByRecursion, enumerate_from, filter_map, list_any, range_with_len, zip}
 use Rattle.jb_base.specs.declared.range.Range.{Range}
 use Rattle.jb_repo.specs.declared.snapshot.Snapshot.{Snapshot}
 use Rattle.jb_rules.specs.declared.row.Row.{Row}
@@ -13,8 +13,13 @@ use Rattle.jb_rules.specs.declared.row.RowState.{RowState}
 use Rattle.jb_rules.specs.States.{is_failed, is_finished}
 use Rattle.jb_artifacts.specs.Meaning.{ArtifactsMeaning}
 use Rattle.jb_chunk.specs.Standing.{IsReady, TaskState, started}
+use Rattle.jb_collect.specs.declared.calls.AnalyzerCall.{AnalyzerCall}
+use Rattle.jb_collect.specs.declared.calls.ReducerCall.{ReducerCall}
+use Rattle.jb_collect.specs.declared.calls.Status.{Status}
 use Rattle.jb_collect.specs.declared.calls.Status.TheVariants as status
-use Rattle.jb_step.specs.Answers.{IsRunOfStep, StepRun, tasks_left}
+use Rattle.jb_collect.specs.Taken.{Taken, well}
+use Rattle.jb_step.specs.Callbacks.{has_fault, since}
+use Rattle.jb_step.specs.Answers.{IsRunOfStep, IsStatus, StepRun, tasks_left}
 use Rattle.jb_step.specs.Statuses.{status_of}
 use Rattle.jb_step.specs.PlanLaws.{AreTasksOf, BeginsWithRows, BeginsWithTable}
 use Rattle.jb_step.specs.Prepare.{DoFit}
@@ -23,7 +28,7 @@ use Rattle.jb_step.specs.Alone.{AreOnTheWay}
 use Rattle.jb_records.specs.Function.{Function, result_of}
 use Rattle.jb_records.specs.Runs.{HasResults, PartsStay, ResultsGoOn}
 use Rattle.jb_records.specs.Shares.{AreInOrder, AreNumbered, AreRangesOf, AreShares, AreWhole, IsShare, IsSoFar, NewStepsBegin, newer_share, newer_shares}
-use Rattle.jb_records.specs.Steps.{AreWorks, BeginsAnew, HaveResults, StepsKeepResults}
+use Rattle.jb_records.specs.Steps.{AreWorks, BeginsAnew, StepsKeepResults}
 use Rattle.jb_records.specs.Works.{IsWork, own_records, record_of, results_between}
 use Rattle.jb_records.proofs.Going.{ends-at}
 
@@ -41,6 +46,10 @@ begun-task f records p item_count row s w work share ready =
       number = ready.count;
       whole = share.whole;
     }
+
+-- each partition has its records, and the results of those before its checkpoint
+abbrev HaveResults : Function → (records : List (List ℕ)) → List TaskState → Type 0
+HaveResults f records ts = AllByRecursion (HasResults f records) ts
 
 -- the unfinished rows, their tasks, and what they work with
 abbrev left-of : List (ℕ × Row) → List (ℕ × Row)
@@ -220,3 +229,15 @@ completed-by false false e = refl
 pub completed-whole : (rows : List Row) (failed : Bool) → status_of rows failed ≡ status.Completed → AreWhole rows
 completed-whole rows failed e =
     whole-if rows (completed-by (failed || list_any (λ row. is_failed row.state) rows) (list_any (λ row. not (is_finished row.state)) rows) e)
+
+-- no callback failed
+pub well-faults : {C : Type 0} (n : ℕ) (calls : List C) → has_fault (drop n (map well calls)) ≡ false
+well-faults n [] = ap has_fault (drop-nil n)
+well-faults zero (call ∷ calls) = well-faults zero calls
+well-faults (suc n) (call ∷ calls) = well-faults n calls
+
+-- so the status is that of the rows
+pub stands : (snapshot : Snapshot) (heard : List (Taken AnalyzerCall)) (reduced : List (Taken ReducerCall)) (more : List AnalyzerCall) (after : List ReducerCall) (now : Status)
+    → IsStatus snapshot (since heard (map well more)) (since reduced (map well after)) now → now ≡ status_of snapshot.rows.items false
+stands snapshot heard reduced more after now is =
+    is ∙ ap₂ (λ told answered. status_of snapshot.rows.items (told || answered)) (well-faults (length heard) more) (well-faults (length reduced) after)

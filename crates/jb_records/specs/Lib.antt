@@ -1,7 +1,10 @@
+pub mod Causes
 pub mod Earlier
 pub mod Function
+pub mod Made
 pub mod Refusals
 pub mod Runs
 pub mod Shares
 pub mod Steps
 pub mod Works
+pub mod inside

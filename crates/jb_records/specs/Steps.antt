@@ -1,9 +1,7 @@
 -- The partitions, over a whole run of their step.
 use Rattle.std.specs.Prelude.{ℕ, ◌≡◌, List, slice_get, Some}
-use Rattle.std.specs.List.{AllByRecursion}
 use Rattle.jb_base.specs.Pairwise.{Pairwise}
 use Rattle.jb_artifacts.specs.Meaning.{ArtifactsMeaning}
-use Rattle.jb_chunk.specs.Standing.{TaskState}
 use Rattle.jb_base.specs.declared.range.Range.{Range}
 use Rattle.jb_base.specs.Rules.{RulesRecord}
 use Rattle.jb_repo.specs.declared.snapshot.Snapshot.{Snapshot}
@@ -13,13 +11,8 @@ use Rattle.jb_step.specs.Prepare.{DoFit}
 use Rattle.jb_step.specs.Setup.{IsSetup, Setup, first_tasks, fresh_rows, rows_now, unfinished}
 use Rattle.jb_step.specs.Alone.{AreOnTheWay}
 use Rattle.jb_records.specs.Function.{Function}
-use Rattle.jb_records.specs.Runs.{HasResults}
 use Rattle.jb_records.specs.Shares.{AreRangesOf, IsSoFar, newer_shares}
-use Rattle.jb_records.specs.Works.{IsWork, own_records}
-
--- each partition has its records, and the results of those before its checkpoint
-abbrev pub HaveResults : Function → (records : List (List ℕ)) → List TaskState → Type 0
-HaveResults f records ts = AllByRecursion (HasResults f records) ts
+use Rattle.jb_records.specs.Works.{IsFirstWork, IsWork, own_records}
 
 -- ---- how the partitions begin
 
@@ -30,10 +23,17 @@ IsWorkFor f rules records shares n w = IsWork f rules n.1.lo (own_records record
 abbrev pub AreWorks : Function → RulesRecord → (records : List (List ℕ)) → (shares : List (List (List ℕ))) → List (ℕ × Row) → List ArtifactsMeaning → Type 0
 AreWorks f rules records shares ns ws = Pairwise (IsWorkFor f rules records shares) ns ws
 
+-- and it begins with the first tries that the function has for its records
+abbrev pub IsFirstWorkFor : Function → RulesRecord → (records : List (List ℕ)) → (shares : List (List (List ℕ))) → ℕ × Row → ArtifactsMeaning → Type 0
+IsFirstWorkFor f rules records shares n w = IsFirstWork f rules n.1.lo (own_records records n.1) w × (slice_get shares n.0 ≡ Some w.writer.written)
+
+abbrev pub AreFirstWorks : Function → RulesRecord → (records : List (List ℕ)) → (shares : List (List (List ℕ))) → List (ℕ × Row) → List ArtifactsMeaning → Type 0
+AreFirstWorks f rules records shares ns ws = Pairwise (IsFirstWorkFor f rules records shares) ns ws
+
 -- the same of partitions that are named by their numbers
 abbrev pub AreWorksOf : Function → RulesRecord → (records : List (List ℕ)) → (shares : List (List (List ℕ))) → List Row → (partitions : List ℕ) → List ArtifactsMeaning → Type 0
 AreWorksOf f rules records shares rows ps ws =
-    Pairwise (λ (p : ℕ) (w : ArtifactsMeaning). ((row : Row) → slice_get rows p ≡ Some row → IsWork f rules row.lo (own_records records row) w)
+    Pairwise (λ (p : ℕ) (w : ArtifactsMeaning). ((row : Row) → slice_get rows p ≡ Some row → IsFirstWork f rules row.lo (own_records records row) w)
     × (slice_get shares p ≡ Some w.writer.written)) ps ws
 
 -- the step begins anew, with ranges that are those of so many records in their order

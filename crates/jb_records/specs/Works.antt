@@ -55,6 +55,11 @@ pub record IsWork (f : Function) (rules : RulesRecord) (first : ℕ) (records : 
   pub tries : (k : ℕ) → IsNeverSkipped rules (w.processor.faults k)
   pub writes : (k : ℕ) → w.writer.faults k ≡ Sound
 
+-- what it begins with: the same, and the first tries at its records fail as the function says
+pub record IsFirstWork (f : Function) (rules : RulesRecord) (first : ℕ) (records : List (List ℕ)) (w : ArtifactsMeaning) : Type 0 where
+  pub work : IsWork f rules first records w
+  pub first_tries : (k : ℕ) → w.processor.faults k ≡ tries_plan f first records k
+
 -- the results of the records from number `lo` to `hi - 1`, in order, of those that have one
 unfoldable pub results_between : Function → (first : ℕ) → (records : List (List ℕ)) → (lo hi : ℕ) → List (List ℕ)
 results_between f first records lo hi = filter_map (λ k. result_of f k (record_of first records k)) (range_with_len lo (hi - lo))

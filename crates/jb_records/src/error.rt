@@ -10,8 +10,8 @@ use thiserror::Error;
 /// Why a step over records has no end.
 #[derive(Clone, Copy, Debug, PartialEq, Eq, Error)]
 pub enum RecordsStepError {
-    /// There are more than 10,000,000 records, or fewer than the saved rows speak of.
-    #[error("the records are too many, or fewer than those of the saved rows")]
+    /// There are more than 10,000,000 records.
+    #[error("there are more than 10,000,000 records")]
     Records,
     /// The earlier results aren't as many as the saved rows say.
     #[error("the earlier results aren't those of the saved rows")]

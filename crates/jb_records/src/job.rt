@@ -1,12 +1,17 @@
 //! A step over records, from its saved rows to its end.
 
-ghost use Rattle.std.specs.Prelude.{◌≡◌, ◌≤◌, false, None, IfOk, IfSome};
+ghost use Rattle.std.specs.Prelude.{◌≡◌, ◌≤◌, false, length, None, Ok, IfErr, IfOk, IfSome};
 ghost use Rattle.jb_base.specs.Limits.{max_records};
+ghost use Rattle.jb_mapper.specs.EvenCover.{even_ranges};
 ghost use Rattle.jb_mapper.specs.Mapping.{even};
 ghost use Rattle.jb_collect.specs.declared.calls.Status.TheVariants.{Completed};
+ghost use Rattle.jb_step.specs.Prepare.{IsPreparation};
 ghost use Rattle.jb_step.specs.Setup.{IsSetup};
+ghost use Rattle.jb_step.specs.Statuses.{status_of};
 ghost use Rattle.jb_records.specs.Earlier.{IsStoppedRun};
 ghost use Rattle.jb_records.specs.Function.{Function, all_results};
+ghost use Rattle.jb_records.specs.inside.Calls.{CanBegin, IsUnbegun, IsUnended, IsUnprepared, IsUnpreparedFor};
+ghost use Rattle.jb_records.specs.Made.{IsBegun, IsRunMade, even_partitions, step_record};
 ghost use Rattle.jb_saved.specs.GoingOn.{rows_restarted};
 ghost use Rattle.jb_records.specs.Shares.{IsSoFar, joined};
 ghost use Rattle.jb_records.specs.Steps.{BeginsAnew};
@@ -20,7 +25,7 @@ use crate::step::RecordsStep;
 use crate::works::{Works, all_works};
 use jb_base::{MAX_RECORDS, Name, PackedList, Rules};
 use jb_chunk::Task;
-use jb_collect::{ListAnalyzer, ListReducer};
+use jb_collect::{FaultlessAnalyzer, FaultlessReducer};
 use jb_job::{Spec, Step};
 use jb_mapper::{EvenMapper, PartitionMapper};
 use jb_step::{Prepared, Saved, StepEnd, prepare, run_step};
@@ -36,7 +41,7 @@ pub(crate) struct RecordsJob {
     pub(crate) prepared: Prepared,
     pub(crate) results: Vec<PackedList>,
     rules: Rules,
-    reducer: ListReducer,
+    reducer: FaultlessReducer,
     ghost same_rules: { prepared.rules ≡ rules },
 }
 
@@ -54,12 +59,13 @@ impl RecordsJob {
         saved: Option<Saved>,
         earlier: &PackedList,
     ) -> Result<RecordsJob, RecordsStepError>
-        ensures setup { IfOk result (λ job. IsSetup job.prepared) }
+        ensures why { IfErr result (IsUnbegun step.now (length records.now) saved (length earlier.now)) }
+        ensures begun { IfOk result (λ job. IsBegun step.now (length records.now) saved earlier.now job.prepared job.results.items) }
         ensures new { saved ≡ None → IfOk result (λ job. (f : Function) → IsSoFar f records.now job.prepared.rows job.results.items) }
         ensures goes_on { IfOk result (λ job. (f : Function) → IsStoppedRun f records.now saved earlier.now → IsSoFar f records.now job.prepared.rows job.results.items) }
     {
         steps_keep_results();
-        let mut reducer = ListReducer::new(alloc, None);
+        let mut reducer = FaultlessReducer::new(alloc);
         let count = records.len() as u64;
         let prepared = prepared_for(alloc, step, count, &mut reducer, saved)?;
         let results = shares_of(alloc, &prepared, earlier)?;
@@ -75,8 +81,7 @@ impl RecordsJob {
     /// results of the records before its checkpoint, if it had them at the beginning.
     ///
     /// # Errors
-    /// `Records` where there are fewer than the rows say; `SkippedTry` where a first try is to fail with a class that the rules
-    /// skip; `Step`, and `Memory`.
+    /// `SkippedTry` where a first try is to fail with a class that the rules skip; `Step` with what broke the run off, and `Memory`.
     pub(crate) fn run<
         F: RecordFunction + Drop + 'static,
         L: Ledger + Send + Sync + 'static,
@@ -90,6 +95,10 @@ impl RecordsJob {
         records: &PackedList,
         rounds: Option<u64>,
     ) -> Result<RecordsEnd, RecordsStepError>
+        requires { CanBegin (length records.now) self.prepared.rows self.results.items }
+        ensures why { IfErr result (IsUnended (F.function function) self.prepared.rules records.now) }
+        ensures made { IfOk result (λ end. IsRunMade (F.function function) records.now rounds self.prepared self.results.items end.snapshot end.results.items) }
+        ensures status { IfOk result (λ end. end.status ≡ status_of end.snapshot.rows.items false) }
         ensures so_far { IfOk result (λ end. IsSetup self.prepared → IsSoFar (F.function function) records.now self.prepared.rows self.results.items →
             IsSoFar (F.function function) records.now end.snapshot.rows.items end.results.items) }
         ensures whole { IfOk result (λ end. IsSetup self.prepared → IsSoFar (F.function function) records.now self.prepared.rows self.results.items → end.status ≡ Completed →
@@ -104,7 +113,7 @@ impl RecordsJob {
         } = self;
         let function = Arc::new(alloc, function)?;
         let works = all_works(alloc, &function, &rules, records, &prepared, &results)?;
-        let mut analyzer = ListAnalyzer::new(alloc, None);
+        let mut analyzer = FaultlessAnalyzer::new(alloc);
         let end = run_step::<Task<Works<F>>, L, NoGate, R>(
             rt,
             alloc,
@@ -138,14 +147,15 @@ fn prepared_by(
     threads: u32,
     records: u64,
     mapper: &mut dyn PartitionMapper,
-    reducer: &mut ListReducer,
+    reducer: &mut FaultlessReducer,
     saved: Option<Saved>,
 ) -> Result<Prepared, RecordsStepError>
     requires few { records ≤ max_records }
     requires some { 1 ≤ partitions }
     requires mapped { mapping mapper.old records ≡ even partitions threads false records }
     ensures setup { IfOk result IsSetup }
-    ensures rules { IfOk result (λ prepared. prepared.rules ≡ step.now.rules) }
+    ensures why { IfErr result (IsUnprepared step.now records (record { ranges = even_ranges records partitions; threads = threads; replace = false }) saved) }
+    ensures prepared { IfOk result (IsPreparation step.now records (even partitions threads false records) saved) }
     ensures new { saved ≡ None → IfOk result (BeginsAnew records) }
     ensures resumed { IfSome saved (λ held. IfOk result (λ prepared. prepared.rows ≡ rows_restarted held)) }
 {
@@ -158,11 +168,12 @@ fn prepared_for(
     alloc: Global,
     step: &RecordsStep,
     records: u64,
-    reducer: &mut ListReducer,
+    reducer: &mut FaultlessReducer,
     saved: Option<Saved>,
 ) -> Result<Prepared, RecordsStepError>
     ensures setup { IfOk result IsSetup }
-    ensures rules { IfOk result (λ prepared. prepared.rules ≡ step.now.rules) }
+    ensures why { IfErr result (IsUnpreparedFor step.now records saved) }
+    ensures prepared { IfOk result (IsPreparation (step_record step.now) records (Ok (even_partitions step.now records)) saved) }
     ensures new { saved ≡ None → IfOk result (BeginsAnew records) }
     ensures resumed { IfSome saved (λ held. IfOk result (λ prepared. prepared.rows ≡ rows_restarted held)) }
 {

@@ -1,5 +1,6 @@
 //! What comes of the attempts of a step over records. Nothing is done here: the clauses are the laws.
 
+ghost use Rattle.jb_records.specs.Function.{OthersAreLeftOut};
 ghost use Rattle.jb_records.specs.Runs.{PartsStay, ResultsGoOn};
 ghost use Rattle.jb_records.specs.Shares.{NewStepsBegin, SharesJoin};
 ghost use Rattle.jb_records.specs.Steps.{StepsKeepResults};
@@ -18,11 +19,13 @@ pub fn results_go_on()
 }
 
 /// So have all partitions of a step wherever its run leads them; those that begin anew have none; and those of all partitions
-/// that are finished are, one behind the other, the results of all records.
+/// that are finished are, one behind the other, the results of all records. Left out of these are the records that can't be
+/// read, and those that are filtered: all others have one.
 pub fn steps_keep_results()
     ensures kept { StepsKeepResults }
     ensures begun { NewStepsBegin }
     ensures joined { SharesJoin }
+    ensures left_out { OthersAreLeftOut }
 {
     results_go_on();
     plans_can_be_run();

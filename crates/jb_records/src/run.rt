@@ -1,11 +1,15 @@
 //! A step over records in one call.
 
-ghost use Rattle.std.specs.Prelude.{◌≡◌, None, IfOk, IfSome};
+ghost use Rattle.std.specs.Prelude.{◌≡◌, false, length, option_map, None, IfErr, IfOk, IfSome};
 ghost use Rattle.jb_base.specs.Limits.{max_parts};
 ghost use Rattle.jb_collect.specs.declared.calls.Status.TheVariants.{Completed};
 ghost use Rattle.jb_step.specs.Setup.{IsSetup};
+ghost use Rattle.jb_step.specs.Statuses.{status_of};
 ghost use Rattle.jb_records.specs.Earlier.{IsOfStoppedRun};
 ghost use Rattle.jb_records.specs.Function.{Function, all_results};
+ghost use Rattle.jb_records.specs.Causes.{IsCauseOf};
+ghost use Rattle.jb_records.specs.inside.Calls.{CanBegin, IsUnbegunBehind, IsUnended};
+ghost use Rattle.jb_records.specs.Made.{IsBegunBehind, IsRecordsRun, IsRunMade};
 ghost use Rattle.jb_records.specs.Shares.{IsSoFar, joined};
 
 use crate::end::RecordsEnd;
@@ -30,12 +34,12 @@ pub struct Earlier<'a> {
 
 /// Runs a step over records, anew or from where a stopped run left it, for so many rounds at most; with none, to its end.
 /// Wherever it ends, each partition has the results of the records before its checkpoint, each once and in order; where it is
-/// completed, those of all records.
+/// completed, those of all records: a record that can't be read has none, and is left out where its class is skipped.
 ///
 /// # Errors
-/// `Records` where there are more than 10,000,000, or fewer than the saved rows say; `Results` where these say otherwise how many
-/// results there are; `SkippedTry` where a first try is to fail with a class that the rules skip; `Step` with what is wrong with
-/// the partitions or the saved text, or why the step has no end; and `Memory`.
+/// `Records` where there are more than 10,000,000; `Results` where the saved rows say otherwise how many results there are;
+/// `SkippedTry` where a first try is to fail with a class that the rules skip; `Step` with what is wrong with the partitions, the
+/// saved text or its rows, as that one ends past the last record, or with why the step has no end; and `Memory`.
 pub fn run_records<F: RecordFunction + Drop + 'static, R: Threads + Wait + Sync>(
     rt: &R,
     alloc: Global,
@@ -45,6 +49,9 @@ pub fn run_records<F: RecordFunction + Drop + 'static, R: Threads + Wait + Sync>
     earlier: Option<Earlier>,
     rounds: Option<u64>,
 ) -> Result<RecordsEnd, RecordsStepError>
+    ensures why { IfErr result (IsCauseOf (F.function function) step.now records.now (option_map (λ e. (e.saved.now, e.results.now)) earlier.entry)) }
+    ensures run { IfOk result (λ end. IsRecordsRun (F.function function) step.now records.now (option_map (λ e. (e.saved.now, e.results.now)) earlier.entry) rounds end.snapshot end.results.items) }
+    ensures status { IfOk result (λ end. end.status ≡ status_of end.snapshot.rows.items false) }
     ensures so_far { earlier.entry ≡ None → IfOk result (λ end. IsSoFar (F.function function) records.now end.snapshot.rows.items end.results.items) }
     ensures all { earlier.entry ≡ None → IfOk result (λ end. end.status ≡ Completed → joined end.results.items ≡ all_results (F.function function) records.now) }
     ensures goes_on { IfSome earlier.entry (λ e. IsOfStoppedRun (F.function function) records.now e.saved.now e.results.now →
@@ -64,7 +71,8 @@ pub(crate) fn begun(
     records: &PackedList,
     earlier: &Option<Earlier>,
 ) -> Result<RecordsJob, RecordsStepError>
-    ensures setup { IfOk result (λ job. IsSetup job.prepared) }
+    ensures why { IfErr result (IsUnbegunBehind step.now (length records.now) (option_map (λ e. (e.saved.now, e.results.now)) earlier.now)) }
+    ensures begun { IfOk result (λ job. IsBegunBehind step.now (length records.now) (option_map (λ e. (e.saved.now, e.results.now)) earlier.now) job.prepared job.results.items) }
     ensures new { earlier.now ≡ None → IfOk result (λ job. (f : Function) → IsSoFar f records.now job.prepared.rows job.results.items) }
     ensures goes_on { IfSome earlier.now (λ e. IfOk result (λ job. (f : Function) → IsOfStoppedRun f records.now e.saved.now e.results.now →
         IsSoFar f records.now job.prepared.rows job.results.items)) }
@@ -95,6 +103,10 @@ fn run_on<
     requires name { blank.name ≡ L.name }
     requires parts { blank.parts ≡ L.parts }
     requires all { blank.parts ≡ max_parts }
+    requires can { CanBegin (length records.now) job.prepared.rows job.results.items }
+    ensures why { IfErr result (IsUnended (F.function function) job.prepared.rules records.now) }
+    ensures made { IfOk result (λ end. IsRunMade (F.function function) records.now rounds job.prepared job.results.items end.snapshot end.results.items) }
+    ensures status { IfOk result (λ end. end.status ≡ status_of end.snapshot.rows.items false) }
     ensures so_far { IfOk result (λ end. IsSetup job.prepared → IsSoFar (F.function function) records.now job.prepared.rows job.results.items →
         IsSoFar (F.function function) records.now end.snapshot.rows.items end.results.items) }
     ensures whole { IfOk result (λ end. IsSetup job.prepared → IsSoFar (F.function function) records.now job.prepared.rows job.results.items → end.status ≡ Completed →

@@ -1,7 +1,10 @@
 //! The results of each partition: taken from an earlier run's, and put in their places.
 
-ghost use Rattle.std.specs.Prelude.{◌≡◌, ◌≤◌, drop, length, take, IfOk, OnOk};
+ghost use Rattle.std.specs.Prelude.{◌≡◌, ◌≤◌, ◌⊎◌, drop, length, take, IfErr, IfOk, OnOk};
+ghost use Rattle.jb_base.specs.Limits.{max_partitions};
 ghost use Rattle.jb_step.specs.Answers.{given_back};
+ghost use Rattle.jb_records.specs.Causes.{written_in};
+ghost use Rattle.jb_records.specs.declared.error.RecordsStepError.TheVariants.{Memory, Results};
 ghost use Rattle.jb_records.specs.Shares.{AreNumbered, joined, newer_shares};
 
 use crate::error::RecordsStepError;
@@ -18,6 +21,8 @@ pub(crate) fn shares_of(
     prepared: &Prepared,
     earlier: &PackedList,
 ) -> Result<Vec<PackedList>, RecordsStepError>
+    requires { length prepared.now.rows ≤ max_partitions }
+    ensures why { IfErr result (λ e. (e ≡ Memory) ⊎ (e ≡ Results) × (length earlier.now ≡ written_in prepared.now.rows → ⊥)) }
     ensures numbered { IfOk result (λ shares. AreNumbered prepared.now.rows shares.items) }
     ensures joined { IfOk result (λ shares. joined shares.items ≡ earlier.now) }
 {
@@ -38,7 +43,7 @@ pub(crate) fn shares_of(
         shares.push(earlier.part(alloc, place, next)?)?;
         place = next;
     }
-    Err(RecordsStepError::Results)
+    unreachable!()
 }
 
 // Puts the results that came back in the places of their partitions.

@@ -1,11 +1,15 @@
 //! A step over records in one call, with someone who looks on.
 
-ghost use Rattle.std.specs.Prelude.{◌≡◌, None, IfOk, IfSome};
+ghost use Rattle.std.specs.Prelude.{◌≡◌, false, length, option_map, None, IfErr, IfOk, IfSome};
 ghost use Rattle.jb_base.specs.Limits.{max_parts};
 ghost use Rattle.jb_collect.specs.declared.calls.Status.TheVariants.{Completed};
 ghost use Rattle.jb_step.specs.Setup.{IsSetup};
+ghost use Rattle.jb_step.specs.Statuses.{status_of};
 ghost use Rattle.jb_records.specs.Earlier.{IsOfStoppedRun};
 ghost use Rattle.jb_records.specs.Function.{all_results};
+ghost use Rattle.jb_records.specs.Causes.{IsCauseOf};
+ghost use Rattle.jb_records.specs.inside.Calls.{CanBegin, IsUnended};
+ghost use Rattle.jb_records.specs.Made.{IsRecordsRun, IsRunMade};
 ghost use Rattle.jb_records.specs.Shares.{IsSoFar, joined};
 
 use crate::end::RecordsEnd;
@@ -41,6 +45,9 @@ pub fn run_records_watched<
     rounds: Option<u64>,
     watcher: W,
 ) -> Result<RecordsEnd, RecordsStepError>
+    ensures why { IfErr result (IsCauseOf (F.function function) step.now records.now (option_map (λ e. (e.saved.now, e.results.now)) earlier.entry)) }
+    ensures run { IfOk result (λ end. IsRecordsRun (F.function function) step.now records.now (option_map (λ e. (e.saved.now, e.results.now)) earlier.entry) rounds end.snapshot end.results.items) }
+    ensures status { IfOk result (λ end. end.status ≡ status_of end.snapshot.rows.items false) }
     ensures so_far { earlier.entry ≡ None → IfOk result (λ end. IsSoFar (F.function function) records.now end.snapshot.rows.items end.results.items) }
     ensures all { earlier.entry ≡ None → IfOk result (λ end. end.status ≡ Completed → joined end.results.items ≡ all_results (F.function function) records.now) }
     ensures goes_on { IfSome earlier.entry (λ e. IsOfStoppedRun (F.function function) records.now e.saved.now e.results.now →
@@ -72,6 +79,10 @@ fn run_on<
     requires name { blank.name ≡ L.name }
     requires parts { blank.parts ≡ L.parts }
     requires all { blank.parts ≡ max_parts }
+    requires can { CanBegin (length records.now) job.prepared.rows job.results.items }
+    ensures why { IfErr result (IsUnended (F.function function) job.prepared.rules records.now) }
+    ensures made { IfOk result (λ end. IsRunMade (F.function function) records.now rounds job.prepared job.results.items end.snapshot end.results.items) }
+    ensures status { IfOk result (λ end. end.status ≡ status_of end.snapshot.rows.items false) }
     ensures so_far { IfOk result (λ end. IsSetup job.prepared → IsSoFar (F.function function) records.now job.prepared.rows job.results.items →
         IsSoFar (F.function function) records.now end.snapshot.rows.items end.results.items) }
     ensures whole { IfOk result (λ end. IsSetup job.prepared → IsSoFar (F.function function) records.now job.prepared.rows job.results.items → end.status ≡ Completed →

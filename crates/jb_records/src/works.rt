@@ -1,12 +1,15 @@
 //! What the partitions work with, before the step's run.
 
-ghost use Rattle.std.specs.Prelude.{◌≡◌, ◌+◌, ◌<◌, ◌^◌, ℕ, true, length, map, IfOk, OnOk};
+ghost use Rattle.std.specs.Prelude.{◌≡◌, ◌+◌, ◌<◌, ◌^◌, ℕ, true, length, map, IfErr, IfOk, OnOk};
 ghost use Rattle.std.specs.Arc.{arc_value};
 ghost use Rattle.jb_artifacts.specs.declared.faults.FaultPlan.TheVariants.{Sound};
 ghost use Rattle.jb_artifacts.specs.Faults.{plans_of, with_plan};
+ghost use Rattle.jb_plan.specs.Plans.{IsWithin};
+ghost use Rattle.jb_rules.specs.Rows.{range_of};
 ghost use Rattle.jb_step.specs.Setup.{unfinished};
-ghost use Rattle.jb_records.specs.Steps.{AreWorks, AreWorksOf};
-ghost use Rattle.jb_records.specs.Works.{AreNeverSkipped, IsNeverSkipped, IsWork, own_records, plan_of, tries_plan};
+ghost use Rattle.jb_records.specs.inside.Calls.{CanBegin, HaveOwn, IsTryRefused};
+ghost use Rattle.jb_records.specs.Steps.{AreFirstWorks, AreWorksOf};
+ghost use Rattle.jb_records.specs.Works.{AreNeverSkipped, IsFirstWork, IsNeverSkipped, own_records, plan_of, tries_plan};
 
 use crate::error::RecordsStepError;
 use crate::function::RecordFunction;
@@ -31,7 +34,8 @@ pub type Works<F> = ArtifactsOf<
 
 /// Whether none of these classes may be skipped.
 fn are_never_skipped(rules: &Rules, classes: &[ClassId]) -> bool
-    ensures { result ≡ true → AreNeverSkipped rules.now classes.now }
+    ensures never { result ≡ true → AreNeverSkipped rules.now classes.now }
+    ensures skipped { AreNeverSkipped rules.now classes.now → result ≡ true }
 {
     let Some((class, later)) = classes.split_first() else {
         return true;
@@ -63,6 +67,7 @@ fn tries_of<F: RecordFunction>(
 ) -> Result<FaultPlans, RecordsStepError>
     requires { first + length records.now < 2 ^ 64 }
     ensures never_skipped { IfOk result (λ tries. (k : ℕ) → IsNeverSkipped rules.now (plans_of tries k)) }
+    ensures why { IfErr result (IsTryRefused (F.function function.now) rules.now first records.now) }
     ensures tries { IfOk result (λ tries. (k : ℕ) → plans_of tries k ≡ tries_plan (F.function function.now) first records.now k) }
 {
     let mut tries = FaultPlans::new(alloc);
@@ -86,21 +91,6 @@ pub(crate) fn copy_of(alloc: Global, list: &PackedList) -> Result<PackedList, Al
     Ok(copy)
 }
 
-/// The records of a partition's row.
-fn records_of(
-    alloc: Global,
-    records: &PackedList,
-    row: &Row,
-) -> Result<PackedList, RecordsStepError>
-    ensures { IfOk result (λ own. own ≡ own_records records.now row.now) }
-{
-    if row.lo > row.hi || row.hi > records.len() as u64 {
-        return Err(RecordsStepError::Records);
-    }
-    let own = records.part(alloc, row.lo as usize, row.hi as usize)?;
-    Ok(own)
-}
-
 /// What the partition of this row works with, with the results that it has.
 fn works_of<F: RecordFunction + Drop>(
     alloc: Global,
@@ -110,17 +100,16 @@ fn works_of<F: RecordFunction + Drop>(
     row: &Row,
     results: &PackedList,
 ) -> Result<Works<F>, RecordsStepError>
-    ensures work { IfOk result (λ works. IsWork (F.function (arc_value function.now)) rules.now row.now.lo (own_records records.now row.now) (⟦<Works<F> as Meaning>⟧.meaning works)) }
+    requires { IsWithin (length records.now) (range_of row.now) }
+    ensures why { IfErr result (IsTryRefused (F.function (arc_value function.now)) rules.now 0 records.now) }
+    ensures work { IfOk result (λ works. IsFirstWork (F.function (arc_value function.now)) rules.now row.now.lo (own_records records.now row.now) (⟦<Works<F> as Meaning>⟧.meaning works)) }
     ensures results { IfOk result (λ works. (⟦<Works<F> as Meaning>⟧.meaning works).writer.written ≡ results.now) }
 {
-    let own = records_of(alloc, records, row)?;
-    if row.lo.checked_add(own.len() as u64).is_none() {
-        return Err(RecordsStepError::Records);
-    }
+    let own = records.part(alloc, row.lo as usize, row.hi as usize)?;
     let tries = tries_of(alloc, &**function, rules, row.lo, &own)?;
     let reader = match CheckedReader::new(alloc, Shared::of(function)?, row.lo, own) {
         Ok(reader) => reader,
-        Err(_) => return Err(RecordsStepError::Records),
+        Err(_) => unreachable!(),
     };
     Ok(ArtifactsOf {
         reader,
@@ -143,16 +132,18 @@ fn works_for<F: RecordFunction + Drop>(
     shares: &[PackedList],
     partitions: &[u32],
 ) -> Result<Vec<Works<F>>, RecordsStepError>
-    ensures { IfOk result (λ all. AreWorksOf (F.function (arc_value function.now)) rules.now records.now shares.now prepared.now.rows partitions.now (map ⟦<Works<F> as Meaning>⟧.meaning all.items)) }
+    requires { HaveOwn (length records.now) prepared.now.rows shares.now partitions.now }
+    ensures why { IfErr result (IsTryRefused (F.function (arc_value function.now)) rules.now 0 records.now) }
+    ensures works { IfOk result (λ all. AreWorksOf (F.function (arc_value function.now)) rules.now records.now shares.now prepared.now.rows partitions.now (map ⟦<Works<F> as Meaning>⟧.meaning all.items)) }
 {
     let Some((partition, others)) = partitions.split_first() else {
         return Ok(Vec::new(alloc));
     };
     let Some(row) = prepared.row(*partition) else {
-        return Err(RecordsStepError::Results);
+        unreachable!();
     };
     let Some(share) = shares.get(*partition as usize) else {
-        return Err(RecordsStepError::Results);
+        unreachable!();
     };
     let works = works_of(alloc, function, rules, records, row, share)?;
     let mut all = works_for(alloc, function, rules, records, prepared, shares, others)?;
@@ -169,7 +160,9 @@ pub(crate) fn all_works<F: RecordFunction + Drop>(
     prepared: &Prepared,
     shares: &[PackedList],
 ) -> Result<Vec<Works<F>>, RecordsStepError>
-    ensures { IfOk result (λ all. AreWorks (F.function (arc_value function.now)) rules.now records.now shares.now (unfinished prepared.now.rows) (map ⟦<Works<F> as Meaning>⟧.meaning all.items)) }
+    requires { CanBegin (length records.now) prepared.now.rows shares.now }
+    ensures why { IfErr result (IsTryRefused (F.function (arc_value function.now)) rules.now 0 records.now) }
+    ensures works { IfOk result (λ all. AreFirstWorks (F.function (arc_value function.now)) rules.now records.now shares.now (unfinished prepared.now.rows) (map ⟦<Works<F> as Meaning>⟧.meaning all.items)) }
 {
     let all = works_for(
         alloc,

@@ -1,10 +1,12 @@
-use Rattle.std.proofs.Common.{◌≡◌, ◌∙◌, Bool, false, Option, Some, None, List, ap}
+use Rattle.std.proofs.Common.{◌≡◌, ◌∙◌, Bool, false, Option, Some, None, List, ap, refl}
 use Rattle.std.specs.Prelude.{IfSome}
 use Rattle.jb_base.specs.declared.range.Range.{Range}
 use Rattle.jb_rules.specs.declared.row.Row.{Row}
 use Rattle.jb_saved.specs.GoingOn.{rows_restarted}
 use Rattle.jb_saved.specs.SavedRows.{SavedRows}
 use Rattle.jb_step.specs.Setup.{gone_on, opening_rows}
+use Rattle.jb_records.specs.declared.error.RecordsStepError.TheVariants.{Step}
+use Rattle.jb_records.proofs.Causes.{handed-on, unprepared}
 use Rattle.jb_records.proofs.Evenly.{none-replaced, ranges-in-order}
 use Rattle.jb_records.proofs.job.prepared_by.Goals as goal
 
@@ -32,3 +34,8 @@ pub returns-clause-resumed : goal.returns-clause-resumed
 returns-clause-resumed g c =
     let its = c.in_ok-prepared.ensures.prepared in
     again _ c.args.saved _ (gone its.plan.ranges its.plan.replace c.args.saved _ (none-replaced _ _ c.args.partitions c.args.threads its.plan c.requires.mapped its.mapping) its.rows)
+
+pub returns-in_err-prepared-clause-why : goal.returns-in_err-prepared-clause-why
+returns-in_err-prepared-clause-why g c =
+    handed-on c.from_residual.result (Step c.in_err-prepared.field-0.0) _ c.from_residual.ensures.1
+    (unprepared c.args.step.now c.args.records _ _ c.args.saved _ c.prepare.new.reducer c.in_err-prepared.field-0.0 c.requires.mapped refl c.in_err-prepared.ensures.refused)

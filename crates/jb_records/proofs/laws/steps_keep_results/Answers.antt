@@ -1,4 +1,5 @@
 use Rattle.jb_records.proofs.Joining.{shares-are-joined}
+use Rattle.jb_records.proofs.LeavingOut.{others-left-out}
 use Rattle.jb_records.proofs.Steps.{shares-kept, steps-begin}
 use Rattle.jb_records.proofs.laws.steps_keep_results.Goals as goal
 
@@ -7,4 +8,5 @@ returns c = record {
   kept = shares-kept c.results_go_on.ensures.results c.results_go_on.ensures.part c.plans_can_be_run.ensures.begins c.plans_can_be_run.ensures.rows;
   begun = steps-begin;
   joined = shares-are-joined;
+  left_out = others-left-out;
 }

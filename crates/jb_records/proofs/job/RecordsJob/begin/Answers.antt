@@ -1,7 +1,10 @@
-use Rattle.std.proofs.Common.{subst}
+use Rattle.std.proofs.Common.{Ok, length, subst}
+use Rattle.jb_step.specs.Prepare.{IsPreparation}
+use Rattle.jb_records.specs.Made.{even_partitions, step_record}
 use Rattle.jb_records.specs.Steps.{BeginsAnew}
 use Rattle.jb_records.proofs.Resuming.{going-on}
 use Rattle.jb_records.proofs.Steps.{begun-anew}
+use Rattle.jb_records.proofs.Causes.{handed-on, opened-rows, others-refused}
 use Rattle.jb_records.proofs.job.RecordsJob.begin.Goals as goal
 
 pub returns-clause-new : goal.returns-clause-new
@@ -12,3 +15,19 @@ returns-clause-new c none f =
 pub returns-clause-goes_on : goal.returns-clause-goes_on
 returns-clause-goes_on c f stopped =
     going-on f c.args.records.now c.args.saved c.args.earlier.now _ _ stopped c.in_ok-prepared.ensures.resumed c.in_ok-results.ensures.numbered c.in_ok-results.ensures.joined
+
+pub returns-clause-begun : goal.returns-clause-begun
+returns-clause-begun c =
+    let made = c.in_ok-prepared.ensures in
+    record {
+      prepared = subst (λ n. IsPreparation (step_record c.args.step.now) n (Ok (even_partitions c.args.step.now n)) c.args.saved c.in_ok-prepared.prepared) c.len-count.ensures made.prepared;
+      setup = made.setup;
+      numbered = c.in_ok-results.ensures.numbered;
+      results = c.in_ok-results.ensures.joined;
+    }
+
+pub returns-in_err-results-clause-why : goal.returns-in_err-results-clause-why
+returns-in_err-results-clause-why c =
+    handed-on c.from_residual-in_err-results.result c.in_err-results.field-0.0 _ c.from_residual-in_err-results.ensures.1
+    (others-refused c.args.step.now (length c.args.records.now) c.args.saved (length c.args.earlier.now) c.in_ok-prepared.prepared.rows _ c.in_err-results.field-0.0
+    (opened-rows c.args.step.now c.len-count.result c.args.saved c.in_ok-prepared.prepared c.in_ok-prepared.ensures.prepared) c.in_err-results.ensures.why)

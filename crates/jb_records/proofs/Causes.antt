@@ -1,0 +1,283 @@
+-- Why a step over records has no end, from call to call.
+use Rattle.std.proofs.Common.{◌≡◌, ℕ, zero, suc, ◌+◌, ◌-◌, ◌≤◌, ◌<◌, ◌⊎◌, inl, inr, Bool, true, false, cond, List, [], ◌∷◌, ◌++◌, length, map, drop, take, get_or, Option, Some, None, Result, Ok, refl, ap, sym, subst, ◌∙◌, arith}
+use Rattle.std.proofs.lemmas.List.{get_or-drop, get_or-take, length-append, length-take-le, take_more}
+use Rattle.std.proofs.lemmas.List.Sums.{sum_by-append, sum_by-cons, sum_by-take-le}
+use Rattle.std.proofs.lemmas.Option.{get_or_from_slice_get, slice_get_within}
+use Rattle.std.specs.Prelude.{Err, IfErr, IsErrAnd, slice_get, slice_index_or}
+use Rattle.std.specs.List.{sum_by}
+use Rattle.jb_base.specs.declared.class.ClassId.{ClassId}
+use Rattle.jb_base.specs.declared.range.Range.{Range}
+use Rattle.jb_base.specs.Rules.{RulesRecord}
+use Rattle.jb_collect.specs.declared.calls.ReducerCall.{ReducerCall}
+use Rattle.jb_collect.specs.Taken.{Taken, faulted, well}
+use Rattle.jb_collect.specs.declared.calls.ReducerCall.TheVariants.{Begin}
+use Rattle.jb_base.specs.Causes.{IsCause}
+use Rattle.jb_job.specs.Reading.{tree_of}
+use Rattle.jb_job.specs.Records.{StepRecord}
+use Rattle.jb_plan.specs.declared.plan.PartitionPlan.{PartitionPlan}
+use Rattle.jb_rules.specs.declared.row.Row.{Row}
+use Rattle.jb_rules.specs.Rows.{dropped_row, fresh_row}
+use Rattle.jb_rules.specs.States.{is_failed}
+use Rattle.jb_saved.specs.declared.error.StepError.{StepError}
+use Rattle.jb_saved.specs.declared.error.StepError.TheVariants as error
+use Rattle.jb_saved.specs.GoingOn.{restarted, rows_restarted}
+use Rattle.jb_saved.specs.Reading.{answer_of, cause_of}
+use Rattle.jb_saved.specs.SavedRows.{SavedRows}
+use Rattle.jb_step.specs.Answers.{IsRunError}
+use Rattle.jb_step.specs.Callbacks.{has_fault, since}
+use Rattle.jb_step.specs.Prepare.{CanDiscard, IsFaultedRollback, IsPreparation, IsRefusal}
+use Rattle.jb_step.specs.Setup.{Setup, fresh_rows, gone_on, opening_rows, saved_faults}
+use Rattle.jb_records.specs.Causes.{AreOtherResults, HasSkippedTry, IsCauseOf, written_in}
+use Rattle.jb_records.specs.declared.error.RecordsStepError.{RecordsStepError}
+use Rattle.jb_records.specs.declared.error.RecordsStepError.TheVariants.{Memory, Records, Results, SkippedTry, Step}
+use Rattle.jb_records.specs.declared.step.RecordsStep.{RecordsStep}
+use Rattle.jb_records.specs.Function.{Function}
+use Rattle.jb_records.specs.Made.{even_partitions, step_record}
+use Rattle.jb_records.specs.Works.{AreNeverSkipped, own_records, record_of}
+use Rattle.jb_records.specs.inside.Calls.{IsTryRefused, IsUnbegun, IsUnbegunBehind, IsUnended, IsUnprepared, IsUnpreparedFor, written_by}
+use Rattle.jb_records.specs.Shares.{AreNumbered, joined}
+use Rattle.jb_records.proofs.Calling.{own-length}
+use Rattle.jb_records.proofs.Steps.{well-faults}
+
+-- ---- AN ERROR IS HANDED ON
+
+pub handed-on : {A : Type 0} (r : Result A RecordsStepError) (e : RecordsStepError) (P : RecordsStepError → Type 0) → IsErrAnd r (λ one. one ≡ e) → P e → IfErr r P
+handed-on (Ok x) e P is holds = tt
+handed-on (Err one) e P is holds = subst P (sym is) holds
+
+-- ---- THE STEP ISN'T PREPARED
+
+plan-is : (plan other : PartitionPlan) → ◌≡◌ {A = Result PartitionPlan ClassId} (Ok plan) (Ok other) → other ≡ plan
+plan-is plan other is = cc
+
+no-plan : (plan : PartitionPlan) (class : ClassId) → ◌≡◌ {A = Result PartitionPlan ClassId} (Ok plan) (Err class) → ⊥
+no-plan plan class is = cc
+
+-- the reducer answers each call well
+no-fault : (step : StepRecord) (records : ℕ) (mapped : Result PartitionPlan ClassId) (saved : Option SavedRows) (before : List (Taken ReducerCall)) (new : List ReducerCall) (class : ClassId)
+    → (since before (map well new) ≡ faulted Begin class ∷ []) ⊎ CanDiscard step records mapped saved × IsFaultedRollback class (since before (map well new)) → ⊥
+no-fault step records mapped saved before new class (inl at_begin) = let none : false ≡ true = sym (well-faults (length before) new) ∙ ap has_fault at_begin in cc
+no-fault step records mapped saved before new class (inr later) = let none : false ≡ true = sym (well-faults (length before) new) ∙ ap has_fault later.1.calls in cc
+
+pub unprepared : (step : StepRecord) (records : ℕ) (mapped : Result PartitionPlan ClassId) (plan : PartitionPlan) (saved : Option SavedRows) (before : List (Taken ReducerCall)) (new : List ReducerCall) (e : StepError) → mapped ≡ Ok plan → plan.replace ≡ false
+    → IsRefusal step records mapped saved (since before (map well new)) e → IsUnprepared step records plan saved (Step e)
+unprepared step records mapped plan saved before new (error.Plan fault) maps kept is =
+    subst (λ (p : PartitionPlan). IsUnprepared step records p saved (Step (error.Plan fault))) (plan-is plan is.0 (sym maps ∙ is.1)) is.2
+unprepared step records mapped plan saved before new (error.Mapper class) maps kept is = absurd (no-plan plan class (sym maps ∙ is))
+unprepared step records mapped plan saved before new (error.Reducer class) maps kept is = absurd (no-fault step records mapped saved before new class is)
+unprepared step records mapped plan saved before new error.WrongArtifacts maps kept is = is
+unprepared step records mapped plan saved before new (error.Repository p) maps kept is = is
+unprepared step records mapped plan saved before new error.Workers maps kept is = is
+unprepared step records mapped plan saved before new (error.Saved place) maps kept is =
+    let own = subst (λ (p : PartitionPlan). slice_get (saved_faults step records p.replace saved) 0 ≡ Some place) (plan-is plan is.0 (sym maps ∙ is.1)) is.3 in
+    subst (λ (b : Bool). slice_get (saved_faults step records b saved) 0 ≡ Some place) kept own
+unprepared step records mapped plan saved before new error.Memory maps kept is = tt
+
+pub unprepared-for : (step : RecordsStep) (records : ℕ) (saved : Option SavedRows) (e : RecordsStepError) → IsUnprepared (step_record step) records (even_partitions step records) saved e → IsUnpreparedFor step records saved e
+unprepared-for step records saved Records is = absurd is
+unprepared-for step records saved Results is = is
+unprepared-for step records saved SkippedTry is = is
+unprepared-for step records saved (Step why) is = is
+unprepared-for step records saved Memory is = is
+
+pub unbegun : (step : RecordsStep) (records : ℕ) (saved : Option SavedRows) (earlier : ℕ) (e : RecordsStepError) → IsUnpreparedFor step records saved e → IsUnbegun step records saved earlier e
+unbegun step records saved earlier Records is = is
+unbegun step records saved earlier Results is = absurd is
+unbegun step records saved earlier SkippedTry is = is
+unbegun step records saved earlier (Step why) is = is
+unbegun step records saved earlier Memory is = is
+
+-- ---- THE EARLIER RESULTS ARE OTHERS
+
+fresh-written : (ranges : List Range) → written_in (fresh_rows ranges) ≡ 0
+fresh-written [] = refl
+fresh-written (r ∷ rs) =
+    let first = sum_by-cons (λ (row : Row). row.written) (fresh_row r) (fresh_rows rs) in
+    let rest = fresh-written rs in
+    omega (arith, first, rest)
+
+kept-by : (failed : Bool) (row : Row) → (cond failed (dropped_row row) row).written ≡ row.written
+kept-by true row = refl
+kept-by false row = refl
+
+again-written : (rows : List Row) → written_in (map restarted rows) ≡ written_in rows
+again-written [] = refl
+again-written (row ∷ rows) =
+    let first = sum_by-cons (λ (r : Row). r.written) (restarted row) (map restarted rows) in
+    let was = sum_by-cons (λ (r : Row). r.written) row rows in
+    let kept = kept-by (is_failed row.state) row in
+    let rest = again-written rows in
+    omega (arith, first, was, kept, rest)
+
+pub opening-written : (ranges : List Range) (saved : Option SavedRows) → written_in (opening_rows ranges saved) ≡ written_by saved
+opening-written ranges None = fresh-written ranges
+opening-written ranges (Some held) = again-written held.rows
+
+numbered-written : (rows : List Row) (shares : List (List (List ℕ))) → AreNumbered rows shares → length (joined shares) ≡ written_in rows
+numbered-written [] [] are = refl
+numbered-written [] (share ∷ shares) are = absurd are
+numbered-written (row ∷ rows) [] are = absurd are
+numbered-written (row ∷ rows) (share ∷ shares) are =
+    let first = are.0 in
+    let rest = numbered-written rows shares are.1 in
+    let all = sum_by-cons (λ (r : Row). r.written) row rows in
+    length-append share (joined shares) ∙ omega (arith, first, rest, all)
+
+written-before : (rows : List Row) (shares : List (List (List ℕ))) (earlier : List (List ℕ)) (place : ℕ) → AreNumbered rows shares → joined shares ≡ take place earlier → place ≤ length earlier → written_in rows ≡ place
+written-before rows shares earlier place are is few = sym (numbered-written rows shares are) ∙ ap length is ∙ length-take-le place earlier few
+
+-- more than all shares have
+pub too-many : (rows : List Row) (shares : List (List (List ℕ))) (earlier : List (List ℕ)) (place : ℕ) → AreNumbered rows shares → joined shares ≡ take place earlier → place ≤ length earlier → (place ≡ length earlier → ⊥)
+    → length earlier ≡ written_in rows → ⊥
+too-many rows shares earlier place are is few more all = more (sym (all ∙ written-before rows shares earlier place are is few))
+
+-- fewer than the next share has
+pub too-few : (rows : List Row) (p : ℕ) (row : Row) (shares : List (List (List ℕ))) (earlier : List (List ℕ)) (place : ℕ) → Some row ≡ slice_get rows p → AreNumbered (take p rows) shares → joined shares ≡ take place earlier → place ≤ length earlier
+    → length earlier < place + row.written → length earlier ≡ written_in rows → ⊥
+too-few rows p row shares earlier place at are is few less all =
+    let here : get_or rows p row ≡ row = get_or_from_slice_get rows p row row (sym at) in
+    let longer : take (p + 1) rows ≡ take p rows ++ row ∷ [] = take_more rows p row (slice_get_within rows p row (sym at)) ∙ ap (λ r. take p rows ++ r ∷ []) here in
+    let next : written_in (take (p + 1) rows) ≡ written_in (take p rows) + written_in (row ∷ []) = ap written_in longer ∙ sum_by-append (λ (r : Row). r.written) (take p rows) (row ∷ []) in
+    let before = written-before (take p rows) shares earlier place are is few in
+    let most = sum_by-take-le (λ (r : Row). r.written) rows (p + 1) in
+    let one : written_in (row ∷ []) ≡ row.written = omega arith in
+    absurd (omega (arith, next, before, most, one, less, all))
+
+pub whole-at : (rows : List Row) (p : ℕ) → slice_get rows p ≡ None → take p rows ≡ rows
+whole-at [] zero none = refl
+whole-at [] (suc p) none = refl
+whole-at (row ∷ rows) zero none = absurd (cc none)
+whole-at (row ∷ rows) (suc p) none = ap (λ rs. row ∷ rs) (whole-at rows p none)
+
+-- the rows that the step was prepared with
+pub opened-rows : (step : RecordsStep) (records : ℕ) (saved : Option SavedRows) (s : Setup) (its : IsPreparation (step_record step) records (Ok (even_partitions step records)) saved s) → s.rows ≡ opening_rows its.plan.ranges saved
+opened-rows step records saved s its =
+    its.rows ∙ ap (λ (b : Bool). opening_rows its.plan.ranges (gone_on b saved)) (ap (λ (p : PartitionPlan). p.replace) (plan-is (even_partitions step records) its.plan its.mapping))
+
+pub others-refused : (step : RecordsStep) (records : ℕ) (saved : Option SavedRows) (earlier : ℕ) (rows : List Row) (ranges : List Range) (e : RecordsStepError) → rows ≡ opening_rows ranges saved
+    → (e ≡ Memory) ⊎ (e ≡ Results) × (earlier ≡ written_in rows → ⊥) → IsUnbegun step records saved earlier e
+others-refused step records saved earlier rows ranges e are (inl memory) = subst (IsUnbegun step records saved earlier) (sym memory) tt
+others-refused step records saved earlier rows ranges e are (inr others) =
+    subst (IsUnbegun step records saved earlier) (sym others.0) (λ all. others.1 (all ∙ sym (ap written_in are ∙ opening-written ranges saved)))
+
+-- ---- A FIRST TRY IS SKIPPED
+
+pub skipped-here : (f : Function) (rules : RulesRecord) (first : ℕ) (records : List (List ℕ)) (i : ℕ) (bytes : List ℕ) (classes : List ClassId) → i < length records → bytes ≡ slice_index_or records i []
+    → classes ≡ f.tries (first + i) bytes → (AreNeverSkipped rules classes → ⊥) → HasSkippedTry f rules first records
+skipped-here f rules first records i bytes classes within is told skipped =
+    let place : i ≡ first + i - first = omega arith in
+    let same : classes ≡ f.tries (first + i) (record_of first records (first + i)) = told ∙ ap (f.tries (first + i)) (is ∙ ap (λ n. slice_index_or records n []) place) in
+    record { number = first + i; from = omega arith; to = omega (arith, within); skipped = λ are. skipped (subst (AreNeverSkipped rules) (sym same) are) }
+
+-- one of a partition's records is one of all
+pub skipped-own : (f : Function) (rules : RulesRecord) (records : List (List ℕ)) (row : Row) → row.lo ≤ row.hi → row.hi ≤ length records → HasSkippedTry f rules row.lo (own_records records row) → HasSkippedTry f rules 0 records
+skipped-own f rules records row order below has =
+    let k = has.number in
+    let from = has.from in
+    let to = has.to in
+    let long = own-length records row order below in
+    let inside : k - row.lo < row.hi - row.lo = omega (arith, from, to, long, order) in
+    let place : row.lo + (k - row.lo) ≡ k - 0 = omega (arith, from) in
+    let same : record_of row.lo (own_records records row) k ≡ record_of 0 records k =
+    get_or-take (row.hi - row.lo) (drop row.lo records) (k - row.lo) [] inside ∙ get_or-drop row.lo records (k - row.lo) [] ∙ ap (λ n. get_or records n []) place in
+    record {
+      number = k;
+      from = omega arith;
+      to = omega (arith, to, long, order, below, from);
+      skipped = λ are. has.skipped (subst (λ bytes. AreNeverSkipped rules (f.tries k bytes)) (sym same) are);
+    }
+
+pub refused-own : (f : Function) (rules : RulesRecord) (records : List (List ℕ)) (row : Row) (e : RecordsStepError) → row.lo ≤ row.hi → row.hi ≤ length records → IsTryRefused f rules row.lo (own_records records row) e → IsTryRefused f rules 0 records e
+refused-own f rules records row Records order below is = is
+refused-own f rules records row Results order below is = is
+refused-own f rules records row SkippedTry order below is = skipped-own f rules records row order below is
+refused-own f rules records row (Step why) order below is = is
+refused-own f rules records row Memory order below is = is
+
+-- ---- THE STEP THAT WAS BEGUN HAS NO END
+
+pub unended : (f : Function) (rules : RulesRecord) (records : List (List ℕ)) (e : RecordsStepError) → IsTryRefused f rules 0 records e → IsUnended f rules records e
+unended f rules records Records is = is
+unended f rules records Results is = is
+unended f rules records SkippedTry is = is
+unended f rules records (Step why) is = absurd is
+unended f rules records Memory is = is
+
+pub broken-off : (f : Function) (rules : RulesRecord) (records : List (List ℕ)) (e : StepError) → IsRunError e → (e ≡ error.WrongArtifacts → ⊥) → IsUnended f rules records (Step e)
+broken-off f rules records (error.Plan fault) is fits = is
+broken-off f rules records (error.Mapper class) is fits = is
+broken-off f rules records (error.Reducer class) is fits = is
+broken-off f rules records error.WrongArtifacts is fits = absurd (fits refl)
+broken-off f rules records (error.Repository p) is fits = tt
+broken-off f rules records error.Workers is fits = tt
+broken-off f rules records (error.Saved place) is fits = is
+broken-off f rules records error.Memory is fits = tt
+
+-- ---- FROM CALL TO CALL
+
+abbrev Taken-over : Type 0
+Taken-over = Option (List ℕ × List (List ℕ))
+
+-- anew
+pub begun-anew-refused : (step : RecordsStep) (records : ℕ) (e : RecordsStepError) → IsUnbegun step records None 0 e → IsUnbegunBehind step records None e
+begun-anew-refused step records Records is = is
+begun-anew-refused step records Results is = absurd (is refl)
+begun-anew-refused step records SkippedTry is = is
+begun-anew-refused step records (Step (error.Plan fault)) is = is
+begun-anew-refused step records (Step (error.Mapper class)) is = is
+begun-anew-refused step records (Step (error.Reducer class)) is = is
+begun-anew-refused step records (Step error.WrongArtifacts) is = absurd is
+begun-anew-refused step records (Step (error.Repository p)) is = absurd is
+begun-anew-refused step records (Step error.Workers) is = absurd is
+begun-anew-refused step records (Step (error.Saved place)) is = absurd (cc is)
+begun-anew-refused step records (Step error.Memory) is = is
+begun-anew-refused step records Memory is = is
+
+-- behind the rows of a text
+pub begun-behind-refused : (step : RecordsStep) (records : ℕ) (text : List ℕ) (results : List (List ℕ)) (held : SavedRows) (e : RecordsStepError) → answer_of (tree_of text) ≡ Ok held → IsUnbegun step records (Some held) (length results) e
+    → IsUnbegunBehind step records (Some (text, results)) e
+begun-behind-refused step records text results held Records read is = is
+begun-behind-refused step records text results held Results read is = record { held = held; read = read; others = is }
+begun-behind-refused step records text results held SkippedTry read is = is
+begun-behind-refused step records text results held (Step (error.Plan fault)) read is = is
+begun-behind-refused step records text results held (Step (error.Mapper class)) read is = is
+begun-behind-refused step records text results held (Step (error.Reducer class)) read is = is
+begun-behind-refused step records text results held (Step error.WrongArtifacts) read is = absurd is
+begun-behind-refused step records text results held (Step (error.Repository p)) read is = absurd is
+begun-behind-refused step records text results held (Step error.Workers) read is = absurd is
+begun-behind-refused step records text results held (Step (error.Saved place)) read is = inr (record { held = held; read = read; first = is })
+begun-behind-refused step records text results held (Step error.Memory) read is = is
+begun-behind-refused step records text results held Memory read is = is
+
+-- the text has no rows
+pub text-refused : (step : RecordsStep) (records : ℕ) (text : List ℕ) (results : List (List ℕ)) (e : StepError) → IsCause (cause_of e) (answer_of (tree_of text)) → IsUnbegunBehind step records (Some (text, results)) (Step e)
+text-refused step records text results (error.Plan fault) is = absurd is
+text-refused step records text results (error.Mapper class) is = absurd is
+text-refused step records text results (error.Reducer class) is = absurd is
+text-refused step records text results error.WrongArtifacts is = absurd is
+text-refused step records text results (error.Repository p) is = absurd is
+text-refused step records text results error.Workers is = absurd is
+text-refused step records text results (error.Saved place) is = inl is
+text-refused step records text results error.Memory is = tt
+
+pub why-unbegun : (f : Function) (step : RecordsStep) (records : List (List ℕ)) (earlier : Taken-over) (e : RecordsStepError) → IsUnbegunBehind step (length records) earlier e → IsCauseOf f step records earlier e
+why-unbegun f step records earlier Records is = is
+why-unbegun f step records None Results is = is
+why-unbegun f step records (Some given) Results is = is
+why-unbegun f step records earlier SkippedTry is = absurd is
+why-unbegun f step records earlier (Step why) is = is
+why-unbegun f step records earlier Memory is = is
+
+pub why-unended : (f : Function) (step : RecordsStep) (rules : RulesRecord) (records : List (List ℕ)) (earlier : Taken-over) (e : RecordsStepError) → rules ≡ step.rules → IsUnended f rules records e → IsCauseOf f step records earlier e
+why-unended f step rules records earlier Records same is = absurd is
+why-unended f step rules records earlier Results same is = absurd is
+why-unended f step rules records earlier SkippedTry same is = subst (λ (r : RulesRecord). HasSkippedTry f r 0 records) same is
+why-unended f step rules records earlier (Step (error.Plan fault)) same is = absurd is
+why-unended f step rules records earlier (Step (error.Mapper class)) same is = absurd is
+why-unended f step rules records earlier (Step (error.Reducer class)) same is = absurd is
+why-unended f step rules records earlier (Step error.WrongArtifacts) same is = absurd is
+why-unended f step rules records earlier (Step (error.Repository p)) same is = is
+why-unended f step rules records earlier (Step error.Workers) same is = is
+why-unended f step rules records earlier (Step (error.Saved place)) same is = absurd is
+why-unended f step rules records earlier (Step error.Memory) same is = is
+why-unended f step rules records earlier Memory same is = is
