@@ -1,0 +1,80 @@
+//! The list of a connection that was just opened.
+
+ghost use Rattle.std.specs.Prelude.{◌≡◌, ◌≢◌, ◌⊎◌, ◌≤◌, ◌↔◌, false, map, [], None, Some, Err, IfOk, IfErr, IsOk, OnOk};
+ghost use Rattle.jb_store.specs.declared.error.StoreError.TheVariants.{Foreign, Version, Gap};
+ghost use Rattle.jb_store.specs.Errors.{IsOfTheList};
+ghost use Rattle.jb_store.specs.Form.{checkpoint_schema, no_schema, IsForeign, IsOtherVersion};
+ghost use Rattle.jb_store.specs.Checkpoints.{AreIn, ShowsList, StandsFor, kept};
+ghost use Rattle.jb_store.specs.Connections.{IsAsItWas, IsJustOpened, Keeps};
+ghost use Rattle.sqlite.specs.Held.{state};
+ghost use Rattle.sqlite.specs.State.{HasCleanDisk};
+ghost use Rattle.sqlite_trees.specs.View.{doubt};
+
+use crate::checkpoint::Checkpoint;
+use crate::error::StoreError;
+use crate::form::{is_blank, is_ours, names_checkpoint};
+use crate::listing::list;
+use crate::statements::create;
+use sqlite::{Alter, Connection};
+use sqlite_schema::schema::Schema;
+use std::alloc::Global;
+
+/// Why a database with this schema isn't opened.
+#[tactic(auto, using(crate::proofs::Named::ours_is_named))]
+fn refusal_of(schema: &Schema) -> Option<StoreError>
+    ensures fits { (result ≡ None) ↔ ((schema.now ≡ no_schema) ⊎ (schema.now ≡ checkpoint_schema)) }
+    ensures foreign { (result ≡ Some Foreign) ↔ IsForeign schema.now }
+    ensures version { (result ≡ Some Version) ↔ IsOtherVersion schema.now }
+    ensures named { (result ≡ None) ⊎ ((result ≡ Some Foreign) ⊎ (result ≡ Some Version)) }
+{
+    if is_blank(schema) || is_ours(schema) {
+        None
+    } else if names_checkpoint(schema) {
+        Some(StoreError::Version)
+    } else {
+        Some(StoreError::Foreign)
+    }
+}
+
+/// Makes the table where nothing is defined yet.
+fn make<S: Alter>(conn: &mut Connection<S>) -> Result<(), StoreError>
+    ensures made { HasCleanDisk (state S.Store conn.new) → (state S.Store conn.old).now.schema ≡ no_schema → (state S.Store conn.old).in_transaction ≡ false
+        → OnOk result (Keeps (state S.Store conn.new) []) }
+    ensures defined { (state S.Store conn.old).now.schema ≢ no_schema → IsOk result × (conn.new ≡ conn.old) }
+    ensures named { IfErr result (λ e. ¬ IsOfTheList e) }
+    ensures clean { doubt (state S.Store conn.old).is_clean ≤ doubt (state S.Store conn.new).is_clean }
+    ensures crash { HasCleanDisk (state S.Store conn.new) → (state S.Store conn.old).now.schema ≡ no_schema → (db : _) → (state S.Store conn.new).may_leave db
+        → (state S.Store conn.old).may_leave db ⊎ StandsFor db [] }
+{
+    if is_blank(conn.schema()) {
+        create(conn)?;
+    }
+    Ok(())
+}
+
+/// The checkpoints of a database that was just opened: none where nothing is defined yet, and then the table is made. One that isn't
+/// ours, or has a gap, is refused and not written.
+pub fn begin<S: Alter>(
+    alloc: Global,
+    conn: &mut Connection<S>,
+) -> Result<Vec<Checkpoint>, StoreError>
+    ensures begun { HasCleanDisk (state S.Store conn.new) → IsJustOpened (state S.Store conn.old)
+        → IfOk result (λ found. Keeps (state S.Store conn.new) (map kept found.items) × ShowsList (state S.Store conn.old).now (map kept found.items)) }
+    ensures listed { HasCleanDisk (state S.Store conn.new) → IsJustOpened (state S.Store conn.old) → (all : _) → ShowsList (state S.Store conn.old).now all
+        → IfOk result (λ found. map kept found.items ≡ all) }
+    ensures foreign { (result ≡ Err Foreign) ↔ IsForeign (state S.Store conn.old).now.schema }
+    ensures version { (result ≡ Err Version) ↔ IsOtherVersion (state S.Store conn.old).now.schema }
+    ensures gap { HasCleanDisk (state S.Store conn.new) → IsJustOpened (state S.Store conn.old) → result ≡ Err Gap
+        → ((state S.Store conn.old).now.schema ≡ checkpoint_schema) × ((all : _) → ¬ AreIn (state S.Store conn.old).now.trees all) }
+    ensures untouched { HasCleanDisk (state S.Store conn.new) → IsJustOpened (state S.Store conn.old)
+        → IfErr result (λ e. IsOfTheList e → IsAsItWas (state S.Store conn.old) (state S.Store conn.new)) }
+    ensures clean { doubt (state S.Store conn.old).is_clean ≤ doubt (state S.Store conn.new).is_clean }
+    ensures crash { HasCleanDisk (state S.Store conn.new) → IsJustOpened (state S.Store conn.old) → (db : _) → (state S.Store conn.new).may_leave db
+        → (db ≡ (state S.Store conn.old).now.trees) ⊎ (((state S.Store conn.old).now.schema ≡ no_schema) × StandsFor db []) }
+{
+    if let Some(refusal) = refusal_of(conn.schema()) {
+        return Err(refusal);
+    }
+    make(conn)?;
+    list(alloc, conn)
+}
