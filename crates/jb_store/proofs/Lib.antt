@@ -2,6 +2,7 @@ pub mod Texts
 pub mod Lists
 pub mod Rows
 pub mod Written
+pub mod Caused
 pub mod Read
 pub mod Named
 pub mod Opened

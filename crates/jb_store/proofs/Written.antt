@@ -80,7 +80,7 @@ joins trees all it rows free =
 abbrev params : ℕ → Kept → Row
 params number it = Int (pos number) ∷ Words it.saved ∷ Bytes it.results ∷ []
 
-abbrev command : Rattle.sqlite.specs.Command.Command
+abbrev pub command : Rattle.sqlite.specs.Command.Command
 command = Insert 0 (Values terms 4)
 
 abbrev insert_statement : List ℕ

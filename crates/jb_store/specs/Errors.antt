@@ -1,5 +1,7 @@
 -- The names of refusals.
-use Rattle.std.specs.Prelude.{◌≡◌, ◌⊎◌}
+use Rattle.std.specs.Prelude.{◌≡◌, ◌⊎◌, false, ⊤}
+use Rattle.sqlite_disk.specs.Disk.{MoreFaults}
+use Rattle.sqlite.specs.State.{State}
 use Rattle.sqlite.specs.declared.error.Error.{Error}
 use Rattle.sqlite.specs.declared.error.Error.TheVariants.{SqliteFailure}
 use Rattle.sqlite.specs.declared.error.ErrorCode.TheVariants as code
@@ -24,3 +26,11 @@ name_of e = Sql e
 -- a refusal of what the database holds
 abbrev pub IsOfTheList : StoreError → Type 0
 IsOfTheList e = (e ≡ Foreign) ⊎ ((e ≡ Version) ⊎ (e ≡ Gap))
+
+-- What came to pass where a call on a connection fails with this error: a call of the disk failed, or the connection was shut before.
+abbrev pub IsCaused : State → State → StoreError → Type 0
+IsCaused old new Damaged = MoreFaults old.faults new.faults
+IsCaused old new Full = MoreFaults old.faults new.faults
+IsCaused old new Disk = MoreFaults old.faults new.faults
+IsCaused old new Shut = old.is_open ≡ false
+IsCaused old new _ = ⊤

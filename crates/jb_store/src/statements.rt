@@ -1,7 +1,8 @@
 //! The three statements: the table is made, a checkpoint is added, all are read.
 
-ghost use Rattle.std.specs.Prelude.{◌≡◌, ◌⊎◌, ◌++◌, ◌+◌, ◌≤◌, false, List, [], ◌∷◌, length, IfOk, OnOk, OnErr, IsTrue};
+ghost use Rattle.std.specs.Prelude.{◌≡◌, ◌⊎◌, ◌++◌, ◌+◌, ◌≤◌, false, List, [], ◌∷◌, length, IfErr, IfOk, OnOk, OnErr, IsTrue};
 ghost use Rattle.std.specs.List.{AllByRecursion};
+ghost use Rattle.jb_store.specs.Errors.{IsCaused, name_of};
 ghost use Rattle.jb_store.specs.Form.{checkpoint_schema, no_schema};
 ghost use Rattle.jb_store.specs.Checkpoints.{Kept, AreIn, Holds, StandsFor, shown_from};
 ghost use Rattle.jb_store.specs.Connections.{Keeps};
@@ -38,6 +39,8 @@ fn insert<S: Alter>(
         → OnOk result (Keeps (state S.Store conn.new) (all ++ (record { saved = saved.now; results = results.now }) ∷ [])) }
     ensures kept { HasCleanDisk (state S.Store conn.new) → (all : _) → Keeps (state S.Store conn.old) all
         → OnErr result (IsTrue (state S.Store conn.new).is_open → Keeps (state S.Store conn.new) all) }
+    ensures cause { HasCleanDisk (state S.Store conn.new) → (all : _) → Keeps (state S.Store conn.old) all
+        → IfErr result (λ e. IsCaused (state S.Store conn.old) (state S.Store conn.new) (name_of e)) }
     ensures shut { HasCleanDisk (state S.Store conn.new) → IsTrue (state S.Store conn.old).is_open
         → IsTrue (state S.Store conn.new).is_open ⊎ MoreFaults (state S.Store conn.old).faults (state S.Store conn.new).faults }
     ensures clean { doubt (state S.Store conn.old).is_clean ≤ doubt (state S.Store conn.new).is_clean }
@@ -63,6 +66,8 @@ pub fn append<S: Alter>(
         → OnOk result (Keeps (state S.Store conn.new) (all ++ (record { saved = saved.now; results = results.now }) ∷ [])) }
     ensures kept { HasCleanDisk (state S.Store conn.new) → (all : _) → Keeps (state S.Store conn.old) all
         → OnErr result (IsTrue (state S.Store conn.new).is_open → Keeps (state S.Store conn.new) all) }
+    ensures cause { HasCleanDisk (state S.Store conn.new) → (all : _) → Keeps (state S.Store conn.old) all
+        → IfErr result (λ e. IsCaused (state S.Store conn.old) (state S.Store conn.new) e) }
     ensures shut { HasCleanDisk (state S.Store conn.new) → IsTrue (state S.Store conn.old).is_open
         → IsTrue (state S.Store conn.new).is_open ⊎ MoreFaults (state S.Store conn.old).faults (state S.Store conn.new).faults }
     ensures clean { doubt (state S.Store conn.old).is_clean ≤ doubt (state S.Store conn.new).is_clean }

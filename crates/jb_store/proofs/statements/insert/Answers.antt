@@ -1,6 +1,7 @@
 use Rattle.sqlite.specs.Held.{state}
 use Rattle.jb_store.specs.Checkpoints.{Kept}
 use Rattle.jb_store.proofs.Written.{appended, failed, survived}
+use Rattle.jb_store.proofs.Caused.{causes}
 use Rattle.jb_store.proofs.statements.insert.Goals as goal
 
 pub returns-clause-added : goal.returns-clause-added
@@ -25,3 +26,6 @@ returns-clause-clean g c = c.execute.ensures.survives.clean
 
 pub returns-clause-shut : goal.returns-clause-shut
 returns-clause-shut g c = c.execute.ensures.survives.closes
+
+pub returns-clause-cause : goal.returns-clause-cause
+returns-clause-cause g c clean all keeps = causes (state g.S.Store c.args.conn.now) (state g.S.Store c.execute.new.self) _ keeps.shows.schema c.execute.result (c.execute.ensures.runs clean)
