@@ -8,7 +8,7 @@ use Rattle.jb_collect.specs.ReducerCalls.{calls_after, run_end}
 use Rattle.jb_collect.specs.Taken.{Taken, well}
 use Rattle.jb_repo.specs.declared.snapshot.Snapshot.{Snapshot}
 use Rattle.jb_cert.specs.declared.notes.PlanNote.{PlanNote}
-use Rattle.jb_step.specs.Answers.{AreCallsAfter, IsRunOfStep, IsStatus, StepRun}
+use Rattle.jb_step.specs.Answers.{AreCallsAfter, IsStatus, StepRun}
 use Rattle.jb_step.specs.Callbacks.{Grew, since}
 use Rattle.jb_step.specs.Setup.{Setup}
 use Rattle.jb_step.specs.Statuses.{status_of}
@@ -28,11 +28,11 @@ run_with setup works round_limit before after notes snapshot left = record {
 }
 
 -- the analyzer took these calls behind those that it had
-pub listens : (prepared : Setup) (works : List ArtifactsMeaning) (round_limit : Option ℕ) (before : List (Taken AnalyzerCall)) (old new shown : List AnalyzerCall) (notes : List PlanNote) (snapshot : Snapshot) (left : List (ℕ × ArtifactsMeaning))
-    → IsRunOfStep (run_with prepared works round_limit before (map well new) notes snapshot left) → before ≡ map well old → shown ≡ new → IsRunOfStep (run_with prepared works round_limit (map well old) (map well shown) notes snapshot left)
-listens prepared works round_limit before old new shown notes snapshot left run same is =
-    subst (λ (taken : List (Taken AnalyzerCall)). IsRunOfStep (run_with prepared works round_limit taken (map well shown) notes snapshot left)) same
-    (subst (λ cs. IsRunOfStep (run_with prepared works round_limit before (map well cs) notes snapshot left)) (sym is) run)
+pub listens : (P : StepRun → Type 0) (prepared : Setup) (works : List ArtifactsMeaning) (round_limit : Option ℕ) (before : List (Taken AnalyzerCall)) (old new shown : List AnalyzerCall) (notes : List PlanNote) (snapshot : Snapshot) (left : List (ℕ × ArtifactsMeaning))
+    → P (run_with prepared works round_limit before (map well new) notes snapshot left) → before ≡ map well old → shown ≡ new → P (run_with prepared works round_limit (map well old) (map well shown) notes snapshot left)
+listens P prepared works round_limit before old new shown notes snapshot left run same is =
+    subst (λ (taken : List (Taken AnalyzerCall)). P (run_with prepared works round_limit taken (map well shown) notes snapshot left)) same
+    (subst (λ (cs : List AnalyzerCall). P (run_with prepared works round_limit before (map well cs) notes snapshot left)) (sym is) run)
 
 -- no callback failed
 pub stands : (snapshot : Snapshot) (heard : List (Taken AnalyzerCall)) (reduced : List (Taken ReducerCall)) (more : List AnalyzerCall) (after : List ReducerCall) (status : Status)

@@ -18,6 +18,7 @@ use Rattle.jb_repo.specs.declared.snapshot.Snapshot.{Snapshot}
 use Rattle.jb_saved.specs.SavedRows.{SavedRows}
 use Rattle.jb_cert.specs.declared.notes.PlanNote.{PlanNote}
 use Rattle.jb_step.specs.Answers.{IsRunOfStep, tasks_left}
+use Rattle.jb_step.specs.Headline.{Headline}
 use Rattle.jb_step.specs.Prepare.{DoFit}
 use Rattle.jb_step.specs.Setup.{IsSetup, Setup, discards, first_tasks, gone_on, row_now, rows_now, saved_faults}
 use Rattle.jb_step.specs.Statuses.{status_of}
@@ -97,34 +98,37 @@ few-rows prepared table rows setup are =
 pub step-run : LawsBelow → (step : StepRecord) (supply : StepData) (round_limit : Option ℕ) (resume : Option Resume) (count : ℕ) (prepared : Setup) (records : List (List ℕ)) (outputs : List (List (List ℕ))) (settings : StepSettings)
     (works : List ArtifactsMeaning) (snapshot : Snapshot) (left : List (ℕ × ArtifactsMeaning)) (id : List ℕ) (status : Status) (plans : List PlanNote) (heard silent listened : List AnalyzerCall) (reducer begun recorded : List ReducerCall)
     → AreGiven step resume count prepared records outputs → records ≡ supply.records → settings ≡ settings_of step supply → AreKept settings → works ≡ works_for settings records outputs prepared.rows
-    → silent ≡ [] → IsRunOfStep (run_with prepared works round_limit (map well silent) (map well listened) plans snapshot left) → AreOnTheWay (first_tasks prepared works) (tasks_left prepared snapshot left)
+    → silent ≡ [] → IsRunOfStep (run_with prepared works round_limit (map well silent) (map well listened) plans snapshot left)
+    → Headline (run_with prepared works round_limit (map well silent) (map well listened) plans snapshot left) → AreOnTheWay (first_tasks prepared works) (tasks_left prepared snapshot left)
     → status ≡ status_of snapshot.rows.items false → begun ≡ calls_before (discards step.spec.replace (saved_of resume)) → recorded ≡ begun ++ calls_after (run_end (status_of snapshot.rows.items false) false)
     → id ≡ step.id → heard ≡ calls_of (map well listened) → reducer ≡ calls_of (map well recorded)
     → IsStepRun step supply round_limit resume (record { id = id; status = status; partitions = partitions_left outputs snapshot.rows.items left; heard = heard; plans = plans; reducer = reducer })
-step-run below step supply round_limit resume count prepared records outputs settings works snapshot left id status plans heard silent listened reducer begun recorded given records-are settings-are kept are quiet run way stands begins calls id-is heard-is reducer-is =
+step-run below step supply round_limit resume count prepared records outputs settings works snapshot left id status plans heard silent listened reducer begun recorded given records-are settings-are kept are quiet run headline way stands begins calls id-is heard-is reducer-is =
     let s = setup_of step supply resume in
     let theirs = outputs_of (kept_of step resume) in
     let all : count ≡ length supply.records = given.counted ∙ ap length records-are in
     let prepares : IsPreparedWith step (length supply.records) (plan_of_step step supply) resume prepared = subst (λ n. IsPreparedWith step n (plan_for step.spec n) resume prepared) all given.prepares in
     let setup : prepared ≡ s = prepares.is in
     let works-are : works ≡ works_of step supply resume = are ∙ (λ i. works_for (settings-are i) (records-are i) (given.outputs_are i) (setup i).rows) in
-    let ran : IsRunOfStep (run_with s (works_of step supply resume) round_limit [] (map well listened) plans snapshot left) =
-    subst (λ (t : Setup). IsRunOfStep (run_with t (works_of step supply resume) round_limit [] (map well listened) plans snapshot left)) setup (subst (λ ws. IsRunOfStep (run_with prepared ws round_limit [] (map well listened) plans snapshot left)) works-are (subst (λ cs. IsRunOfStep (run_with prepared works round_limit (map well cs) (map well listened) plans snapshot left)) quiet run)) in
     let on : AreOnTheWay (first_tasks s (works_of step supply resume)) (tasks_left s snapshot left) =
     subst (λ (t : Setup). AreOnTheWay (first_tasks t (works_of step supply resume)) (tasks_left t snapshot left)) setup (subst (λ ws. AreOnTheWay (first_tasks prepared ws) (tasks_left prepared snapshot left)) works-are way) in
     let keeps : AreKept (settings_of step supply) = subst (λ (t : StepSettings). AreKept t) settings-are kept in
     let stand : AreOpening (length supply.records) theirs 0 s.rows = subst (λ (t : Setup). AreOpening (length supply.records) theirs 0 t.rows) setup (opening step (length supply.records) (plan_of_step step supply) resume prepared prepares) in
     let heard-all : heard ≡ listened = heard-is ∙ well-calls listened in
+    let same-run : run_with prepared works round_limit (map well silent) (map well listened) plans snapshot left ≡ run_with s (works_of step supply resume) round_limit [] (map well heard) plans snapshot left =
+    λ i. run_with (setup i) (works-are i) round_limit (map well (quiet i)) (map well (sym heard-all i)) plans snapshot left in
+    let led : Headline (run_with s (works_of step supply resume) round_limit [] (map well heard) plans snapshot left) = subst Headline same-run headline in
     let whole : partitions_left theirs snapshot.rows.items left ≡ partitions_left outputs snapshot.rows.items left = ap (λ (os : List (List (List ℕ))). partitions_left os snapshot.rows.items left) (sym given.outputs_are) in
     record {
       runnable = prepares.runnable;
       accepted = prepares.accepted;
       id = id-is;
-      partitions = rw (← whole) (partition-runs below step supply theirs s snapshot left keeps stand on (ran.rows ∙ ap (rows_now s.rows) (sym ran.tasks)));
+      partitions = rw (← whole) (partition-runs below step supply theirs s snapshot left keeps stand on led.rows);
       told = record {
         snapshot = snapshot;
         left = left;
-        run = subst (λ cs. IsRunOfStep (run_with s (works_of step supply resume) round_limit [] (map well cs) plans snapshot left)) (sym heard-all) ran;
+        run = subst IsRunOfStep same-run run;
+        headline = led;
         partitions = sym whole;
         status = stands;
         reducer =

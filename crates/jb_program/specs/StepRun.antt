@@ -13,7 +13,8 @@ use Rattle.jb_repo.specs.declared.snapshot.Snapshot.{Snapshot}
 use Rattle.jb_collect.specs.ReducerCalls.{reducer_calls, run_end}
 use Rattle.jb_collect.specs.Taken.{well}
 use Rattle.jb_saved.specs.SavedRows.{SavedRows}
-use Rattle.jb_step.specs.Answers.{IsRunOfStep}
+use Rattle.jb_step.specs.Answers.{IsRunOfStep, StepRun}
+use Rattle.jb_step.specs.Headline.{Headline}
 use Rattle.jb_step.specs.Setup.{Setup, opening_rows, saved_faults, unfinished}
 use Rattle.jb_step.specs.Statuses.{status_of}
 use Rattle.jb_documents.specs.ResumeFields.{held_at}
@@ -84,24 +85,28 @@ abbrev pub partitions_left : (outputs : List (List (List ℕ))) → List Row →
 partitions_left outputs rows left =
     map (λ n. record { row = n.1; outputs = outputs_in (committed_of outputs n) (find (λ one. one.0 == n.0) left) }) (enumerate_from 0 rows)
 
+-- the run of which the report tells, with what else it left
+abbrev pub run_told : Setup → List ArtifactsMeaning → (round_limit : Option ℕ) → StepReport → Snapshot → (left : List (ℕ × ArtifactsMeaning)) → StepRun
+run_told s works round_limit report snapshot left = record {
+  setup = s;
+  works = works;
+  round_limit = round_limit;
+  heard_before = [];
+  heard_after = map well report.heard;
+  notes = report.plans;
+  snapshot = snapshot;
+  left = left;
+}
+
 -- Some run of the step in no more rounds than the limit: the report has its partitions, its plans and its status, all that
 -- its analyzer heard, and all calls of its reducer, the rollback of an earlier run's results among them where these are
--- discarded. Each call of the two was answered well.
+-- discarded. Each call of the two was answered well. Of the run the headline holds: each plan in the report has exactly the
+-- chunks not yet committed then, in the fewest rounds of all lawful plans, with its certificate.
 pub record IsToldOf (discards : Bool) (s : Setup) (works : List ArtifactsMeaning) (outputs : List (List (List ℕ))) (round_limit : Option ℕ) (report : StepReport) : Type 0 where
   pub snapshot : Snapshot
   pub left : List (ℕ × ArtifactsMeaning)
-  pub run :
-      IsRunOfStep
-      (record {
-        setup = s;
-        works = works;
-        round_limit = round_limit;
-        heard_before = [];
-        heard_after = map well report.heard;
-        notes = report.plans;
-        snapshot = snapshot;
-        left = left;
-      })
+  pub run : IsRunOfStep (run_told s works round_limit report snapshot left)
+  pub headline : Headline (run_told s works round_limit report snapshot left)
   pub partitions : report.partitions ≡ partitions_left outputs snapshot.rows.items left
   pub status : report.status ≡ status_of snapshot.rows.items false
   pub reducer : report.reducer ≡ reducer_calls discards (run_end (status_of snapshot.rows.items false) false)

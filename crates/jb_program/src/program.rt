@@ -92,6 +92,10 @@ fn status_of<F: Write>(answer: Result<u8, Failure>, fault_writer: &mut F) -> u8
 /// where the document, a step's partition plan or its saved rows are refused, by its first fault; 4 where there is no memory or
 /// no worker, the repository isn't the step's own, or a stream fails; 5 where the words ask for nothing. What is wrong is written
 /// to the fault writer.
+///
+/// A report tells of runs of which the headline of `jb_step` holds (`IsToldOf.headline`): each plan in it had exactly the chunks not
+/// yet committed, in the fewest rounds of all lawful plans, with its certificate; and a step that isn't stopped has left each
+/// partition where it ends alone.
 pub fn perform<T: Threads + Wait + Sync, R: Read, W: Write, F: Write>(
     rt: &T,
     alloc: Global,

@@ -5,6 +5,7 @@ ghost use Rattle.jb_base.specs.Limits.{max_parts};
 ghost use Rattle.jb_collect.specs.ReducerCalls.{calls_after, run_end};
 ghost use Rattle.jb_collect.specs.Taken.{well};
 ghost use Rattle.jb_step.specs.Answers.{IsRunError, IsRunOfStep, given_back, tasks_left};
+ghost use Rattle.jb_step.specs.Headline.{Headline};
 ghost use Rattle.jb_step.specs.Prepare.{DoFit};
 ghost use Rattle.jb_step.specs.Setup.{first_tasks};
 ghost use Rattle.jb_step.specs.Statuses.{status_of};
@@ -60,6 +61,16 @@ pub fn run_rounds<T: Threads + Wait + Sync, L: Ledger + Send + Sync + 'static>(
     requires all { blank.parts ≡ max_parts }
     requires fit { DoFit prepared (map ⟦<OwnArtifacts as Meaning>⟧.meaning artifacts.items) }
     ensures ran { IfOk result (λ end. IsRunOfStep (record {
+      setup = prepared;
+      works = map ⟦<OwnArtifacts as Meaning>⟧.meaning artifacts.items;
+      round_limit = round_limit;
+      heard_before = map well analyzer.old;
+      heard_after = map well analyzer.new;
+      notes = end.plans.items;
+      snapshot = end.snapshot;
+      left = given_back ⟦<OwnArtifacts as Meaning>⟧.meaning end.artifacts.items;
+    })) }
+    ensures headline { IfOk result (λ end. Headline (record {
       setup = prepared;
       works = map ⟦<OwnArtifacts as Meaning>⟧.meaning artifacts.items;
       round_limit = round_limit;

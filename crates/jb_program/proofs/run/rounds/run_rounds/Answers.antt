@@ -3,6 +3,8 @@ use borrow.Pointer.Hide.{carried_sameᵐ}
 use Rattle.jb_collect.specs.declared.calls.AnalyzerCall.{AnalyzerCall}
 use Rattle.jb_collect.specs.declared.calls.ReducerCall.{ReducerCall}
 use Rattle.jb_collect.specs.Taken.{Taken}
+use Rattle.jb_step.specs.Answers.{IsRunOfStep}
+use Rattle.jb_step.specs.Headline.{Headline}
 use Rattle.jb_program.proofs.Callbacks.{same-calls}
 use Rattle.jb_program.proofs.Rounds.{listens, records, stands}
 use Rattle.jb_program.proofs.run.rounds.run_rounds.Goals as goal
@@ -10,7 +12,14 @@ use Rattle.jb_program.proofs.run.rounds.run_rounds.OwnLists as own
 
 pub returns-in-Ok-clause-ran : goal.returns-in-Ok-clause-ran
 returns-in-Ok-clause-ran g c =
-    listens c.args.prepared _ c.args.round_limit _ c.args.analyzer.now c.run_step.new.analyzer _ _ _ _ c.in-Ok.ensures.run
+    listens IsRunOfStep c.args.prepared _ c.args.round_limit _ c.args.analyzer.now c.run_step.new.analyzer _ _ _ _ c.in-Ok.ensures.run
+    (carried_sameᵐ _ _ own.entry-1-1 (own.own-1.entry own.at-1-1) own.same-1-1 (List (Taken AnalyzerCall)) (λ j y. j.1.analyzed y.now) _)
+    (c.analyzer-2-1.given.1 refl ∙ same-calls _ c.run_step.new.analyzer (sym (carried_sameᵐ _ _ own.entry-1-1 (own.own-1.entry own.at-1-1) own.same-1-1 (List (Taken AnalyzerCall)) (λ j y. j.1.analyzed y.now) c.analyzer-1.given.0)
+    ∙ ap (λ x. (own.own-1.entry x.now.0).1.analyzed x.now.1) c.analyzer-1.given.1))
+
+pub returns-in-Ok-clause-headline : goal.returns-in-Ok-clause-headline
+returns-in-Ok-clause-headline g c =
+    listens Headline c.args.prepared _ c.args.round_limit _ c.args.analyzer.now c.run_step.new.analyzer _ _ _ _ c.in-Ok.ensures.headline
     (carried_sameᵐ _ _ own.entry-1-1 (own.own-1.entry own.at-1-1) own.same-1-1 (List (Taken AnalyzerCall)) (λ j y. j.1.analyzed y.now) _)
     (c.analyzer-2-1.given.1 refl ∙ same-calls _ c.run_step.new.analyzer (sym (carried_sameᵐ _ _ own.entry-1-1 (own.own-1.entry own.at-1-1) own.same-1-1 (List (Taken AnalyzerCall)) (λ j y. j.1.analyzed y.now) c.analyzer-1.given.0)
     ∙ ap (λ x. (own.own-1.entry x.now.0).1.analyzed x.now.1) c.analyzer-1.given.1))

@@ -40,6 +40,6 @@ returns g c =
     (record { counted = counted; prepares = prepared-with _ _ c.args.resume _ _ c.taken-saved.ensures.saved prepared.runnable prepared.accepted prepared.prepared prepared.setup c.requires.held; outputs_are = search rules })
     taken c.settings_for-settings.ensures.settings
     (record { items = c.settings_for-settings.ensures.items; retried = c.settings_for-settings.ensures.retried })
-    c.in_ok-artifacts.ensures c.new-analyzer.ensures c.in_ok-end.ensures.ran c.in_ok-end.ensures.on_the_way c.in_ok-end.ensures.status begins c.in_ok-end.ensures.reducer
+    c.in_ok-artifacts.ensures c.new-analyzer.ensures c.in_ok-end.ensures.ran c.in_ok-end.ensures.headline c.in_ok-end.ensures.on_the_way c.in_ok-end.ensures.status begins c.in_ok-end.ensures.reducer
     c.id.ensures.value c.calls.ensures c.calls-2.ensures in
     record { ran = (_, run, refl, c.in_ok-write_step.ensures); why = tt }
