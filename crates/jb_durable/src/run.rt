@@ -1,0 +1,96 @@
+//! Stretch after stretch, each kept before the next begins.
+
+ghost use Rattle.std.specs.Prelude.{◌≡◌, ◌≤◌, List, IfOk, IsTrue, false};
+ghost use Rattle.jb_store.specs.Checkpoints.{Kept, ShowsList};
+ghost use Rattle.jb_store.specs.Connections.{IsJustOpened, Keeps};
+ghost use Rattle.jb_durable.specs.Files.{IsOfARun};
+ghost use Rattle.jb_durable.specs.Works.{IsSame, StandsAt};
+ghost use Rattle.sqlite.specs.Held.{state};
+ghost use Rattle.sqlite.specs.State.{HasCleanDisk};
+ghost use Rattle.sqlite_trees.specs.View.{doubt};
+
+use crate::work::Work;
+use jb_store::{StoreError, append, begin};
+use sqlite::{Alter, Connection};
+use std::alloc::Global;
+use std::sync::Wait;
+use std::thread::Threads;
+
+/// Why a run doesn't go on. Its checkpoints stay: the next one goes on from them.
+#[derive(Drop)]
+pub enum RunError<E: Drop> {
+    /// The file.
+    Store(StoreError),
+    /// The work.
+    Work(E),
+    /// There are 4,294,967,295 checkpoints.
+    TooMany,
+}
+
+/// One stretch more, kept in the database; false where the work was done.
+fn advance<R: Threads + Wait + Sync, W: Work, S: Alter>(
+    rt: &R,
+    alloc: Global,
+    conn: &mut Connection<S>,
+    work: &mut W,
+    count: &mut u32,
+) -> Result<bool, RunError<W::Error>>
+    ensures kept { HasCleanDisk (state S.Store conn.new) → (all : List Kept) → StandsAt (W.Work.is_so_far work.old) (W.Work.stands_at work.old) (state S.Store conn.old) count.old all
+        → IfOk result (λ more. (now : List Kept) × StandsAt (W.Work.is_so_far work.old) (W.Work.stands_at work.new) (state S.Store conn.new) count.new now
+            × (more ≡ false → W.Work.is_whole work.old now)) }
+    ensures so_far { IsSame (W.Work.is_so_far work.old) (W.Work.is_so_far work.new) }
+    ensures whole { IsSame (W.Work.is_whole work.old) (W.Work.is_whole work.new) }
+    ensures clean { doubt (state S.Store conn.old).is_clean ≤ doubt (state S.Store conn.new).is_clean }
+    ensures crash { HasCleanDisk (state S.Store conn.new) → (all : List Kept) → StandsAt (W.Work.is_so_far work.old) (W.Work.stands_at work.old) (state S.Store conn.old) count.old all
+        → (db : _) → (state S.Store conn.new).may_leave db → IsOfARun (W.Work.is_so_far work.old) db }
+{
+    let next = match work.go_on(rt, alloc) {
+        Ok(Some(next)) => next,
+        Ok(None) => return Ok(false),
+        Err(error) => return Err(RunError::Work(error)),
+    };
+    if *count == u32::MAX {
+        return Err(RunError::TooMany);
+    }
+    if let Err(error) = append(conn, *count + 1, next.saved.as_str(), &next.results) {
+        return Err(RunError::Store(error));
+    }
+    *count += 1;
+    Ok(true)
+}
+
+/// Takes the work up from the checkpoints of a database that was just opened, and goes on with it, for so many stretches at most;
+/// true where it is done. Whatever a crash leaves, at any moment, are the checkpoints of a run so far.
+pub fn run_durably<R: Threads + Wait + Sync, W: Work, S: Alter>(
+    rt: &R,
+    alloc: Global,
+    conn: &mut Connection<S>,
+    work: &mut W,
+    stretches: u32,
+) -> Result<bool, RunError<W::Error>>
+    ensures done { HasCleanDisk (state S.Store conn.new) → IsJustOpened (state S.Store conn.old) → (all : List Kept) → ShowsList (state S.Store conn.old).now all → W.Work.is_so_far work.old all
+        → IfOk result (λ is_done. (now : List Kept) × Keeps (state S.Store conn.new) now × W.Work.is_so_far work.old now × W.Work.stands_at work.new now
+            × (IsTrue is_done → W.Work.is_whole work.old now)) }
+    ensures so_far { IsSame (W.Work.is_so_far work.old) (W.Work.is_so_far work.new) }
+    ensures whole { IsSame (W.Work.is_whole work.old) (W.Work.is_whole work.new) }
+    ensures clean { doubt (state S.Store conn.old).is_clean ≤ doubt (state S.Store conn.new).is_clean }
+    ensures crash { HasCleanDisk (state S.Store conn.new) → IsJustOpened (state S.Store conn.old) → (all : List Kept) → ShowsList (state S.Store conn.old).now all → W.Work.is_so_far work.old all
+        → (db : _) → (state S.Store conn.new).may_leave db → IsOfARun (W.Work.is_so_far work.old) db }
+{
+    let done = match begin(alloc, conn) {
+        Ok(done) => done,
+        Err(error) => return Err(RunError::Store(error)),
+    };
+    let Ok(mut count) = u32::try_from(done.len()) else {
+        return Err(RunError::TooMany);
+    };
+    if let Err(error) = work.restart(alloc, &done) {
+        return Err(RunError::Work(error));
+    }
+    'stretches: for _ in 0..stretches {
+        if !advance(rt, alloc, conn, work, &mut count)? {
+            return Ok(true);
+        }
+    }
+    Ok(false)
+}
