@@ -1,9 +1,9 @@
 -- What a database that was just opened has.
-use Rattle.std.proofs.Common.{◌≡◌, ◌⊎◌, inl, inr, List, [], sym, subst, ◌∙◌, refl}
+use Rattle.std.proofs.Common.{◌≡◌, ◌⊎◌, inl, inr, List, [], sym, subst, ◌∙◌}
 use Rattle.sqlite.specs.State.{State}
 use Rattle.sqlite_trees.specs.Tree.{Trees}
 use Rattle.sqlite_catalog.specs.Listing.{IsSound}
-use Rattle.jb_store.specs.Form.{checkpoint_schema, no_schema}
+use Rattle.jb_store.specs.Form.{no_schema}
 use Rattle.jb_store.specs.Checkpoints.{Kept, Has, ShowsList, StandsFor}
 use Rattle.jb_store.specs.Connections.{IsJustOpened}
 use Rattle.jb_store.proofs.Opened.{apart}

@@ -2,13 +2,12 @@
 use Rattle.std.proofs.Common.{◌≡◌, ◌⊎◌, ◌≤◌, ◌<◌, ◌%◌, inl, inr, ℕ, List, [], length, take, slice_index, Option, Some, None, option_map, true, false, IsTrue, refl, sym, ap, subst, subst₂, ◌∙◌, arith, take_all, eqb}
 use Rattle.std.proofs.Math.Logic.{∥∥₁_map, ∥∥₁_elim}
 use Rattle.std.proofs.Math.Path.{fun_ext}
-use Rattle.std.proofs.lemmas.Bool.{cases_Bool, cases_eq, eq-eqb, ne_eqb, eqb-true}
+use Rattle.std.proofs.lemmas.Bool.{cases_Bool, cases_eq, eqb-true}
 use Rattle.sqlite_disk.specs.declared.Disk.{Ghosts}
-use Rattle.sqlite_wal.specs.PageSize.{IsPageSize, size_in_file}
-use Rattle.sqlite_wal.specs.Format.{be32}
+use Rattle.sqlite_wal.specs.PageSize.{IsPageSize}
 use Rattle.sqlite_wal.specs.Recovery as raw
 use Rattle.sqlite_wal.specs.Recovery.{Image, Pages, IsIgnored}
-use Rattle.sqlite_pool.specs.Stored.{stored_size, reserved, is_summed, is_among, sealed, resealed, trimmed, Recovers, Adopts, StandsAs}
+use Rattle.sqlite_pool.specs.Stored.{stored_size, reserved, is_summed, is_among, sealed, resealed, Recovers, Adopts, StandsAs}
 use Rattle.sqlite_pool.proofs.ResealLemmas.{adopts_of}
 use Rattle.sqlite_pool.proofs.ProbeLemmas.{size_by_log, size_by_file, reserved_word}
 use Rattle.sqlite_pool.proofs.StateLemmas.{size_is_allowed}

@@ -37,7 +37,7 @@ fn advance<R: Threads + Wait + Sync, W: Work, S: Alter>(
 ) -> Result<bool, RunError<W::Error>>
     ensures kept { HasCleanDisk (state S.Store conn.new) → (all : List Kept) → StandsAt (W.Work.is_so_far work.old) (W.Work.stands_at work.old) (state S.Store conn.old) count.old all
         → IfOk result (λ more. (now : List Kept) × StandsAt (W.Work.is_so_far work.old) (W.Work.stands_at work.new) (state S.Store conn.new) count.new now
-            × (more ≡ false → W.Work.is_whole work.old now)) }
+        × (more ≡ false → W.Work.is_whole work.old now)) }
     ensures so_far { IsSame (W.Work.is_so_far work.old) (W.Work.is_so_far work.new) }
     ensures whole { IsSame (W.Work.is_whole work.old) (W.Work.is_whole work.new) }
     ensures clean { doubt (state S.Store conn.old).is_clean ≤ doubt (state S.Store conn.new).is_clean }
@@ -70,7 +70,7 @@ pub fn run_durably<R: Threads + Wait + Sync, W: Work, S: Alter>(
 ) -> Result<bool, RunError<W::Error>>
     ensures done { HasCleanDisk (state S.Store conn.new) → IsJustOpened (state S.Store conn.old) → (all : List Kept) → ShowsList (state S.Store conn.old).now all → W.Work.is_so_far work.old all
         → IfOk result (λ is_done. (now : List Kept) × Keeps (state S.Store conn.new) now × W.Work.is_so_far work.old now × W.Work.stands_at work.new now
-            × (IsTrue is_done → W.Work.is_whole work.old now)) }
+        × (IsTrue is_done → W.Work.is_whole work.old now)) }
     ensures so_far { IsSame (W.Work.is_so_far work.old) (W.Work.is_so_far work.new) }
     ensures whole { IsSame (W.Work.is_whole work.old) (W.Work.is_whole work.new) }
     ensures clean { doubt (state S.Store conn.old).is_clean ≤ doubt (state S.Store conn.new).is_clean }

@@ -19,9 +19,9 @@ returns-in-Ok-clause-ran g c runs clean leaves image may =
     let early : HasCleanDisk (file_state conn) = omega (arith, late, c.run_durably.ensures.clean) in
     let opened = c.in-Ok.ensures.opened early in
     ∥∥₁_elim (opened_has so_far files conn (c.in-Ok.ensures.found early) (leaves (image_of g.D.Disk files) (stays files.log, stays files.db))) squash₁ (λ h.
-        let shows = shows_found (file_state conn) opened _ refl h.0 h.1 in
-        ∥∥₁_map (c.stop-files.ensures.left clean image may)
-        (λ e. let r : (db : Trees) × HoldsWhole image db × IsOfARun so_far db = (e.0, e.1, c.run_durably.ensures.crash late opened h.0 shows h.2 e.0 e.2) in r))
+    let shows = shows_found (file_state conn) opened _ refl h.0 h.1 in
+    ∥∥₁_map (c.stop-files.ensures.left clean image may)
+    (λ e. let r : (db : Trees) × HoldsWhole image db × IsOfARun so_far db = (e.0, e.1, c.run_durably.ensures.crash late opened h.0 shows h.2 e.0 e.2) in r))
 
 pub returns-in-Ok-clause-cut : goal.returns-in-Ok-clause-cut
 returns-in-Ok-clause-cut g c clean leaves image may = returns-in-Ok-clause-ran g c refl clean (λ i m. inl (inl (leaves i m))) image may
