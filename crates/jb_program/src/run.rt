@@ -6,12 +6,10 @@
 //! - `settings`: what the partitions of a step have in common.
 //! - `artifacts`: what each of them works with.
 //! - `fault_plans`, `held`: what a partition's artifacts are made from.
-//! - `callbacks`: what hears of the run, and keeps its calls.
 //! - `told`: the report of a step that was run.
 //! - `laws`: what the crates below say of partitions.
 
 mod artifacts;
-mod callbacks;
 mod fault_plans;
 mod held;
 mod job;

@@ -1,5 +1,5 @@
-//! Tests of the public calls of the libraries that work over threads, and of what they deliver: `jb_collect`, `jb_workers` and
-//! `jb_step`.
+//! Tests of the public calls of the libraries that work over threads, and of what they deliver: `jb_collect`, `jb_workers`,
+//! `jb_step` and `jb_records`.
 //!
 //! They stand apart from the libraries, so that each of those is proved once, and from the tests of the libraries below. A
 //! module has the tests of the library of its name.
@@ -7,6 +7,8 @@
 
 #[cfg(test)]
 mod collect;
+#[cfg(test)]
+mod records;
 #[cfg(test)]
 mod step;
 #[cfg(test)]

@@ -8,9 +8,9 @@ ghost use Rattle.jb_step.specs.Setup.{IsSetup, discards, gone_on, saved_faults};
 ghost use Rattle.jb_program.specs.JobRun.{plan_for};
 ghost use Rattle.jb_program.specs.StepRun.{IsNotBegun, setup_with};
 
-use crate::run::callbacks::FaultlessReducer;
 use crate::streams::Failure;
 use jb_base::Ranges;
+use jb_collect::FaultlessReducer;
 use jb_job::Step;
 use jb_mapper::{EvenMapper, FixedMapper, PartitionMapper};
 use jb_plan::PartitionPlan;

@@ -14,10 +14,10 @@ ghost use Rattle.jb_saved.specs.declared.error.StepError.TheVariants.{WrongArtif
 ghost use Rattle.jb_program.specs.Refusals.{IsBroken, IsFailureOf};
 
 use crate::run::artifacts::OwnArtifacts;
-use crate::run::callbacks::{FaultlessAnalyzer, FaultlessReducer};
 use crate::streams::Failure;
 use jb_artifacts::Meaning;
 use jb_chunk::Task;
+use jb_collect::{FaultlessAnalyzer, FaultlessReducer};
 use jb_step::{Prepared, StepEnd, StepError};
 use jb_workers::NoGate;
 use std::alloc::Global;

@@ -8,7 +8,6 @@ ghost use Rattle.jb_program.specs.Refusals.{IsBroken};
 ghost use Rattle.jb_program.specs.StepRun.{AreHeld};
 
 use crate::run::artifacts::all_artifacts;
-use crate::run::callbacks::{FaultlessAnalyzer, FaultlessReducer};
 use crate::run::held::taken;
 use crate::run::laws::laws_below;
 use crate::run::preparing::prepared_step;
@@ -17,7 +16,7 @@ use crate::run::settings::settings_for;
 use crate::run::told::write_step;
 use crate::streams::Failure;
 use jb_base::MAX_PARTS;
-use jb_collect::{Analyzer, Reducer, Status};
+use jb_collect::{Analyzer, FaultlessAnalyzer, FaultlessReducer, Reducer, Status};
 use jb_documents::{Resume, StepData};
 use jb_job::Step;
 use jb_texts::StepsText;

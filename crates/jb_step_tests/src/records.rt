@@ -1,0 +1,266 @@
+//! Steps over records, each made of one function: how they end, and who looks on.
+
+ghost use Rattle.std.specs.Prelude.{◌==◌, ◌∷◌, [], None, Some, if◌then◌else◌, length};
+
+use jb_artifacts::Item;
+use jb_base::{ClassId, Name, PackedList, Rules};
+use jb_collect::Status;
+use jb_records::{
+    RecordFunction, RecordsEnd, RecordsStep, RecordsStepError, Watcher, run_records,
+    run_records_watched,
+};
+use jb_workers::Desk;
+use std::alloc::{AllocError, Global};
+use std::process::Abort;
+use std::sync::atomic::{AtomicU64, Ordering};
+use std::sync::ledger::Ledger;
+use std::sync::{Arc, Wait};
+use std::test::*;
+use std::thread;
+use std::thread::Threads;
+use std::time::{Clock, Duration};
+
+/// How often a watcher looks, where there is one.
+const LOOKS: u64 = 3;
+
+/// A record of no byte can't be read, the first try at one of two bytes fails, and its result is the record itself. It is given
+/// once a watcher has looked so often.
+#[derive(Drop)]
+struct Letters<R> {
+    rt: R,
+    alloc: Global,
+    refused: ClassId,
+    late: ClassId,
+    looks: Arc<AtomicU64, Global>,
+    awaited: u64,
+}
+
+impl<R: Clock> Letters<R> {
+    /// Waits for the looks, 5,000 turns of a millisecond at most.
+    fn wait(&self) {
+        for _ in 0..5_000 {
+            if self.awaited <= self.looks.load(Ordering::SeqCst) {
+                return;
+            }
+            thread::sleep(&self.rt, Duration::from_millis(1));
+        }
+    }
+}
+
+impl<R: Clock + Send + Sync> RecordFunction for Letters<R> {
+    ghost function = { λ f. record {
+      refusal = λ item. if length item == 0 then Some f.refused else None;
+      answer = λ _ item. Some item;
+      tries = λ _ item. if length item == 2 then f.late ∷ [] else [];
+    } };
+
+    fn refusal_of(&self, item: &[u8]) -> Result<Option<ClassId>, AllocError> {
+        Ok(if item.is_empty() { Some(self.refused) } else { None })
+    }
+
+    fn answer_of(&self, _number: u64, item: &[u8]) -> Result<Option<Item>, AllocError> {
+        self.wait();
+        Ok(Some(Item::copy_of(self.alloc, item)?))
+    }
+
+    fn tries_of(
+        &self,
+        alloc: Global,
+        _number: u64,
+        item: &[u8],
+    ) -> Result<Vec<ClassId>, AllocError> {
+        if item.len() == 2 {
+            return Vec::from_slice(alloc, &[self.late]);
+        }
+        Ok(Vec::new(alloc))
+    }
+}
+
+/// Counts its looks at a desk with so many rows, and has seen enough after the last one.
+#[derive(Drop)]
+struct Looker {
+    looks: Arc<AtomicU64, Global>,
+    rows: usize,
+}
+
+impl Watcher for Looker {
+    fn pause(&self) -> Duration {
+        Duration::from_millis(1)
+    }
+
+    fn look<L: Ledger, R: Wait>(&self, rt: &R, desk: &Desk<L>) -> bool {
+        if let Ok(snapshot) = desk.status(rt) {
+            if snapshot.rows.len() == self.rows {
+                self.looks.fetch_add(1, Ordering::SeqCst);
+            }
+        }
+        self.looks.load(Ordering::SeqCst) < LOOKS
+    }
+}
+
+/// What comes of a step: its status, its results, each with a bar behind it, and how many records were skipped as refused.
+type Came = Result<(Status, &'static str, u64), RecordsStepError>;
+
+/// Four records, in chunks of so many on two threads, and what comes of them.
+#[derive(Clone, Copy)]
+struct Case {
+    records: [&'static str; 4],
+    item_count: u64,
+    rules: Rules,
+    rounds: Option<u64>,
+    came: Came,
+}
+
+/// Nothing is skipped or retried.
+const STRICT: Rules = Rules {
+    skippable: 0,
+    retryable: 0,
+    no_rollback: 0,
+    skip_limit: None,
+    retry_limit: 2,
+};
+
+const PLAIN: Case = Case {
+    records: ["a", "b", "c", "d"],
+    item_count: 1,
+    rules: STRICT,
+    rounds: None,
+    came: Ok((Status::Completed, "a|b|c|d|", 0)),
+};
+
+/// A record that can't be read, and a try that fails, each under several rules.
+const CASES: [Case; 8] = [
+    PLAIN,
+    Case {
+        rounds: Some(1),
+        came: Ok((Status::Stopped, "a|c|", 0)),
+        ..PLAIN
+    },
+    Case {
+        records: ["a", "", "c", "d"],
+        came: Ok((Status::Failed, "a|c|d|", 0)),
+        ..PLAIN
+    },
+    Case {
+        records: ["", "", "c", "d"],
+        rules: Rules {
+            skippable: 1,
+            ..STRICT
+        },
+        came: Ok((Status::Completed, "c|d|", 2)),
+        ..PLAIN
+    },
+    Case {
+        records: ["", "", "c", "d"],
+        item_count: 2,
+        rules: Rules {
+            skippable: 1,
+            skip_limit: Some(1),
+            ..STRICT
+        },
+        came: Ok((Status::Failed, "c|d|", 0)),
+        ..PLAIN
+    },
+    Case {
+        records: ["aa", "b", "c", "d"],
+        came: Ok((Status::Failed, "c|d|", 0)),
+        ..PLAIN
+    },
+    Case {
+        records: ["aa", "b", "c", "d"],
+        rules: Rules {
+            retryable: 2,
+            ..STRICT
+        },
+        came: Ok((Status::Completed, "aa|b|c|d|", 0)),
+        ..PLAIN
+    },
+    Case {
+        records: ["aa", "b", "c", "d"],
+        rules: Rules {
+            skippable: 2,
+            ..STRICT
+        },
+        came: Err(RecordsStepError::SkippedTry),
+        ..PLAIN
+    },
+];
+
+/// Whether the step came to this.
+fn is_so(
+    alloc: Global,
+    end: Result<RecordsEnd, RecordsStepError>,
+    came: Came,
+) -> Result<bool, AllocError> {
+    match (end, came) {
+        (Ok(end), Ok((status, results, skipped))) => {
+            let all = end.all_results(alloc)?;
+            let mut text = Vec::new(alloc);
+            for index in 0..all.len() {
+                text.extend_from_slice(all.at(index))?;
+                text.push(b'|')?;
+            }
+            let is_told = end.status == status && end.snapshot.totals.read_skip == skipped;
+            Ok(is_told && text.as_slice() == results.as_bytes())
+        }
+        (Err(error), Err(wanted)) => Ok(error == wanted),
+        _ => Ok(false),
+    }
+}
+
+/// Runs the case by itself, and with who looks on: whether both come to the same, and how often it was looked.
+fn ran<R: Threads + Wait + Clock + Copy + Send + Sync + 'static>(
+    rt: &R,
+    alloc: Global,
+    case: &Case,
+) -> Result<(bool, u64), Fail> {
+    let step = RecordsStep {
+        id: Name::new(String::from_str(alloc, "letters")?),
+        partitions: 2,
+        threads: 2,
+        item_count: case.item_count,
+        rules: case.rules,
+    };
+    let mut records = PackedList::new(alloc);
+    for text in &case.records {
+        records.push(text.as_bytes())?;
+    }
+    let looks = Arc::new(alloc, AtomicU64::new(0))?;
+    let alone = Letters {
+        rt: *rt,
+        alloc,
+        refused: ClassId::new(0),
+        late: ClassId::new(1),
+        looks: Arc::try_clone(&looks)?,
+        awaited: 0,
+    };
+    let seen = Letters {
+        rt: *rt,
+        alloc,
+        refused: ClassId::new(0),
+        late: ClassId::new(1),
+        looks: Arc::try_clone(&looks)?,
+        awaited: LOOKS,
+    };
+    let looker = Looker {
+        looks: Arc::try_clone(&looks)?,
+        rows: 2,
+    };
+    let end = run_records(rt, alloc, &step, alone, &records, None, case.rounds);
+    let is_alone = is_so(alloc, end, case.came)?;
+    let end = run_records_watched(rt, alloc, &step, seen, &records, None, case.rounds, looker);
+    let is_seen = is_so(alloc, end, case.came)?;
+    Ok((is_alone && is_seen, looks.load(Ordering::SeqCst)))
+}
+
+/// A step is looked at as often as its watcher asks for, and that changes nothing; where it isn't begun there is nothing to see.
+#[test]
+fn steps_over_records(rt: HostRuntime) -> Result<(), Fail> {
+    for case in &CASES {
+        let (is_so, looks) = ran(&rt, rt.alloc(), case)?;
+        let wanted = if case.came.is_ok() { LOOKS } else { 0 };
+        assert!(rt; is_so);
+        assert_eq!(rt; looks, wanted);
+    }
+    Ok(())
+}
