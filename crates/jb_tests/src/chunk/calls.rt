@@ -290,20 +290,6 @@ fn noted_in(alloc: Global, artifacts: &Counting) -> Result<String, AllocError> {
     )
 }
 
-/// Attempts what was told with these artifacts, and gives them back with the row.
-fn attempted<A: PartitionArtifacts + Send>(
-    alloc: Global,
-    told: &Told<'_>,
-    calls: &AllCalls,
-    artifacts: A,
-    course: &mut Course,
-) -> Result<(Row, A), Fail> {
-    let task = begun(told.records(), told.item_count, artifacts).ok_or("a task")?;
-    let task = attempts(alloc, task, calls, course)?;
-    let row = *task.row();
-    Ok((row, task.into_artifacts()))
-}
-
 fn came_of(alloc: Global, row: Row, course: Course, artifacts: Counting) -> Result<Ran, Fail> {
     let outputs = outputs_of(alloc, &artifacts.writer)?;
     Ok(Ran {
@@ -319,8 +305,10 @@ fn owned(alloc: Global, told: &Told<'_>) -> Result<Ran, Fail> {
     let calls = AllCalls::new(alloc)?;
     let mut course = Course::new(alloc);
     let artifacts = counting(alloc, told, &calls)?;
-    let (row, artifacts) = attempted(alloc, told, &calls, artifacts, &mut course)?;
-    came_of(alloc, row, course, artifacts)
+    let task = begun(told.records(), told.item_count, artifacts).ok_or("a task")?;
+    let task = attempts(alloc, task, &calls, &mut course)?;
+    let row = *task.row();
+    came_of(alloc, row, course, task.into_artifacts())
 }
 
 /// And with the same artifacts where they lend and pack it: a record is lent for each call that processes it.
@@ -328,8 +316,10 @@ fn lent(alloc: Global, told: &Told<'_>) -> Result<Ran, Fail> {
     let calls = AllCalls::new(alloc)?;
     let mut course = Course::new(alloc);
     let artifacts = packed(counting(alloc, told, &calls)?);
-    let (row, artifacts) = attempted(alloc, told, &calls, artifacts, &mut course)?;
-    let artifacts = unpacked(artifacts);
+    let task = begun(told.records(), told.item_count, artifacts).ok_or("a task")?;
+    let task = attempts(alloc, task, &calls, &mut course)?;
+    let row = *task.row();
+    let artifacts = unpacked(task.into_artifacts());
     if calls.lends.taken() != artifacts.processor.noted.len() as u64 {
         return Err(Fail::from("a record lent for each call that processes it"));
     }
@@ -455,10 +445,18 @@ fn faults<'a>(reads: &'a [Fault], processes: &'a [Fault], writes: &'a [Fault]) -
 
 /// What comes of a partition: a line for each attempt, the calls of reader, processor and writer, and the row's numbers.
 fn story_of(alloc: Global, told: &Told<'_>) -> Result<String, Fail> {
-    let ran = run(alloc, told)?;
-    let mut story = ran.course.lines;
-    story.push_str(noted_in(alloc, &ran.artifacts)?.as_str())?;
-    story.push_str(format!(in alloc; "{:?}\n", ran.row.numbers())?.as_str())?;
+    let Ran {
+        row,
+        course,
+        outputs: _outputs,
+        artifacts,
+    } = run(alloc, told)?;
+    let Course {
+        lines: mut story,
+        answers: _answers,
+    } = course;
+    story.push_str(noted_in(alloc, &artifacts)?.as_str())?;
+    story.push_str(format!(in alloc; "{:?}\n", row.numbers())?.as_str())?;
     Ok(story)
 }
 
