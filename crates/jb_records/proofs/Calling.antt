@@ -65,11 +65,11 @@ pub can-begin : (step : RecordsStep) (records : ℕ) (saved : Option SavedRows) 
 can-begin step records saved earlier s shares begun =
     let its = begun.prepared in record {
       within = λ p row at.
-      let there : slice_get (opening_rows its.plan.ranges (gone_on its.plan.replace saved)) p ≡ Some row = subst (λ (rs : List Row). slice_get rs p ≡ Some row) its.rows at in
-      let placed = (begun.setup.openable.idle p row at).0.placed in
-      let from = placed.at_from in
-      let to = placed.at_to in
-      (omega (arith, from, to), opening-below (step_record step) records its.plan.ranges its.plan.replace saved its.runnable.within its.accepted p row there);
+          let there : slice_get (opening_rows its.plan.ranges (gone_on its.plan.replace saved)) p ≡ Some row = subst (λ (rs : List Row). slice_get rs p ≡ Some row) its.rows at in
+          let placed = (begun.setup.openable.idle p row at).0.placed in
+          let from = placed.at_from in
+          let to = placed.at_to in
+          (omega (arith, from, to), opening-below (step_record step) records its.plan.ranges its.plan.replace saved its.runnable.within its.accepted p row there);
       numbered = begun.numbered;
     }
 

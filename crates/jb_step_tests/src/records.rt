@@ -55,7 +55,11 @@ impl<R: Clock + Send + Sync> RecordFunction for Letters<R> {
     } };
 
     fn refusal_of(&self, item: &[u8]) -> Result<Option<ClassId>, AllocError> {
-        Ok(if item.is_empty() { Some(self.refused) } else { None })
+        Ok(if item.is_empty() {
+            Some(self.refused)
+        } else {
+            None
+        })
     }
 
     fn answer_of(&self, _number: u64, item: &[u8]) -> Result<Option<Item>, AllocError> {
