@@ -4,7 +4,6 @@ use Rattle.std.proofs.lemmas.List.{get_or-drop, get_or-take, length-append, leng
 use Rattle.std.proofs.lemmas.List.Sums.{sum_by-append, sum_by-cons, sum_by-take-le}
 use Rattle.std.proofs.lemmas.Option.{get_or_from_slice_get, slice_get_within}
 use Rattle.std.specs.Prelude.{Err, IfErr, IsErrAnd, slice_get, slice_index_or}
-use Rattle.std.specs.List.{sum_by}
 use Rattle.jb_base.specs.declared.class.ClassId.{ClassId}
 use Rattle.jb_base.specs.declared.range.Range.{Range}
 use Rattle.jb_base.specs.Rules.{RulesRecord}
@@ -20,14 +19,14 @@ use Rattle.jb_rules.specs.Rows.{dropped_row, fresh_row}
 use Rattle.jb_rules.specs.States.{is_failed}
 use Rattle.jb_saved.specs.declared.error.StepError.{StepError}
 use Rattle.jb_saved.specs.declared.error.StepError.TheVariants as error
-use Rattle.jb_saved.specs.GoingOn.{restarted, rows_restarted}
+use Rattle.jb_saved.specs.GoingOn.{restarted}
 use Rattle.jb_saved.specs.Reading.{answer_of, cause_of}
 use Rattle.jb_saved.specs.SavedRows.{SavedRows}
 use Rattle.jb_step.specs.Answers.{IsRunError}
 use Rattle.jb_step.specs.Callbacks.{has_fault, since}
 use Rattle.jb_step.specs.Prepare.{CanDiscard, IsFaultedRollback, IsPreparation, IsRefusal}
 use Rattle.jb_step.specs.Setup.{Setup, fresh_rows, gone_on, opening_rows, saved_faults}
-use Rattle.jb_records.specs.Causes.{AreOtherResults, HasSkippedTry, IsCauseOf, written_in}
+use Rattle.jb_records.specs.Causes.{HasSkippedTry, IsCauseOf, written_in}
 use Rattle.jb_records.specs.declared.error.RecordsStepError.{RecordsStepError}
 use Rattle.jb_records.specs.declared.error.RecordsStepError.TheVariants.{Memory, Records, Results, SkippedTry, Step}
 use Rattle.jb_records.specs.declared.step.RecordsStep.{RecordsStep}
