@@ -3,7 +3,7 @@
 ghost use Rattle.std.specs.Prelude.{◌==◌, ◌∷◌, [], None, Some, if◌then◌else◌, length};
 
 use jb_artifacts::Item;
-use jb_base::{ClassId, Name, PackedList, Rules};
+use jb_base::{ClassId, MAX_ITEM_COUNT, Name, PackedList, Rules};
 use jb_collect::Status;
 use jb_records::{
     RecordFunction, RecordsEnd, RecordsStep, RecordsStepError, Watcher, run_records,
@@ -212,19 +212,27 @@ fn is_so(
     }
 }
 
+fn step_of(alloc: Global, case: &Case) -> Result<RecordsStep, Fail> {
+    let item_count = case.item_count;
+    if item_count == 0 || MAX_ITEM_COUNT < item_count {
+        return Err(Fail::from("an item count"));
+    }
+    Ok(RecordsStep {
+        id: Name::new(String::from_str(alloc, "letters")?),
+        partitions: 2,
+        threads: 2,
+        item_count,
+        rules: case.rules,
+    })
+}
+
 /// Runs the case by itself, and with who looks on: whether both come to the same, and how often it was looked.
 fn ran<R: Threads + Wait + Clock + Copy + Send + Sync + 'static>(
     rt: &R,
     alloc: Global,
     case: &Case,
 ) -> Result<(bool, u64), Fail> {
-    let step = RecordsStep {
-        id: Name::new(String::from_str(alloc, "letters")?),
-        partitions: 2,
-        threads: 2,
-        item_count: case.item_count,
-        rules: case.rules,
-    };
+    let step = step_of(alloc, case)?;
     let mut records = PackedList::new(alloc);
     for text in &case.records {
         records.push(text.as_bytes())?;
