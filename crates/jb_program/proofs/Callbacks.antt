@@ -17,9 +17,6 @@ pub well-calls : {C : Type 0} (calls : List C) → calls_of (map well calls) ≡
 well-calls [] = refl
 well-calls (call ∷ calls) = ap (λ cs. call ∷ cs) (well-calls calls)
 
-pub same-calls : {C : Type 0} (one other : List C) → ◌≡◌ {A = List (Taken C)} (map well one) (map well other) → one ≡ other
-same-calls one other e = sym (well-calls one) ∙ ap calls_of e ∙ well-calls other
-
 -- none of them was answered with a fault
 pub well-faults : {C : Type 0} (n : ℕ) (calls : List C) → has_fault (drop n (map well calls)) ≡ false
 well-faults n [] = ap has_fault (drop-nil n)

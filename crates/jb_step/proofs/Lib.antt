@@ -17,6 +17,7 @@ mod Numbers
 mod Overriding
 mod Placing
 mod Planning
+mod Pooling
 mod CallsInPart
 mod Restarting
 mod Splitting

@@ -22,7 +22,7 @@ use jb_chunk::PartitionTask;
 use jb_collect::Analyzer;
 use jb_repo::Snapshot;
 use jb_rules::Row;
-use jb_workers::Gate;
+use jb_workers::{Gate, Pool};
 use std::alloc::Global;
 use std::sync::Wait;
 use std::sync::ledger::Ledger;
@@ -79,6 +79,7 @@ pub(crate) fn run_to_end<
     R: Threads + Wait + Sync,
 >(
     runner: &RoundRunner<L, G, R>,
+    pool: &mut Pool<T, L>,
     alloc: Global,
     prepared: &Prepared,
     tasks: Vec<Option<T>>,
@@ -92,7 +93,7 @@ pub(crate) fn run_to_end<
     ensures grew { Grew (analyzed analyzer.old) (analyzed analyzer.new) }
 {
     laws_below();
-    let mut ran = run_rounds(runner, alloc, prepared, tasks, analyzer, round_limit)?;
+    let mut ran = run_rounds(runner, pool, alloc, prepared, tasks, analyzer, round_limit)?;
     ran.fault = tell_last(ran.held.as_slice(), ran.fault, analyzer)?;
     Ok(ran)
 }

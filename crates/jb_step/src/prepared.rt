@@ -159,6 +159,13 @@ impl Prepared {
         self.item_count
     }
 
+    /// How many workers of a pool its rounds can keep at work beside the caller's thread: one fewer than it has threads, or
+    /// unfinished partitions where these are fewer.
+    pub fn workers(&self) -> usize {
+        let threads = self.threads() as usize;
+        self.needs().len().min(threads).saturating_sub(1)
+    }
+
     /// The number of threads, 1 to 64.
     pub(crate) fn threads(&self) -> u32
         ensures { result ≡ self.now.threads }

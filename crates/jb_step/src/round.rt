@@ -24,7 +24,7 @@ use jb_cert::{Slot, lanes_are_found};
 use jb_chunk::{Done, Outcome, PartitionTask};
 use jb_collect::Analyzer;
 use jb_rounds::RoundCursor;
-use jb_workers::{Gate, Work};
+use jb_workers::{Gate, Pool, Work};
 use std::alloc::Global;
 use std::sync::Wait;
 use std::sync::ledger::Ledger;
@@ -159,6 +159,7 @@ pub(crate) fn one_round<
     R: Threads + Wait + Sync,
 >(
     runner: &RoundRunner<L, G, R>,
+    pool: &mut Pool<T, L>,
     alloc: Global,
     ran: &mut Ran<T>,
     slots: &[Slot],
@@ -179,7 +180,7 @@ pub(crate) fn one_round<
     ensures grew { Grew (analyzed analyzer.old) (analyzed analyzer.new) }
 {
     let works = chosen(alloc, &mut ran.held, slots)?;
-    let dones = runner.run_round(alloc, works)?;
+    let dones = runner.run_round(alloc, pool, works)?;
     ran.fault = tell_round(dones.as_slice(), ran.fault, analyzer)?;
     ran.rounds = sum(ran.rounds, 1)?;
     ran.attempts = sum(ran.attempts, dones.as_slice().len() as u64)?;

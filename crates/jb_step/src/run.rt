@@ -18,7 +18,7 @@ use crate::tell::tell_first;
 use jb_cert::PlanNote;
 use jb_chunk::PartitionTask;
 use jb_collect::Analyzer;
-use jb_workers::Gate;
+use jb_workers::{Gate, Pool};
 use std::alloc::Global;
 use std::sync::Wait;
 use std::sync::ledger::Ledger;
@@ -99,6 +99,7 @@ pub(crate) fn run_rounds<
     R: Threads + Wait + Sync,
 >(
     runner: &RoundRunner<L, G, R>,
+    pool: &mut Pool<T, L>,
     alloc: Global,
     prepared: &Prepared,
     tasks: Vec<Option<T>>,
@@ -131,7 +132,7 @@ pub(crate) fn run_rounds<
         }
         let next = next_plan(runner, alloc, prepared, ran.held.as_slice(), plan)?;
         let slots = slots_of(alloc, &next.cursor, next.ran)?;
-        let broke = one_round(runner, alloc, &mut ran, slots.as_slice(), analyzer)?;
+        let broke = one_round(runner, pool, alloc, &mut ran, slots.as_slice(), analyzer)?;
         plan = closed(next, broke, &mut ran.notes)?;
     }
     unreachable!()

@@ -9,7 +9,7 @@ use crate::error::RunError;
 use jb_cert::Certificate;
 use jb_chunk::{Done, Outcome, PartitionTask};
 use jb_repo::{Event, Refused, Snapshot};
-use jb_workers::{Desk, Gate, Work};
+use jb_workers::{Desk, Gate, Pool, Work};
 use std::alloc::{AllocError, Global};
 use std::sync::Wait;
 use std::sync::ledger::Ledger;
@@ -39,11 +39,12 @@ impl<'a, L: Ledger + Send + Sync + 'static, G: Gate + Sync, R: Threads + Wait + 
         self.desk.apply(self.rt, Event::Stop)
     }
 
-    /// Attempts the works' next chunks, each once and with memory, and closes the round. The attempts come in the order of the
-    /// works.
+    /// Attempts the works' next chunks, each once and with memory, and closes the round: by the pool, where it has a worker for
+    /// each work but one, else over threads of the round's own. The attempts come in the order of the works.
     pub(crate) fn run_round<T: PartitionTask + Send + 'static>(
         &self,
         alloc: Global,
+        pool: &mut Pool<T, L>,
         works: Vec<Work<T>>,
     ) -> Result<Vec<Done<T>>, RunError>
         requires can { AllCanBegin T.standing works.items }
@@ -51,7 +52,12 @@ impl<'a, L: Ledger + Send + Sync + 'static, G: Gate + Sync, R: Threads + Wait + 
         ensures dones { IfOk result (λ dones. AreDones T.standing works.items dones.items) }
         ensures whole { IfOk result (λ dones. AreWhole dones.items) }
     {
-        let dones = self.desk.run_round(self.rt, alloc, self.gate, works)?;
+        let dones = if works.len() > pool.workers().saturating_add(1) {
+            self.desk.run_round(self.rt, alloc, self.gate, works)?
+        } else {
+            self.desk
+                .run_round_by(self.rt, alloc, self.gate, pool, works)?
+        };
         if !are_whole(dones.as_slice()) {
             return Err(RunError::Memory);
         }

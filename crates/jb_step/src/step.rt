@@ -26,7 +26,7 @@ use jb_chunk::PartitionTask;
 use jb_collect::{Analyzer, Reducer, Status};
 use jb_repo::Snapshot;
 use jb_saved::StepError;
-use jb_workers::{Desk, Gate};
+use jb_workers::{Desk, Gate, Pool};
 use std::alloc::Global;
 use std::sync::Wait;
 use std::sync::ledger::Ledger;
@@ -109,6 +109,7 @@ fn run_tasks<
     R: Threads + Wait + Sync,
 >(
     runner: &RoundRunner<L, G, R>,
+    pool: &mut Pool<T, L>,
     alloc: Global,
     prepared: &Prepared,
     artifacts: Vec<T::Artifacts>,
@@ -144,7 +145,7 @@ fn run_tasks<
     laws_below();
     is_new::<T, L, G, R>(runner, alloc, prepared)?;
     let tasks = start_all::<T>(alloc, prepared, artifacts)?;
-    let ran = run_to_end(runner, alloc, prepared, tasks, analyzer, round_limit)?;
+    let ran = run_to_end(runner, pool, alloc, prepared, tasks, analyzer, round_limit)?;
     let snapshot = rows_shown(runner, prepared, ran.held.as_slice())?;
     if !are_numbers(&snapshot, &ran) {
         return Err(RunError::Desk);
@@ -224,6 +225,87 @@ pub fn run_step<
     ensures analyzer_grew { Grew (analyzed analyzer.old) (analyzed analyzer.new) }
     ensures reducer_grew { Grew (reduced reducer.old) (reduced reducer.new) }
 {
+    let mut empty = Pool::empty(alloc);
+    let end = run_step_by::<T, L, G, R>(
+        &mut empty,
+        rt,
+        alloc,
+        desk,
+        prepared,
+        artifacts,
+        analyzer,
+        reducer,
+        round_limit,
+        gate,
+    );
+    empty.end(desk, rt);
+    end
+}
+
+/// As `run_step`, but the pool's workers do the chunks of a round, where it has one for each chunk but one; a round of more chunks
+/// starts threads of its own. The pool was started over the same desk, by `jb_workers::start_pool` in a scope of threads of the
+/// caller's, who ends it there: `run_pooled_step` is such a caller.
+///
+/// # Errors
+/// Those of `run_step`.
+pub fn run_step_by<
+    T: PartitionTask + Send + 'static,
+    L: Ledger + Send + Sync + 'static,
+    G: Gate + Sync,
+    R: Threads + Wait + Sync,
+>(
+    pool: &mut Pool<T, L>,
+    rt: &R,
+    alloc: Global,
+    desk: &Desk<L>,
+    prepared: Prepared,
+    artifacts: Vec<T::Artifacts>,
+    analyzer: &mut dyn Analyzer,
+    reducer: &mut dyn Reducer,
+    round_limit: Option<u64>,
+    gate: &G,
+) -> Result<StepEnd<T::Artifacts>, StepError>
+    ensures run { IfOk result (λ end. IsRunOfStep (record {
+      setup = prepared;
+      works = map T.Artifacts.meaning artifacts.items;
+      round_limit = round_limit;
+      heard_before = analyzed analyzer.old;
+      heard_after = analyzed analyzer.new;
+      notes = end.plans.items;
+      snapshot = end.snapshot;
+      left = given_back T.Artifacts.meaning end.artifacts.items;
+    })) }
+
+    // The headline: each plan has exactly the chunks not yet committed, each partition's in order, in the fewest rounds of all lawful
+    // plans, with a certificate of it; and unstopped the step has what its partitions have that run alone.
+    ensures headline { IfOk result (λ end. Headline (record {
+      setup = prepared;
+      works = map T.Artifacts.meaning artifacts.items;
+      round_limit = round_limit;
+      heard_before = analyzed analyzer.old;
+      heard_after = analyzed analyzer.new;
+      notes = end.plans.items;
+      snapshot = end.snapshot;
+      left = given_back T.Artifacts.meaning end.artifacts.items;
+    })) }
+
+    // Stopped, each partition stands on the way to where its attempts alone end.
+    ensures on_the_way { IfOk result (λ end.
+        AreOnTheWay (first_tasks prepared (map T.Artifacts.meaning artifacts.items)) (tasks_left prepared end.snapshot (given_back T.Artifacts.meaning end.artifacts.items))) }
+
+    // How the step stands, and what the reducer was called with.
+    ensures status { IfOk result (λ end. IsStatus end.snapshot (since (analyzed analyzer.old) (analyzed analyzer.new)) (since (reduced reducer.old) (reduced reducer.new)) end.status) }
+    ensures reducer { IfOk result (λ end. AreCallsAfter end.snapshot (since (analyzed analyzer.old) (analyzed analyzer.new)) (since (reduced reducer.old) (reduced reducer.new))) }
+    ensures undone { IfErr result (λ e. AreCallsUndone e (since (reduced reducer.old) (reduced reducer.new))) }
+    ensures fit { OnOk result (DoFit prepared (map T.Artifacts.meaning artifacts.items)) }
+    ensures wrong { IfErr result (λ e. e ≡ WrongArtifacts → DoFit prepared (map T.Artifacts.meaning artifacts.items) → ⊥) }
+    ensures fit_first { IfErr result (λ e. (DoFit prepared (map T.Artifacts.meaning artifacts.items) → ⊥) → (e ≡ WrongArtifacts) ⊎ (e ≡ Memory)) }
+    ensures causes { IfErr result IsRunError }
+
+    // The calls that were taken before stay.
+    ensures analyzer_grew { Grew (analyzed analyzer.old) (analyzed analyzer.new) }
+    ensures reducer_grew { Grew (reduced reducer.old) (reduced reducer.new) }
+{
     if !prepared.fits::<T>(artifacts.as_slice()) {
         return Err(undone(StepError::WrongArtifacts, reducer));
     }
@@ -231,6 +313,7 @@ pub fn run_step<
     let rows = prepared.rows().len() as u32;
     let mut end = match run_tasks::<T, L, G, R>(
         &runner,
+        pool,
         alloc,
         &prepared,
         artifacts,

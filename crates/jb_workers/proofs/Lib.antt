@@ -2,4 +2,5 @@ pub mod Entering
 pub mod Rounds
 pub mod Rising
 pub mod Gathering
+pub mod Mailing
 pub mod Reporting

@@ -5,20 +5,23 @@
 //! - `gate`: where a worker comes by before and after its attempt.
 //! - `worker`: what one worker of a round does; `worker::lane_work` is what it is given, and `worker::entry` the event by which
 //!   an attempt enters the history.
+//! - `pool`: workers that are kept between rounds.
 //! - `round`: a round of works, each done in a thread of its own but one; `round::order` puts the works in order,
-//!   `round::threads` does them, and `round::report` gathers what came of them.
+//!   `round::threads` does them by a pool, `round::scoped` makes one for the round, and `round::report` gathers what came of them.
 //! - `laws`: what an attempt's event makes of a row.
 #![tactic(auto)]
 
 mod desk;
 mod gate;
 mod laws;
+mod pool;
 mod round;
 mod worker;
 
 pub use desk::Desk;
 pub use gate::{Gate, NoGate};
 pub use laws::attempts_enter;
+pub use pool::{Pool, start_pool};
 pub use round::RoundError;
 pub use worker::lane_work::Work;
 pub use worker::work;

@@ -9,13 +9,16 @@ ghost use Rattle.jb_workers.specs.Round.{AreDones, AreRoundOf, IsRoundError};
 mod error;
 mod order;
 mod report;
+mod scoped;
 mod threads;
 
 use crate::desk::Desk;
 use crate::gate::Gate;
+use crate::pool::Pool;
 pub use crate::round::error::RoundError;
 use crate::round::order::in_order;
 use crate::round::report::all_done;
+use crate::round::scoped::in_scope;
 use crate::round::threads::do_works;
 use crate::worker::lane_work::Work;
 use jb_chunk::{Done, PartitionTask};
@@ -40,11 +43,41 @@ impl<L: Ledger + Send + Sync + 'static> Desk<L> {
         ensures closed { OnOk result (IsAccepted Round) }
         ensures error { IfErr result (λ error. IsRoundError T.standing works.items error) }
     {
+        if works.len() > 1 {
+            return in_scope(self, rt, alloc, gate, works);
+        }
+        let mut empty = Pool::empty(alloc);
+        let dones = self.run_round_by(rt, alloc, gate, &mut empty, works);
+        empty.end(self, rt);
+        dones
+    }
+}
+
+impl<L: Ledger> Desk<L> {
+    /// As `run_round`, but the pool's workers do the works, one each, but one that the caller's thread does. A round of more works than
+    /// that is refused with `WorkerNotStarted`, and none of them is begun.
+    pub fn run_round_by<T: PartitionTask, G: Gate, R: Wait>(
+        &self,
+        rt: &R,
+        alloc: Global,
+        gate: &G,
+        pool: &mut Pool<T, L>,
+        works: Vec<Work<T>>,
+    ) -> Result<Vec<Done<T>>, RoundError>
+        requires { AllCanBegin T.standing works.items }
+        ensures round { IfOk result (λ dones. AreRoundOf T.standing works.items dones.items) }
+        ensures in_order { Rise T.standing works.items → IfOk result (λ dones. AreDones T.standing works.items dones.items) }
+        ensures closed { OnOk result (IsAccepted Round) }
+        ensures error { IfErr result (λ error. IsRoundError T.standing works.items error) }
+    {
         let works = in_order(works)?;
-        let Some(mut parts) = self.take_parts(rt, works.len() as u64) else {
+        if works.len().saturating_sub(1) > pool.idle.len() {
+            return Err(RoundError::WorkerNotStarted);
+        }
+        let Some(mut parts) = self.take_parts(rt, 1) else {
             return Err(RoundError::WorkerNotStarted);
         };
-        let reports = do_works(self, rt, alloc, gate, works, &mut parts);
+        let reports = do_works(self, rt, alloc, gate, pool, works, &mut parts);
         self.put_back(rt, parts);
         let reports = reports?;
         let dones = all_done(alloc, reports)?;

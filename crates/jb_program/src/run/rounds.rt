@@ -18,7 +18,7 @@ use crate::streams::Failure;
 use jb_artifacts::Meaning;
 use jb_chunk::Task;
 use jb_collect::{FaultlessAnalyzer, FaultlessReducer};
-use jb_step::{Prepared, StepEnd, StepError};
+use jb_step::{Prepared, StepEnd, StepError, run_pooled_step};
 use jb_workers::NoGate;
 use std::alloc::Global;
 use std::sync::Wait;
@@ -44,8 +44,8 @@ fn run_failure(error: StepError) -> Failure
     }
 }
 
-/// Runs the rounds of a prepared step on a desk of its own, in no more rounds than the limit. `blank` is a ledger's with
-/// `MAX_PARTS` parts.
+/// Runs the rounds of a prepared step on a desk of its own, in no more rounds than the limit, over one pool of workers. `blank` is a
+/// ledger's with `MAX_PARTS` parts. The analyzer and the reducer come back.
 pub fn run_rounds<T: Threads + Wait + Sync, L: Ledger + Send + Sync + 'static>(
     rt: &T,
     alloc: Global,
@@ -53,41 +53,41 @@ pub fn run_rounds<T: Threads + Wait + Sync, L: Ledger + Send + Sync + 'static>(
     prepared: Prepared,
     artifacts: Vec<OwnArtifacts>,
     round_limit: Option<u64>,
-    analyzer: &mut FaultlessAnalyzer,
-    reducer: &mut FaultlessReducer,
-) -> Result<StepEnd<OwnArtifacts>, Failure>
+    analyzer: FaultlessAnalyzer,
+    reducer: FaultlessReducer,
+) -> Result<(StepEnd<OwnArtifacts>, FaultlessAnalyzer, FaultlessReducer), Failure>
     requires name { blank.name ≡ L.name }
     requires parts { blank.parts ≡ L.parts }
     requires all { blank.parts ≡ max_parts }
     requires fit { DoFit prepared (map ⟦<OwnArtifacts as Meaning>⟧.meaning artifacts.items) }
-    ensures ran { IfOk result (λ end. IsRunOfStep (record {
+    ensures ran { IfOk result (λ ended. IsRunOfStep (record {
       setup = prepared;
       works = map ⟦<OwnArtifacts as Meaning>⟧.meaning artifacts.items;
       round_limit = round_limit;
-      heard_before = map well analyzer.old;
-      heard_after = map well analyzer.new;
-      notes = end.plans.items;
-      snapshot = end.snapshot;
-      left = given_back ⟦<OwnArtifacts as Meaning>⟧.meaning end.artifacts.items;
+      heard_before = map well analyzer;
+      heard_after = map well ended.1;
+      notes = ended.0.plans.items;
+      snapshot = ended.0.snapshot;
+      left = given_back ⟦<OwnArtifacts as Meaning>⟧.meaning ended.0.artifacts.items;
     })) }
-    ensures headline { IfOk result (λ end. Headline (record {
+    ensures headline { IfOk result (λ ended. Headline (record {
       setup = prepared;
       works = map ⟦<OwnArtifacts as Meaning>⟧.meaning artifacts.items;
       round_limit = round_limit;
-      heard_before = map well analyzer.old;
-      heard_after = map well analyzer.new;
-      notes = end.plans.items;
-      snapshot = end.snapshot;
-      left = given_back ⟦<OwnArtifacts as Meaning>⟧.meaning end.artifacts.items;
+      heard_before = map well analyzer;
+      heard_after = map well ended.1;
+      notes = ended.0.plans.items;
+      snapshot = ended.0.snapshot;
+      left = given_back ⟦<OwnArtifacts as Meaning>⟧.meaning ended.0.artifacts.items;
     })) }
-    ensures on_the_way { IfOk result (λ end. AreOnTheWay (first_tasks prepared (map ⟦<OwnArtifacts as Meaning>⟧.meaning artifacts.items))
-        (tasks_left prepared end.snapshot (given_back ⟦<OwnArtifacts as Meaning>⟧.meaning end.artifacts.items))) }
-    ensures status { IfOk result (λ end. end.status ≡ status_of end.snapshot.rows.items false) }
-    ensures reducer { IfOk result (λ end. reducer.new ≡ reducer.old ++ calls_after (run_end (status_of end.snapshot.rows.items false) false)) }
+    ensures on_the_way { IfOk result (λ ended. AreOnTheWay (first_tasks prepared (map ⟦<OwnArtifacts as Meaning>⟧.meaning artifacts.items))
+        (tasks_left prepared ended.0.snapshot (given_back ⟦<OwnArtifacts as Meaning>⟧.meaning ended.0.artifacts.items))) }
+    ensures status { IfOk result (λ ended. ended.0.status ≡ status_of ended.0.snapshot.rows.items false) }
+    ensures reducer { IfOk result (λ ended. ended.2 ≡ reducer ++ calls_after (run_end (status_of ended.0.snapshot.rows.items false) false)) }
     ensures why { IfErr result IsBroken }
 {
     let desk = prepared.desk::<L>(alloc, blank)?;
-    match jb_step::run_step::<Task<OwnArtifacts>, L, NoGate, T>(
+    let (end, analyzer, reducer) = run_pooled_step::<Task<OwnArtifacts>, L, NoGate, T>(
         rt,
         alloc,
         &desk,
@@ -97,8 +97,9 @@ pub fn run_rounds<T: Threads + Wait + Sync, L: Ledger + Send + Sync + 'static>(
         reducer,
         round_limit,
         &NoGate,
-    ) {
-        Ok(end) => Ok(end),
+    );
+    match end {
+        Ok(end) => Ok((end, analyzer, reducer)),
         Err(error) => Err(run_failure(error)),
     }
 }

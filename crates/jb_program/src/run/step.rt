@@ -56,17 +56,17 @@ pub fn run_step<T: Threads + Wait + Sync>(
     let outputs = outputs.as_slice();
     let records = records.into_list();
     let artifacts = all_artifacts(alloc, &settings, records, outputs, &prepared)?;
-    let mut analyzer = FaultlessAnalyzer::new(alloc);
+    let analyzer = FaultlessAnalyzer::new(alloc);
     let blank = Blank::new(MAX_PARTS);
-    let end = run_rounds::<T, Brand>(
+    let (end, analyzer, reducer) = run_rounds::<T, Brand>(
         rt,
         alloc,
         blank,
         prepared,
         artifacts,
         round_limit,
-        &mut analyzer,
-        &mut reducer,
+        analyzer,
+        reducer,
     )?;
     write_step(
         alloc,

@@ -5,14 +5,14 @@ use Rattle.jb_workers.specs.Round.{IsReport}
 use Rattle.jb_workers.specs.Turns.{MeetsWork}
 use Rattle.jb_workers.specs.Works.{CanBegin}
 use Rattle.jb_workers.specs.declared.round.report.Report.{Report}
-use Rattle.jb_workers.proofs.round.threads.+run_all.Goals as goal
+use Rattle.jb_workers.proofs.round.threads.+do_works.Goals as goal
 
-pub run_all-reports-requires-clause-can : goal.run_all-reports-requires-clause-can
-run_all-reports-requires-clause-can g t c κs within = (All-pop (λ w. CanBegin (g.T.PartitionTask.standing w.task)) _ _ _ c.pop.ensures.items c.requires.can).0
+pub do_works-before-requires-clause-can : goal.do_works-before-requires-clause-can
+do_works-before-requires-clause-can g t c κs within = (All-pop (λ w. CanBegin (g.T.PartitionTask.standing w.task)) _ _ _ c.pop.ensures.items c.requires.can).0
 
 pub returns-clause-reports : goal.returns-clause-reports
 returns-clause-reports g t c =
-    let report : Report _ = record { lane = c.in-Some.next.lane; done = c.join-done.result.0 } in
+    let report : Report _ = record { lane = c.in-Some.next.lane; done = c.in-Some-answer.done } in
     let pushed : c.in_ok-reports.reports.items ≡ c.in_ok-before.before.items ++ report ∷ [] = search rules in
-    let kept : MeetsWork g.T.PartitionTask.standing c.in-Some.next c.join-done.result.0 = search rules in
+    let kept : MeetsWork g.T.PartitionTask.standing c.in-Some.next c.in-Some-answer.done = search rules in
     rw (c.in-Some.ensures.items, pushed) (pairwise-push (IsReport g.T.PartitionTask.standing) _ _ c.in-Some.next report c.in_ok-before.ensures.reports (record { lane = refl; meets = kept }))

@@ -1,7 +1,7 @@
 use Rattle.std.proofs.Common.{rules, ◌≡◌, Err, subst}
 use Rattle.jb_workers.specs.Round.{AreDones}
 use Rattle.jb_workers.proofs.Reporting.{dones-from-reports, round-refused, unanswered}
-use Rattle.jb_workers.proofs.desk.Desk.run_round.Goals as goal
+use Rattle.jb_workers.proofs.desk.Desk.run_round_by.Goals as goal
 
 pub returns-in_err-dones-clause-error : goal.returns-in_err-dones-clause-error
 returns-in_err-dones-clause-error g c =
