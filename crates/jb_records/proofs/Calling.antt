@@ -22,9 +22,10 @@ use Rattle.jb_records.specs.declared.step.RecordsStep.{RecordsStep}
 use Rattle.jb_records.specs.Function.{Function}
 use Rattle.jb_records.specs.Made.{IsBegun, step_record}
 use Rattle.jb_records.specs.Shares.{AreNumbered}
-use Rattle.jb_records.specs.Steps.{AreFirstWorks, IsFirstWorkFor}
+use Rattle.jb_records.specs.Steps.{AreFirstWorks, AreWorks, IsWorkFor}
 use Rattle.jb_records.specs.Works.{own_records}
 use Rattle.jb_records.specs.inside.Calls.{CanBegin, HasOwn, HaveOwn}
+use Rattle.jb_records.proofs.Begun.{works-at-first}
 
 -- ---- NO ROW ENDS PAST THE LAST RECORD
 
@@ -121,20 +122,23 @@ same-given : (o : Option (List (List ℕ))) (share other : List (List ℕ)) → 
 same-given o share other a b = cc
 
 module _ (f : Function) (rules : RulesRecord) (records : List (List ℕ)) (rows : List Row) (shares : List (List (List ℕ))) where
-  fit-one : (n : ℕ × Row) (w : ArtifactsMeaning) → HasOwn (length records) rows shares n → IsFirstWorkFor f rules records shares n w → Fits w n.1
+  fit-one : (n : ℕ × Row) (w : ArtifactsMeaning) → HasOwn (length records) rows shares n → IsWorkFor f rules records shares n w → Fits w n.1
   fit-one n w own first =
       let order = own.within.0 in
       let below = own.within.1 in
-      let from = first.0.work.first_is in
-      let long = ap length first.0.work.records_are ∙ own-length records n.1 order below in
+      let from = first.0.first_is in
+      let long = ap length first.0.records_are ∙ own-length records n.1 order below in
       let number = ap length (same-given (slice_get shares n.0) own.share w.writer.written own.given first.1) ∙ own.number in
       record { from = omega (arith, from); to = omega (arith, from, long, order); count = omega (arith, number) }
 
-  all-fit : (ns : List (ℕ × Row)) (ws : List ArtifactsMeaning) → AllByRecursion (HasOwn (length records) rows shares) ns → AreFirstWorks f rules records shares ns ws → FitRows ns ws
+  all-fit : (ns : List (ℕ × Row)) (ws : List ArtifactsMeaning) → AllByRecursion (HasOwn (length records) rows shares) ns → AreWorks f rules records shares ns ws → FitRows ns ws
   all-fit [] [] owns are = tt
   all-fit [] (w ∷ ws) owns are = absurd are
   all-fit (n ∷ ns) [] owns are = absurd are
   all-fit (n ∷ ns) (w ∷ ws) owns are = (fit-one n w owns.0 are.0, all-fit ns ws owns.1 are.1)
 
-pub works-fit : (f : Function) (rules : RulesRecord) (records : List (List ℕ)) (s : Setup) (shares : List (List (List ℕ))) (ws : List ArtifactsMeaning) → CanBegin (length records) s.rows shares → AreFirstWorks f rules records shares (unfinished s.rows) ws → DoFit s ws
+pub works-fit : (f : Function) (rules : RulesRecord) (records : List (List ℕ)) (s : Setup) (shares : List (List (List ℕ))) (ws : List ArtifactsMeaning) → CanBegin (length records) s.rows shares → AreWorks f rules records shares (unfinished s.rows) ws → DoFit s ws
 works-fit f rules records s shares ws can are = all-fit f rules records s.rows shares (unfinished s.rows) ws (own-all (length records) s.rows shares can) are
+
+pub first-works-fit : (f : Function) (rules : RulesRecord) (records : List (List ℕ)) (s : Setup) (shares : List (List (List ℕ))) (ws : List ArtifactsMeaning) → CanBegin (length records) s.rows shares → AreFirstWorks f rules records shares (unfinished s.rows) ws → DoFit s ws
+first-works-fit f rules records s shares ws can are = works-fit f rules records s shares ws can (works-at-first f rules records shares (unfinished s.rows) ws are)

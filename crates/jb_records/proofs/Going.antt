@@ -356,10 +356,10 @@ attempt-by f records t again (Failed class) is block has number = record {
 }
 
 -- the task after the repeats of its next block: of its row they are retries
-abbrev repeated-task : TaskState → TaskState
+abbrev pub repeated-task : TaskState → TaskState
 repeated-task t = record t { row = repeated_row t.row (again_of t); work = (after_repeats t).work }
 
-same-task : RepeatsAreRetries → (t : TaskState) → after_repeats t ≡ repeated-task t
+pub same-task : RepeatsAreRetries → (t : TaskState) → after_repeats t ≡ repeated-task t
 same-task law t = λ i. record t { row = law t i; work = (after_repeats t).work }
 
 repeats-have : (f : Function) (records : List (List ℕ)) (t : TaskState) → HasResults f records t → HasResults f records (repeated-task t)
@@ -375,7 +375,7 @@ repeats-have f records t has =
     }
 
 -- an attempt leads further on the way
-way-on : WaysJoin → (start t s : TaskState) (e : AttemptEnd) → IsOnTheWay start t → t.row.state ≡ state.Waiting → e ≡ attempt_of t → s ≡ e.task → IsOnTheWay start s
+pub way-on : WaysJoin → (start t s : TaskState) (e : AttemptEnd) → IsOnTheWay start t → t.row.state ≡ state.Waiting → e ≡ attempt_of t → s ≡ e.task → IsOnTheWay start s
 way-on join start t s e way waiting is to = join start t s way (record { attempts = e ∷ []; run = (waiting, is, to) })
 
 -- each place on the way has its results if the one before has

@@ -35,12 +35,12 @@ order-again from to [] order = order
 order-again from to (row ∷ rows) order = first-again from to (is_failed row.state) row (map restarted rows) order.0 order.1 (order-again row.hi to rows order.2)
 
 -- a partition that failed waits at its checkpoint, with its share
-so-far-again : (f : Function) (records : List (List ℕ)) (held : SavedRows) (shares : List (List (List ℕ))) → IsSoFar f records held.rows shares → IsSoFar f records (rows_restarted held) shares
+pub so-far-again : (f : Function) (records : List (List ℕ)) (held : SavedRows) (shares : List (List (List ℕ))) → IsSoFar f records held.rows shares → IsSoFar f records (rows_restarted held) shares
 so-far-again f records held shares so-far = record { order = order-again 0 (length records) held.rows so-far.order; each = shares-again f records held.rows shares so-far.each }
 
 -- ---- THE SHARES ARE FOUND AGAIN
 
-numbered-so : (f : Function) (records : List (List ℕ)) (rows : List Row) (shares : List (List (List ℕ))) → AreShares f records rows shares → AreNumbered rows shares
+pub numbered-so : (f : Function) (records : List (List ℕ)) (rows : List Row) (shares : List (List (List ℕ))) → AreShares f records rows shares → AreNumbered rows shares
 numbered-so f records [] [] are = tt
 numbered-so f records [] (share ∷ shares) are = absurd are
 numbered-so f records (row ∷ rows) [] are = absurd are
@@ -79,7 +79,7 @@ going-on f records saved earlier rows shares stopped are numbered whole =
 
 -- ---- A SAVED TEXT
 
-same-held : (o : Result SavedRows SavedPlace) (held other : SavedRows) → o ≡ Ok held → o ≡ Ok other → held ≡ other
+pub same-held : (o : Result SavedRows SavedPlace) (held other : SavedRows) → o ≡ Ok held → o ≡ Ok other → held ≡ other
 same-held o held other a b = cc
 
 -- a text is read in one way only

@@ -48,11 +48,11 @@ begun-task f records p item_count row s w work share ready =
     }
 
 -- each partition has its records, and the results of those before its checkpoint
-abbrev HaveResults : Function → (records : List (List ℕ)) → List TaskState → Type 0
+abbrev pub HaveResults : Function → (records : List (List ℕ)) → List TaskState → Type 0
 HaveResults f records ts = AllByRecursion (HasResults f records) ts
 
 -- the unfinished rows, their tasks, and what they work with
-abbrev left-of : List (ℕ × Row) → List (ℕ × Row)
+abbrev pub left-of : List (ℕ × Row) → List (ℕ × Row)
 left-of ns = filter (λ n. not (is_finished n.1.state)) ns
 
 abbrev tasks-of : Setup → List (ℕ × Row) → List ArtifactsMeaning → List TaskState
@@ -76,7 +76,7 @@ none-begun : (f : Function) (records : List (List ℕ)) (shares : List (List (Li
 none-begun f records shares s [] are ready = tt
 none-begun f records shares s (w ∷ ws) are ready = absurd are
 
-all-begun : (f : Function) (records : List (List ℕ)) (all : List (List (List ℕ))) (s : Setup) (k : ℕ) (rows : List Row) (shares : List (List (List ℕ))) (works : List ArtifactsMeaning)
+pub all-begun : (f : Function) (records : List (List ℕ)) (all : List (List (List ℕ))) (s : Setup) (k : ℕ) (rows : List Row) (shares : List (List (List ℕ))) (works : List ArtifactsMeaning)
     → AreShares f records rows shares → ((i : ℕ) (share : List (List ℕ)) → slice_get shares i ≡ Some share → slice_get all (k + i) ≡ Some share)
     → Begin f records all s (left-of (enumerate_from k rows)) works
 all-begun f records all s k [] shares works have at are ready = none-begun f records all s works are ready
@@ -89,7 +89,7 @@ all-begun f records all s k (row ∷ rows) (share ∷ shares) works have at are 
 
 -- ---- WHERE THEY ARE LED
 
-kept-by : ResultsGoOn → (f : Function) (records : List (List ℕ)) (s : Setup) (ts now : List TaskState) → AreTasksOf s ts → HaveResults f records ts → AreOnTheWay ts now → HaveResults f records now
+pub kept-by : ResultsGoOn → (f : Function) (records : List (List ℕ)) (s : Setup) (ts now : List TaskState) → AreTasksOf s ts → HaveResults f records ts → AreOnTheWay ts now → HaveResults f records now
 kept-by law f records s [] [] ready have ways = tt
 kept-by law f records s [] (x ∷ xs) ready have ways = absurd ways
 kept-by law f records s (t ∷ ts) [] ready have ways = absurd ways

@@ -17,6 +17,7 @@ use Rattle.jb_records.specs.declared.error.RecordsStepError.TheVariants.{Memory,
 use Rattle.jb_records.specs.declared.step.RecordsStep.{RecordsStep}
 use Rattle.jb_records.specs.Function.{Function}
 use Rattle.jb_records.specs.Made.{even_partitions}
+use Rattle.jb_records.specs.Shares.{AreNumbered, joined}
 use Rattle.jb_records.specs.Works.{AreNeverSkipped, record_of}
 
 -- some first try at one of these records, the first of which has the number `first`, is to fail with a class that may be skipped
@@ -60,3 +61,16 @@ IsCauseOf f step records None Results = ⊥
 IsCauseOf f step records earlier SkippedTry = HasSkippedTry f step.rules 0 records
 IsCauseOf f step records earlier (Step why) = IsStepFault step (length records) earlier why
 IsCauseOf f step records earlier Memory = Unit {0}
+
+-- ---- BEHIND THE RESULTS OF EACH PARTITION
+
+-- some partition's results are others in number than its row of the text says, or there are others than these partitions
+pub record AreOtherShares (text : List ℕ) (shares : List (List (List ℕ))) : Type 0 where
+  pub held : SavedRows
+  pub read : answer_of (tree_of text) ≡ Ok held
+  pub others : AreNumbered held.rows shares → ⊥
+
+-- THE CAUSE OF EACH ERROR, where these are given
+abbrev pub IsCauseBehind : Function → RecordsStep → (records : List (List ℕ)) → (text : List ℕ) → (shares : List (List (List ℕ))) → RecordsStepError → Type 0
+IsCauseBehind f step records text shares Results = AreOtherShares text shares
+IsCauseBehind f step records text shares e = IsCauseOf f step records (Some (text, joined shares)) e

@@ -6,5 +6,6 @@ pub mod Refusals
 pub mod Runs
 pub mod Shares
 pub mod Steps
+pub mod Stretches
 pub mod Works
 pub mod inside

@@ -1,6 +1,6 @@
 //! A step over records, from its saved rows to its end.
 
-ghost use Rattle.std.specs.Prelude.{◌≡◌, ◌≤◌, false, length, None, Ok, IfErr, IfOk, IfSome};
+ghost use Rattle.std.specs.Prelude.{◌≡◌, ◌≤◌, false, length, None, Some, Ok, IfErr, IfOk, IfSome, OnOk};
 ghost use Rattle.jb_base.specs.Limits.{max_records};
 ghost use Rattle.jb_mapper.specs.EvenCover.{even_ranges};
 ghost use Rattle.jb_mapper.specs.Mapping.{even};
@@ -10,17 +10,17 @@ ghost use Rattle.jb_step.specs.Setup.{IsSetup};
 ghost use Rattle.jb_step.specs.Statuses.{status_of};
 ghost use Rattle.jb_records.specs.Earlier.{IsStoppedRun};
 ghost use Rattle.jb_records.specs.Function.{Function, all_results};
-ghost use Rattle.jb_records.specs.inside.Calls.{CanBegin, IsUnbegun, IsUnended, IsUnprepared, IsUnpreparedFor};
+ghost use Rattle.jb_records.specs.inside.Calls.{CanBegin, IsUnbegun, IsUnbegunWith, IsUnended, IsUnprepared, IsUnpreparedFor};
 ghost use Rattle.jb_records.specs.Made.{IsBegun, IsRunMade, even_partitions, step_record};
 ghost use Rattle.jb_saved.specs.GoingOn.{rows_restarted};
-ghost use Rattle.jb_records.specs.Shares.{IsSoFar, joined};
+ghost use Rattle.jb_records.specs.Shares.{AreNumbered, IsSoFar, joined};
 ghost use Rattle.jb_records.specs.Steps.{BeginsAnew};
 
 use crate::end::RecordsEnd;
 use crate::error::RecordsStepError;
 use crate::function::RecordFunction;
 use crate::laws::steps_keep_results;
-use crate::shares::{put_back, shares_of};
+use crate::shares::{are_numbered, put_back, shares_of};
 use crate::step::RecordsStep;
 use crate::works::{Works, all_works};
 use jb_base::{MAX_RECORDS, Name, PackedList, Rules};
@@ -28,7 +28,7 @@ use jb_chunk::Task;
 use jb_collect::{FaultlessAnalyzer, FaultlessReducer};
 use jb_job::{Spec, Step};
 use jb_mapper::{EvenMapper, PartitionMapper};
-use jb_step::{Prepared, Saved, StepEnd, prepare, run_step};
+use jb_step::{Prepared, Saved, StepEnd, prepare, run_pooled_step};
 use jb_workers::{Desk, NoGate};
 use std::alloc::Global;
 use std::sync::ledger::Ledger;
@@ -40,8 +40,8 @@ use std::thread::Threads;
 pub(crate) struct RecordsJob {
     pub(crate) prepared: Prepared,
     pub(crate) results: Vec<PackedList>,
-    rules: Rules,
-    reducer: FaultlessReducer,
+    pub(crate) rules: Rules,
+    pub(crate) reducer: FaultlessReducer,
     ghost same_rules: { prepared.rules ≡ rules },
 }
 
@@ -61,6 +61,7 @@ impl RecordsJob {
     ) -> Result<RecordsJob, RecordsStepError>
         ensures why { IfErr result (IsUnbegun step.now (length records.now) saved (length earlier.now)) }
         ensures begun { IfOk result (λ job. IsBegun step.now (length records.now) saved earlier.now job.prepared job.results.items) }
+        ensures few { OnOk result (length records.now ≤ max_records) }
         ensures new { saved ≡ None → IfOk result (λ job. (f : Function) → IsSoFar f records.now job.prepared.rows job.results.items) }
         ensures goes_on { IfOk result (λ job. (f : Function) → IsStoppedRun f records.now saved earlier.now → IsSoFar f records.now job.prepared.rows job.results.items) }
     {
@@ -69,6 +70,39 @@ impl RecordsJob {
         let count = records.len() as u64;
         let prepared = prepared_for(alloc, step, count, &mut reducer, saved)?;
         let results = shares_of(alloc, &prepared, earlier)?;
+        Ok(RecordsJob {
+            prepared,
+            results,
+            rules: step.rules,
+            reducer,
+        })
+    }
+
+    /// The step goes on from the saved rows of an earlier run, with the results of each partition.
+    ///
+    /// # Errors
+    /// Those of `begin`; `Results` where the rows say otherwise how many results a partition has.
+    pub(crate) fn behind(
+        alloc: Global,
+        step: &RecordsStep,
+        records: &PackedList,
+        saved: Saved,
+        results: Vec<PackedList>,
+    ) -> Result<RecordsJob, RecordsStepError>
+        ensures why { IfErr result (IsUnbegunWith step.now (length records.now) saved results.items) }
+        ensures begun { IfOk result (λ job. IsBegun step.now (length records.now) (Some saved) (joined results.items) job.prepared job.results.items) }
+        ensures few { OnOk result (length records.now ≤ max_records) }
+        ensures rows { IfOk result (λ job. job.prepared.rows ≡ rows_restarted saved) }
+        ensures results { IfOk result (λ job. job.results.items ≡ results.items) }
+        ensures numbered { OnOk result (AreNumbered saved.rows results.items) }
+    {
+        let mut reducer = FaultlessReducer::new(alloc);
+        let count = records.len() as u64;
+        let are_own = are_numbered(saved.rows(), results.as_slice());
+        let prepared = prepared_for(alloc, step, count, &mut reducer, Some(saved))?;
+        if !are_own {
+            return Err(RecordsStepError::Results);
+        }
         Ok(RecordsJob {
             prepared,
             results,
@@ -109,22 +143,15 @@ impl RecordsJob {
             prepared,
             results,
             rules,
-            mut reducer,
+            reducer,
         } = self;
         let function = Arc::new(alloc, function)?;
         let works = all_works(alloc, &function, &rules, records, &prepared, &results)?;
-        let mut analyzer = FaultlessAnalyzer::new(alloc);
-        let end = run_step::<Task<Works<F>>, L, NoGate, R>(
-            rt,
-            alloc,
-            desk,
-            prepared,
-            works,
-            &mut analyzer,
-            &mut reducer,
-            rounds,
-            &NoGate,
-        )?;
+        let analyzer = FaultlessAnalyzer::new(alloc);
+        let (end, _, _) = run_pooled_step::<Task<Works<F>>, L, NoGate, R>(
+            rt, alloc, desk, prepared, works, analyzer, reducer, rounds, &NoGate,
+        );
+        let end = end?;
         let StepEnd {
             status,
             snapshot,
@@ -164,7 +191,7 @@ fn prepared_by(
 }
 
 /// What the step begins with.
-fn prepared_for(
+pub(crate) fn prepared_for(
     alloc: Global,
     step: &RecordsStep,
     records: u64,
@@ -172,6 +199,7 @@ fn prepared_for(
     saved: Option<Saved>,
 ) -> Result<Prepared, RecordsStepError>
     ensures setup { IfOk result IsSetup }
+    ensures few { OnOk result (records ≤ max_records) }
     ensures why { IfErr result (IsUnpreparedFor step.now records saved) }
     ensures prepared { IfOk result (IsPreparation (step_record step.now) records (Ok (even_partitions step.now records)) saved) }
     ensures new { saved ≡ None → IfOk result (BeginsAnew records) }

@@ -4,6 +4,7 @@ ghost use Rattle.jb_records.specs.Function.{OthersAreLeftOut};
 ghost use Rattle.jb_records.specs.Runs.{PartsStay, ResultsGoOn};
 ghost use Rattle.jb_records.specs.Shares.{NewStepsBegin, SharesJoin};
 ghost use Rattle.jb_records.specs.Steps.{StepsKeepResults};
+ghost use Rattle.jb_records.specs.inside.Kept.{RowsAreSaved, StretchesGoOn, WorksFit};
 
 use jb_chunk::{attempts_are_steps, runs_lead_to_an_end, tasks_stand_at_checkpoints};
 use jb_step::plans_can_be_run;
@@ -29,4 +30,19 @@ pub fn steps_keep_results()
 {
     results_go_on();
     plans_can_be_run();
+}
+
+/// A run that stays in memory goes on from stretch to stretch: what came back of its partitions serves the next one, and its shares
+/// grow.
+pub(crate) fn stretches_go_on()
+    ensures fit { WorksFit }
+    ensures saved { RowsAreSaved }
+    ensures on { StretchesGoOn }
+{
+    tasks_stand_at_checkpoints();
+    runs_lead_to_an_end();
+    attempts_are_steps();
+    results_go_on();
+    plans_can_be_run();
+    steps_keep_results();
 }

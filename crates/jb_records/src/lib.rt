@@ -2,6 +2,8 @@
 //!
 //! - `function`: what is done to each record, and `shared`: the same for all partitions.
 //! - `run`: the step in one call, `watched`: with someone who looks on, `watcher`; `end`: how it ended; `job`: what the calls are made of.
+//! - `kept`: a run that stays in memory between its stretches, `stretch`: one of these, `stretch_end`: what is kept of its end, and
+//!   `news`: what is new in it.
 //! - `step`: how it runs its records. `works`: what its partitions work with. `shares`: the results of each.
 //! - `laws`: what comes of it. `error`: why it has no end.
 #![tactic(auto)]
@@ -10,11 +12,15 @@ mod end;
 mod error;
 mod function;
 mod job;
+mod kept;
 mod laws;
+mod news;
 mod run;
 mod shared;
 mod shares;
 mod step;
+mod stretch;
+mod stretch_end;
 mod watched;
 mod watcher;
 mod works;
@@ -22,8 +28,10 @@ mod works;
 pub use end::RecordsEnd;
 pub use error::RecordsStepError;
 pub use function::RecordFunction;
+pub use kept::{RecordsRun, Standing};
 pub use laws::{results_go_on, steps_keep_results};
 pub use run::{Earlier, run_records};
 pub use step::RecordsStep;
+pub use stretch::Stretch;
 pub use watched::run_records_watched;
 pub use watcher::Watcher;

@@ -1,6 +1,6 @@
 //! The results of each partition: taken from an earlier run's, and put in their places.
 
-ghost use Rattle.std.specs.Prelude.{◌≡◌, ◌≤◌, ◌⊎◌, drop, length, take, IfErr, IfOk, OnOk};
+ghost use Rattle.std.specs.Prelude.{◌≡◌, ◌≤◌, ◌⊎◌, ◌↔◌, drop, length, take, IfErr, IfOk, IsTrue, OnOk};
 ghost use Rattle.jb_base.specs.Limits.{max_partitions};
 ghost use Rattle.jb_step.specs.Answers.{given_back};
 ghost use Rattle.jb_records.specs.Causes.{written_in};
@@ -12,6 +12,7 @@ use crate::function::RecordFunction;
 use crate::works::Works;
 use jb_artifacts::Meaning;
 use jb_base::{MAX_PARTITIONS, PackedList};
+use jb_rules::Row;
 use jb_step::Prepared;
 use std::alloc::{AllocError, Global};
 
@@ -44,6 +45,19 @@ pub(crate) fn shares_of(
         place = next;
     }
     unreachable!()
+}
+
+/// Whether each partition has as many results as its row says.
+pub(crate) fn are_numbered(rows: &[Row], shares: &[PackedList]) -> bool
+    ensures { IsTrue result ↔ AreNumbered rows.now shares.now }
+{
+    match (rows.split_first(), shares.split_first()) {
+        (None, None) => true,
+        (Some((row, rows)), Some((share, shares))) => {
+            share.len() as u64 == row.written && are_numbered(rows, shares)
+        }
+        _ => false,
+    }
 }
 
 // Puts the results that came back in the places of their partitions.

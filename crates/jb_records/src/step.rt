@@ -1,9 +1,10 @@
 //! How a step runs its records.
 
-ghost use Rattle.std.specs.Prelude.{◌≤◌};
+ghost use Rattle.std.specs.Prelude.{◌≡◌, ◌≤◌, IfOk};
 ghost use Rattle.jb_base.specs.Limits.{max_item_count, max_partitions_asked, max_threads_asked};
 
 use jb_base::{Name, Rules};
+use std::alloc::{AllocError, Global};
 
 /// A step over records: its name in its saved rows, its partitions, which divide the records evenly, its threads, the number of
 /// records in a chunk, and what is skipped and retried.
@@ -22,4 +23,20 @@ pub struct RecordsStep {
     pub ghost few_threads: { threads ≤ max_threads_asked },
     pub ghost items: { 1 ≤ item_count },
     pub ghost few_items: { item_count ≤ max_item_count },
+}
+
+impl RecordsStep {
+    /// The same step once more.
+    pub(crate) fn copy(&self, alloc: Global) -> Result<RecordsStep, AllocError>
+        ensures { IfOk result (λ step. step ≡ self.now) }
+    {
+        let id = Name::new(String::from_str(alloc, self.id.as_str())?);
+        Ok(RecordsStep {
+            id,
+            partitions: self.partitions,
+            threads: self.threads,
+            item_count: self.item_count,
+            rules: self.rules,
+        })
+    }
 }

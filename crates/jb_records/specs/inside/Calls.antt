@@ -68,6 +68,11 @@ abbrev pub IsUnbegun : RecordsStep → (records : ℕ) → Option SavedRows → 
 IsUnbegun step records saved earlier Results = earlier ≡ written_by saved → ⊥
 IsUnbegun step records saved earlier e = IsUnpreparedFor step records saved e
 
+-- or not behind these results of its partitions
+abbrev pub IsUnbegunWith : RecordsStep → (records : ℕ) → SavedRows → (shares : List (List (List ℕ))) → RecordsStepError → Type 0
+IsUnbegunWith step records held shares Results = AreNumbered held.rows shares → ⊥
+IsUnbegunWith step records held shares e = IsUnpreparedFor step records (Some held) e
+
 abbrev pub IsUnbegunBehind : RecordsStep → (records : ℕ) → Option (List ℕ × List (List ℕ)) → RecordsStepError → Type 0
 IsUnbegunBehind step records earlier Records = max_records < records
 IsUnbegunBehind step records (Some e) Results = AreOtherResults e.0 e.1

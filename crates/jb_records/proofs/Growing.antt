@@ -1,0 +1,104 @@
+-- What is new of each partition comes behind its share.
+use Rattle.std.proofs.Common.{◌≡◌, ℕ, zero, suc, ◌+◌, ◌≤◌, ◌++◌, Bool, true, false, not, cond, List, [], ◌∷◌, map, length, drop, Some, refl, ap, ap₂, sym, subst, ◌∙◌, arith}
+use Rattle.std.proofs.Math.Seq.{drop-append_seam}
+use Rattle.std.proofs.lemmas.Bool.Decides.{nat_tests}
+use Rattle.std.proofs.lemmas.List.{append-nil}
+use Rattle.std.specs.Prelude.{nat_eq, slice_get}
+use Rattle.std.specs.List.{enumerate_from}
+use Rattle.jb_base.specs.Pairwise.{Pairwise}
+use Rattle.jb_rules.specs.declared.row.Row.{Row}
+use Rattle.jb_rules.specs.States.{is_finished}
+use Rattle.jb_artifacts.specs.Meaning.{ArtifactsMeaning}
+use Rattle.jb_step.specs.Setup.{Setup}
+use Rattle.jb_records.specs.Function.{Function}
+use Rattle.jb_records.specs.Shares.{AreShares, IsShare, results_so_far}
+use Rattle.jb_records.specs.Stretches.{grown, numbers_in}
+use Rattle.jb_records.specs.Works.{own_records, results_between}
+use Rattle.jb_records.specs.inside.Kept.{news_from}
+use Rattle.jb_records.proofs.Ahead.{IsAhead}
+use Rattle.jb_records.proofs.Going.{results-join}
+use Rattle.jb_records.proofs.Keeping.{row-at, task-of}
+use Rattle.jb_records.proofs.Staying.{AreFrom, Stays, head-is, left-numbers, numbers-from, tail-is}
+use Rattle.jb_records.proofs.Steps.{HaveResults, left-of}
+
+-- nothing came back of a partition before all that did
+none-new : (k count : ℕ) (told : List ℕ) (ls : List (ℕ × ArtifactsMeaning)) → AreFrom (k + 1) (numbers_in ls) → news_from k (count ∷ told) ls ≡ [] ∷ news_from (k + 1) told ls
+none-new k count told [] above = refl
+none-new k count told (a ∷ ls) above =
+    let le = above.0 in
+    let other : nat_eq a.0 k ≡ false = grind (arith, nat_tests) in
+    ap (λ (b : Bool). cond b (drop count a.1.writer.written ∷ news_from (k + 1) told ls) ([] ∷ news_from (k + 1) told (a ∷ ls))) other
+
+one-new : (k count : ℕ) (told : List ℕ) (a : ℕ × ArtifactsMeaning) (ls : List (ℕ × ArtifactsMeaning)) → a.0 ≡ k → news_from k (count ∷ told) (a ∷ ls) ≡ drop count a.1.writer.written ∷ news_from (k + 1) told ls
+one-new k count told a ls here =
+    let same : nat_eq a.0 k ≡ true = grind (arith, nat_tests) in
+    ap (λ (b : Bool). cond b (drop count a.1.writer.written ∷ news_from (k + 1) told ls) ([] ∷ news_from (k + 1) told (a ∷ ls))) same
+
+-- the results up to a later checkpoint, and those that are new in them
+so-far-on : (f : Function) (records : List (List ℕ)) (old new : Row) → IsAhead old new → old.lo ≤ old.at
+    → results_so_far f records old ++ results_between f old.lo (own_records records old) old.at new.at ≡ results_so_far f records new
+so-far-on f records old new ahead from =
+    results-join f old.lo (own_records records old) old.lo old.at new.at from ahead.at
+    ∙ sym (ap₂ (λ (lo hi : ℕ). results_between f lo (own_records records (record new { lo = lo; hi = hi })) lo new.at) ahead.lo ahead.hi)
+
+grown-one : (f : Function) (records : List (List ℕ)) (old new : Row) (share now written : List (List ℕ)) → IsAhead old new → old.lo ≤ old.at → IsShare f records old share → IsShare f records new now
+    → written ≡ now → now ≡ share ++ drop old.written written
+grown-one f records old new share now written ahead from own own-now same =
+    let more = results_between f old.lo (own_records records old) old.at new.at in
+    let whole : now ≡ share ++ more = own-now.results ∙ sym (so-far-on f records old new ahead from) ∙ ap (λ (x : List (List ℕ)). x ++ more) (sym own.results) in
+    let behind : drop old.written written ≡ more = ap₂ (λ (n : ℕ) (x : List (List ℕ)). drop n x) (sym own.number) (same ∙ whole) ∙ drop-append_seam share more in
+    whole ∙ ap (λ (x : List (List ℕ)). share ++ x) (sym behind)
+
+same-share : (f : Function) (records : List (List ℕ)) (old new : Row) (share now : List (List ℕ)) → new ≡ old → IsShare f records old share → IsShare f records new now → now ≡ share ++ []
+same-share f records old new share now same own own-now = own-now.results ∙ ap (results_so_far f records) same ∙ sym own.results ∙ sym (append-nil share)
+
+abbrev told-of : List Row → List ℕ
+told-of rows = map (λ row. row.written) rows
+
+module _ (f : Function) (records : List (List ℕ)) (s : Setup) (rows : List Row) where
+  grown-by : (b : Bool) (k : ℕ) (old new : Row) (olds : List Row) (share now : List (List ℕ)) (shares nows : List (List (List ℕ))) (ls : List (ℕ × ArtifactsMeaning)) → is_finished old.state ≡ b
+      → numbers_in ls ≡ map (λ n. n.0) (cond (not b) ((k, old) ∷ left-of (enumerate_from (k + 1) olds)) (left-of (enumerate_from (k + 1) olds)))
+      → IsAhead old new → Stays old new → old.lo ≤ old.at → IsShare f records old share → IsShare f records new now → slice_get rows k ≡ Some new → HaveResults f records (map (task-of s rows) ls)
+      → ((us : List (ℕ × ArtifactsMeaning)) → numbers_in us ≡ left-numbers (k + 1) olds → HaveResults f records (map (task-of s rows) us) → nows ≡ grown shares (news_from (k + 1) (told-of olds) us))
+      → now ∷ nows ≡ grown (share ∷ shares) (news_from k (told-of (old ∷ olds)) ls)
+  grown-by true k old new olds share now shares nows ls is named ahead stays from own own-now at have more =
+      let above = subst (AreFrom (k + 1)) (sym named) (numbers-from (k + 1) (k + 1) olds (omega arith)) in
+      ap₂ (λ (x : List (List ℕ)) (xs : List (List (List ℕ))). x ∷ xs) (same-share f records old new share now (stays is) own own-now) (more ls named have)
+      ∙ ap (grown (share ∷ shares)) (sym (none-new k old.written (told-of olds) ls above))
+  grown-by false k old new olds share now shares nows [] is named ahead stays from own own-now at have more = let none : ⊥ = cc in absurd none
+  grown-by false k old new olds share now shares nows (a ∷ ls) is named ahead stays from own own-now at have more =
+      let here = head-is a.0 k (numbers_in ls) (left-numbers (k + 1) olds) named in
+      let row = row-at rows a k new here at in
+      let written : a.1.writer.written ≡ now = have.0.results ∙ ap (results_so_far f records) row ∙ sym own-now.results in
+      ap₂ (λ (x : List (List ℕ)) (xs : List (List (List ℕ))). x ∷ xs) (grown-one f records old new share now a.1.writer.written ahead from own own-now written)
+      (more ls (tail-is a.0 k (numbers_in ls) (left-numbers (k + 1) olds) named) have.1)
+      ∙ ap (grown (share ∷ shares)) (sym (one-new k old.written (told-of olds) a ls here))
+
+  pub grown-all : (k : ℕ) (olds news : List Row) (shares nows : List (List (List ℕ))) (ls : List (ℕ × ArtifactsMeaning)) → numbers_in ls ≡ left-numbers k olds → Pairwise IsAhead olds news → Pairwise Stays olds news
+      → ((i : ℕ) (row : Row) → slice_get olds i ≡ Some row → row.lo ≤ row.at) → AreShares f records olds shares → AreShares f records news nows
+      → ((i : ℕ) (row : Row) → slice_get news i ≡ Some row → slice_get rows (k + i) ≡ Some row) → HaveResults f records (map (task-of s rows) ls)
+      → nows ≡ grown shares (news_from k (told-of olds) ls)
+  grown-all k [] [] [] [] ls named ahead stay from own own-now at have = refl
+  grown-all k [] [] [] (now ∷ nows) ls named ahead stay from own own-now at have = absurd own-now
+  grown-all k [] [] (share ∷ shares) nows ls named ahead stay from own own-now at have = absurd own
+  grown-all k [] (new ∷ news) shares nows ls named ahead stay from own own-now at have = absurd ahead
+  grown-all k (old ∷ olds) [] shares nows ls named ahead stay from own own-now at have = absurd ahead
+  grown-all k (old ∷ olds) (new ∷ news) [] nows ls named ahead stay from own own-now at have = absurd own
+  grown-all k (old ∷ olds) (new ∷ news) (share ∷ shares) [] ls named ahead stay from own own-now at have = absurd own-now
+  grown-all k (old ∷ olds) (new ∷ news) (share ∷ shares) (now ∷ nows) ls named ahead stay from own own-now at have =
+      let first : k + 0 ≡ k = omega arith in
+      grown-by (is_finished old.state) k old new olds share now shares nows ls refl named ahead.0 stay.0 (from zero old refl) own.0 own-now.0
+      (subst (λ m. slice_get rows m ≡ Some new) first (at zero new refl)) have
+      (λ us is has. grown-all (k + 1) olds news shares nows us is ahead.1 stay.1 (λ i r get. from (suc i) r get) own.1 own-now.1
+      (λ i r get. let e : k + suc i ≡ (k + 1) + i = omega arith in subst (λ m. slice_get rows m ≡ Some r) e (at (suc i) r get)) has)
+
+-- as many lists as partitions
+length-by : (b : Bool) (one : List (List ℕ)) (news others : List (List (List ℕ))) (n : ℕ) → length news ≡ n → length others ≡ n → length (cond b (one ∷ news) ([] ∷ others)) ≡ suc n
+length-by true one news others n is are = ap suc is
+length-by false one news others n is are = ap suc are
+
+pub news-length : (k : ℕ) (told : List ℕ) (ls : List (ℕ × ArtifactsMeaning)) → length (news_from k told ls) ≡ length told
+news-length k [] ls = refl
+news-length k (count ∷ told) [] = ap suc (news-length (k + 1) told [])
+news-length k (count ∷ told) (a ∷ ls) =
+    length-by (nat_eq a.0 k) (drop count a.1.writer.written) (news_from (k + 1) told ls) (news_from (k + 1) told (a ∷ ls)) (length told) (news-length (k + 1) told ls) (news-length (k + 1) told (a ∷ ls))

@@ -1,0 +1,180 @@
+-- What is kept of a stretch: the results of the partitions that are finished, and what the others work with.
+use Rattle.std.proofs.Common.{◌≡◌, ℕ, zero, suc, ◌+◌, Bool, true, false, not, cond, List, [], ◌∷◌, map, Some, refl, ap, sym, subst, ◌∙◌, arith}
+use Rattle.std.specs.Prelude.{filter, nat_eq, slice_get, slice_index_or}
+use Rattle.std.specs.List.{enumerate_from}
+use Rattle.std.proofs.lemmas.Bool.Decides.{nat_tests}
+use Rattle.std.proofs.lemmas.Option.{get_or_from_slice_get}
+use Rattle.jb_base.specs.Pairwise.{Pairwise}
+use Rattle.jb_rules.specs.declared.row.Row.{Row}
+use Rattle.jb_rules.specs.declared.row.RowState.{RowState}
+use Rattle.jb_rules.specs.declared.row.RowState.TheVariants as state
+use Rattle.jb_rules.specs.Rows.{dropped_row, fresh_row}
+use Rattle.jb_rules.specs.States.{is_failed, is_finished}
+use Rattle.jb_artifacts.specs.Meaning.{ArtifactsMeaning}
+use Rattle.jb_chunk.specs.Standing.{TaskState}
+use Rattle.jb_saved.specs.GoingOn.{restarted}
+use Rattle.jb_step.specs.Setup.{Setup}
+use Rattle.jb_records.specs.Function.{Function}
+use Rattle.jb_records.specs.Shares.{AreShares, IsShare, newer_share, newer_shares, results_so_far}
+use Rattle.jb_records.specs.Steps.{AreWorks, IsWorkFor}
+use Rattle.jb_records.specs.Stretches.{numbers_in, works_in}
+use Rattle.jb_records.specs.Works.{IsWork, own_records}
+use Rattle.jb_records.specs.inside.Kept.{is_done, is_left}
+use Rattle.jb_records.proofs.Steps.{HaveResults, left-of}
+use Rattle.jb_records.proofs.Staying.{Stays, head-is, left-numbers, tail-is}
+
+-- ---- NEWER SHARES
+
+-- what comes back is newer than what was there before of the same partitions
+newer-over : (left ws : List (ℕ × ArtifactsMeaning)) (p : ℕ) (share : List (List ℕ)) → numbers_in left ≡ numbers_in ws → newer_share left p (newer_share ws p share) ≡ newer_share left p share
+newer-over [] [] p share same = refl
+newer-over [] (w ∷ ws) p share same = let none : ⊥ = cc in absurd none
+newer-over (a ∷ left) [] p share same = let none : ⊥ = cc in absurd none
+newer-over (a ∷ left) (w ∷ ws) p share same =
+    let here = head-is a.0 w.0 (numbers_in left) (numbers_in ws) same in
+    let others = newer-over left ws p share (tail-is a.0 w.0 (numbers_in left) (numbers_in ws) same) in
+    over-by (nat_eq a.0 p) (nat_eq w.0 p) (ap (λ n. nat_eq n p) here) others
+  where
+    over-by : (b c : Bool) → b ≡ c → newer_share left p (newer_share ws p share) ≡ newer_share left p share
+        → cond b a.1.writer.written (newer_share left p (cond c w.1.writer.written (newer_share ws p share))) ≡ cond b a.1.writer.written (newer_share left p share)
+    over-by true c same others = refl
+    over-by false true same others = let none : ⊥ = cc in absurd none
+    over-by false false same others = others
+
+abbrev newer-from : List (ℕ × ArtifactsMeaning) → ℕ → List (List (List ℕ)) → List (List (List ℕ))
+newer-from left k shares = map (λ n. newer_share left n.0 n.1) (enumerate_from k shares)
+
+all-over : (left ws : List (ℕ × ArtifactsMeaning)) (k : ℕ) (shares : List (List (List ℕ))) → numbers_in left ≡ numbers_in ws → newer-from left k (newer-from ws k shares) ≡ newer-from left k shares
+all-over left ws k [] same = refl
+all-over left ws k (share ∷ shares) same = λ i. newer-over left ws k share same i ∷ all-over left ws (k + 1) shares same i
+
+pub newer-again : (left ws : List (ℕ × ArtifactsMeaning)) (shares : List (List (List ℕ))) → numbers_in left ≡ numbers_in ws → newer_shares left (newer_shares ws shares) ≡ newer_shares left shares
+newer-again left ws shares same = all-over left ws 0 shares same
+
+-- ---- THE FINISHED ONES APART
+
+module _ (rows : List Row) where
+  -- none of those that are left has the number of a finished one
+  done-none : (left : List (ℕ × ArtifactsMeaning)) (p : ℕ) (w : ArtifactsMeaning) (share : List (List ℕ)) → is_done rows (p, w) ≡ true → newer_share (filter (is_left rows) left) p share ≡ share
+  done-none [] p w share done = refl
+  done-none (a ∷ left) p w share done = none-by (is_done rows a) (nat_eq a.0 p) refl refl (done-none left p w share done)
+    where
+      none-by : (b c : Bool) → is_done rows a ≡ b → nat_eq a.0 p ≡ c → newer_share (filter (is_left rows) left) p share ≡ share
+          → newer_share (cond (not b) (a ∷ filter (is_left rows) left) (filter (is_left rows) left)) p share ≡ share
+      none-by true c is at others = others
+      none-by false false is at others = ap (λ (b : Bool). cond b a.1.writer.written (newer_share (filter (is_left rows) left) p share)) at ∙ others
+      none-by false true is at others =
+          let same : a.0 ≡ p = grind (arith, nat_tests) in
+          let both : true ≡ false = sym done ∙ ap (λ n. is_done rows (n, w)) (sym same) ∙ is in
+          let none : ⊥ = cc in absurd none
+
+  part-newer : (left : List (ℕ × ArtifactsMeaning)) (p : ℕ) (share : List (List ℕ)) → newer_share (filter (is_left rows) left) p (newer_share (filter (is_done rows) left) p share) ≡ newer_share left p share
+  part-newer [] p share = refl
+  part-newer (a ∷ left) p share = part-by (is_done rows a) (nat_eq a.0 p) refl refl (part-newer left p share)
+    where
+      part-by : (b c : Bool) → is_done rows a ≡ b → nat_eq a.0 p ≡ c
+          → newer_share (filter (is_left rows) left) p (newer_share (filter (is_done rows) left) p share) ≡ newer_share left p share
+          → newer_share (cond (not b) (a ∷ filter (is_left rows) left) (filter (is_left rows) left)) p (newer_share (cond b (a ∷ filter (is_done rows) left) (filter (is_done rows) left)) p share)
+          ≡ cond c a.1.writer.written (newer_share left p share)
+      part-by false c is at others = ap (λ (b : Bool). cond b a.1.writer.written (newer_share (filter (is_left rows) left) p (newer_share (filter (is_done rows) left) p share))) at ∙ ap (cond c a.1.writer.written) others
+      part-by true false is at others =
+          ap (λ (b : Bool). newer_share (filter (is_left rows) left) p (cond b a.1.writer.written (newer_share (filter (is_done rows) left) p share))) at ∙ others
+      part-by true true is at others =
+          let same : a.0 ≡ p = grind (arith, nat_tests) in
+          ap (λ (b : Bool). newer_share (filter (is_left rows) left) p (cond b a.1.writer.written (newer_share (filter (is_done rows) left) p share))) at
+          ∙ done-none left p a.1 a.1.writer.written (ap (λ n. is_done rows (n, a.1)) (sym same) ∙ is)
+
+  all-parts : (left : List (ℕ × ArtifactsMeaning)) (k : ℕ) (shares : List (List (List ℕ))) → newer-from (filter (is_left rows) left) k (newer-from (filter (is_done rows) left) k shares) ≡ newer-from left k shares
+  all-parts left k [] = refl
+  all-parts left k (share ∷ shares) = λ i. part-newer left k share i ∷ all-parts left (k + 1) shares i
+
+  pub newer-parts : (left : List (ℕ × ArtifactsMeaning)) (shares : List (List (List ℕ))) → newer_shares (filter (is_left rows) left) (newer_shares (filter (is_done rows) left) shares) ≡ newer_shares left shares
+  newer-parts left shares = all-parts left 0 shares
+
+-- ---- WHAT THE OTHERS WORK WITH
+
+-- a row that waits again is as unfinished as it was
+abbrev again-by : Bool → Row → Row
+again-by b row = cond b (dropped_row row) row
+
+finished-by : (b : Bool) (row : Row) → is_failed row.state ≡ b → is_finished (again-by b row).state ≡ is_finished row.state
+finished-by false row is = refl
+finished-by true row is = sym (unfinished row.state is)
+  where
+    unfinished : (st : RowState) → is_failed st ≡ true → is_finished st ≡ false
+    unfinished state.Waiting e = refl
+    unfinished (state.Running lane) e = refl
+    unfinished state.Finished e = let none : ⊥ = cc in absurd none
+    unfinished state.Failed e = refl
+
+pub finished-again : (row : Row) → is_finished (restarted row).state ≡ is_finished row.state
+finished-again row = finished-by (is_failed row.state) row refl
+
+work-by : (f : Function) (s : Setup) (records : List (List ℕ)) (w : ArtifactsMeaning) (b : Bool) (row : Row) → IsWork f s.rules row.lo (own_records records row) w → IsWork f s.rules (again-by b row).lo (own_records records (again-by b row)) w
+work-by f s records w true row is = is
+work-by f s records w false row is = is
+
+-- the task that came back of a partition, with its row
+abbrev pub task-of : Setup → List Row → ℕ × ArtifactsMeaning → TaskState
+task-of s rows a = record {
+  partition = a.0;
+  row = slice_index_or rows a.0 (fresh_row (record { lo = 0; hi = 0 }));
+  rules = s.rules;
+  item_count = s.item_count;
+  work = a.1;
+}
+
+pub row-at : (rows : List Row) (a : ℕ × ArtifactsMeaning) (k : ℕ) (row : Row) → a.0 ≡ k → slice_get rows k ≡ Some row → slice_index_or rows a.0 (fresh_row (record { lo = 0; hi = 0 })) ≡ row
+row-at rows a k row here at = ap (λ n. slice_index_or rows n (fresh_row (record { lo = 0; hi = 0 }))) here ∙ get_or_from_slice_get rows k row (fresh_row (record { lo = 0; hi = 0 })) at
+
+module _ (f : Function) (records : List (List ℕ)) (s : Setup) (rows : List Row) (all : List (List (List ℕ))) where
+  -- these artifacts are those of these unfinished partitions
+  abbrev AreKept : List (ℕ × ArtifactsMeaning) → List (ℕ × Row) → Type 0
+  AreKept ls ns = (numbers_in ls ≡ map (λ n. n.0) ns) × AreWorks f s.rules records all ns (works_in ls)
+
+  kept-one : (b c : Bool) (a : ℕ × ArtifactsMeaning) (n : ℕ × Row) (ls : List (ℕ × ArtifactsMeaning)) (ns : List (ℕ × Row)) → b ≡ c → a.0 ≡ n.0 → IsWorkFor f s.rules records all n a.1 → AreKept ls ns
+      → AreKept (cond b (a ∷ ls) ls) (cond c (n ∷ ns) ns)
+  kept-one true true a n ls ns same here is are = (λ i. here i ∷ are.0 i, (is, are.1))
+  kept-one true false a n ls ns same here is are = let none : ⊥ = cc in absurd none
+  kept-one false true a n ls ns same here is are = let none : ⊥ = cc in absurd none
+  kept-one false false a n ls ns same here is are = are
+
+  skip-one : (b : Bool) (n : ℕ × Row) (ls : List (ℕ × ArtifactsMeaning)) (ns : List (ℕ × Row)) → b ≡ true → AreKept ls ns → AreKept ls (cond (not b) (n ∷ ns) ns)
+  skip-one true n ls ns is are = are
+  skip-one false n ls ns is are = let none : ⊥ = cc in absurd none
+
+  works-by : (b : Bool) (k : ℕ) (old new : Row) (olds news : List Row) (share : List (List ℕ)) (ls : List (ℕ × ArtifactsMeaning)) → is_finished old.state ≡ b
+      → numbers_in ls ≡ map (λ n. n.0) (cond (not b) ((k, old) ∷ left-of (enumerate_from (k + 1) olds)) (left-of (enumerate_from (k + 1) olds)))
+      → Stays old new → IsShare f records new share → slice_get rows k ≡ Some new → slice_get all k ≡ Some share → HaveResults f records (map (task-of s rows) ls)
+      → ((us : List (ℕ × ArtifactsMeaning)) → numbers_in us ≡ left-numbers (k + 1) olds → HaveResults f records (map (task-of s rows) us) → AreKept (filter (is_left rows) us) (left-of (enumerate_from (k + 1) (map restarted news))))
+      → AreKept (filter (is_left rows) ls) (left-of (enumerate_from k (map restarted (new ∷ news))))
+  works-by true k old new olds news share ls is named stays own at there have more =
+      let finished = finished-again new ∙ ap (λ (r : Row). is_finished r.state) (stays is) ∙ is in
+      skip-one (is_finished (restarted new).state) (k, restarted new) (filter (is_left rows) ls) (left-of (enumerate_from (k + 1) (map restarted news))) finished (more ls named have)
+  works-by false k old new olds news share [] is named stays own at there have more = let none : ⊥ = cc in absurd none
+  works-by false k old new olds news share (a ∷ ls) is named stays own at there have more =
+      let here = head-is a.0 k (numbers_in ls) (left-numbers (k + 1) olds) named in
+      let others = more ls (tail-is a.0 k (numbers_in ls) (left-numbers (k + 1) olds) named) have.1 in
+      let row = row-at rows a k new here at in
+      let work = work-by f s records a.1 (is_failed new.state) new (subst (λ (r : Row). IsWork f s.rules r.lo (own_records records r) a.1) row have.0.work) in
+      let written : share ≡ a.1.writer.written = own.results ∙ ap (λ (r : Row). results_so_far f records r) (sym row) ∙ sym have.0.results in
+      let same = ap (λ (r : Row). not (is_finished r.state)) row ∙ ap not (sym (finished-again new)) in
+      kept-one (is_left rows a) (not (is_finished (restarted new).state)) a (k, restarted new) (filter (is_left rows) ls) (left-of (enumerate_from (k + 1) (map restarted news))) same here
+      (work, there ∙ ap Some written) others
+
+  pub works-kept : (k : ℕ) (olds news : List Row) (shares : List (List (List ℕ))) (ls : List (ℕ × ArtifactsMeaning)) → numbers_in ls ≡ left-numbers k olds → Pairwise Stays olds news → AreShares f records news shares
+      → ((i : ℕ) (row : Row) → slice_get news i ≡ Some row → slice_get rows (k + i) ≡ Some row) → ((i : ℕ) (share : List (List ℕ)) → slice_get shares i ≡ Some share → slice_get all (k + i) ≡ Some share)
+      → HaveResults f records (map (task-of s rows) ls)
+      → (numbers_in (filter (is_left rows) ls) ≡ left-numbers k (map restarted news)) × AreWorks f s.rules records all (left-of (enumerate_from k (map restarted news))) (works_in (filter (is_left rows) ls))
+  works-kept k [] [] shares [] named stay own at there have = (refl, tt)
+  works-kept k [] [] shares (a ∷ ls) named stay own at there have = let none : ⊥ = cc in absurd none
+  works-kept k [] (new ∷ news) shares ls named stay own at there have = absurd stay
+  works-kept k (old ∷ olds) [] shares ls named stay own at there have = absurd stay
+  works-kept k (old ∷ olds) (new ∷ news) [] ls named stay own at there have = absurd own
+  works-kept k (old ∷ olds) (new ∷ news) (share ∷ shares) ls named stay own at there have =
+      let first : k + 0 ≡ k = omega arith in
+      works-by (is_finished old.state) k old new olds news share ls refl named stay.0 own.0
+      (subst (λ m. slice_get rows m ≡ Some new) first (at zero new refl)) (subst (λ m. slice_get all m ≡ Some share) first (there zero share refl)) have
+      (λ us is has. works-kept (k + 1) olds news shares us is stay.1 own.1
+      (λ i r get. let e : k + suc i ≡ (k + 1) + i = omega arith in subst (λ m. slice_get rows m ≡ Some r) e (at (suc i) r get))
+      (λ i x get. let e : k + suc i ≡ (k + 1) + i = omega arith in subst (λ m. slice_get all m ≡ Some x) e (there (suc i) x get)) has)

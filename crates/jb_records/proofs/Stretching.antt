@@ -1,0 +1,222 @@
+-- A run that stays in memory, from stretch to stretch.
+use Rattle.std.proofs.Common.{◌≡◌, ℕ, zero, suc, ◌+◌, ◌≤◌, Bool, false, List, [], ◌∷◌, map, length, Option, Some, None, refl, ap, sym, subst, ◌∙◌, arith}
+use Rattle.std.proofs.lemmas.Bool.Decides.{nat_tests}
+use Rattle.std.specs.Prelude.{filter, nat_lt, slice_get, ◌||◌}
+use Rattle.jb_base.specs.Pairwise.{Pairwise}
+use Rattle.jb_base.specs.Rules.{RulesRecord}
+use Rattle.jb_artifacts.specs.Meaning.{ArtifactsMeaning}
+use Rattle.jb_repo.specs.declared.snapshot.Snapshot.{Snapshot}
+use Rattle.jb_rules.specs.declared.row.Row.{Row}
+use Rattle.jb_rules.specs.States.{is_running}
+use Rattle.jb_chunk.specs.Standing.{TaskState}
+use Rattle.jb_saved.specs.Answers.{first_running}
+use Rattle.jb_saved.specs.GoingOn.{is_past, restarted, rows_restarted}
+use Rattle.jb_saved.specs.SavedRows.{SavedRows}
+use Rattle.jb_step.specs.Answers.{tasks_left}
+use Rattle.jb_step.specs.PlanLaws.{AreTasksOf, BeginsWithRows, BeginsWithTable}
+use Rattle.jb_step.specs.Setup.{Setup, first_tasks, needs, rows_now, unfinished}
+use Rattle.jb_records.specs.Function.{Function}
+use Rattle.jb_records.specs.Runs.{PartsStay, ResultsGoOn}
+use Rattle.jb_records.specs.Shares.{AreInOrder, IsSoFar, newer_shares}
+use Rattle.jb_records.specs.Steps.{AreWorks, StepsKeepResults}
+use Rattle.jb_records.specs.Stretches.{HasGoneOn, IsStretchMade, RunState, StandsOver, numbers_in, works_in}
+use Rattle.jb_records.specs.inside.Calls.{CanBegin}
+use Rattle.jb_records.specs.inside.Kept.{IsGoingOn, IsRanOver, RowsAreSaved, StretchesGoOn, WorksFit, is_done, is_left, news_from}
+use Rattle.jb_records.proofs.Ahead.{GoAhead, IsAhead, rows-ahead}
+use Rattle.jb_records.proofs.Calling.{works-fit}
+use Rattle.jb_records.proofs.Growing.{grown-all, news-length}
+use Rattle.jb_records.proofs.Keeping.{newer-again, newer-parts, works-kept}
+use Rattle.jb_records.proofs.Resuming.{numbered-so, so-far-again}
+use Rattle.jb_records.proofs.Staying.{Stays, left-numbers, numbers-left, rows-stay, same-partitions}
+use Rattle.jb_records.proofs.Steps.{HaveResults, all-begun, kept-by}
+
+-- ---- WHERE IT STANDS, ITS PARTITIONS HAVE THEIR RECORDS
+
+below-last : (from to : ℕ) (rows : List Row) → AreInOrder from to rows → from ≤ to
+below-last from to [] order = omega (arith, order)
+below-last from to (row ∷ rows) order =
+    let le = order.1 in
+    let rest = below-last row.hi to rows order.2 in
+    omega (arith, le, rest)
+
+order-within : (from to : ℕ) (rows : List Row) → AreInOrder from to rows → (p : ℕ) (row : Row) → slice_get rows p ≡ Some row → (row.lo ≤ row.hi) × (row.hi ≤ to)
+order-within from to [] order p row at = absurd (cc at)
+order-within from to (r ∷ rows) order zero row at =
+    let same : r ≡ row = cc in
+    let lo = order.0 in
+    let le = order.1 in
+    let rest = below-last r.hi to rows order.2 in
+    subst (λ (one : Row). (one.lo ≤ one.hi) × (one.hi ≤ to)) same (omega (arith, lo, le), omega (arith, rest))
+order-within from to (r ∷ rows) order (suc p) row at = order-within r.hi to rows order.2 p row at
+
+pub can-go-on : (f : Function) (records : List (List ℕ)) (rows : List Row) (shares : List (List (List ℕ))) → IsSoFar f records rows shares → CanBegin (length records) rows shares
+can-go-on f records rows shares so = record {
+  within = order-within 0 (length records) rows so.order;
+  numbered = numbered-so f records rows shares so.each;
+}
+
+pub works-do-fit : WorksFit
+works-do-fit f records s stands = works-fit f s.setup.rules records s.setup s.shares (works_in s.works) (can-go-on f records s.setup.rows s.shares stands.so_far) stands.works
+
+-- ---- ITS ROWS CAN BE SAVED
+
+none-running : (olds news : List Row) → Pairwise IsAhead olds news → ((i : ℕ) (row : Row) → slice_get olds i ≡ Some row → is_running row.state ≡ false) → first_running news ≡ None
+none-running [] [] ahead still = refl
+none-running [] (new ∷ news) ahead still = absurd ahead
+none-running (old ∷ olds) [] ahead still = absurd ahead
+none-running (old ∷ olds) (new ∷ news) ahead still =
+    let here : is_running new.state ≡ false = ahead.0.still (still zero old refl) in
+    let rest = none-running olds news ahead.1 (λ i r get. still (suc i) r get) in
+    grind (arith, here, rest)
+
+none-past : (from to : ℕ) (rows : List Row) → AreInOrder from to rows → is_past to rows ≡ false
+none-past from to [] order = refl
+none-past from to (row ∷ rows) order =
+    let last = below-last row.hi to rows order.2 in
+    let here : nat_lt to row.hi ≡ false = grind (arith, nat_tests) in
+    let rest = none-past row.hi to rows order.2 in
+    ap (λ (b : Bool). b || is_past to rows) here ∙ rest
+
+-- ---- A STRETCH
+
+module _ (going : ResultsGoOn) (parts : PartsStay) (begins : BeginsWithTable) (same : BeginsWithRows) (kept : StepsKeepResults) (ahead : GoAhead) where
+  module _ (f : Function) (records : List (List ℕ)) (before : RunState) (rounds : Option ℕ) (snapshot : Snapshot) (left : List (ℕ × ArtifactsMeaning))
+      (stands : StandsOver f records before) (ran : IsRanOver before.setup (works_in before.works) rounds snapshot left) where
+    abbrev now : List TaskState
+    now = tasks_left before.setup snapshot left
+
+    abbrev first : List TaskState
+    first = first_tasks before.setup (works_in before.works)
+
+    ready : AreTasksOf before.setup first
+    ready = (begins before.setup (works_in before.works) stands.setup ran.fit).tasks
+
+    have : HaveResults f records now
+    have =
+        kept-by going f records before.setup first now ready
+        (all-begun f records before.shares before.setup 0 before.setup.rows before.shares (works_in before.works) stands.so_far.each
+        (λ i share get. let e : i ≡ 0 + i = omega arith in subst (λ m. slice_get before.shares m ≡ Some share) e get) stands.works ready)
+        ran.ways
+
+    so-far : IsSoFar f records snapshot.rows.items (newer_shares left before.shares)
+    so-far = kept f records before.shares before.setup (works_in before.works) snapshot left stands.setup ran.fit stands.works ran.ways ran.rows stands.so_far
+
+    named : numbers_in left ≡ needs before.setup.rows
+    named =
+        sym (numbers-left before.setup snapshot left)
+        ∙ same-partitions parts first now ran.ways
+        ∙ (begins before.setup (works_in before.works) stands.setup ran.fit).partitions
+
+    aheads : Pairwise IsAhead before.setup.rows snapshot.rows.items
+    aheads =
+        subst (Pairwise IsAhead before.setup.rows) (sym ran.rows)
+        (subst (λ (rows : List Row). Pairwise IsAhead rows (rows_now before.setup.rows now)) (same before.setup (works_in before.works) ran.fit)
+        (rows-ahead ahead parts before.setup first now 0 before.setup.rows ready ran.ways))
+
+    stay : Pairwise Stays before.setup.rows snapshot.rows.items
+    stay = subst (Pairwise Stays before.setup.rows) (sym ran.rows) (rows-stay now 0 before.setup.rows (numbers-left before.setup snapshot left ∙ named))
+
+    here : {A : Type 0} (xs : List A) (i : ℕ) (x : A) → slice_get xs i ≡ Some x → slice_get xs (0 + i) ≡ Some x
+    here xs i x get = let e : i ≡ 0 + i = omega arith in subst (λ m. slice_get xs m ≡ Some x) e get
+
+    saved : (first_running snapshot.rows.items ≡ None) × (is_past before.records snapshot.rows.items ≡ false)
+    saved = (
+      none-running before.setup.rows snapshot.rows.items aheads (λ i row get. (stands.setup.openable.idle i row get).1),
+      subst (λ n. is_past n snapshot.rows.items ≡ false) (sym stands.number) (none-past 0 (length records) snapshot.rows.items so-far.order),
+    )
+
+    module _ (after : RunState) (results : List (List (List ℕ))) (held : before.shares ≡ newer_shares before.works results)
+        (on : IsGoingOn before.step before.records before.setup.rules snapshot.rows.items (filter (is_left snapshot.rows.items) left) (newer_shares (filter (is_done snapshot.rows.items) left) results) after) where
+      abbrev rows : List Row
+      rows = snapshot.rows.items
+
+      -- the shares now are those that came back, and those of the others
+      shares-now : after.shares ≡ newer_shares left before.shares
+      shares-now =
+          on.shares_are
+          ∙ newer-parts rows left results
+          ∙ sym (newer-again left before.works results (named ∙ sym stands.partitions))
+          ∙ ap (newer_shares left) (sym held)
+
+      so-far-now : IsSoFar f records rows after.shares
+      so-far-now = subst (IsSoFar f records rows) (sym shares-now) so-far
+
+      kept-works : (numbers_in (filter (is_left rows) left) ≡ left-numbers 0 (map restarted rows)) × AreWorks f before.setup.rules records after.shares (unfinished (map restarted rows)) (works_in (filter (is_left rows) left))
+      kept-works = works-kept f records before.setup rows after.shares 0 before.setup.rows rows after.shares left named stay so-far-now.each (here rows) (here after.shares) have
+
+      abbrev held-rows : SavedRows
+      held-rows = record { step = before.step; rows = rows }
+
+      stands-now : StandsOver f records after
+      stands-now = record {
+        number = on.number ∙ stands.number;
+        setup = on.setup;
+        so_far = subst (λ (rs : List Row). IsSoFar f records rs after.shares) (sym on.rows_are) (so-far-again f records held-rows after.shares so-far-now);
+        partitions = ap numbers_in on.works_are ∙ kept-works.0 ∙ sym (ap needs on.rows_are);
+        works = subst (λ (ws : List (ℕ × ArtifactsMeaning)). AreWorks f after.setup.rules records after.shares (unfinished after.setup.rows) (works_in ws)) (sym on.works_are)
+            (subst (λ (rs : List Row). AreWorks f after.setup.rules records after.shares (unfinished rs) (works_in (filter (is_left rows) left))) (sym on.rows_are)
+            (subst (λ (rules : RulesRecord). AreWorks f rules records after.shares (unfinished (rows_restarted held-rows)) (works_in (filter (is_left rows) left))) (sym on.rules_are) kept-works.1));
+      }
+
+      gone-on : HasGoneOn f records before after rows (news_from 0 (map (λ row. row.written) before.setup.rows) left)
+      gone-on = record {
+        so_far = so-far-now;
+        shares_are = grown-all f records before.setup rows 0 before.setup.rows rows before.shares after.shares left named aheads stay
+            (λ i row get. (stands.setup.openable.idle i row get).0.placed.at_from) stands.so_far.each so-far-now.each (here rows) have;
+        number = news-length 0 (map (λ row. row.written) before.setup.rows) left ∙ length-told before.setup.rows ∙ sym (same-length before.setup.rows rows aheads);
+        same = same-length before.setup.rows rows aheads;
+        stands = stands-now;
+      }
+        where
+          length-told : (rs : List Row) → length (map (λ row. row.written) rs) ≡ length rs
+          length-told [] = refl
+          length-told (r ∷ rs) = ap suc (length-told rs)
+
+          same-length : (olds news : List Row) → Pairwise IsAhead olds news → length news ≡ length olds
+          same-length [] [] is = refl
+          same-length [] (n ∷ ns) is = absurd is
+          same-length (o ∷ os) [] is = absurd is
+          same-length (o ∷ os) (n ∷ ns) is = ap suc (same-length os ns is.1)
+
+  pub rows-are-saved : RowsAreSaved
+  rows-are-saved f records s rounds snapshot left stands ran = saved f records s rounds snapshot left stands ran
+
+  pub stretches-on : StretchesGoOn
+  stretches-on f records before after results rounds snapshot left stands held ran on = gone-on f records before rounds snapshot left stands ran after results held on
+
+-- ---- FROM CALL TO CALL
+
+-- the run that was made, of the same works
+pub ran-same : (s : Setup) (works same : List ArtifactsMeaning) (rounds : Option ℕ) (snapshot : Snapshot) (left : List (ℕ × ArtifactsMeaning)) → works ≡ same → IsRanOver s works rounds snapshot left → IsRanOver s same rounds snapshot left
+ran-same s works same rounds snapshot left is ran = subst (λ (ws : List ArtifactsMeaning). IsRanOver s ws rounds snapshot left) is ran
+
+pub goes-on : StretchesGoOn → (f : Function) (records : List (List ℕ)) (before after : RunState) (results : List (List (List ℕ))) (rounds : Option ℕ) (snapshot : Snapshot) (shown : List Row) (left brought finished others : List (ℕ × ArtifactsMeaning))
+    → (works : List ArtifactsMeaning) (put news : List (List (List ℕ))) (told : List ℕ) (rules : RulesRecord) → StandsOver f records before → before.shares ≡ newer_shares before.works results → works ≡ works_in before.works
+    → IsRanOver before.setup works rounds snapshot left → rules ≡ before.setup.rules → shown ≡ snapshot.rows.items → finished ≡ filter (is_done shown) left → others ≡ filter (is_left shown) left → put ≡ newer_shares finished results
+    → IsGoingOn before.step before.records rules snapshot.rows.items others put after → told ≡ map (λ row. row.written) before.setup.rows → brought ≡ left → news ≡ news_from 0 told brought
+    → HasGoneOn f records before after snapshot.rows.items news
+goes-on law f records before after results rounds snapshot shown left brought finished others works put news told rules stands held own ran ruled same done kept is on was back new =
+    let ends = snapshot.rows.items in
+    let shares : put ≡ newer_shares (filter (is_done ends) left) results =
+    is ∙ ap (λ (l : List (ℕ × ArtifactsMeaning)). newer_shares l results) (done ∙ ap (λ (rs : List Row). filter (is_done rs) left) same) in
+    let step = subst (λ (r : RulesRecord). IsGoingOn before.step before.records r ends others put after) ruled on in
+    let next = subst (λ (l : List (ℕ × ArtifactsMeaning)). IsGoingOn before.step before.records before.setup.rules ends l put after) (kept ∙ ap (λ (rs : List Row). filter (is_left rs) left) same) step in
+    let last = subst (λ (x : List (List (List ℕ))). IsGoingOn before.step before.records before.setup.rules ends (filter (is_left ends) left) x after) shares next in
+    let gone = law f records before after results rounds snapshot left stands held (ran-same before.setup works (works_in before.works) rounds snapshot left own ran) last in
+    let told-is : news ≡ news_from 0 (map (λ row. row.written) before.setup.rows) left = new ∙ ap (news_from 0 told) back ∙ ap (λ (t : List ℕ). news_from 0 t left) was in
+    subst (HasGoneOn f records before after ends) (sym told-is) gone
+
+pub made-of : (before after : RunState) (rounds : Option ℕ) (snapshot : Snapshot) (left others : List (ℕ × ArtifactsMeaning)) (works : List ArtifactsMeaning) (put : List (List (List ℕ))) (rules : RulesRecord)
+    → works ≡ works_in before.works → IsRanOver before.setup works rounds snapshot left → IsGoingOn before.step before.records rules snapshot.rows.items others put after → IsStretchMade rounds before snapshot after
+made-of before after rounds snapshot left others works put rules own ran on = record {
+  run = ran.run;
+  setup = ran.setup;
+  rounds_are = ran.rounds_are;
+  works = ran.works_are ∙ own;
+  answered = ran.answered;
+  headline = ran.headline;
+  on_the_way = ran.on_the_way;
+  snapshot_is = ran.snapshot_is;
+  rows = on.rows_are;
+  step_is = on.step_is;
+}

@@ -1,0 +1,29 @@
+use Rattle.std.proofs.Common.{◌∙◌, ap, subst}
+use Rattle.std.proofs.lemmas.Result.{IfOk-weaker}
+use Rattle.jb_step.specs.Setup.{Setup}
+use Rattle.jb_records.specs.Shares.{AreWhole}
+use Rattle.jb_records.proofs.Beginning.{behind-stands, whole-before}
+use Rattle.jb_records.proofs.Calling.{can-begin}
+use Rattle.jb_records.proofs.kept.RecordsRun.begin_behind.Goals as goal
+
+pub over-requires-clause-can : goal.over-requires-clause-can
+over-requires-clause-can g c κs within = can-begin _ _ _ _ _ _ c.in_ok-job.ensures.begun
+
+pub returns-clause-behind : goal.returns-clause-behind
+returns-clause-behind g c =
+    IfOk-weaker c.over.result _ _ (λ run kept.
+    let rows = ap (λ (s : Setup). s.rows) kept.setup_is ∙ c.in_ok-job.ensures.rows in
+    record {
+      held = c.in_ok-held.held;
+      read = c.in_ok-held.ensures;
+      step_is = kept.step_is;
+      rows = rows;
+      shares_are = kept.shares_are ∙ c.in_ok-job.ensures.results;
+      numbered = c.in_ok-job.ensures.numbered;
+      whole = λ whole. whole-before c.in_ok-held.held.rows (subst AreWhole rows whole);
+    }) c.over.ensures.kept
+
+pub returns-clause-stands : goal.returns-clause-stands
+returns-clause-stands g c =
+    IfOk-weaker c.over.result _ _ (λ run kept held read so. behind-stands _ c.args.records.now _ c.args.saved.now c.in_ok-held.held held _ _ c.args.results.items _ kept c.in_ok-job.ensures.begun.setup c.in_ok-job.ensures.rows c.in_ok-job.ensures.results
+    c.in_ok-held.ensures read so) c.over.ensures.kept

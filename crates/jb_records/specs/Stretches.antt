@@ -1,0 +1,103 @@
+-- A step over records that stays in memory between its stretches.
+use Rattle.std.specs.Prelude.{ℕ, ◌≡◌, ◌++◌, List, [], length, map, Option, Ok}
+use Rattle.std.specs.List.{zip}
+use Rattle.jb_artifacts.specs.Meaning.{ArtifactsMeaning}
+use Rattle.jb_job.specs.Reading.{tree_of}
+use Rattle.jb_repo.specs.declared.snapshot.Snapshot.{Snapshot}
+use Rattle.jb_rules.specs.declared.row.Row.{Row}
+use Rattle.jb_saved.specs.declared.error.StepError.TheVariants as error
+use Rattle.jb_saved.specs.GoingOn.{rows_restarted}
+use Rattle.jb_saved.specs.Reading.{answer_of}
+use Rattle.jb_saved.specs.SavedRows.{SavedRows}
+use Rattle.jb_step.specs.Alone.{AreOnTheWay}
+use Rattle.jb_step.specs.Answers.{StepRun, tasks_after, tasks_before}
+use Rattle.jb_step.specs.Headline.{Headline}
+use Rattle.jb_step.specs.Setup.{IsSetup, Setup, needs, unfinished}
+use Rattle.jb_step.specs.StepRuns.{IsAnswered}
+use Rattle.jb_records.specs.declared.error.RecordsStepError.{RecordsStepError}
+use Rattle.jb_records.specs.declared.error.RecordsStepError.TheVariants.{Memory, Step}
+use Rattle.jb_records.specs.Function.{Function}
+use Rattle.jb_records.specs.Shares.{AreNumbered, AreWhole, IsSoFar, joined}
+use Rattle.jb_records.specs.Steps.{AreWorks}
+
+-- ---- WHERE A RUN STANDS
+
+-- the step's name and the number of records; what the next stretch begins with; what the unfinished partitions work with, each with
+-- its number; and the results of each partition
+pub record RunState : Type 0 where
+  pub step : List ℕ
+  pub records : ℕ
+  pub setup : Setup
+  pub works : List (ℕ × ArtifactsMeaning)
+  pub shares : List (List (List ℕ))
+
+-- the numbers of the partitions, and what they work with
+abbrev pub numbers_in : List (ℕ × ArtifactsMeaning) → List ℕ
+numbers_in works = map (λ a. a.0) works
+
+abbrev pub works_in : List (ℕ × ArtifactsMeaning) → List ArtifactsMeaning
+works_in works = map (λ a. a.1) works
+
+-- THE RUN STANDS OVER THESE RECORDS: it is as far as its rows say, and each unfinished partition works with its own records, its
+-- share in its writer
+pub record StandsOver (f : Function) (records : List (List ℕ)) (s : RunState) : Type 0 where
+  pub number : s.records ≡ length records
+  pub setup : IsSetup s.setup
+  pub so_far : IsSoFar f records s.setup.rows s.shares
+  pub partitions : numbers_in s.works ≡ needs s.setup.rows
+  pub works : AreWorks f s.setup.rules records s.shares (unfinished s.setup.rows) (works_in s.works)
+
+-- ---- HOW IT BEGINS
+
+-- anew: with no result
+pub record BeginsEmpty (step : List ℕ) (s : RunState) : Type 0 where
+  pub step_is : s.step ≡ step
+  pub empty : joined s.shares ≡ []
+  pub numbered : AreNumbered s.setup.rows s.shares
+
+-- behind the rows of a text, of which the failed ones wait again, and these results of its partitions
+pub record BeginsBehind (step text : List ℕ) (shares : List (List (List ℕ))) (s : RunState) : Type 0 where
+  pub held : SavedRows
+  pub read : answer_of (tree_of text) ≡ Ok held
+  pub step_is : s.step ≡ step
+  pub rows : s.setup.rows ≡ rows_restarted held
+  pub shares_are : s.shares ≡ shares
+  pub numbered : AreNumbered held.rows shares
+  pub whole : AreWhole s.setup.rows → AreWhole held.rows
+
+-- ---- WHAT A STRETCH DOES
+
+-- each share with what is new of it behind
+abbrev pub grown : (shares news : List (List (List ℕ))) → List (List (List ℕ))
+grown shares news = map (λ n. n.0 ++ n.1) (zip shares news)
+
+-- THE STRETCH WENT ON: these rows and the shares now are so far; the shares now are those before, each with what is new of it behind;
+-- and the run stands there
+pub record HasGoneOn (f : Function) (records : List (List ℕ)) (before after : RunState) (rows : List Row) (news : List (List (List ℕ))) : Type 0 where
+  pub so_far : IsSoFar f records rows after.shares
+  pub shares_are : after.shares ≡ grown before.shares news
+  pub number : length news ≡ length rows
+  pub same : length rows ≡ length before.setup.rows
+  pub stands : StandsOver f records after
+
+-- what was run: `run_step` says it of this setup and these artifacts, its `Headline` among it; and the next stretch goes on from the
+-- rows that it left, of which the failed ones wait again
+pub record IsStretchMade (rounds : Option ℕ) (before : RunState) (snapshot : Snapshot) (after : RunState) : Type 0 where
+  pub run : StepRun
+  pub setup : run.setup ≡ before.setup
+  pub rounds_are : run.round_limit ≡ rounds
+  pub works : run.works ≡ works_in before.works
+  pub answered : IsAnswered run
+  pub headline : Headline run
+  pub on_the_way : AreOnTheWay (tasks_before run) (tasks_after run)
+  pub snapshot_is : run.snapshot ≡ snapshot
+  pub rows : after.setup.rows ≡ rows_restarted (record { step = before.step; rows = snapshot.rows.items })
+  pub step_is : after.step ≡ before.step
+
+-- a stretch broke off: its desk wasn't its own, a worker could not be started, or memory lacked
+abbrev pub IsBrokenOff : RecordsStepError → Type 0
+IsBrokenOff (Step (error.Repository partition)) = Unit {0}
+IsBrokenOff (Step error.Workers) = Unit {0}
+IsBrokenOff (Step error.Memory) = Unit {0}
+IsBrokenOff Memory = Unit {0}
+IsBrokenOff _ = ⊥

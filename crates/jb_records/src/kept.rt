@@ -1,0 +1,155 @@
+//! A step over records that stays in memory between its stretches.
+
+ghost use Rattle.std.specs.Prelude.{◌≡◌, ◌≤◌, ◌↔◌, length, IfErr, IfOk, IsTrue, None, Ok};
+ghost use Rattle.std.specs.Arc.{arc_value};
+ghost use Rattle.jb_base.specs.Limits.{max_partitions, max_records};
+ghost use Rattle.jb_job.specs.Reading.{tree_of};
+ghost use Rattle.jb_plan.specs.Plans.{IsRunnable};
+ghost use Rattle.jb_saved.specs.Reading.{answer_of};
+ghost use Rattle.jb_saved.specs.SavedRows.{SavedRows};
+ghost use Rattle.jb_step.specs.Answers.{given_back};
+ghost use Rattle.jb_step.specs.Setup.{IsSetup};
+ghost use Rattle.jb_records.specs.Causes.{IsCauseBehind, IsCauseOf};
+ghost use Rattle.jb_records.specs.Made.{even_partitions};
+ghost use Rattle.jb_records.specs.Shares.{AreWhole, IsSoFar, newer_shares};
+ghost use Rattle.jb_records.specs.Stretches.{BeginsBehind, BeginsEmpty, RunState, StandsOver};
+ghost use Rattle.jb_records.specs.inside.Calls.{CanBegin, IsTryRefused};
+ghost use Rattle.jb_records.specs.inside.Kept.{IsKept};
+
+use crate::error::RecordsStepError;
+use crate::function::RecordFunction;
+use crate::job::RecordsJob;
+use crate::shares::put_back;
+use crate::step::RecordsStep;
+use crate::stretch_end::numbered;
+use crate::works::{Works, all_works};
+use jb_artifacts::Meaning;
+use jb_base::PackedList;
+use jb_collect::FaultlessReducer;
+use jb_step::{Prepared, read_saved};
+use std::alloc::Global;
+use std::sync::Arc;
+
+/// Where a run stands that stays in memory. Clauses name it.
+pub trait Standing {
+    ghost standing: { Self → RunState };
+}
+
+/// A step over records that stays in memory between its stretches: what each partition works with is kept, and nothing of an
+/// earlier stretch is copied.
+#[derive(Drop)]
+pub struct RecordsRun<F> {
+    pub(crate) step: RecordsStep,
+    pub(crate) count: u64,
+    pub(crate) prepared: Prepared,
+    pub(crate) reducer: FaultlessReducer,
+    /// Those of the finished partitions; what an unfinished one has is in its writer.
+    pub(crate) results: Vec<PackedList>,
+    pub(crate) works: Vec<(u32, Works<F>)>,
+    ghost few: { count ≤ max_records },
+    ghost runnable: { IsRunnable count (even_partitions step count) },
+    ghost few_rows: { length prepared.rows ≤ max_partitions },
+    ghost same_rules: { prepared.rules ≡ step.rules },
+}
+
+impl<F: RecordFunction + Drop> Standing for RecordsRun<F> {
+    ghost standing = { λ run. record {
+      step = run.step.id;
+      records = run.count;
+      setup = run.prepared;
+      works = given_back ⟦<Works<F> as Meaning>⟧.meaning run.works.items;
+      shares = newer_shares (given_back ⟦<Works<F> as Meaning>⟧.meaning run.works.items) run.results.items;
+    } };
+}
+
+impl<F: RecordFunction + Drop> RecordsRun<F> {
+    /// The run of a step that begins anew.
+    ///
+    /// # Errors
+    /// `Records`, `SkippedTry`, `Step` with what is wrong with the partitions, and `Memory`, as `run_records` has them.
+    pub fn begin(
+        alloc: Global,
+        step: &RecordsStep,
+        function: &Arc<F, Global>,
+        records: &PackedList,
+    ) -> Result<RecordsRun<F>, RecordsStepError>
+        ensures why { IfErr result (IsCauseOf (F.function (arc_value function.now)) step.now records.now None) }
+        ensures stands { IfOk result (λ run. StandsOver (F.function (arc_value function.now)) records.now (⟦<RecordsRun<F> as Standing>⟧.standing run)) }
+        ensures anew { IfOk result (λ run. BeginsEmpty step.now.id (⟦<RecordsRun<F> as Standing>⟧.standing run)) }
+    {
+        let job = RecordsJob::begin(alloc, step, records, None, &PackedList::new(alloc))?;
+        RecordsRun::over(alloc, step, function, records, job)
+    }
+
+    /// The run of a step that goes on behind the saved text of an earlier run and the results of each of its partitions.
+    ///
+    /// # Errors
+    /// Those of `begin`; `Step` with what is wrong with the saved text or its rows, too; and then `Results` where some partition has
+    /// another number of results than its row says.
+    pub fn begin_behind(
+        alloc: Global,
+        step: &RecordsStep,
+        function: &Arc<F, Global>,
+        records: &PackedList,
+        saved: &[u8],
+        results: Vec<PackedList>,
+    ) -> Result<RecordsRun<F>, RecordsStepError>
+        ensures why { IfErr result (IsCauseBehind (F.function (arc_value function.now)) step.now records.now saved.now results.items) }
+        ensures behind { IfOk result (λ run. BeginsBehind step.now.id saved.now results.items (⟦<RecordsRun<F> as Standing>⟧.standing run)) }
+        ensures stands { IfOk result (λ run. (held : SavedRows) → answer_of (tree_of saved.now) ≡ Ok held → IsSoFar (F.function (arc_value function.now)) records.now held.rows results.items →
+            StandsOver (F.function (arc_value function.now)) records.now (⟦<RecordsRun<F> as Standing>⟧.standing run)) }
+    {
+        let held = read_saved(alloc, saved)?;
+        let job = RecordsJob::behind(alloc, step, records, held, results)?;
+        RecordsRun::over(alloc, step, function, records, job)
+    }
+
+    /// The run of a step that is prepared: its unfinished partitions have what they work with.
+    fn over(
+        alloc: Global,
+        step: &RecordsStep,
+        function: &Arc<F, Global>,
+        records: &PackedList,
+        job: RecordsJob,
+    ) -> Result<RecordsRun<F>, RecordsStepError>
+        requires few { length records.now ≤ max_records }
+        requires can { CanBegin (length records.now) job.prepared.rows job.results.items }
+        requires runnable { IsRunnable (length records.now) (even_partitions step.now (length records.now)) }
+        requires setup { IsSetup job.prepared }
+        requires same_rules { job.prepared.rules ≡ step.now.rules }
+        ensures why { IfErr result (IsTryRefused (F.function (arc_value function.now)) step.now.rules 0 records.now) }
+        ensures kept { IfOk result (λ run. IsKept (F.function (arc_value function.now)) records.now step.now.id job.prepared job.results.items (⟦<RecordsRun<F> as Standing>⟧.standing run)) }
+    {
+        let RecordsJob {
+            prepared,
+            results,
+            rules,
+            reducer,
+        } = job;
+        let works = all_works(alloc, function, &rules, records, &prepared, &results)?;
+        let works = numbered(alloc, prepared.needs(), works)?;
+        Ok(RecordsRun {
+            step: step.copy(alloc)?,
+            count: records.len() as u64,
+            prepared,
+            reducer,
+            results,
+            works,
+        })
+    }
+
+    /// Whether each partition is at the end of its range. Then nothing is left to be run.
+    pub fn is_whole(&self) -> bool
+        ensures { IsTrue result ↔ AreWhole (⟦<RecordsRun<F> as Standing>⟧.standing self.now).setup.rows }
+    {
+        self.prepared.needs().is_empty()
+    }
+
+    /// The results of each partition, in their order. Takes no memory.
+    pub fn into_results(self) -> Vec<PackedList>
+        ensures { result.items ≡ (⟦<RecordsRun<F> as Standing>⟧.standing self).shares }
+    {
+        let RecordsRun { results, works, .. } = self;
+        put_back(works, results)
+    }
+}
