@@ -1,3 +1,2 @@
 pub mod Opens
-pub mod Lists
 pub mod Stages

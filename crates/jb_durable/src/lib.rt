@@ -9,7 +9,7 @@ mod lives;
 mod run;
 mod work;
 
-pub use life::{Life, live_and_crash};
+pub use life::{Life, live_and_crash, stop, stop_cut};
 pub use lives::{LastLife, work_through_crashes};
 pub use run::{RunError, run_durably};
 pub use work::Work;

@@ -38,7 +38,7 @@ fn crash<D: Crash>(mut files: Files<D>) -> Files<D>
 }
 
 /// It stops while the connection is open.
-fn stop<D: Crash + Drop>(conn: Connection<FileStore<D>>) -> Files<D>
+pub fn stop<D: Crash + Drop>(conn: Connection<FileStore<D>>) -> Files<D>
     ensures usable { IsTrue (D.Disk.is_usable result.log) × IsTrue (D.Disk.is_usable result.db) }
     ensures clean { AreClean D.Disk result.log result.db → HasCleanDisk (file_state conn) }
     ensures left { AreClean D.Disk result.log result.db → (image : Image) → outcomes D.Disk result.log result.db image
@@ -56,7 +56,7 @@ fn has_store<D: Disk>(left: &Leftover<D>) -> bool
 
 /// It stops in an open, or behind one that failed. None where a store stood over the files: what such a one leaves isn't known to
 /// be for the next open.
-fn stop_cut<D: Crash + Drop>(left: Leftover<D>) -> Option<Files<D>>
+pub fn stop_cut<D: Crash + Drop>(left: Leftover<D>) -> Option<Files<D>>
     ensures usable { IfSome result (λ files. IsTrue (D.Disk.is_usable files.log) × IsTrue (D.Disk.is_usable files.db)) }
     ensures clean { IfSome result (λ files. AreClean D.Disk files.log files.db → IsCleanLeft left) }
     ensures left { IfSome result (λ files. AreClean D.Disk files.log files.db → (image : Image) → outcomes D.Disk files.log files.db image → LeavesImage left image) }

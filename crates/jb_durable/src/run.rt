@@ -1,7 +1,7 @@
 //! Stretch after stretch, each kept before the next begins.
 
 ghost use Rattle.std.specs.Prelude.{◌≡◌, ◌≤◌, List, IfOk, IsTrue, false};
-ghost use Rattle.jb_store.specs.Checkpoints.{Kept, ShowsList};
+ghost use Rattle.jb_store.specs.Checkpoints.{Has, Kept, ShowsList};
 ghost use Rattle.jb_store.specs.Connections.{IsJustOpened, Keeps};
 ghost use Rattle.jb_durable.specs.Files.{IsOfARun};
 ghost use Rattle.jb_durable.specs.Works.{IsSame, StandsAt};
@@ -68,6 +68,7 @@ pub fn run_durably<R: Threads + Wait + Sync, W: Work, S: Alter>(
     work: &mut W,
     stretches: u32,
 ) -> Result<bool, RunError<W::Error>>
+    ensures shown { IsJustOpened (state S.Store conn.old) → (all : List Kept) → Has (state S.Store conn.old).now.trees all → ShowsList (state S.Store conn.old).now all }
     ensures done { HasCleanDisk (state S.Store conn.new) → IsJustOpened (state S.Store conn.old) → (all : List Kept) → ShowsList (state S.Store conn.old).now all → W.Work.is_so_far work.old all
         → IfOk result (λ is_done. (now : List Kept) × Keeps (state S.Store conn.new) now × W.Work.is_so_far work.old now × W.Work.stands_at work.new now
         × (IsTrue is_done → W.Work.is_whole work.old now)) }

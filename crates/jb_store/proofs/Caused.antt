@@ -1,5 +1,6 @@
 -- Why an insertion fails, by the name of its error.
-use Rattle.std.proofs.Common.{◌≡◌, inl, inr, ℕ, List, Result, Ok, Err, IfErr, Option, Some, None, option_map, false, sym, ap, subst, ◌∙◌}
+use Rattle.std.proofs.Common.{◌≡◌, ◌&&◌, inl, inr, ℕ, zero, suc, Bool, true, false, not, List, [], ◌∷◌, length, append-nil, Result, Ok, Err, IfErr, Option, Some, None, option_map, refl, sym, ap, subst, ◌∙◌, arith, true≢false}
+use Rattle.std.proofs.lemmas.List.{length-append}
 use Rattle.std.proofs.lemmas.Bool.{cases_Bool}
 use Rattle.sqlite.specs.declared.error.Error.{Error}
 use Rattle.sqlite.specs.declared.error.Error.TheVariants.{SqliteFailure, SqlInputError, InvalidParameterCount, ExecuteReturnedResults, MultipleStatement}
@@ -19,25 +20,53 @@ use Rattle.sqlite.specs.Listing.{understood}
 use Rattle.sqlite.specs.Clock.{timed}
 use Rattle.sqlite.specs.State.{State, mode_of, Executes, ExecutesIn, IsNotRun, IsNoStatement, IsMisplaced, RunsCommand, Fails, HasCause, store_error, shows_rows}
 use Rattle.sqlite.proofs.Callers.{IsPlain, command_of}
+use Rattle.jb_store.specs.declared.error.StoreError.{StoreError}
 use Rattle.jb_store.specs.Errors.{name_of, IsCaused}
 use Rattle.jb_store.specs.Form.{checkpoint, checkpoint_schema}
+use Rattle.jb_store.specs.Checkpoints.{HasNumber, Holds, Kept, stored}
+use Rattle.sqlite.specs.Schema.{Schema}
+use Rattle.sqlite.specs.Edit.{Edit, edit_of}
+use Rattle.sqlite.specs.Rowids.TheVariants.{Chosen}
+use Rattle.sqlite_schema.specs.declared.schema.Keys.{Keys}
+use Rattle.sqlite_rules.specs.Edit.{are_fresh, left_by, taken_by, IsRefused}
+use Rattle.sqlite_rules.specs.Action.{Writes, Leads, works}
+use Rattle.sqlite_resolve.specs.declared.compiled.Compiled.{Compiled}
 use Rattle.jb_store.proofs.Texts.{insert_text, terms, insert_is, insert_plain}
-use Rattle.jb_store.proofs.Written.{command}
+use Rattle.jb_store.proofs.Written.{command, params, cast_int, cast_null}
+use Rattle.jb_store.proofs.Lists.{taken_has}
 
-module _ (old new : State) where
-  by_rules : (r : Refusal) → IsCaused old new (name_of (edit_error r))
-  by_rules (Violates Datatype) = tt
-  by_rules (Violates NotNull) = tt
-  by_rules (Violates Check) = tt
-  by_rules (Violates PrimaryKey) = tt
-  by_rules (Violates Unique) = tt
-  by_rules (Violates ForeignKey) = tt
-  by_rules Mismatch = tt
-  by_rules NoRowid = tt
-  by_rules BadReference = tt
-  by_rules TooDeep = tt
+-- an insertion of a row whose number is there
+refused : (schema : Schema) (keys : Keys) (db : Trees) (edit : Edit) → works schema keys 0 edit.table.tree (taken_by db edit) edit.news ≡ [] → Writes schema keys db edit (Err (Some (Violates PrimaryKey)))
+    → are_fresh (left_by db edit) edit.news ≡ false
+refused schema keys db edit none (inl r) = let same : r.0 ≡ Violates PrimaryKey = (let e = r.2 in cc) in subst (IsRefused schema keys db edit) same r.1
+refused schema keys db edit none (inr (inl big)) = absurd (let e = big.3 in cc)
+refused schema keys db edit none (inr (inr went)) = absurd (never went.2.0 (rw none at went.2.1))
+  where
+    never : (n : ℕ) → Leads schema keys n went.0 [] (Err (Some (Violates PrimaryKey))) → ⊥
+    never zero h = let e = h.1 in cc
+    never (suc n) h = omega (arith, ap length h.2, length-append h.0 (h.1 ∷ []))
 
-  by_cause : (Big : Type 0) (cause : Cause) → HasCause old new Big cause → IsCaused old new (name_of (store_error cause))
+taken_of : (b : Bool) → (not b && true) ≡ false → b ≡ true
+taken_of true h = refl
+taken_of false h = absurd (true≢false h)
+
+module _ (old new : State) (all : List Kept) (holds : Holds old.now all) (it : Kept) (number : ℕ) where
+  abbrev Why : StoreError → Type 0
+  Why = IsCaused old new (HasNumber all number)
+
+  by_rules : (r : Refusal) → (r ≡ Violates PrimaryKey → HasNumber all number) → Why (name_of (edit_error r))
+  by_rules (Violates Datatype) has = tt
+  by_rules (Violates NotNull) has = tt
+  by_rules (Violates Check) has = tt
+  by_rules (Violates PrimaryKey) has = has refl
+  by_rules (Violates Unique) has = tt
+  by_rules (Violates ForeignKey) has = tt
+  by_rules Mismatch has = tt
+  by_rules NoRowid has = tt
+  by_rules BadReference has = tt
+  by_rules TooDeep has = tt
+
+  by_cause : (Big : Type 0) (cause : Cause) → HasCause old new Big cause → Why (name_of (store_error cause))
   by_cause Big OutOfMemory has = tt
   by_cause Big Io has = has
   by_cause Big Corrupt has = has
@@ -47,10 +76,10 @@ module _ (old new : State) where
 
   module _ (e : Error) where
     abbrev Said : Type 0
-    Said = IsCaused old new (name_of e)
+    Said = Why (name_of e)
 
-    as_named : (x : Error) → e ≡ x → IsCaused old new (name_of x) → Said
-    as_named x is c = subst (λ y. IsCaused old new (name_of y)) (sym is) c
+    as_named : (x : Error) → e ≡ x → Why (name_of x) → Said
+    as_named x is c = subst (λ y. Why (name_of y)) (sym is) c
 
     by_failure : (Big : Type 0) → Fails old new Big e → Said
     by_failure Big f = as_named (store_error f.0) f.1 (by_cause Big f.0 f.2)
@@ -65,57 +94,71 @@ module _ (old new : State) where
     misplaced k (inl h) = as_named (SqliteFailure code.TransactionState) h.0 tt
     misplaced k (inr h) = as_named (SqliteFailure code.NoSuchSavepoint) h.0 tt
 
-    by_edit : (why : Option Refusal) → option_map edit_error why ≡ Some e → Said
-    by_edit (Some r) is = let same : e ≡ edit_error r = cc in as_named (edit_error r) same (by_rules r)
-    by_edit None is = absurd cc
+    by_edit : (why : Option Refusal) → option_map edit_error why ≡ Some e → (why ≡ Some (Violates PrimaryKey) → HasNumber all number) → Said
+    by_edit (Some r) is has = let same : e ≡ edit_error r = cc in as_named (edit_error r) same (by_rules r (λ k. has (ap Some k)))
+    by_edit None is has = absurd cc
 
-    module _ (row : Row) where
+    module _ where
       abbrev task : Task
-      task = record { limit = old.step_limit; keys = (mode_of old).keys; schema = checkpoint_schema; table = checkpoint; params = row }
+      task = record { limit = old.step_limit; keys = (mode_of old).keys; schema = checkpoint_schema; table = checkpoint; params = params number it }
 
       by_source : (db : Database) (given : Row) (stop : Option Error) → Sourced old.step_limit db given (Values terms 4) (Err stop) → stop ≡ Some e → Said
       by_source db given None h is = absurd h
       by_source db given (Some x) (inl h) is = let same : e ≡ SqliteFailure code.TypeMismatch = (let k = h.0 in cc) in as_named (SqliteFailure code.TypeMismatch) same tt
       by_source db given (Some x) (inr h) is = let same : e ≡ SqliteFailure code.OperationInterrupted = (let k = h.0 in cc) in as_named (SqliteFailure code.OperationInterrupted) same tt
 
-      by_rows : (db : Trees) (stop : Option Error) → Inserts task (Values terms 4) db (Err stop) → stop ≡ Some e → Said
-      by_rows db stop (inl h) is = let same : h.0 ≡ Some e = (let k = h.2 in cc) in by_source (record { schema = task.schema; trees = db }) (stamped task.table task.params) h.0 h.1 same
-      by_rows db stop (inr (rows, s, inl h)) is = absurd (let k = h.1 in cc)
-      by_rows db stop (inr (rows, s, inr (c, t, inl h))) is = let same : option_map edit_error h.1.0 ≡ Some e = (let k = h.2 in let m = h.1.2 in cc) in by_edit h.1.0 same
-      by_rows db stop (inr (rows, s, inr (c, t, inr (mid, u, inl h)))) is = absurd (let k = h.1 in cc)
-      by_rows db stop (inr (rows, s, inr (c, t, inr (mid, u, inr h)))) is = absurd (let k = h.2 in cc)
+      there : (rows : List Row) → (edit_of old.now.trees checkpoint [] Chosen 0 rows).news ≡ stored number it ∷ [] → (why : Option Refusal)
+          → Writes checkpoint_schema (mode_of old).keys old.now.trees (edit_of old.now.trees checkpoint [] Chosen 0 rows) (Err why) → why ≡ Some (Violates PrimaryKey) → HasNumber all number
+      there rows news why writes is =
+          let edit = edit_of old.now.trees checkpoint [] Chosen 0 rows in
+          let fresh = refused checkpoint_schema (mode_of old).keys old.now.trees edit refl (subst (λ w. Writes checkpoint_schema (mode_of old).keys old.now.trees edit (Err w)) is writes) in
+          taken_has (old.now.trees 0) all number it holds.rows (taken_of _ (subst (λ n. are_fresh (old.now.trees 0) n ≡ false) news fresh))
+
+      by_rows : (stop : Option Error) → Inserts task (Values terms 4) old.now.trees (Err stop) → stop ≡ Some e → Said
+      by_rows stop (inl h) is = let same : h.0 ≡ Some e = (let k = h.2 in cc) in by_source (record { schema = task.schema; trees = old.now.trees }) (stamped task.table task.params) h.0 h.1 same
+      by_rows stop (inr (rows, s, inl h)) is = absurd (let k = h.1 in cc)
+      by_rows stop (inr (rows, s, inr (c, t, inl h))) is = let same : option_map edit_error h.1.0 ≡ Some e = (let k = h.2 in let m = h.1.2 in cc) in by_edit h.1.0 same (there rows (ap (λ r. (edit_of old.now.trees checkpoint [] Chosen 0 r).news) s.1 ∙ rw (cast_int number, cast_null)) h.1.0 h.1.1)
+      by_rows stop (inr (rows, s, inr (c, t, inr (mid, u, inl h)))) is = absurd (let k = h.1 in cc)
+      by_rows stop (inr (rows, s, inr (c, t, inr (mid, u, inr h)))) is = absurd (let k = h.2 in cc)
 
       by_keys : (w : Written) → Concludes task (mode_of old) None w (Err (Some e)) → Said
       by_keys w (inl h) = let same : e ≡ SqliteFailure (code.ConstraintViolation ForeignKey) = (let k = h.1.1 in let m = h.2 in cc) in as_named (SqliteFailure (code.ConstraintViolation ForeignKey)) same tt
       by_keys w (inr (d, s, inl h)) = absurd (let k = h.1 in cc)
       by_keys w (inr (d, s, inr h)) = absurd (let k = h.2 in cc)
 
-      by_insertion : (text : List ℕ) → Does old.step_limit (mode_of old) row (record old.now { schema = checkpoint_schema }) text None command (Err (Some e)) → Said
-      by_insertion text (inl h) = let same : h.0 ≡ Some e = (let k = h.2 in cc) in by_rows old.now.trees h.0 h.1 same
+      by_insertion : (text : List ℕ) → Does old.step_limit (mode_of old) (params number it) (record old.now { schema = checkpoint_schema }) text None command (Err (Some e)) → Said
+      by_insertion text (inl h) = let same : h.0 ≡ Some e = (let k = h.2 in cc) in by_rows h.0 h.1 same
       by_insertion text (inr h) = by_keys h.0 h.2
 
-    caused : (given : Row) → old.now.schema ≡ checkpoint_schema → Executes insert_text given old new (Err e) → Said
+    caused : Executes insert_text (params number it) old new (Err e) → Said
     unfolding ExecutesIn IsNotRun
-    caused given ours h = go h
+    caused h = go h
       where
-        run : (c : Rattle.sqlite_resolve.specs.declared.compiled.Compiled.Compiled) (row : Row) → understood old.now.schema insert_text ≡ Ok c → RunsCommand old new insert_text c row (Err e) → Said
-        run c row is (inl (inl m, u)) = misplaced c.command m
-        run c row is (inl (inr m, u)) =
-            let known : Ok c ≡ understood checkpoint_schema insert_text = sym is ∙ ap (λ x. understood x insert_text) ours in
-            let bare : IsPlain (Ok c) = subst IsPlain (sym known) insert_plain in
-            let text = Rattle.sqlite.specs.State.text_of insert_text c in
-            let does = subst (λ k. Does old.step_limit (mode_of old) row old.now text None k (Err (Some e))) (ap command_of known ∙ insert_is) (rw bare.0 at m.1) in
-            by_insertion row text (subst (λ x. Does old.step_limit (mode_of old) row (record old.now { schema = x }) text None command (Err (Some e))) ours does)
-        run c row is (inr f) = by_failure _ f
+        known : (c : Compiled) → understood old.now.schema insert_text ≡ Ok c → Ok c ≡ understood checkpoint_schema insert_text
+        known c is = sym is ∙ ap (λ x. understood x insert_text) holds.schema
 
-        go : ExecutesIn false insert_text given old new (Err e) → Said
-        go (inl (inl u)) = no_statement insert_text given u.0
+        bare : (c : Compiled) → understood old.now.schema insert_text ≡ Ok c → IsPlain (Ok c)
+        bare c is = subst IsPlain (sym (known c is)) insert_plain
+
+        run : (c : Compiled) (row : Row) → row ≡ params number it → understood old.now.schema insert_text ≡ Ok c → RunsCommand old new insert_text c row (Err e) → Said
+        run c row given is (inl (inl m, u)) = misplaced c.command m
+        run c row given is (inl (inr m, u)) =
+            let text = Rattle.sqlite.specs.State.text_of insert_text c in
+            let does = subst (λ k. Does old.step_limit (mode_of old) row old.now text None k (Err (Some e))) (ap command_of (known c is) ∙ insert_is) (rw ((bare c is).0) at m.1) in
+            let ours = subst (λ x. Does old.step_limit (mode_of old) row (record old.now { schema = x }) text None command (Err (Some e))) holds.schema does in
+            by_insertion text (subst (λ r. Does old.step_limit (mode_of old) r (record old.now { schema = checkpoint_schema }) text None command (Err (Some e))) given ours)
+        run c row given is (inr f) = by_failure _ f
+
+        go : ExecutesIn false insert_text (params number it) old new (Err e) → Said
+        go (inl (inl u)) = no_statement insert_text (params number it) u.0
         go (inl (inr f)) = by_failure _ f
         go (inr r) = elim (cases_Bool (shows_rows false r.0)) [
           | inl shows ↦ (let is : e ≡ ExecuteReturnedResults = (let k = (rw shows at r.2).0 in cc) in as_named ExecuteReturnedResults is tt)
-          | inr runs ↦ run r.0 (timed given r.0.formats r.1.now) r.1.is (rw runs at r.2)
+          | inr runs ↦
+              let plain = (bare r.0 r.1.is).1 in
+              run r.0 (timed (params number it) r.0.formats r.1.now) (rw (plain, append-nil (params number it))) r.1.is (rw runs at r.2)
         ]
 
-  pub causes : (given : Row) → old.now.schema ≡ checkpoint_schema → (r : Result ℕ Error) → Executes insert_text given old new r → IfErr r (λ e. IsCaused old new (name_of e))
-  causes given ours (Ok n) h = tt
-  causes given ours (Err e) h = caused e given ours h
+  pub causes : (r : Result ℕ Error) → Executes insert_text (params number it) old new r → IfErr r (λ e. IsCaused old new (HasNumber all number) (name_of e))
+  causes (Ok n) h = tt
+  causes (Err e) h = caused e h

@@ -1,14 +1,17 @@
 -- The rows of a table, in any order, and the checkpoints that they are.
-use Rattle.std.proofs.Common.{◌≡◌, ◌<◌, ◌+◌, ℕ, suc, pos, List, [], ◌∷◌, ◌++◌, length, map, not, Bool, true, false, Ordering, Less, Equal, Greater, IsPermutation, refl, sym, ap, subst, ◌∙◌, arith, add-one, true≢false}
+use Rattle.std.proofs.Common.{◌≡◌, ◌<◌, ◌≤◌, ◌+◌, inl, inr, ℕ, suc, pos, List, [], ◌∷◌, ◌++◌, length, map, not, Bool, true, false, Ordering, Less, Equal, Greater, IsPermutation, refl, sym, ap, subst, ◌∙◌, arith, add-one, true≢false}
 use Rattle.std.specs.List.{AllByRecursion}
 use Rattle.std.specs.Ordering.{is_eq, int_cmp, ordering_then, match_ordering}
-use Rattle.std.proofs.lemmas.List.Sorted.{IsPermutation-refl, IsPermutation-cons, IsPermutation-trans, IsPermutation-middle, IsPermutation-sym}
+use Rattle.std.proofs.lemmas.List.Sorted.{list_any-IsPermutation, IsPermutation-refl, IsPermutation-cons, IsPermutation-trans, IsPermutation-middle, IsPermutation-sym}
+use Rattle.std.proofs.lemmas.Bool.{cases_Bool}
+use Rattle.std.proofs.lemmas.Map.Lookups.{exact_signed}
+use Rattle.sqlite.specs.declared.types.Value.TheVariants.{Int}
 use Rattle.sqlite_value.specs.Order.{Row, value_cmp}
 use Rattle.sqlite_value.proofs.OrderLemmas.{value_cmp-Int}
 use Rattle.sqlite_trees.specs.Tree.{rowid, put_row, IsAscending}
 use Rattle.sqlite_rules.specs.Edit.{is_taken}
 use Rattle.sqlite_sql.specs.Query.{Output, output, output_cmp}
-use Rattle.jb_store.specs.Checkpoints.{Kept, stored, shown, stored_from, shown_from}
+use Rattle.jb_store.specs.Checkpoints.{HasNumber, Kept, stored, shown, stored_from, shown_from}
 use Rattle.jb_store.proofs.Texts.{query}
 
 -- a row whose number is free is one row more
@@ -48,3 +51,26 @@ above n m it (x ∷ more) lt = (less n m it x lt, above n (suc m) it more (omega
 pub rises : (number : ℕ) (all : List Kept) → IsAscending (λ a b. output_cmp query a b ≡ Less) (map out (stored_from number all))
 rises number [] = tt
 rises number (it ∷ more) = (above number (suc number) it more (omega arith), rises (suc number) more)
+
+is_equal : (o : Ordering) → is_eq o ≡ true → o ≡ Equal
+is_equal Less h = absurd (true≢false (sym h))
+is_equal Equal h = refl
+is_equal Greater h = absurd (true≢false (sym h))
+
+same_number : (n m : ℕ) → is_eq (value_cmp (Int (pos n)) (Int (pos m))) ≡ true → n ≡ m
+same_number n m h =
+    let equal : int_cmp (pos n) (pos m) ≡ Equal = is_equal _ (subst (λ o. is_eq o ≡ true) (value_cmp-Int (pos n) (pos m)) h) in
+    let same : pos n ≡ pos m = exact_signed (pos n) (pos m) equal in cc
+
+within : (start number : ℕ) (it : Kept) (all : List Kept) → is_taken (stored_from start all) (stored number it) ≡ true → (start ≤ number) × (number < start + length all)
+within start number it [] h = absurd (true≢false (sym h))
+within start number it (x ∷ more) h = elim (cases_Bool (is_eq (value_cmp (Int (pos start)) (Int (pos number))))) [
+  | inl same ↦ let at = same_number start number same in (omega (arith, at), omega (arith, at))
+  | inr other ↦ let rest = within (suc start) number it more (rw other at h) in (omega (arith, rest.0), omega (arith, rest.1))
+]
+
+-- a number that the table has is that of a checkpoint
+pub taken_has : (rows : List Row) (all : List Kept) (number : ℕ) (it : Kept) → IsPermutation (stored_from 1 all) rows → is_taken rows (stored number it) ≡ true → HasNumber all number
+taken_has rows all number it are taken =
+    let w = within 1 number it all (list_any-IsPermutation (λ r. is_eq (value_cmp (rowid r) (Int (pos number)))) _ _ are ∙ taken) in
+    (w.0, omega (arith, w.1))

@@ -1,5 +1,5 @@
 -- A connection that was just opened, and one that only read.
-use Rattle.std.proofs.Common.{◌≡◌, inl, inr, List, length, arith, IsTrue, sym, ap, subst, ◌∙◌}
+use Rattle.std.proofs.Common.{◌≡◌, ◌⊎◌, inl, inr, List, [], length, arith, IsTrue, sym, ap, subst, ◌∙◌}
 use Rattle.sqlite.specs.Effect.{Database}
 use Rattle.sqlite.specs.State.{State, IsUnchanged}
 use Rattle.sqlite.specs.Tree.{Trees}
@@ -45,6 +45,20 @@ shows_found s opened db is all has = go has
     go : Has db all → ShowsList s.now all
     go (inl stands) = inl (record { schema = schema_is checkpoint_schema stands.sound; rows = subst (λ t. AreIn t all) (sym trees) stands.rows })
     go (inr none) = inr (schema_is no_schema none.0, none.1)
+
+-- what the database has it shows, and the other way about
+pub shows_now : (s : State) → IsJustOpened s → (all : List Kept) → Has s.now.trees all → ShowsList s.now all
+shows_now s opened all has = shows_found s opened s.now.trees (ap (λ (d : Database). d.trees) (sym opened.0.clean)) all has
+
+has_shown : (s : State) → IsJustOpened s → (all : List Kept) → ShowsList s.now all → Has s.now.trees all
+has_shown s opened all (inl holds) = inl (record { sound = subst (λ x. IsSound x s.now.trees) holds.schema (opened.1 opened.0.is_open).0; rows = holds.rows })
+has_shown s opened all (inr none) = inr (subst (λ x. IsSound x s.now.trees) none.0 (opened.1 opened.0.is_open).0, none.1)
+
+-- what a crash leaves while the list is taken has the same one
+pub has_left : (s : State) → IsJustOpened s → (all : List Kept) → ShowsList s.now all → (db : Trees) → (db ≡ s.now.trees) ⊎ ((s.now.schema ≡ no_schema) × StandsFor db []) → Has db all
+has_left s opened all shows db (inl same) = subst (λ t. Has t all) (sym same) (has_shown s opened all shows)
+has_left s opened all (inl holds) db (inr fresh) = absurd (apart (sym holds.schema ∙ fresh.0))
+has_left s opened all (inr none) db (inr fresh) = inl (subst (StandsFor db) (sym none.1) fresh.1)
 
 -- what only read keeps the list
 pub keeps_read : (old new : State) (all : List Kept) → Keeps old all → IsUnchanged old new → ((db : Trees) → new.may_leave db → old.may_leave db) → Keeps new all

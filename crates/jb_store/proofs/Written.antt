@@ -38,11 +38,11 @@ either : (b : Bool) (x : Value) → cond b x x ≡ x
 either true x = refl
 either false x = refl
 
-cast_int : (n : ℕ) → cast Integer (Int (pos n)) ≡ Int (pos n)
+pub cast_int : (n : ℕ) → cast Integer (Int (pos n)) ≡ Int (pos n)
 unfolding unary
 cast_int n = either _ _
 
-cast_null : cast Integer Null ≡ Null
+pub cast_null : cast Integer Null ≡ Null
 unfolding unary
 cast_null = either _ Null
 
@@ -77,7 +77,7 @@ joins trees all it rows free =
     subst (λ l. IsPermutation l (put_row (stored (length all + 1) it) trees)) (sym pushed)
     (IsPermutation-trans _ _ _ (IsPermutation-to_front _ _) (IsPermutation-trans _ _ _ (IsPermutation-cons _ _ _ rows) (put_adds _ trees free)))
 
-abbrev params : ℕ → Kept → Row
+abbrev pub params : ℕ → Kept → Row
 params number it = Int (pos number) ∷ Words it.saved ∷ Bytes it.results ∷ []
 
 abbrev pub command : Rattle.sqlite.specs.Command.Command

@@ -1,5 +1,5 @@
 -- The list of checkpoints, and the rows that stand for it.
-use Rattle.std.specs.Prelude.{◌≡◌, ◌⊎◌, ℕ, suc, List, [], ◌∷◌, pos, string_bytes, IsPermutation}
+use Rattle.std.specs.Prelude.{◌≡◌, ◌⊎◌, ◌≤◌, ℕ, suc, List, [], ◌∷◌, length, pos, string_bytes, IsPermutation}
 use Rattle.sqlite.specs.declared.types.Value.TheVariants.{Null, Int, Text as Words, Blob as Bytes}
 use Rattle.sqlite.specs.Order.{Row}
 use Rattle.sqlite.specs.Tree.{Trees}
@@ -36,6 +36,10 @@ shown_from number (it ∷ more) = shown number it ∷ shown_from (suc number) mo
 -- the table's rows are these checkpoints, numbered from 1 on, and no others; a table has no order of its own
 abbrev pub AreIn : Trees → List Kept → Type 0
 AreIn trees all = IsPermutation (stored_from 1 all) (trees 0)
+
+-- one of them has this number
+abbrev pub HasNumber : List Kept → ℕ → Type 0
+HasNumber all number = (1 ≤ number) × (number ≤ length all)
 
 -- a database of checkpoints, which has these
 pub record Holds (db : Database) (all : List Kept) : Type 0 where

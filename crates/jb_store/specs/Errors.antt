@@ -27,10 +27,12 @@ name_of e = Sql e
 abbrev pub IsOfTheList : StoreError → Type 0
 IsOfTheList e = (e ≡ Foreign) ⊎ ((e ≡ Version) ⊎ (e ≡ Gap))
 
--- What came to pass where a call on a connection fails with this error: a call of the disk failed, or the connection was shut before.
-abbrev pub IsCaused : State → State → StoreError → Type 0
-IsCaused old new Damaged = MoreFaults old.faults new.faults
-IsCaused old new Full = MoreFaults old.faults new.faults
-IsCaused old new Disk = MoreFaults old.faults new.faults
-IsCaused old new Shut = old.is_open ≡ false
-IsCaused old new _ = ⊤
+-- What came to pass where a call on a connection fails with this error: a call of the disk failed, the connection was shut before, or
+-- there is a checkpoint with the number.
+abbrev pub IsCaused : State → State → (has_number : Type 0) → StoreError → Type 0
+IsCaused old new has_number Damaged = MoreFaults old.faults new.faults
+IsCaused old new has_number Full = MoreFaults old.faults new.faults
+IsCaused old new has_number Disk = MoreFaults old.faults new.faults
+IsCaused old new has_number Shut = old.is_open ≡ false
+IsCaused old new has_number Taken = has_number
+IsCaused old new has_number _ = ⊤

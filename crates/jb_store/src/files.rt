@@ -1,8 +1,8 @@
-//! The list of two files, or of those at a path.
+//! The list of two files, or of those at a path, and a connection to these.
 
 ghost use Rattle.std.specs.Prelude.{◌≡◌, map, IfOk, IsTrue};
-ghost use Rattle.jb_store.specs.Checkpoints.{Has, kept};
-ghost use Rattle.jb_store.specs.Connections.{Keeps};
+ghost use Rattle.jb_store.specs.Checkpoints.{Has, ShowsList, kept};
+ghost use Rattle.jb_store.specs.Connections.{IsJustOpened, Keeps};
 ghost use Rattle.sqlite.specs.Files.{HoldsDatabase, file_state, image_of};
 ghost use Rattle.sqlite.specs.State.{HasCleanDisk};
 ghost use Rattle.sqlite_wal.specs.Files.{image_at};
@@ -36,7 +36,23 @@ pub fn open_files<D: Disk + Drop>(
     }
 }
 
-/// The same of the file at a path, which is made where there is none, and of its log beside it. A second process gets `Busy`.
+/// A connection to the file at a path, which is made where there is none, and to its log beside it. Its list isn't taken yet, and no
+/// table is made. A second process gets `Busy`.
+pub fn connect<S: Start>(
+    rt: &HostRuntime,
+    path: &str,
+    start: S,
+) -> Result<Connection<FileStore<FileFrom<S>>>, StoreError>
+    ensures opened { IfOk result (λ conn. HasCleanDisk (file_state conn) → IsJustOpened (file_state conn)) }
+    ensures found { IfOk result (λ conn. HasCleanDisk (file_state conn) → (db : _) (all : _) → HoldsDatabase (image_at S.Start) db → Has db all → ShowsList (file_state conn).now all) }
+{
+    match Connection::open_from(rt, path, false, start) {
+        Ok(conn) => Ok(conn),
+        Err((error, _)) => Err(StoreError::from(error)),
+    }
+}
+
+/// Opens the file at a path, and takes the list.
 pub fn open<S: Start>(
     rt: &HostRuntime,
     path: &str,
@@ -45,11 +61,7 @@ pub fn open<S: Start>(
     ensures begun { IfOk result (λ r. HasCleanDisk (file_state r.0) → Keeps (file_state r.0) (map kept r.1.items)) }
     ensures found { IfOk result (λ r. HasCleanDisk (file_state r.0) → (db : _) (all : _) → HoldsDatabase (image_at S.Start) db → Has db all → map kept r.1.items ≡ all) }
 {
-    match Connection::open_from(rt, path, false, start) {
-        Ok(mut conn) => {
-            let found = begin(rt.alloc(), &mut conn)?;
-            Ok((conn, found))
-        }
-        Err((error, _)) => Err(StoreError::from(error)),
-    }
+    let mut conn = connect(rt, path, start)?;
+    let found = begin(rt.alloc(), &mut conn)?;
+    Ok((conn, found))
 }

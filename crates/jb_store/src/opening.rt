@@ -4,7 +4,7 @@ ghost use Rattle.std.specs.Prelude.{◌≡◌, ◌≢◌, ◌⊎◌, ◌≤◌, 
 ghost use Rattle.jb_store.specs.declared.error.StoreError.TheVariants.{Foreign, Version, Gap};
 ghost use Rattle.jb_store.specs.Errors.{IsOfTheList};
 ghost use Rattle.jb_store.specs.Form.{checkpoint_schema, no_schema, IsForeign, IsOtherVersion};
-ghost use Rattle.jb_store.specs.Checkpoints.{AreIn, ShowsList, StandsFor, kept};
+ghost use Rattle.jb_store.specs.Checkpoints.{AreIn, Has, ShowsList, StandsFor, kept};
 ghost use Rattle.jb_store.specs.Connections.{IsAsItWas, IsJustOpened, Keeps};
 ghost use Rattle.sqlite.specs.Held.{state};
 ghost use Rattle.sqlite.specs.State.{HasCleanDisk};
@@ -60,6 +60,7 @@ pub fn begin<S: Alter>(
 ) -> Result<Vec<Checkpoint>, StoreError>
     ensures begun { HasCleanDisk (state S.Store conn.new) → IsJustOpened (state S.Store conn.old)
         → IfOk result (λ found. Keeps (state S.Store conn.new) (map kept found.items) × ShowsList (state S.Store conn.old).now (map kept found.items)) }
+    ensures shown { IsJustOpened (state S.Store conn.old) → (all : _) → Has (state S.Store conn.old).now.trees all → ShowsList (state S.Store conn.old).now all }
     ensures listed { HasCleanDisk (state S.Store conn.new) → IsJustOpened (state S.Store conn.old) → (all : _) → ShowsList (state S.Store conn.old).now all
         → IfOk result (λ found. map kept found.items ≡ all) }
     ensures foreign { (result ≡ Err Foreign) ↔ IsForeign (state S.Store conn.old).now.schema }
@@ -71,6 +72,8 @@ pub fn begin<S: Alter>(
     ensures clean { doubt (state S.Store conn.old).is_clean ≤ doubt (state S.Store conn.new).is_clean }
     ensures crash { HasCleanDisk (state S.Store conn.new) → IsJustOpened (state S.Store conn.old) → (db : _) → (state S.Store conn.new).may_leave db
         → (db ≡ (state S.Store conn.old).now.trees) ⊎ (((state S.Store conn.old).now.schema ≡ no_schema) × StandsFor db []) }
+    ensures left { HasCleanDisk (state S.Store conn.new) → IsJustOpened (state S.Store conn.old) → (all : _) → ShowsList (state S.Store conn.old).now all
+        → (db : _) → (state S.Store conn.new).may_leave db → Has db all }
 {
     if let Some(refusal) = refusal_of(conn.schema()) {
         return Err(refusal);
@@ -78,3 +81,9 @@ pub fn begin<S: Alter>(
     make(conn)?;
     list(alloc, conn)
 }
+
+/// What a crash leaves of a connection that was just opened: the list that it shows. Nothing is done here: the clause is the law.
+pub fn opened_leaves_its_list<S: Alter>(conn: &Connection<S>)
+    ensures { IsJustOpened (state S.Store conn.now) → (all : _) → ShowsList (state S.Store conn.now).now all
+        → (db : _) → (state S.Store conn.now).may_leave db → Has db all }
+{}

@@ -1,9 +1,10 @@
-use Rattle.std.proofs.Common.{inl, refl, arith}
+use Rattle.std.proofs.Common.{inl, refl, sym, ap, subst, arith}
 use Rattle.std.proofs.Math.Logic.{∥∥₁_map, ∥∥₁_elim}
 use Rattle.sqlite_trees.specs.Tree.{Trees}
 use Rattle.sqlite.specs.State.{HasCleanDisk}
 use Rattle.sqlite.specs.Files.{file_state, image_of}
-use Rattle.jb_store.proofs.Opened.{shows_found}
+use Rattle.sqlite.specs.Effect.{Database}
+use Rattle.jb_store.specs.Checkpoints.{Has}
 use Rattle.jb_durable.specs.Files.{HoldsWhole, IsOfARun}
 use Rattle.jb_durable.proofs.Opens.{opened_has}
 use Rattle.jb_durable.proofs.Stages.{cut_leaves, cut_leaves_first}
@@ -19,7 +20,7 @@ returns-in-Ok-clause-ran g c runs clean leaves image may =
     let early : HasCleanDisk (file_state conn) = omega (arith, late, c.run_durably.ensures.clean) in
     let opened = c.in-Ok.ensures.opened early in
     ∥∥₁_elim (opened_has so_far files conn (c.in-Ok.ensures.found early) (leaves (image_of g.D.Disk files) (stays files.log, stays files.db))) squash₁ (λ h.
-    let shows = shows_found (file_state conn) opened _ refl h.0 h.1 in
+    let shows = c.run_durably.ensures.shown opened h.0 (subst (λ t. Has t h.0) (sym (ap (λ (d : Database). d.trees) opened.0.clean)) h.1) in
     ∥∥₁_map (c.stop-files.ensures.left clean image may)
     (λ e. let r : (db : Trees) × HoldsWhole image db × IsOfARun so_far db = (e.0, e.1, c.run_durably.ensures.crash late opened h.0 shows h.2 e.0 e.2) in r))
 

@@ -4,9 +4,9 @@ use Rattle.std.proofs.lemmas.Bool.{and_from, or_left, or_right, cases_Bool}
 use Rattle.sqlite_wal.specs.Reads.{AreClean}
 use Rattle.sqlite.specs.State.{HasCleanDisk}
 use Rattle.sqlite.specs.Files.{file_state, image_of}
-use Rattle.jb_store.specs.Checkpoints.{Kept}
+use Rattle.sqlite.specs.Effect.{Database}
+use Rattle.jb_store.specs.Checkpoints.{Has, Kept}
 use Rattle.jb_store.specs.Connections.{Keeps}
-use Rattle.jb_store.proofs.Opened.{shows_found}
 use Rattle.jb_durable.specs.Files.{StandAfter}
 use Rattle.jb_durable.proofs.Opens.{opened_has}
 use Rattle.jb_durable.proofs.Stages.{run_as, none_as, can_as, one_life}
@@ -54,7 +54,7 @@ returns-in-Ok-run_durably g c = record {
       let found = c.in-Ok.ensures.found early in
       let at = c.lives.invariant.stands honest found.honest begun in
       ∥∥₁_map (opened_has so_far left conn found (at.all (image_of g.D.Disk left) (stays left.log, stays left.db))) (λ h.
-      let shows = shows_found (file_state conn) opened _ refl h.0 h.1 in
+      let shows = c.in-Ok-run_durably.ensures.shown opened h.0 (subst (λ t. Has t h.0) (sym (ap (λ (d : Database). d.trees) opened.0.clean)) h.1) in
       let r = c.in-Ok-run_durably.ensures.done clean opened h.0 shows ((c.lives.invariant.so_far h.0).0 h.2) in
       let w : (all : List Kept) × Keeps (file_state c.run_durably.new.conn) all × g.W.Work.is_whole c.args.work.now all × g.W.Work.stands_at c.run_durably.new.work all =
       (r.0, r.1, (c.lives.invariant.whole r.0).1 (r.4 done), r.3) in w);

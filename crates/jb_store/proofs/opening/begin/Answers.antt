@@ -6,7 +6,7 @@ use Rattle.jb_store.specs.declared.error.StoreError.TheVariants.{Foreign, Versio
 use Rattle.jb_store.specs.Form.{checkpoint_schema, no_schema}
 use Rattle.jb_store.specs.Checkpoints.{Kept, kept, AreIn, Holds}
 use Rattle.jb_store.specs.Connections.{Keeps, IsJustOpened}
-use Rattle.jb_store.proofs.Opened.{is_left, is_sound, keeps_found, apart}
+use Rattle.jb_store.proofs.Opened.{is_left, is_sound, keeps_found, apart, shows_now, has_left}
 use Rattle.jb_store.proofs.opening.begin.Goals as goal
 
 -- what holds of an answer that was given
@@ -130,3 +130,15 @@ returns-clause-crash g c clean opened db may = elim (fits g c) [
       ]
   | inr ours ↦ inl (left g c clean opened ours db may)
 ]
+
+pub returns-in-Some-clause-shown : goal.returns-in-Some-clause-shown
+returns-in-Some-clause-shown g c = shows_now (state g.S.Store c.args.conn.now)
+
+pub returns-in_err-make-clause-shown : goal.returns-in_err-make-clause-shown
+returns-in_err-make-clause-shown g c = shows_now (state g.S.Store c.args.conn.now)
+
+pub returns-clause-shown : goal.returns-clause-shown
+returns-clause-shown g c = shows_now (state g.S.Store c.args.conn.now)
+
+pub returns-clause-left : goal.returns-clause-left
+returns-clause-left g c clean opened all shows db may = has_left (before g c) opened all shows db (returns-clause-crash g c clean opened db may)

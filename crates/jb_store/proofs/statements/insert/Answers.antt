@@ -28,4 +28,6 @@ pub returns-clause-shut : goal.returns-clause-shut
 returns-clause-shut g c = c.execute.ensures.survives.closes
 
 pub returns-clause-cause : goal.returns-clause-cause
-returns-clause-cause g c clean all keeps = causes (state g.S.Store c.args.conn.now) (state g.S.Store c.execute.new.self) _ keeps.shows.schema c.execute.result (c.execute.ensures.runs clean)
+returns-clause-cause g c clean all keeps =
+    causes (state g.S.Store c.args.conn.now) (state g.S.Store c.execute.new.self) all keeps.shows (record { saved = c.args.saved.now; results = c.args.results.now }) c.args.number c.execute.result
+    (rw (c.params-to_sql.ensures, c.params-to_sql-2.ensures, c.params-to_sql-3.ensures) at (c.execute.ensures.runs clean))
