@@ -1,0 +1,11 @@
+use Rattle.std.proofs.Common.{refl, ap, subst, ◌∙◌, string_bytes}
+use Rattle.jb_durable_records.specs.Coding.{AreCodable, coded}
+use Rattle.jb_durable_records.proofs.Behind.{one_stretch}
+use Rattle.jb_durable_records.proofs.place.stretched.Goals as goal
+
+pub returns-clause-behind : goal.returns-clause-behind
+returns-clause-behind g c f records later so =
+    let new = c.in_ok-run.stretch.results.items in
+    let given = c.deref.ensures.value in
+    one_stretch f records later _ _ c.in_ok-run.stretch.snapshot.rows.items new (record { saved = string_bytes c.in_ok-run.stretch.saved; results = c.in_ok-results.results.items }) _ refl c.in_ok-run.ensures.saved
+    (subst AreCodable given c.in_ok-results.ensures.fits) (c.in_ok-results.ensures.coded ∙ ap coded given) c.in_ok-run.ensures.made.rows (c.in_ok-run.ensures.goes_on f records so.stands) so

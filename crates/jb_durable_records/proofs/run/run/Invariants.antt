@@ -1,0 +1,21 @@
+use Rattle.std.proofs.Common.{List, ℕ, ◌≤◌}
+use Rattle.sqlite.specs.Held.{state}
+use Rattle.sqlite.specs.State.{HasCleanDisk}
+use Rattle.sqlite_trees.specs.View.{doubt}
+use Rattle.jb_records.specs.contracts.kept.RecordsRunStanding.TheImpl as run_of
+use Rattle.jb_records.specs.declared.step.RecordsStep.{RecordsStep}
+use Rattle.jb_records.specs.Function.{Function}
+use Rattle.jb_store.specs.Checkpoints.{Kept}
+use Rattle.jb_durable_records.specs.Work.{IsAtRest}
+use Rattle.jb_durable_records.proofs.run.run.Given as goal
+
+-- the connection keeps the checkpoints so far, and the run stands behind them
+abbrev pub invariant-stretches : goal.invariant-stretches
+invariant-stretches g l =
+    let standing = (run_of.ghosts g.row.F g.F.RecordFunction g.F.RecordFunction-dict g.F.Destruct-dict).standing in
+    record {
+      clean : doubt (state g.S.Store l.fn.conn).is_clean ≤ doubt (state g.S.Store l.conn).is_clean;
+      rests : HasCleanDisk (state g.S.Store l.conn) → (f : Function) (step : RecordsStep) (over : List (List ℕ)) (all : List Kept)
+          → IsAtRest f step over (state g.S.Store l.fn.conn) l.fn.place.stage (standing l.fn.place.run) l.fn.place.rows.items l.fn.count all
+          → (now : List Kept) × IsAtRest f step over (state g.S.Store l.conn) l.place.stage (standing l.place.run) l.place.rows.items l.count now;
+    }

@@ -1,0 +1,5 @@
+pub mod Coding
+pub mod Form
+pub mod Checkpoints
+pub mod Work
+pub mod Refusals

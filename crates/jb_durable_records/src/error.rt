@@ -1,0 +1,100 @@
+//! Why a step over records has no end in its file.
+
+ghost use Rattle.std.specs.Prelude.{◌≡◌};
+ghost use Rattle.jb_records.specs.declared.error.RecordsStepError.TheVariants.{Step as StepFault};
+ghost use Rattle.jb_durable_records.specs.Refusals.{named};
+ghost use Rattle.jb_durable_records.specs.declared.error.DurableError.TheVariants.{Memory, Step, Store};
+
+use crate::coding::CodingError;
+use jb_records::RecordsStepError;
+use jb_step::StepError;
+use jb_store::StoreError;
+use std::alloc::{AllocError, AllocFailed};
+use thiserror::Error;
+
+/// Why a step over records has no end in its file. What is kept stays: a next life goes on from it.
+#[derive(Clone, Copy, Debug, PartialEq, Eq, Error)]
+pub enum DurableError {
+    /// The file. After `Foreign`, `Version` and `Gap` it is as it was.
+    #[error("{0}")]
+    Store(StoreError),
+    /// The checkpoints are of a step of another form, or of another number of records. Nothing was written.
+    #[error("the checkpoints are another job's: its step has another form, or another number of records")]
+    OtherJob,
+    /// The checkpoints are of such a step, over other records. Nothing was written.
+    #[error("the checkpoints are of a run over other records")]
+    OtherRecords,
+    /// The results of a checkpoint aren't a coding of as many lists as the last saved rows.
+    #[error("the results of a checkpoint are damaged")]
+    Damaged,
+    /// A record or a result has more than 4,294,967,295 bytes.
+    #[error("a record or a result has more than 4,294,967,295 bytes")]
+    TooLong,
+    /// The step over records isn't begun, or a stretch broke off.
+    #[error("{0}")]
+    Step(RecordsStepError),
+    /// A partition failed, and that is kept. `run_records_durably` doesn't answer it: there it is an end.
+    #[error("a partition has failed")]
+    Failed,
+    /// The work wasn't taken up, or a stretch before broke off.
+    #[error("the run was not taken up, or it broke off")]
+    Over,
+    /// There are 4,294,967,295 checkpoints.
+    #[error("there are 4,294,967,295 checkpoints")]
+    TooMany,
+    /// There was no memory.
+    #[error("out of memory")]
+    Memory,
+}
+
+impl From<AllocError> for DurableError {
+    ghost from_gives = { λ _ e. e ≡ Memory };
+
+    fn from(_: AllocError) -> DurableError {
+        DurableError::Memory
+    }
+}
+
+impl<T: Drop> From<AllocFailed<T>> for DurableError {
+    ghost from_gives = { λ _ e. e ≡ Memory };
+
+    fn from(_: AllocFailed<T>) -> DurableError {
+        DurableError::Memory
+    }
+}
+
+impl From<RecordsStepError> for DurableError {
+    ghost from_gives = { λ error e. e ≡ Step error };
+
+    fn from(error: RecordsStepError) -> DurableError {
+        DurableError::Step(error)
+    }
+}
+
+impl From<StepError> for DurableError {
+    ghost from_gives = { λ error e. e ≡ Step (StepFault error) };
+
+    fn from(error: StepError) -> DurableError {
+        DurableError::Step(RecordsStepError::Step(error))
+    }
+}
+
+impl From<StoreError> for DurableError {
+    ghost from_gives = { λ error e. e ≡ Store error };
+
+    fn from(error: StoreError) -> DurableError {
+        DurableError::Store(error)
+    }
+}
+
+impl From<CodingError> for DurableError {
+    ghost from_gives = { λ error e. e ≡ named error };
+
+    fn from(error: CodingError) -> DurableError {
+        match error {
+            CodingError::TooLong => DurableError::TooLong,
+            CodingError::Damaged => DurableError::Damaged,
+            CodingError::Memory => DurableError::Memory,
+        }
+    }
+}

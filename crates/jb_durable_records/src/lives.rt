@@ -1,0 +1,251 @@
+//! Lives of a process that runs a step over records, each ended by a crash, and the last one.
+
+ghost use Rattle.std.specs.Prelude.{◌≡◌, ◌≤◌, ◌&&◌, ◌||◌, not, List, drop, IfOk, IfSome, IsTrue};
+ghost use Rattle.std.specs.Arc.{arc_value};
+ghost use Rattle.sqlite.specs.Files.{file_state};
+ghost use Rattle.sqlite.specs.Held.{state};
+ghost use Rattle.sqlite.specs.State.{HasCleanDisk};
+ghost use Rattle.sqlite_trees.specs.View.{doubt};
+ghost use Rattle.sqlite_wal.specs.Reads.{AreClean};
+ghost use Rattle.jb_store.specs.Checkpoints.{Has, Kept, ShowsList};
+ghost use Rattle.jb_store.specs.Connections.{IsJustOpened, Keeps};
+ghost use Rattle.jb_durable.specs.Files.{CanGoOn, HoldsRun, HoldsRunOrNone, IsHonest, IsOfARun, Leaves};
+ghost use Rattle.jb_durable_records.specs.Checkpoints.{HaveAllResults, IsRunSoFar, IsWholeRun};
+ghost use Rattle.jb_durable_records.specs.declared.run.Pause.TheVariants.{Whole};
+
+use crate::error::DurableError;
+use crate::laws::checkpoints_have_results;
+use crate::onlooker::Onlooker;
+use crate::pace::Pace;
+use crate::run::{Pause, run, taken_from};
+use jb_base::PackedList;
+use jb_durable::{LastLife, Life, stop, stop_cut};
+use jb_records::{RecordFunction, RecordsStep};
+use sqlite::{Alter, Connection, Options};
+use sqlite_disk::{Crash, Files};
+use std::alloc::Global;
+use std::sync::{Arc, Wait};
+use std::thread::Threads;
+
+fn is_whole(pause: Pause) -> bool
+    ensures { IsTrue result → pause ≡ Whole }
+{
+    matches!(pause, Pause::Whole)
+}
+
+/// The run is taken up, and goes on for so many checkpoints.
+fn lived<
+    F: RecordFunction + Drop + 'static,
+    P: Pace,
+    O: Onlooker,
+    R: Threads + Wait + Sync,
+    S: Alter,
+>(
+    rt: &R,
+    alloc: Global,
+    conn: &mut Connection<S>,
+    step: &RecordsStep,
+    function: &Arc<F, Global>,
+    records: &PackedList,
+    stretches: u32,
+    pace: &mut P,
+    onlooker: &mut O,
+) -> Result<bool, DurableError>
+    ensures done { HasCleanDisk (state S.Store conn.new) → IsJustOpened (state S.Store conn.old) → (all : List Kept) → Has (state S.Store conn.old).now.trees all
+        → IsRunSoFar (F.function (arc_value function.now)) step.now records.now all
+        → IfOk result (λ done. IsTrue done → (now : List Kept) × Keeps (state S.Store conn.new) now × IsWholeRun (F.function (arc_value function.now)) step.now records.now now) }
+    ensures clean { doubt (state S.Store conn.old).is_clean ≤ doubt (state S.Store conn.new).is_clean }
+    ensures crash { HasCleanDisk (state S.Store conn.new) → IsJustOpened (state S.Store conn.old) → (so_far : List Kept) → Has (state S.Store conn.old).now.trees so_far
+        → IsRunSoFar (F.function (arc_value function.now)) step.now records.now so_far
+        → (db : _) → (state S.Store conn.new).may_leave db → IsOfARun (IsRunSoFar (F.function (arc_value function.now)) step.now records.now) db }
+{
+    let (place, count) = taken_from(alloc, conn, step, function, records)?;
+    let (_, pause) = run(
+        rt,
+        alloc,
+        conn,
+        place,
+        count,
+        stretches,
+        records.len(),
+        pace,
+        onlooker,
+    )?;
+    Ok(is_whole(pause))
+}
+
+/// One life: the files are opened, the run is taken up and goes on for so many checkpoints, and the machine stops somewhere on the way.
+fn live_and_crash<
+    F: RecordFunction + Drop + 'static,
+    P: Pace,
+    O: Onlooker,
+    R: Threads + Wait + Sync,
+    D: Crash + Drop,
+>(
+    rt: &R,
+    alloc: Global,
+    files: Files<D>,
+    options: Options,
+    step: &RecordsStep,
+    function: &Arc<F, Global>,
+    records: &PackedList,
+    stretches: u32,
+    pace: &mut P,
+    onlooker: &mut O,
+) -> Option<Life<D>>
+    requires log { IsTrue (D.Disk.is_usable files.log) }
+    requires db { IsTrue (D.Disk.is_usable files.db) }
+    ensures usable { IfSome result (λ life. IsTrue (D.Disk.is_usable life.files.log) × IsTrue (D.Disk.is_usable life.files.db)) }
+    ensures clean { IfSome result (λ life. IsTrue life.has_run → AreClean D.Disk life.files.log life.files.db → AreClean D.Disk files.log files.db) }
+    ensures ran { IfSome result (λ life. IsTrue life.has_run → AreClean D.Disk life.files.log life.files.db
+        → Leaves D.Disk (CanGoOn (IsRunSoFar (F.function (arc_value function.now)) step.now records.now)) files
+        → Leaves D.Disk (HoldsRun (IsRunSoFar (F.function (arc_value function.now)) step.now records.now)) life.files) }
+    ensures cut { IfSome result (λ life. AreClean D.Disk life.files.log life.files.db
+        → Leaves D.Disk (HoldsRun (IsRunSoFar (F.function (arc_value function.now)) step.now records.now)) files
+        → Leaves D.Disk (HoldsRun (IsRunSoFar (F.function (arc_value function.now)) step.now records.now)) life.files) }
+    ensures first { IfSome result (λ life. AreClean D.Disk life.files.log life.files.db
+        → Leaves D.Disk (HoldsRunOrNone (IsRunSoFar (F.function (arc_value function.now)) step.now records.now)) files
+        → Leaves D.Disk (CanGoOn (IsRunSoFar (F.function (arc_value function.now)) step.now records.now)) life.files) }
+{
+    match Connection::open_files(alloc, files, options) {
+        Ok(mut conn) => {
+            let _ = lived(
+                rt, alloc, &mut conn, step, function, records, stretches, pace, onlooker,
+            );
+            let files = stop(conn);
+            Some(Life {
+                files,
+                has_run: true,
+            })
+        }
+        Err((_, left)) => {
+            let files = stop_cut(left)?;
+            Some(Life {
+                files,
+                has_run: false,
+            })
+        }
+    }
+}
+
+fn either(first: bool, second: bool) -> bool
+    ensures { result ≡ (first || second) }
+{
+    first || second
+}
+
+/// A second open was cut before any life had the files open.
+fn is_cut_again(has_run: bool, was_cut: bool, runs: bool) -> bool
+    ensures { result ≡ (was_cut && (not has_run && not runs)) }
+{
+    was_cut && !has_run && !runs
+}
+
+/// So many lives that end in a crash, and one that doesn't.
+fn through_crashes<
+    F: RecordFunction + Drop + 'static,
+    P: Pace,
+    O: Onlooker,
+    R: Threads + Wait + Sync,
+    D: Crash + Drop,
+>(
+    rt: &R,
+    alloc: Global,
+    files: Files<D>,
+    options: Options,
+    step: &RecordsStep,
+    function: &Arc<F, Global>,
+    records: &PackedList,
+    pace: &mut P,
+    onlooker: &mut O,
+    lives: &[u32],
+    stretches: u32,
+) -> Option<LastLife<D>>
+    requires log { IsTrue (D.Disk.is_usable files.log) }
+    requires db { IsTrue (D.Disk.is_usable files.db) }
+    ensures whole { IfSome result (λ last. (IsTrue last.was_cut → IsHonest D.Disk) → HasCleanDisk (file_state last.conn)
+        → Leaves D.Disk (HoldsRunOrNone (IsRunSoFar (F.function (arc_value function.now)) step.now records.now)) files
+        → IsTrue last.is_done → ∥ ((all : List Kept) × Keeps (file_state last.conn) all × IsWholeRun (F.function (arc_value function.now)) step.now records.now all) ∥₁) }
+{
+    let mut left = files;
+    let mut has_run = false;
+    let mut was_cut = false;
+    'lives: for count in lives {
+        let life = live_and_crash(
+            rt, alloc, left, options, step, function, records, *count, pace, onlooker,
+        )?;
+        if is_cut_again(has_run, was_cut, life.has_run) {
+            return None;
+        }
+        has_run = either(has_run, life.has_run);
+        was_cut = either(was_cut, !life.has_run);
+        left = life.files;
+    }
+    let mut conn = match Connection::open_files(alloc, left, options) {
+        Ok(conn) => conn,
+        Err(_) => return None,
+    };
+    match lived(
+        rt, alloc, &mut conn, step, function, records, stretches, pace, onlooker,
+    ) {
+        Ok(is_done) => Some(LastLife {
+            conn,
+            is_done,
+            was_cut,
+        }),
+        Err(_) => None,
+    }
+}
+
+/// So many lives that end in a crash, each after so many checkpoints or somewhere on the way, and one that doesn't; from no file on, or
+/// from one that holds a run so far of this step over these records. Where the run is then whole, the connection keeps its checkpoints, and
+/// they have the results of all records.
+///
+/// None where the function can't be shared for want of memory, where the last open or the last run fails, where an open was cut behind its
+/// recovery, and where two were cut before any life had the files open.
+pub fn records_through_crashes<
+    F: RecordFunction + Drop + 'static,
+    P: Pace + Drop,
+    O: Onlooker + Drop,
+    R: Threads + Wait + Sync,
+    D: Crash + Drop,
+>(
+    rt: &R,
+    alloc: Global,
+    files: Files<D>,
+    options: Options,
+    step: &RecordsStep,
+    function: F,
+    records: &PackedList,
+    pace: P,
+    onlooker: O,
+    lives: &[u32],
+    stretches: u32,
+) -> Option<LastLife<D>>
+    requires log { IsTrue (D.Disk.is_usable files.log) }
+    requires db { IsTrue (D.Disk.is_usable files.db) }
+    ensures whole { IfSome result (λ last. (IsTrue last.was_cut → IsHonest D.Disk) → HasCleanDisk (file_state last.conn)
+        → Leaves D.Disk (HoldsRunOrNone (IsRunSoFar (F.function function) step.now records.now)) files
+        → IsTrue last.is_done → ∥ ((all : List Kept) × Keeps (file_state last.conn) all × IsWholeRun (F.function function) step.now records.now all
+        × HaveAllResults (F.function function) records.now (drop 1 all)) ∥₁) }
+{
+    checkpoints_have_results();
+    let Ok(function) = Arc::new(alloc, function) else {
+        return None;
+    };
+    let mut pace = pace;
+    let mut onlooker = onlooker;
+    through_crashes(
+        rt,
+        alloc,
+        files,
+        options,
+        step,
+        &function,
+        records,
+        &mut pace,
+        &mut onlooker,
+        lives,
+        stretches,
+    )
+}

@@ -1,0 +1,271 @@
+//! Stretch after stretch, each kept before the next begins.
+
+ghost use Rattle.std.specs.Prelude.{◌≡◌, ◌≢◌, ◌≤◌, ◌⊎◌, ◌+◌, ℕ, List, IfErr, IfOk, OnOk, false};
+ghost use Rattle.std.specs.Arc.{arc_value};
+ghost use Rattle.sqlite.specs.Held.{state};
+ghost use Rattle.sqlite.specs.State.{HasCleanDisk};
+ghost use Rattle.sqlite_trees.specs.View.{doubt};
+ghost use Rattle.jb_collect.specs.declared.calls.Status.TheVariants.{Completed, Failed};
+ghost use Rattle.jb_rules.specs.declared.row.Row.{Row as RowRecord};
+ghost use Rattle.jb_records.specs.declared.step.RecordsStep.{RecordsStep as StepOfRecords};
+ghost use Rattle.jb_records.specs.Function.{Function, all_results};
+ghost use Rattle.jb_records.specs.Shares.{AreWhole, IsSoFar, joined};
+ghost use Rattle.jb_store.specs.Checkpoints.{Has, Kept, ShowsList};
+ghost use Rattle.jb_store.specs.Connections.{IsJustOpened, Keeps};
+ghost use Rattle.jb_durable.specs.Files.{IsOfARun};
+ghost use Rattle.jb_durable_records.specs.Checkpoints.{IsRunSoFar, IsWholeRun};
+ghost use Rattle.jb_durable_records.specs.Refusals.{IsOfOwn, IsOtherJob, IsOverOthers, OtherRun};
+ghost use Rattle.jb_durable_records.specs.Work.{IsAtRest};
+ghost use Rattle.jb_durable_records.specs.declared.error.DurableError.TheVariants.{OtherJob, OtherRecords};
+ghost use Rattle.jb_durable_records.specs.declared.run.Pause.TheVariants.{Whole};
+
+use crate::error::DurableError;
+use crate::onlooker::{Onlooker, progress_of};
+use crate::pace::Pace;
+use crate::place::{Place, Stage};
+use crate::taking_up::taken_up;
+use jb_base::PackedList;
+use jb_collect::Status;
+use jb_records::{RecordFunction, RecordsRun, RecordsStep, Standing, steps_keep_results};
+use jb_rules::Row;
+use jb_store::{append, begin};
+use sqlite::{Alter, Connection};
+use std::alloc::{AllocError, Global};
+use std::sync::{Arc, Wait};
+use std::thread::Threads;
+
+/// Why the stretches ended.
+#[derive(Clone, Copy, Debug, PartialEq, Eq)]
+pub(crate) enum Pause {
+    /// The run is whole.
+    Whole,
+    /// A partition failed.
+    Failed,
+    /// So many are done.
+    Stretches,
+}
+
+/// How a run ended: its status, COMPLETED or FAILED, the rows of its partitions, and the results of each.
+#[derive(Drop)]
+pub struct DurableEnd {
+    pub status: Status,
+    pub rows: Vec<Row>,
+    /// Of a FAILED run those so far.
+    pub results: Vec<PackedList>,
+}
+
+impl DurableEnd {
+    /// The results of all partitions, those of one behind those of the other.
+    pub fn all_results(&self, alloc: Global) -> Result<PackedList, AllocError>
+        ensures { IfOk result (λ all. all ≡ joined self.now.results.items) }
+    {
+        let mut all = PackedList::new(alloc);
+        for share in &self.results {
+            all.append(share)?;
+        }
+        Ok(all)
+    }
+}
+
+/// The run as it stands behind the checkpoints of a database that was just opened, and how many these are.
+pub(crate) fn taken_from<F: RecordFunction + Drop, S: Alter>(
+    alloc: Global,
+    conn: &mut Connection<S>,
+    step: &RecordsStep,
+    function: &Arc<F, Global>,
+    records: &PackedList,
+) -> Result<(Place<F>, u32), DurableError>
+    ensures shown { IsJustOpened (state S.Store conn.old) → (all : List Kept) → Has (state S.Store conn.old).now.trees all → ShowsList (state S.Store conn.old).now all }
+    ensures rests { HasCleanDisk (state S.Store conn.new) → IsJustOpened (state S.Store conn.old) → (all : List Kept) → ShowsList (state S.Store conn.old).now all
+        → IsRunSoFar (F.function (arc_value function.now)) step.now records.now all → IfOk result (λ r. IsAtRest (F.function (arc_value function.now)) step.now records.now
+        (state S.Store conn.new) r.0.stage (⟦<RecordsRun<F> as Standing>⟧.standing r.0.run) r.0.rows.items r.1 all) }
+    ensures own { HasCleanDisk (state S.Store conn.new) → IsJustOpened (state S.Store conn.old) → (all : List Kept) → ShowsList (state S.Store conn.old).now all
+        → OnOk result (OtherRun step.now records.now all → ⊥) }
+    ensures other_job { HasCleanDisk (state S.Store conn.new) → IsJustOpened (state S.Store conn.old) → (all : List Kept) → ShowsList (state S.Store conn.old).now all
+        → IfErr result (λ e. e ≡ OtherJob → IsOtherJob step.now records.now all × Keeps (state S.Store conn.new) all) }
+    ensures other_records { HasCleanDisk (state S.Store conn.new) → IsJustOpened (state S.Store conn.old) → (all : List Kept) → ShowsList (state S.Store conn.old).now all
+        → IfErr result (λ e. e ≡ OtherRecords → IsOverOthers step.now records.now all × Keeps (state S.Store conn.new) all) }
+    ensures clean { doubt (state S.Store conn.old).is_clean ≤ doubt (state S.Store conn.new).is_clean }
+    ensures crash { HasCleanDisk (state S.Store conn.new) → IsJustOpened (state S.Store conn.old) → (so_far : List Kept) → ShowsList (state S.Store conn.old).now so_far
+        → IsRunSoFar (F.function (arc_value function.now)) step.now records.now so_far
+        → (db : _) → (state S.Store conn.new).may_leave db → IsOfARun (IsRunSoFar (F.function (arc_value function.now)) step.now records.now) db }
+{
+    let done = begin(alloc, conn)?;
+    let Ok(count) = u32::try_from(done.len()) else {
+        return Err(DurableError::TooMany);
+    };
+    let place = taken_up(alloc, step, function, records, &done)?;
+    Ok((place, count))
+}
+
+/// One checkpoint more, kept in the database; false where the run was whole.
+fn advance<F: RecordFunction + Drop + 'static, R: Threads + Wait + Sync, S: Alter>(
+    rt: &R,
+    alloc: Global,
+    conn: &mut Connection<S>,
+    place: Place<F>,
+    rounds: u64,
+    count: &mut u32,
+) -> Result<(Place<F>, bool), DurableError>
+    ensures kept { HasCleanDisk (state S.Store conn.new) → (f : Function) (step : StepOfRecords) (records : List (List ℕ)) (all : List Kept)
+        → IsAtRest f step records (state S.Store conn.old) place.stage (⟦<RecordsRun<F> as Standing>⟧.standing place.run) place.rows.items count.old all
+        → IfOk result (λ r. (now : List Kept) × IsAtRest f step records (state S.Store conn.new) r.0.stage (⟦<RecordsRun<F> as Standing>⟧.standing r.0.run) r.0.rows.items count.new now
+        × (r.1 ≡ false → IsWholeRun f step records now)) }
+    ensures own { IfErr result IsOfOwn }
+    ensures whole { IfOk result (λ r. r.1 ≡ false → AreWhole (⟦<RecordsRun<F> as Standing>⟧.standing r.0.run).setup.rows) }
+    ensures clean { doubt (state S.Store conn.old).is_clean ≤ doubt (state S.Store conn.new).is_clean }
+    ensures crash { HasCleanDisk (state S.Store conn.new) → (f : Function) (step : StepOfRecords) (records : List (List ℕ)) (all : List Kept)
+        → IsAtRest f step records (state S.Store conn.old) place.stage (⟦<RecordsRun<F> as Standing>⟧.standing place.run) place.rows.items count.old all
+        → (db : _) → (state S.Store conn.new).may_leave db → IsOfARun (IsRunSoFar f step records) db }
+{
+    let (place, next) = place.go_on(rt, alloc, rounds)?;
+    let Some(next) = next else {
+        return Ok((place, false));
+    };
+    if *count == u32::MAX {
+        return Err(DurableError::TooMany);
+    }
+    append(conn, *count + 1, next.saved.as_str(), &next.results)?;
+    *count += 1;
+    Ok((place, true))
+}
+
+/// Tells how far the last checkpoint says that the run is.
+fn tell<F, O: Onlooker>(place: &Place<F>, records: usize, onlooker: &mut O) {
+    if let Stage::Underway = place.stage {
+        onlooker.told(progress_of(&place.rows, records));
+    }
+}
+
+/// So many checkpoints more, each kept before the next stretch begins, until the run is whole or a partition has failed.
+pub(crate) fn run<
+    F: RecordFunction + Drop + 'static,
+    P: Pace,
+    O: Onlooker,
+    R: Threads + Wait + Sync,
+    S: Alter,
+>(
+    rt: &R,
+    alloc: Global,
+    conn: &mut Connection<S>,
+    place: Place<F>,
+    count: u32,
+    stretches: u32,
+    records: usize,
+    pace: &mut P,
+    onlooker: &mut O,
+) -> Result<(Place<F>, Pause), DurableError>
+    ensures kept { HasCleanDisk (state S.Store conn.new) → (f : Function) (step : StepOfRecords) (over : List (List ℕ)) (all : List Kept)
+        → IsAtRest f step over (state S.Store conn.old) place.stage (⟦<RecordsRun<F> as Standing>⟧.standing place.run) place.rows.items count all
+        → IfOk result (λ r. (now : List Kept) × (number : ℕ) × IsAtRest f step over (state S.Store conn.new) r.0.stage (⟦<RecordsRun<F> as Standing>⟧.standing r.0.run) r.0.rows.items number now
+        × (r.1 ≡ Whole → IsWholeRun f step over now)) }
+    ensures own { IfErr result IsOfOwn }
+    ensures whole { IfOk result (λ r. r.1 ≡ Whole → AreWhole (⟦<RecordsRun<F> as Standing>⟧.standing r.0.run).setup.rows) }
+    ensures clean { doubt (state S.Store conn.old).is_clean ≤ doubt (state S.Store conn.new).is_clean }
+    ensures crash { HasCleanDisk (state S.Store conn.new) → (f : Function) (step : StepOfRecords) (over : List (List ℕ)) (all : List Kept)
+        → IsAtRest f step over (state S.Store conn.old) place.stage (⟦<RecordsRun<F> as Standing>⟧.standing place.run) place.rows.items count all
+        → (db : _) → (state S.Store conn.new).may_leave db → IsOfARun (IsRunSoFar f step over) db }
+{
+    let mut place = place;
+    let mut count = count;
+    'stretches: for _ in 0..stretches {
+        tell(&place, records, onlooker);
+        if place.has_failed {
+            return Ok((place, Pause::Failed));
+        }
+        let rounds = pace.begin();
+        let (next, more) = advance(rt, alloc, conn, place, rounds, &mut count)?;
+        pace.end();
+        if !more {
+            return Ok((next, Pause::Whole));
+        }
+        place = next;
+    }
+    Ok((place, Pause::Stretches))
+}
+
+/// How the run ended.
+fn ended<F: RecordFunction + Drop>(
+    place: Place<F>,
+    pause: Pause,
+) -> Result<DurableEnd, DurableError>
+    ensures results { IfOk result (λ end. end.results.items ≡ (⟦<RecordsRun<F> as Standing>⟧.standing place.run).shares) }
+    ensures whole { IfOk result (λ end. end.status ≡ Completed → pause ≡ Whole) }
+    ensures status { IfOk result (λ end. (end.status ≡ Completed) ⊎ (end.status ≡ Failed)) }
+    ensures own { IfErr result IsOfOwn }
+{
+    let status = match pause {
+        Pause::Whole => Status::Completed,
+        Pause::Failed => Status::Failed,
+        Pause::Stretches => return Err(DurableError::TooMany),
+    };
+    let Place { run, rows, .. } = place;
+    Ok(DurableEnd {
+        status,
+        rows,
+        results: run.into_results(),
+    })
+}
+
+/// Runs a step over records whose checkpoints are kept in a database that was just opened: anew where it has none, else behind them.
+/// Each stretch takes as many rounds as the pace says, and is kept before the next one begins. **COMPLETED has the results of all
+/// records**, and so have the checkpoints; whatever ends the process, at any moment, the database has those of a run so far. A file whose
+/// run is completed gives its results again, and runs nothing. Where a partition fails, that is kept and the run ends FAILED; a next call
+/// tries it again.
+///
+/// # Errors
+/// `OtherJob` and `OtherRecords` where the checkpoints are of another run, and nothing is written; `Store` with what is wrong with the
+/// file; `Damaged` where a checkpoint's results are; `Step` with why the step can't be begun, or broke off; `TooLong`, `TooMany`, `Memory`.
+pub fn run_records_durably<
+    F: RecordFunction + Drop + 'static,
+    P: Pace + Drop,
+    O: Onlooker + Drop,
+    R: Threads + Wait + Sync,
+    S: Alter,
+>(
+    rt: &R,
+    alloc: Global,
+    conn: &mut Connection<S>,
+    step: &RecordsStep,
+    function: F,
+    records: &PackedList,
+    pace: P,
+    onlooker: O,
+) -> Result<DurableEnd, DurableError>
+    ensures all { HasCleanDisk (state S.Store conn.new) → IsJustOpened (state S.Store conn.old) → (all : List Kept) → ShowsList (state S.Store conn.old).now all
+        → IsRunSoFar (F.function function) step.now records.now all → IfOk result (λ end. end.status ≡ Completed → joined end.results.items ≡ all_results (F.function function) records.now) }
+    ensures kept { HasCleanDisk (state S.Store conn.new) → IsJustOpened (state S.Store conn.old) → (all : List Kept) → ShowsList (state S.Store conn.old).now all
+        → IsRunSoFar (F.function function) step.now records.now all
+        → IfOk result (λ end. end.status ≡ Completed → (now : List Kept) × Keeps (state S.Store conn.new) now × IsWholeRun (F.function function) step.now records.now now) }
+    ensures so_far { HasCleanDisk (state S.Store conn.new) → IsJustOpened (state S.Store conn.old) → (all : List Kept) → ShowsList (state S.Store conn.old).now all
+        → IsRunSoFar (F.function function) step.now records.now all → IfOk result (λ end. (rows : List RowRecord) × IsSoFar (F.function function) records.now rows end.results.items) }
+    ensures status { IfOk result (λ end. (end.status ≡ Completed) ⊎ (end.status ≡ Failed)) }
+    ensures own { HasCleanDisk (state S.Store conn.new) → IsJustOpened (state S.Store conn.old) → (all : List Kept) → ShowsList (state S.Store conn.old).now all
+        → OnOk result (OtherRun step.now records.now all → ⊥) }
+    ensures other_job { HasCleanDisk (state S.Store conn.new) → IsJustOpened (state S.Store conn.old) → (all : List Kept) → ShowsList (state S.Store conn.old).now all
+        → IfErr result (λ e. e ≡ OtherJob → IsOtherJob step.now records.now all × Keeps (state S.Store conn.new) all) }
+    ensures other_records { HasCleanDisk (state S.Store conn.new) → IsJustOpened (state S.Store conn.old) → (all : List Kept) → ShowsList (state S.Store conn.old).now all
+        → IfErr result (λ e. e ≡ OtherRecords → IsOverOthers step.now records.now all × Keeps (state S.Store conn.new) all) }
+    ensures clean { doubt (state S.Store conn.old).is_clean ≤ doubt (state S.Store conn.new).is_clean }
+    ensures crash { HasCleanDisk (state S.Store conn.new) → IsJustOpened (state S.Store conn.old) → (all : List Kept) → ShowsList (state S.Store conn.old).now all
+        → IsRunSoFar (F.function function) step.now records.now all
+        → (db : _) → (state S.Store conn.new).may_leave db → IsOfARun (IsRunSoFar (F.function function) step.now records.now) db }
+{
+    steps_keep_results();
+    let function = Arc::new(alloc, function)?;
+    let mut pace = pace;
+    let mut onlooker = onlooker;
+    let (place, count) = taken_from(alloc, conn, step, &function, records)?;
+    let (place, pause) = run(
+        rt,
+        alloc,
+        conn,
+        place,
+        count,
+        u32::MAX,
+        records.len(),
+        &mut pace,
+        &mut onlooker,
+    )?;
+    ended(place, pause)
+}
