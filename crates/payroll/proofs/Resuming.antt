@@ -1,15 +1,20 @@
--- A run that goes on from the files of an earlier one.
-use Rattle.std.proofs.Common.{◌≡◌, ℕ, List, [], ◌∷◌, map, Option, Some, None, ap, sym, subst, ◌∙◌, refl}
-use Rattle.std.specs.Prelude.{IfSome, option_map}
+-- A run that goes on from what its file keeps.
+use Rattle.std.proofs.Common.{◌≡◌, ℕ, List, [], ◌∷◌, map, length, Option, Some, None, ap, sym, subst, ◌∙◌, refl}
+use Rattle.std.specs.Prelude.{IfSome}
 use Rattle.csv.specs.Machine.{Read, next_record}
 use Rattle.csv.specs.Reading.{Reached, default_config, strip_bom}
 use Rattle.csv.specs.declared.parser.State.TheVariants as st
 use Rattle.csv.specs.declared.parser.State.{State}
 use Rattle.csv.specs.declared.parser.Config.{Config}
+use Rattle.sqlite.specs.Tree.{Trees}
+use Rattle.jb_durable.specs.Files.{IsOfARun}
+use Rattle.jb_durable_records.specs.Checkpoints.{IsRunSoFar, form_of}
+use Rattle.jb_durable_records.specs.Form.{form_text}
 use Rattle.jb_ready.specs.Csv.{AreRowsOf, row_of}
-use Rattle.jb_records.specs.Earlier.{IsOfStoppedRun}
-use Rattle.jb_records.specs.Shares.{joined}
-use Rattle.payroll.specs.Earlier.{AreOfStoppedPayroll, AreOfStoppedRun}
+use Rattle.jb_records.specs.Function.{Function}
+use Rattle.jb_records.specs.declared.step.RecordsStep.{RecordsStep}
+use Rattle.jb_store.specs.Checkpoints.{Kept}
+use Rattle.payroll.specs.Kept.{IsPayrollSoFar, payroll_form}
 use Rattle.payroll.specs.Payroll.{payroll}
 
 -- ---- FILES ARE READ IN ONE WAY ONLY
@@ -41,35 +46,41 @@ same-lines text lines others are were =
     ∙ ap (map row_of) (same-records default_config st.StartRecord (strip_bom text) are.records were.records are.read.0 were.read.0 are.read.1 were.read.1 are.read.2 are.read.3 were.read.2 were.read.3)
     ∙ sym were.are
 
-pub stopped-run : (lines : List (List ℕ)) (rows slips : List ℕ) (results : List (List ℕ)) → AreOfStoppedRun lines rows slips → AreRowsOf slips results → IsOfStoppedRun payroll lines rows results
-stopped-run lines rows slips results stopped read = record {
-  held = stopped.held;
-  read = stopped.read;
-  shares = stopped.shares;
-  so_far = stopped.so_far;
-  results = same-lines slips (joined stopped.shares) results stopped.written read;
-}
-
 no-text : (bytes : List ℕ) → None ≡ Some bytes → ⊥
 no-text bytes e = cc
 
 same-text : (a b : List ℕ) → Some a ≡ Some b → a ≡ b
 same-text a b e = cc
 
-lines-again : (text : Option (List ℕ)) (rows slips : List ℕ) (lines : List (List ℕ)) → IfSome text (λ bytes. AreRowsOf bytes lines) → AreOfStoppedPayroll text rows slips → AreOfStoppedRun lines rows slips
-lines-again None rows slips lines read stopped = absurd (no-text _ stopped.known)
-lines-again (Some bytes) rows slips lines read stopped =
-    let same = same-lines bytes stopped.lines lines (subst (λ b. AreRowsOf b stopped.lines) (sym (same-text _ _ stopped.known)) stopped.sheets) read in
-    subst (λ ls. AreOfStoppedRun ls rows slips) same stopped.stopped
+known-rows : (text : Option (List ℕ)) (bytes : List ℕ) (lines : List (List ℕ)) → text ≡ Some bytes → IfSome text (λ b. AreRowsOf b lines) → AreRowsOf bytes lines
+known-rows None bytes lines known read = absurd (no-text bytes known)
+known-rows (Some b) bytes lines known read = subst (λ x. AreRowsOf x lines) (same-text b bytes known) read
 
--- what holds of a run behind these saved rows and pay slips holds of the bytes that they were read from
-pub behind-files : {V E P Q : Type 0} (rows : V → List ℕ) (saved : E → List ℕ) (results : E → List (List ℕ)) (o : Option V) (earlier : Option E) (slips : List ℕ) (text : Option (List ℕ)) (read lines : List (List ℕ))
-    → option_map saved earlier ≡ option_map rows o → IfSome earlier (λ e. results e ≡ read) → AreRowsOf slips read → IfSome text (λ bytes. AreRowsOf bytes lines)
-    → IfSome earlier (λ e. IsOfStoppedRun payroll lines (saved e) (results e) → P) → (P → Q)
-    → IfSome o (λ v. AreOfStoppedPayroll text (rows v) slips → Q)
-behind-files rows saved results None earlier slips text read lines same are were sheets goes so = tt
-behind-files rows saved results (Some v) None slips text read lines same are were sheets goes so = absurd cc
-behind-files rows saved results (Some v) (Some e) slips text read lines same are were sheets goes so =
-    λ stopped. so (goes (stopped-run lines (saved e) slips (results e)
-    (subst (λ bytes. AreOfStoppedRun lines bytes slips) (sym (same-text (saved e) (rows v) same)) (lines-again text (rows v) slips lines sheets stopped))
-    (subst (AreRowsOf slips) (sym are) were)))
+-- ---- STEPS OF ONE FORM HAVE THE SAME RUNS
+
+same-form : (f : Function) (step other : RecordsStep) (records : List (List ℕ)) (all : List Kept) → form_of step (length records) ≡ form_of other (length records) → IsRunSoFar f step records all → IsRunSoFar f other records all
+same-form f step other records [] same is = is
+same-form f step other records (first ∷ later) same is = (record { form = is.0.form ∙ ap form_text same; digest = is.0.digest }, is.1)
+
+module _ (text : Option (List ℕ)) (lines : List (List ℕ)) (step : RecordsStep) (read : IfSome text (λ bytes. AreRowsOf bytes lines)) (form : (sheets : ℕ) → form_of step sheets ≡ payroll_form sheets) where
+  -- what the file keeps is of the time sheets that were read, and of this step
+  pub own-run : (all : List Kept) → IsPayrollSoFar text all → IsRunSoFar payroll step lines all
+  own-run all so =
+      let same = same-lines so.bytes so.lines lines so.sheets (known-rows text so.bytes lines so.known read) in
+      subst (λ ls. IsRunSoFar payroll step ls all) same (same-form payroll so.step step so.lines all (so.form ∙ sym (form (length so.lines))) so.so_far)
+
+  -- and so is what a crash leaves of it
+  pub payroll-left : (bytes : List ℕ) (db : Trees) → text ≡ Some bytes → IsOfARun (IsRunSoFar payroll step lines) db → IsOfARun (IsPayrollSoFar text) db
+  payroll-left bytes db known left = (
+    left.0,
+    left.1,
+    record {
+      bytes = bytes;
+      known = known;
+      lines = lines;
+      sheets = known-rows text bytes lines known read;
+      step = step;
+      form = form (length lines);
+      so_far = left.2;
+    },
+  )

@@ -1,4 +1,4 @@
-pub mod Earlier
 pub mod Failures
+pub mod Kept
 pub mod Payroll
 pub mod Sheets

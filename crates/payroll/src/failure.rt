@@ -2,21 +2,25 @@
 
 ghost use Rattle.std.specs.Prelude.{◌≡◌};
 ghost use Rattle.payroll.specs.Failures.{failure_text};
-ghost use Rattle.payroll.specs.declared.failure.Failure.TheVariants.{Memory, Step, Stream};
+ghost use Rattle.payroll.specs.declared.failure.Failure.TheVariants.{File, Memory, Run, Stream};
 
+use jb_durable_records::DurableError;
 use jb_records::RecordsStepError;
+use jb_store::StoreError;
 use std::alloc::AllocError;
 use std::{fmt, io};
 use thiserror::Error;
 
-/// Why there are no pay slips.
+/// Why there are no pay slips. What the file keeps stays.
 #[derive(Debug, Drop, Error)]
 pub enum Failure {
     /// The words of the command line ask for nothing.
     Usage,
-    /// The step has no end.
-    Step(RecordsStepError),
-    /// A file or a stream failed.
+    /// The file of the checkpoints.
+    File(StoreError),
+    /// The run has no end.
+    Run(DurableError),
+    /// A stream failed.
     Stream(io::Error),
     /// There was no memory.
     Memory,
@@ -27,17 +31,26 @@ impl fmt::Display for Failure {
 
     fn fmt<W: fmt::Write>(&self, f: &mut fmt::Formatter<W>) -> fmt::Result {
         let text = match self {
-            Failure::Usage => "usage: payroll THREADS ROUNDS [SAVED SLIPS] < SHEETS",
-            Failure::Step(RecordsStepError::Records) => "more than 10,000,000 time sheets",
-            Failure::Step(RecordsStepError::Results) => {
-                "the earlier pay slips aren't those of the saved rows"
+            Failure::Usage => "usage: payroll THREADS FILE < SHEETS",
+            Failure::File(StoreError::Memory)
+            | Failure::Run(DurableError::Store(StoreError::Memory))
+            | Failure::Run(DurableError::Step(RecordsStepError::Memory))
+            | Failure::Run(DurableError::Memory)
+            | Failure::Memory => "no memory",
+            Failure::Run(DurableError::Step(RecordsStepError::Records)) => {
+                "Records: more than 10,000,000 time sheets"
             }
-            Failure::Step(RecordsStepError::SkippedTry) => "a try that fails is skipped",
-            Failure::Step(RecordsStepError::Step(error)) => {
-                return write!(f, "the step has no end: {error:?}");
+            Failure::Run(DurableError::OtherRecords) => {
+                "OtherRecords: the checkpoints in the file are of other time sheets"
             }
-            Failure::Stream(error) => return write!(f, "a file or a stream failed: {error}"),
-            Failure::Step(RecordsStepError::Memory) | Failure::Memory => "no memory",
+            Failure::Run(DurableError::OtherJob) => {
+                "OtherJob: the checkpoints in the file are another job's, or of another number of time sheets"
+            }
+            Failure::File(error) | Failure::Run(DurableError::Store(error)) => {
+                return write!(f, "{error:?}: {error}");
+            }
+            Failure::Run(error) => return write!(f, "{error:?}: {error}"),
+            Failure::Stream(error) => return write!(f, "a stream failed: {error}"),
         };
         f.write_str(text)
     }
@@ -59,10 +72,18 @@ impl From<io::Error> for Failure {
     }
 }
 
-impl From<RecordsStepError> for Failure {
-    ghost from_gives = { λ error failure. failure ≡ Step error };
+impl From<StoreError> for Failure {
+    ghost from_gives = { λ error failure. failure ≡ File error };
 
-    fn from(error: RecordsStepError) -> Failure {
-        Failure::Step(error)
+    fn from(error: StoreError) -> Failure {
+        Failure::File(error)
+    }
+}
+
+impl From<DurableError> for Failure {
+    ghost from_gives = { λ error failure. failure ≡ Run error };
+
+    fn from(error: DurableError) -> Failure {
+        Failure::Run(error)
     }
 }

@@ -1,34 +1,54 @@
 use Rattle.std.proofs.Common.{◌∙◌, rules, subst, sym}
-use Rattle.std.proofs.lemmas.Result.{IfOk-weaker}
 use Rattle.std.specs.Io.KnownBytes.{Appends}
 use Rattle.std.specs.List.{concat}
-use Rattle.jb_ready.specs.Csv.{AreRowsOf}
 use Rattle.payroll.proofs.Paying.{completed-if, results-are-slips}
-use Rattle.payroll.proofs.Resuming.{behind-files}
+use Rattle.payroll.proofs.Resuming.{own-run, payroll-left}
 use Rattle.payroll.proofs.answer.Goals as goal
 
 pub returns-clause-all : goal.returns-clause-all
-returns-clause-all g c none =
-    let whole = c.in_ok-end.ensures.all (c.earlier_of-earlier.ensures.none none) in
-    IfOk-weaker c.told.result _ _ (λ status is zero. record {
-      lines = c.in_ok-lines.lines;
-      read = search rules;
+returns-clause-all g c clean opened all shows so zero =
+    let sheets = c.in_ok-sheets.sheets in
+    let own = own-run (g.R.Read.remaining c.args.reader.now) sheets c.in_ok-step.step c.in_ok-sheets.ensures c.in_ok-step.ensures all so in
+    let whole = c.in_ok-end.ensures.all clean opened all shows own in record {
+      lines = sheets;
+      read = c.in_ok-sheets.ensures;
       written = subst (λ slips. Appends (g.W.Write.contents c.args.writer.now) (g.W.Write.contents c.write_slips.new.writer) (concat slips))
-          (c.in_ok-paid.ensures ∙ whole (completed-if _ (sym zero ∙ is)) ∙ results-are-slips c.in_ok-lines.lines) c.in_ok-write_slips.ensures;
-    }) c.told.ensures
+          (c.in_ok-slips.ensures ∙ whole (completed-if _ (sym zero ∙ c.status_of.ensures)) ∙ results-are-slips sheets) c.in_ok-write_slips.ensures;
+    }
 
-pub returns-clause-goes_on : goal.returns-clause-goes_on
-returns-clause-goes_on g c =
-    behind-files _ _ _ c.args.asked.now.saved _ _ _ c.in_ok-slips.slips c.in_ok-lines.lines c.earlier_of-earlier.ensures.saved c.earlier_of-earlier.ensures.results
-    (subst (λ bytes. AreRowsOf bytes c.in_ok-slips.slips) c.deref-2.ensures.value c.in_ok-slips.ensures.rows) (search rules) c.in_ok-end.ensures.goes_on (λ so-far. search rules)
+pub returns-clause-so_far : goal.returns-clause-so_far
+returns-clause-so_far g c clean opened all shows so =
+    let sheets = c.in_ok-sheets.sheets in
+    let own = own-run (g.R.Read.remaining c.args.reader.now) sheets c.in_ok-step.step c.in_ok-sheets.ensures c.in_ok-step.ensures all so in
+    let far = c.in_ok-end.ensures.so_far clean opened all shows own in record {
+      lines = sheets;
+      rows = far.0;
+      shares = c.in_ok-end.end.results.items;
+      read = c.in_ok-sheets.ensures;
+      so_far = far.1;
+      written = subst (λ slips. Appends (g.W.Write.contents c.args.writer.now) (g.W.Write.contents c.write_slips.new.writer) (concat slips)) c.in_ok-slips.ensures c.in_ok-write_slips.ensures;
+    }
 
-pub returns-clause-goes_on_whole : goal.returns-clause-goes_on_whole
-returns-clause-goes_on_whole g c =
-    behind-files _ _ _ c.args.asked.now.saved _ _ _ c.in_ok-slips.slips c.in_ok-lines.lines c.earlier_of-earlier.ensures.saved c.earlier_of-earlier.ensures.results
-    (subst (λ bytes. AreRowsOf bytes c.in_ok-slips.slips) c.deref-2.ensures.value c.in_ok-slips.ensures.rows) (search rules) c.in_ok-end.ensures.goes_on_whole
-    (λ whole. IfOk-weaker c.told.result _ _ (λ status is zero. record {
-      lines = c.in_ok-lines.lines;
-      read = search rules;
-      written = subst (λ slips. Appends (g.W.Write.contents c.args.writer.now) (g.W.Write.contents c.write_slips.new.writer) (concat slips))
-          (c.in_ok-paid.ensures ∙ whole (completed-if _ (sym zero ∙ is)) ∙ results-are-slips c.in_ok-lines.lines) c.in_ok-write_slips.ensures;
-    }) c.told.ensures)
+pub returns-clause-crash : goal.returns-clause-crash
+returns-clause-crash g c clean opened all shows so db may =
+    let own = own-run (g.R.Read.remaining c.args.reader.now) c.in_ok-sheets.sheets c.in_ok-step.step c.in_ok-sheets.ensures c.in_ok-step.ensures all so in
+    payroll-left (g.R.Read.remaining c.args.reader.now) c.in_ok-sheets.sheets c.in_ok-step.step c.in_ok-sheets.ensures c.in_ok-step.ensures so.bytes db so.known
+    (c.run_records_durably.ensures.crash clean opened all shows own db may)
+
+pub returns-in_err-end-clause-crash : goal.returns-in_err-end-clause-crash
+returns-in_err-end-clause-crash g c clean opened all shows so db may =
+    let own = own-run (g.R.Read.remaining c.args.reader.now) c.in_ok-sheets.sheets c.in_ok-step.step c.in_ok-sheets.ensures c.in_ok-step.ensures all so in
+    payroll-left (g.R.Read.remaining c.args.reader.now) c.in_ok-sheets.sheets c.in_ok-step.step c.in_ok-sheets.ensures c.in_ok-step.ensures so.bytes db so.known
+    (c.run_records_durably.ensures.crash clean opened all shows own db may)
+
+pub returns-in_err-slips-clause-crash : goal.returns-in_err-slips-clause-crash
+returns-in_err-slips-clause-crash g c clean opened all shows so db may =
+    let own = own-run (g.R.Read.remaining c.args.reader.now) c.in_ok-sheets.sheets c.in_ok-step.step c.in_ok-sheets.ensures c.in_ok-step.ensures all so in
+    payroll-left (g.R.Read.remaining c.args.reader.now) c.in_ok-sheets.sheets c.in_ok-step.step c.in_ok-sheets.ensures c.in_ok-step.ensures so.bytes db so.known
+    (c.run_records_durably.ensures.crash clean opened all shows own db may)
+
+pub returns-in_err-write_slips-clause-crash : goal.returns-in_err-write_slips-clause-crash
+returns-in_err-write_slips-clause-crash g c clean opened all shows so db may =
+    let own = own-run (g.R.Read.remaining c.args.reader.now) c.in_ok-sheets.sheets c.in_ok-step.step c.in_ok-sheets.ensures c.in_ok-step.ensures all so in
+    payroll-left (g.R.Read.remaining c.args.reader.now) c.in_ok-sheets.sheets c.in_ok-step.step c.in_ok-sheets.ensures c.in_ok-step.ensures so.bytes db so.known
+    (c.run_records_durably.ensures.crash clean opened all shows own db may)
