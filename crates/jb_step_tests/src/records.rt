@@ -6,7 +6,7 @@ use jb_artifacts::Item;
 use jb_base::{ClassId, MAX_ITEM_COUNT, Name, PackedList, Rules};
 use jb_collect::Status;
 use jb_records::{
-    RecordFunction, RecordsEnd, RecordsStep, RecordsStepError, Watcher, run_records,
+    RecordFunction, RecordsEnd, RecordsRun, RecordsStep, RecordsStepError, Watcher, run_records,
     run_records_watched,
 };
 use jb_workers::Desk;
@@ -105,7 +105,7 @@ impl Watcher for Looker {
 /// What comes of a step: its status, its results, each with a bar behind it, and how many records were skipped as refused.
 type Came = Result<(Status, &'static str, u64), RecordsStepError>;
 
-/// Four records, in chunks of so many on two threads, and what comes of them.
+/// Four records, in chunks of so many on two threads, and what comes of them: in one run, and in stretches.
 #[derive(Clone, Copy)]
 struct Case {
     records: [&'static str; 4],
@@ -113,6 +113,8 @@ struct Case {
     rules: Rules,
     rounds: Option<u64>,
     came: Came,
+    /// None where it is the same. A stretch that fails is the last one.
+    in_stretches: Option<Came>,
 }
 
 /// Nothing is skipped or retried.
@@ -130,6 +132,7 @@ const PLAIN: Case = Case {
     rules: STRICT,
     rounds: None,
     came: Ok((Status::Completed, "a|b|c|d|", 0)),
+    in_stretches: None,
 };
 
 /// A record that can't be read, and a try that fails, each under several rules.
@@ -168,6 +171,7 @@ const CASES: [Case; 8] = [
     Case {
         records: ["aa", "b", "c", "d"],
         came: Ok((Status::Failed, "c|d|", 0)),
+        in_stretches: Some(Ok((Status::Failed, "c|", 0))),
         ..PLAIN
     },
     Case {
@@ -189,6 +193,52 @@ const CASES: [Case; 8] = [
         ..PLAIN
     },
 ];
+
+/// Puts what is new of each partition behind what was told of it.
+fn grow(told: &mut Vec<PackedList>, news: Vec<PackedList>) -> Result<(), AllocError> {
+    for (partition, list) in news.into_iter().enumerate() {
+        match told.get_mut(partition) {
+            Some(own) => own.append(&list)?,
+            None => told.push(list)?,
+        }
+    }
+    Ok(())
+}
+
+/// Runs the step in stretches of one round, so many at most, while it is only stopped: in memory, or from the second one on behind
+/// what was kept of the first. Answers the results of the run, or those that were told.
+fn in_stretches<F: RecordFunction + Drop + 'static, R: Threads + Wait + Sync>(
+    rt: &R,
+    alloc: Global,
+    step: &RecordsStep,
+    function: &Arc<F, Global>,
+    records: &PackedList,
+    stretches: u64,
+    is_kept: bool,
+) -> Result<RecordsEnd, RecordsStepError> {
+    let run = RecordsRun::begin(alloc, step, function, records)?;
+    let (mut run, mut last) = run.go_on(rt, alloc, Some(1))?;
+    if is_kept && last.status == Status::Stopped {
+        let (saved, results) = (last.saved.as_bytes(), run.into_results());
+        run = RecordsRun::begin_behind(alloc, step, function, records, saved, results)?;
+    }
+    let mut told = Vec::new(alloc);
+    for _ in 1..stretches {
+        if last.status != Status::Stopped {
+            break;
+        }
+        let (next, stretch) = run.go_on(rt, alloc, Some(1))?;
+        grow(&mut told, last.results)?;
+        run = next;
+        last = stretch;
+    }
+    grow(&mut told, last.results)?;
+    Ok(RecordsEnd {
+        status: last.status,
+        snapshot: last.snapshot,
+        results: if is_kept { told } else { run.into_results() },
+    })
+}
 
 /// Whether the step came to this.
 fn is_so(
@@ -226,7 +276,32 @@ fn step_of(alloc: Global, case: &Case) -> Result<RecordsStep, Fail> {
     })
 }
 
-/// Runs the case by itself, and with who looks on: whether both come to the same, and how often it was looked.
+/// Whether the case comes to what it should in stretches, in memory and behind what was kept of the first.
+fn are_stretches_so<R: Threads + Wait + Clock + Copy + Send + Sync + 'static>(
+    rt: &R,
+    alloc: Global,
+    case: &Case,
+    step: &RecordsStep,
+    records: &PackedList,
+) -> Result<bool, Fail> {
+    let function = Letters {
+        rt: *rt,
+        alloc,
+        refused: ClassId::new(0),
+        late: ClassId::new(1),
+        looks: Arc::new(alloc, AtomicU64::new(0))?,
+        awaited: 0,
+    };
+    let function = Arc::new(alloc, function)?;
+    let came = case.in_stretches.unwrap_or(case.came);
+    let stretches = case.rounds.unwrap_or(8);
+    let end = in_stretches(rt, alloc, step, &function, records, stretches, false);
+    let is_run = is_so(alloc, end, came)?;
+    let end = in_stretches(rt, alloc, step, &function, records, stretches, true);
+    Ok(is_run && is_so(alloc, end, came)?)
+}
+
+/// Runs the case by itself, with who looks on, and in stretches: whether all come to what they should, and how often it was looked.
 fn ran<R: Threads + Wait + Clock + Copy + Send + Sync + 'static>(
     rt: &R,
     alloc: Global,
@@ -262,7 +337,11 @@ fn ran<R: Threads + Wait + Clock + Copy + Send + Sync + 'static>(
     let is_alone = is_so(alloc, end, case.came)?;
     let end = run_records_watched(rt, alloc, &step, seen, &records, None, case.rounds, looker);
     let is_seen = is_so(alloc, end, case.came)?;
-    Ok((is_alone && is_seen, looks.load(Ordering::SeqCst)))
+    let is_stretched = are_stretches_so(rt, alloc, case, &step, &records)?;
+    Ok((
+        is_alone && is_seen && is_stretched,
+        looks.load(Ordering::SeqCst),
+    ))
 }
 
 /// A step is looked at as often as its watcher asks for, and that changes nothing; where it isn't begun there is nothing to see.

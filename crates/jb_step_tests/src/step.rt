@@ -6,7 +6,6 @@ mod four;
 mod given;
 mod meeting;
 mod memory;
-mod most;
 mod other_desks;
 mod refusals;
 mod restarts;

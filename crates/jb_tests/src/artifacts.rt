@@ -86,58 +86,6 @@ pub(crate) fn holds(answer: &Result<Option<Item>, ArtifactError>, bytes: &[u8]) 
     }
 }
 
-/// Record 0 is read, and record 1 after a fault.
-#[test]
-fn a_record_read_after_a_fault(rt: HostRuntime) -> Result<(), AllocError> {
-    let alloc = rt.alloc();
-    let plans = failing_once(alloc, ClassId::new(3))?;
-    let mut reader = TableReader::new(alloc, 0, records(alloc, &["a", "b"])?, plans);
-    assert!(rt; holds(&reader.read_item(), b"a"));
-    assert!(rt; fault_of(reader.read_item()) == Some(fault()));
-    Ok(())
-}
-
-/// Record 1 is processed after a fault.
-#[test]
-fn a_record_processed_after_a_fault(rt: HostRuntime) -> Result<(), AllocError> {
-    let alloc = rt.alloc();
-    let plans = failing_once(alloc, ClassId::new(3))?;
-    let prefix = Item::copy_of(alloc, b"x")?;
-    let mut processor = PrefixProcessor::new(alloc, prefix, None, plans);
-    assert!(rt; fault_of(processor.process_item(1, b"b")) == Some(fault()));
-    assert!(rt; holds(&processor.process_item(1, b"b"), b"xb"));
-    Ok(())
-}
-
-/// The result of record 1 is written after a fault.
-#[test]
-fn a_result_written_after_a_fault(rt: HostRuntime) -> Result<(), AllocError> {
-    let alloc = rt.alloc();
-    let plans = failing_once(alloc, ClassId::new(3))?;
-    let mut writer = ListWriter::new(PackedList::new(alloc), plans);
-    let results = [(1, Item::copy_of(alloc, b"xb")?)];
-    assert!(rt; writer.write_items(&results) == Err(fault()));
-    assert!(rt; writer.write_items(&results) == Ok(()));
-    assert!(rt; writer.item_at(0) == Some(b"xb".as_slice()));
-    Ok(())
-}
-
-/// The end of a partition of two records is told of.
-#[test]
-fn an_end_collected(rt: HostRuntime) -> Result<(), AllocError> {
-    let view = RowView {
-        partition: 0,
-        lo: 0,
-        hi: 2,
-        at: 2,
-        counts: Counts::ZERO,
-        last: true,
-    };
-    let text = CountCollector::new(rt.alloc()).collect(&view)?.into_vec();
-    assert!(rt; text.as_slice() == b"0:2:0:end".as_slice());
-    Ok(())
-}
-
 /// Whether there was no memory for what a call was to answer.
 fn wants_memory(answer: &Result<Option<Item>, ArtifactError>) -> bool {
     match answer {

@@ -12,8 +12,6 @@ use std::alloc::{AllocError, Global};
 use std::marker::Brand;
 use std::test::Fail;
 
-mod limits;
-
 fn worked_rows()
     ensures ranges { RangesRow }
     ensures classes { ClassesRow }
@@ -55,6 +53,14 @@ fn ranges_are_read_or_memory_is_wanted(rt: HostRuntime) {
             assert!(rt; id.into_string().as_str() == "j");
         }
     }
+}
+
+/// Where there is enough, the job is read.
+#[test]
+fn a_job_is_read(rt: HostRuntime) -> Result<(), Fail> {
+    let job = read_job(rt.alloc(), RANGES.as_bytes())?;
+    assert!(rt; are_of_two_ranges(job.steps));
+    Ok(())
 }
 
 const CLASSES: &str =

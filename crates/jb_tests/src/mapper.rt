@@ -5,7 +5,7 @@ ghost use Rattle.jb_mapper.specs.EvenCover.{even_ranges};
 
 use jb_base::{ArtifactError, Range, Ranges};
 use jb_mapper::{EvenMapper, FixedMapper, PartitionMapper};
-use jb_plan::{Checked, PartitionPlan, PlanError, checked};
+use jb_plan::PartitionPlan;
 use std::alloc::{AllocError, Global};
 use std::test::Fail;
 
@@ -89,33 +89,6 @@ fn plans_of_4_096_partitions(rt: HostRuntime) -> Result<(), Fail> {
     let plan = EvenMapper::new(rt.alloc(), 4_096, 64, true).map(10_000_000);
     let copy = FixedMapper::new(plan.ok().ok_or("a plan")?).map(0);
     assert!(rt; are_4_096(copy.ok().ok_or("its copy")?.ranges.as_slice()));
-    Ok(())
-}
-
-/// What the check of a plan said: its threads, or the refusal.
-fn threads_of(said: Result<Checked, PlanError>) -> Result<u32, PlanError> {
-    match said {
-        Ok(plan) => Ok(plan.threads()),
-        Err(fault) => Err(fault),
-    }
-}
-
-#[test]
-fn an_even_plan_is_checked(rt: HostRuntime) -> Result<(), Fail> {
-    let most = EvenMapper::new(rt.alloc(), 1_024, 0, false).map(1_000);
-    let said = checked(most.ok().ok_or("a plan")?, 1_000);
-    assert!(rt; threads_of(said) == Ok(64));
-    let more = EvenMapper::new(rt.alloc(), 1_025, 0, false).map(1_000);
-    let said = checked(more.ok().ok_or("a plan")?, 1_000);
-    assert!(rt; threads_of(said) == Err(PlanError::TooMany));
-    Ok(())
-}
-
-#[test]
-fn a_plan_of_5_000_threads_is_refused(rt: HostRuntime) -> Result<(), Fail> {
-    let plan = EvenMapper::new(rt.alloc(), 3, 5_000, false).map(7);
-    let said = checked(plan.ok().ok_or("a plan")?, 7);
-    assert!(rt; threads_of(said) == Err(PlanError::Threads));
     Ok(())
 }
 

@@ -86,8 +86,11 @@ fn two_partitions(rt: &impl Abort, alloc: Global) -> Result<Repo, AllocError> {
     Ok(opened(rt, rows_of(alloc, &[(0, 2), (2, 4)])?, 2, 2))
 }
 
+/// An event with its answer.
+type Answered = (Event, Option<Refused>);
+
 /// The events of the walk with their answers; lane `first` commits before lane `second`.
-fn walk(first: u32, second: u32) -> [(Event, Option<Refused>); 17] {
+fn walk(first: u32, second: u32) -> [Answered; 17] {
     [
         (
             Event::Plan(2, Certificate::FullLoad),
@@ -122,7 +125,7 @@ fn walk(first: u32, second: u32) -> [(Event, Option<Refused>); 17] {
 }
 
 /// Applies the events one after another, each of which has this answer.
-fn apply_all(rt: &impl Abort, repo: &mut Repo, events: &[(Event, Option<Refused>)]) {
+fn apply_all(rt: &impl Abort, repo: &mut Repo, events: &[Answered]) {
     for (event, expected) in events {
         let answer = repo.apply(*event).err();
         assert!(rt; answer == *expected, "{event:?}: {answer:?}");
@@ -179,7 +182,7 @@ fn both_orders(rt: HostRuntime) -> Result<(), AllocError> {
 const MOST_REPEATS: u64 = 100_000;
 
 /// Events on two partitions, with each refusal of each event. One repeat in place too many is looked at last.
-fn refusals() -> [(Event, Option<Refused>); 36] {
+fn refusals() -> [Answered; 36] {
     let class = ClassId::new(0);
     let plan = Event::Plan(1, Certificate::Longest(0));
     let commit = Event::Commit(0, TWO_RECORDS, 2, MOST_REPEATS);
@@ -304,108 +307,86 @@ const ONE_RECORD: Counts = Counts {
     ..Counts::ZERO
 };
 
-fn accept_all(rt: &impl Abort, repo: &mut Repo, events: &[Event]) {
-    for event in events {
-        assert!(rt; repo.apply(*event).is_ok());
-    }
-}
-
-const NO_FURTHER: [Option<Refused>; 2] = [Some(Refused::PastPlan), Some(Refused::PastPlan)];
-
-const STOPPING: [Option<Refused>; 2] = [Some(Refused::Stopping), Some(Refused::PastPlan)];
-
-const FURTHER: [Option<Refused>; 2] = [None, Some(Refused::StillRunning)];
-
-/// A plan that is ended with rounds left: by lane 0 in the first of its two rounds, or by lane 1 in the second of three.
-#[derive(Clone, Copy)]
-struct Ended {
-    second: bool,
-    /// What ends the lane's chunk, while the other lane has committed its own.
-    ends: [Option<Event>; 2],
-    /// The answers to the Begin and the Round behind that round.
-    next: [Option<Refused>; 2],
-}
-
-fn in_first(ends: [Option<Event>; 2], next: [Option<Refused>; 2]) -> Ended {
-    let second = false;
-    Ended { second, ends, next }
-}
-
-fn in_second(ends: [Option<Event>; 2], next: [Option<Refused>; 2]) -> Ended {
-    let second = true;
-    Ended { second, ends, next }
-}
-
-fn ended_plans() -> [Ended; 10] {
-    let class = ClassId::new(0);
-    let first = Some(Event::Commit(0, TWO_RECORDS, 2, 0));
-    let second = Some(Event::Commit(1, ONE_RECORD, 2, 0));
-    let stop = Some(Event::Stop);
+/// The first of two rounds, in which lane 1 has committed its chunk.
+fn in_the_first_round() -> [Answered; 4] {
     [
-        in_first([Some(Event::Roll(0, class, 0)), None], NO_FURTHER),
-        in_first([Some(Event::Fail(0, class, 0)), None], NO_FURTHER),
-        in_first([Some(Event::Drop(0)), None], NO_FURTHER),
-        in_first([first, stop], STOPPING),
-        in_first([first, None], FURTHER),
-        in_second([Some(Event::Roll(1, class, 0)), None], NO_FURTHER),
-        in_second([Some(Event::Fail(1, class, 0)), None], NO_FURTHER),
-        in_second([Some(Event::Drop(1)), None], NO_FURTHER),
-        in_second([stop, second], STOPPING),
-        in_second([second, None], FURTHER),
+        (Event::Plan(2, Certificate::FullLoad), None),
+        (Event::Begin(0, 0), None),
+        (Event::Begin(1, 1), None),
+        (Event::Commit(1, TWO_RECORDS, 2, 0), None),
     ]
 }
 
-/// The first of two rounds, in which lane 1 has committed its chunk.
-fn in_the_first_round(rt: &impl Abort, alloc: Global) -> Result<Repo, AllocError> {
-    let mut repo = opened(rt, rows_of(alloc, &[(0, 4), (4, 8)])?, 2, 2);
-    let events = [
-        Event::Plan(2, Certificate::FullLoad),
-        Event::Begin(0, 0),
-        Event::Begin(1, 1),
-        Event::Commit(1, TWO_RECORDS, 2, 0),
-    ];
-    accept_all(rt, &mut repo, &events);
-    Ok(repo)
+/// How the plan ends there, with a round left: by a rollback, a failure or a drop of lane 0, or by a stop. From 4 on it goes on.
+fn end_of_the_first_round(number: u32) -> [Answered; 5] {
+    let class = ClassId::new(0);
+    let running = (Event::Round, Some(Refused::StillRunning));
+    let commit = (Event::Commit(0, TWO_RECORDS, 2, 0), None);
+    let round = (Event::Round, None);
+    let begin = Event::Begin(1, 1);
+    let past = (begin, Some(Refused::PastPlan));
+    let over = (Event::Round, Some(Refused::PastPlan));
+    let stopping = (begin, Some(Refused::Stopping));
+    match number {
+        0 => [running, (Event::Roll(0, class, 0), None), round, past, over],
+        1 => [running, (Event::Fail(0, class, 0), None), round, past, over],
+        2 => [running, (Event::Drop(0), None), round, past, over],
+        3 => [commit, (Event::Stop, None), round, stopping, over],
+        _ => [running, commit, round, (begin, None), running],
+    }
 }
 
 /// The second of three rounds, in which lane 0 has committed its chunk.
-fn in_the_second_round(rt: &impl Abort, alloc: Global) -> Result<Repo, AllocError> {
-    let mut repo = opened(rt, rows_of(alloc, &[(0, 3), (3, 6)])?, 2, 1);
-    let events = [
-        Event::Plan(3, Certificate::Longest(1)),
-        Event::Begin(0, 0),
-        Event::Begin(1, 1),
-        Event::Commit(0, ONE_RECORD, 1, 0),
-        Event::Commit(1, ONE_RECORD, 1, 0),
-        Event::Round,
-        Event::Begin(0, 1),
-        Event::Begin(1, 0),
-        Event::Commit(0, ONE_RECORD, 2, 0),
-    ];
-    accept_all(rt, &mut repo, &events);
-    Ok(repo)
+fn in_the_second_round() -> [Answered; 9] {
+    [
+        (Event::Plan(3, Certificate::Longest(1)), None),
+        (Event::Begin(0, 0), None),
+        (Event::Begin(1, 1), None),
+        (Event::Commit(0, ONE_RECORD, 1, 0), None),
+        (Event::Commit(1, ONE_RECORD, 1, 0), None),
+        (Event::Round, None),
+        (Event::Begin(0, 1), None),
+        (Event::Begin(1, 0), None),
+        (Event::Commit(0, ONE_RECORD, 2, 0), None),
+    ]
+}
+
+/// How the plan ends there, with a round left: by a rollback, a failure or a drop of lane 1, or by a stop. From 4 on it goes on.
+fn end_of_the_second_round(number: u32) -> [Answered; 5] {
+    let class = ClassId::new(0);
+    let running = (Event::Round, Some(Refused::StillRunning));
+    let commit = (Event::Commit(1, ONE_RECORD, 2, 0), None);
+    let round = (Event::Round, None);
+    let begin = Event::Begin(0, 1);
+    let past = (begin, Some(Refused::PastPlan));
+    let over = (Event::Round, Some(Refused::PastPlan));
+    let stopping = (begin, Some(Refused::Stopping));
+    match number {
+        0 => [running, (Event::Roll(1, class, 0), None), round, past, over],
+        1 => [running, (Event::Fail(1, class, 0), None), round, past, over],
+        2 => [running, (Event::Drop(1), None), round, past, over],
+        3 => [(Event::Stop, None), commit, round, stopping, over],
+        _ => [running, commit, round, (begin, None), running],
+    }
 }
 
 #[test]
 fn plans_ended_with_rounds_left(rt: HostRuntime) -> Result<(), AllocError> {
-    for case in ended_plans() {
-        let (mut repo, begin) = if case.second {
-            (in_the_second_round(&rt, rt.alloc())?, Event::Begin(0, 1))
-        } else {
-            (in_the_first_round(&rt, rt.alloc())?, Event::Begin(1, 1))
-        };
-        for end in case.ends.iter().flatten() {
-            assert!(rt; repo.apply(*end).is_ok());
-        }
-        assert!(rt; repo.apply(Event::Round).is_ok());
-        let next = [repo.apply(begin).err(), repo.apply(Event::Round).err()];
-        assert!(rt; next == case.next);
+    for number in 0..5 {
+        let mut repo = opened(&rt, rows_of(rt.alloc(), &[(0, 4), (4, 8)])?, 2, 2);
+        apply_all(&rt, &mut repo, &in_the_first_round());
+        apply_all(&rt, &mut repo, &end_of_the_first_round(number));
+    }
+    for number in 0..5 {
+        let mut repo = opened(&rt, rows_of(rt.alloc(), &[(0, 3), (3, 6)])?, 2, 1);
+        apply_all(&rt, &mut repo, &in_the_second_round());
+        apply_all(&rt, &mut repo, &end_of_the_second_round(number));
     }
     Ok(())
 }
 
 /// A chunk whose write call was skipped has a result, none of them written.
-fn skipped_writes() -> [(Event, Option<Refused>); 6] {
+fn skipped_writes() -> [Answered; 6] {
     let bad = Some(Refused::BadDelta);
     let skipped = Counts {
         read: 2,
@@ -484,49 +465,6 @@ fn count_of(answers: &[Option<Refused>], wanted: Option<Refused>) -> usize {
 fn accepts(repo: &mut Repo, events: &[Event], count: usize) -> Result<bool, AllocError> {
     let answers = run_events(repo, events)?;
     Ok(answers.len() == count && count_of(&answers, None) == count)
-}
-
-/// The first round of as many partitions as a repository has.
-fn first_round(alloc: Global) -> Result<Vec<Event>, AllocError> {
-    let mut events = Vec::new(alloc);
-    events.push(Event::Plan(16, Certificate::FullLoad))?;
-    for lane in 0..64 {
-        events.push(Event::Begin(lane, 1_023 - lane))?;
-    }
-    for lane in 0..64 {
-        events.push(Event::Commit(lane, ONE_RECORD, 1, 0))?;
-    }
-    events.push(Event::Round)?;
-    Ok(events)
-}
-
-/// How many of the rows are finished.
-fn count_finished(rows: &[Row]) -> usize {
-    let mut count = 0usize;
-    for row in rows {
-        if row.state == RowState::Finished {
-            count = count.saturating_add(1);
-        }
-    }
-    count
-}
-
-/// Whether this is what a repository shows after that round.
-fn is_after_the_first_round(shown: &Snapshot) -> bool {
-    shown.rows.len() == 1_024
-        && shown.events == 130
-        && shown.totals.commit == 64
-        && count_finished(&shown.rows) == 64
-}
-
-/// The first round of as many partitions as a repository has, as one list of events.
-#[test]
-fn a_list_of_events_on_most_rows(rt: HostRuntime) -> Result<(), AllocError> {
-    let mut repo = opened(&rt, most_rows(rt.alloc())?, 64, 1);
-    let events = first_round(rt.alloc())?;
-    assert!(rt; accepts(&mut repo, &events, 130)?);
-    assert!(rt; is_after_the_first_round(&repo.snapshot()?));
-    Ok(())
 }
 
 /// Of a partition of 10,000 chunks, the events from its Plan to its end.
@@ -628,11 +566,6 @@ fn what_a_repository_is_opened_with(rt: HostRuntime) -> Result<(), AllocError> {
     let mut running = Row::fresh(Range { lo: 0, hi: 2 });
     running.state = RowState::Running(0);
     assert!(rt; !can_open(&[running], 1, 1));
-    Ok(())
-}
-
-#[test]
-fn how_many_rows_a_repository_is_opened_with(rt: HostRuntime) -> Result<(), AllocError> {
     let many = vec![in rt.alloc(); Row::fresh(Range { lo: 0, hi: 0 }); 1_025]?;
     assert!(rt; !can_open(many.as_slice(), 1, 1) && can_open(&many.as_slice()[1..], 1, 1));
     Ok(())

@@ -1,7 +1,7 @@
-//! Every small load, large loads, plans that are refused, printed texts, and want of memory; for `jb_cert` too.
+//! Every small load, large loads, and want of memory; for `jb_cert` too. What is refused or printed stands in `cases/plan` and `cases/check`.
+
 use jb_cert::{
-    Certificate, Plan, PlanFault, Slot, check_certificate, check_plan, fits, is_least_plan,
-    least_rounds,
+    Certificate, Plan, PlanFault, check_certificate, check_plan, fits, is_least_plan, least_rounds,
 };
 use jb_rounds::{RoundCursor, plan};
 use std::alloc::{AllocError, Global};
@@ -148,18 +148,14 @@ fn plans_every_small_load(rt: HostRuntime) -> Result<(), AllocError> {
     Ok(())
 }
 
+// The slots of one large count, and of many counts.
 #[test]
-fn finds_slots_of_a_large_count(rt: HostRuntime) -> Result<(), AllocError> {
+fn finds_slots_of_large_loads(rt: HostRuntime) -> Result<(), AllocError> {
     let one = [10_000_000];
     assert!(rt; fits(&one, 64));
     let cursor = RoundCursor::new(rt.alloc(), &one, 64)?;
     assert!(rt; cursor.rounds() == 10_000_000 && cursor.certificate() == Certificate::Longest(0));
     assert!(rt; cursor.slot(9_999_999, 0) == Some((0, 9_999_999)) && cursor.slot(0, 1) == None);
-    Ok(())
-}
-
-#[test]
-fn finds_slots_of_many_counts(rt: HostRuntime) -> Result<(), AllocError> {
     let many = vec![in rt.alloc(); 2_000u64; 4_096]?;
     assert!(rt; fits(&many, 63));
     let cursor = RoundCursor::new(rt.alloc(), &many, 63)?;
@@ -177,101 +173,6 @@ fn plans_the_most_partitions(rt: HostRuntime) -> Result<(), AllocError> {
     let (made, certificate) = plan(rt.alloc(), &counts, 64)?;
     assert!(rt; made.rounds.len() == 64 && certificate == Certificate::FullLoad);
     assert!(rt; check_plan(rt.alloc(), &counts, 64, &made) == Ok(()));
-    Ok(())
-}
-
-// A long plan: as it was made, and without its last chunk.
-#[test]
-fn checks_a_plan_of_20_004_rounds(rt: HostRuntime) -> Result<(), AllocError> {
-    let counts = [20_000, 20_000, 7];
-    assert!(rt; fits(&counts, 2));
-    let (mut made, certificate) = plan(rt.alloc(), &counts, 2)?;
-    assert!(rt; made.rounds.len() == 20_004 && is_least_plan(&counts, 2, 20_004, certificate));
-    assert!(rt; check_plan(rt.alloc(), &counts, 2, &made) == Ok(()));
-    let _last = made.rounds.pop();
-    assert!(rt; check_plan(rt.alloc(), &counts, 2, &made) == Err(PlanFault::Missing));
-    Ok(())
-}
-
-// In the plan of two rounds for the counts 2 and 1 on two threads, another slot in place of the last one of a round: the
-// round, the slot, and the fault.
-const WRONG_SLOTS: [(usize, (u32, u32, u64), PlanFault); 4] = [
-    (0, (2, 1, 0), PlanFault::LaneRange),
-    (0, (1, 1, 1), PlanFault::Stranger),
-    (0, (1, 0, 1), PlanFault::TwiceInRound),
-    (1, (0, 0, 0), PlanFault::OutOfOrder),
-];
-
-// Puts a slot in place of the last one of a round.
-fn put_last(slots: &mut Vec<Slot>, slot: (u32, u32, u64)) -> Result<(), AllocError> {
-    let _last = slots.pop();
-    slots.push(Slot {
-        lane: slot.0,
-        partition: slot.1,
-        chunk: slot.2,
-    })?;
-    Ok(())
-}
-
-// What the checker says of the plan for the counts 2 and 1 on two threads, with this slot in place of the last one of a round.
-fn said_of(
-    alloc: Global,
-    round: usize,
-    slot: (u32, u32, u64),
-) -> Result<Option<PlanFault>, AllocError> {
-    let counts = [2, 1];
-    if !fits(&counts, 2) {
-        return Ok(None);
-    }
-    let mut wrong = plan(alloc, &counts, 2)?.0;
-    if let Some(slots) = wrong.rounds.get_mut(round) {
-        put_last(slots, slot)?;
-    }
-    Ok(check_plan(alloc, &counts, 2, &wrong).err())
-}
-
-#[test]
-fn refuses_wrong_plans(rt: HostRuntime) -> Result<(), AllocError> {
-    for (round, slot, fault) in WRONG_SLOTS {
-        assert!(rt; said_of(rt.alloc(), round, slot)? == Some(fault));
-    }
-    Ok(())
-}
-
-#[test]
-fn refuses_a_short_plan(rt: HostRuntime) -> Result<(), AllocError> {
-    let counts = [2, 1];
-    assert!(rt; fits(&counts, 2));
-    let mut short = plan(rt.alloc(), &counts, 2)?.0;
-    let _last = short.rounds.pop();
-    assert!(rt; check_plan(rt.alloc(), &counts, 2, &short) == Err(PlanFault::Missing));
-    Ok(())
-}
-
-#[test]
-fn prints_faults(rt: HostRuntime) -> Result<(), AllocError> {
-    let text = format!(in rt.alloc();
-        "{} {} {} {} {} {}",
-        PlanFault::LaneRange,
-        PlanFault::TwiceInRound,
-        PlanFault::OutOfOrder,
-        PlanFault::Missing,
-        PlanFault::Stranger,
-        PlanFault::Memory
-    )?;
-    assert!(rt; text.as_str() == "LaneRange TwiceInRound OutOfOrder Missing Stranger no memory");
-    Ok(())
-}
-
-#[test]
-fn prints_certificates(rt: HostRuntime) -> Result<(), AllocError> {
-    let text = format!(in rt.alloc();
-        "{} {} {}",
-        Certificate::Nothing,
-        Certificate::Longest(4_095),
-        Certificate::FullLoad
-    )?;
-    assert!(rt; text.as_str() == "Nothing Longest(4095) FullLoad");
     Ok(())
 }
 

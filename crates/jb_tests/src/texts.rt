@@ -9,10 +9,9 @@ ghost use Rattle.jb_texts.specs.Worked.{nothing, one_long, one_long_text, seven_
 
 use jb_artifacts::{FaultPlans, ListWriter};
 use jb_base::{PackedList, Range};
-use jb_cert::Certificate;
+use jb_cert::{Certificate, PlanNote};
 use jb_collect::{AnalyzerCall, ReducerCall, Status};
 use jb_rules::Row;
-use jb_step::PlanNote;
 use jb_texts::{ReportText, StepsText};
 use std::alloc::{AllocError, Global};
 

@@ -1,27 +1,16 @@
-//! Restarts whose plan replaces the saved partitions, beside others that go on: what is refused, what the reducer is called with,
-//! and the run that begins anew.
-
-ghost use Rattle.std.specs.Prelude.{◌≡◌};
-ghost use Rattle.jb_base.specs.Limits.{max_parts};
+//! Restarts whose plan replaces the saved partitions, beside others that go on: what is refused, and what the reducer is called with.
 
 use crate::step::callbacks::Lacking;
 use crate::step::given::{Given, begun_from};
-use crate::step::restarts::Between;
-use crate::step::rows::{STRICT, add_reduced, assert_text, course_of};
-use crate::step::runs::ended_with;
-use jb_base::{ClassId, MAX_PARTS};
-use jb_collect::{ListAnalyzer, ListReducer, PartitionStatus, Reducer, ReducerCall};
+use crate::step::rows::{STRICT, add_reduced, assert_text};
+use jb_base::ClassId;
+use jb_collect::{PartitionStatus, Reducer, ReducerCall};
 use jb_mapper::FixedMapper;
 use jb_plan::PlanError;
 use jb_rules::Row;
 use jb_step::{Prepared, SavedPlace, StepError, read_saved};
-use jb_workers::NoGate;
 use std::alloc::Global;
-use std::marker::Brand;
-use std::sync::Wait;
-use std::sync::ledger::{Blank, Ledger};
 use std::test::*;
-use std::thread::Threads;
 
 /// Three records in two partitions, none of them read.
 const SAVED: &str =
@@ -160,60 +149,5 @@ fn saved_rows_are_discarded_or_refused(rt: HostRuntime) -> Result<(), Fail> {
         assert_eq!(rt; said, wanted);
         assert_text(&rt, calls.as_str(), wanted_calls);
     }
-    Ok(())
-}
-
-/// The course of the step that begins anew in two partitions.
-const COURSE: &str = "Longest(0) 2 of 2
-0:2:2 1:6:2 0:4:4 0:4:4:end 0 Completed 1:7:3 1:7:3:end 1 Completed .
-Begin Rollback Before After(Commit) .
-Completed 11
-";
-
-/// What they come to.
-const PARTITIONS: &str = "0 4 4 0 0 4 4 4 2 0 0 0 0 0 0 done xa xb xc xd
-4 7 7 4 0 3 3 3 2 0 0 0 0 0 0 done xe xf xg
-";
-
-/// Runs the restart of seven records in two partitions, and gives its course.
-fn run_anew<L: Ledger + Send + Sync + 'static, R: Threads + Wait + Sync>(
-    rt: &R,
-    alloc: Global,
-    blank: Blank,
-    between: &mut Between,
-) -> Result<String, Fail>
-    requires name { blank.name ≡ L.name }
-    requires parts { blank.parts ≡ L.parts }
-    requires all { blank.parts ≡ max_parts }
-{
-    let restart = restart_with(STOPPED, "abcd/efg/", 2, true);
-    let mut reducer = ListReducer::new(alloc, None);
-    let mut analyzer = ListAnalyzer::new(alloc, None);
-    let prepared = begun(alloc, restart, &mut reducer)??;
-    let desk = prepared.desk::<L>(alloc, blank)?;
-    let end = ended_with::<L, NoGate, R>(
-        rt,
-        alloc,
-        &desk,
-        prepared,
-        restart.records,
-        2,
-        &mut analyzer,
-        &mut reducer,
-        &NoGate,
-    )?;
-    let end = end.ok().ok_or("an end")?;
-    let course = course_of(alloc, &end, &analyzer, &reducer)?;
-    between.keep(alloc, end)?;
-    Ok(course)
-}
-
-#[test]
-fn a_step_that_begins_anew(rt: HostRuntime) -> Result<(), Fail> {
-    let mut between = Between::nothing(rt.alloc());
-    let blank = Blank::new(MAX_PARTS);
-    let course = run_anew::<Brand, _>(&rt, rt.alloc(), blank, &mut between)?;
-    assert_text(&rt, course.as_str(), COURSE);
-    between.assert_partitions(&rt, rt.alloc(), PARTITIONS)?;
     Ok(())
 }

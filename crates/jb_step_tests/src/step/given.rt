@@ -52,17 +52,14 @@ const STEP: &str = "step";
 
 /// Records and their partitions.
 ///
-/// They are written as a text: each letter is a record, and each `/` ends a partition. Behind a letter stands how its calls
-/// fail: `!` each time that it is processed, `?` and `*` the first time, `<` each time that it is read, `(` the first time, `>` each
-/// time that it is written, `)` the first time. The class of `?`, `(` and `)` is 1, that of the others 0. `~` is no fault: the first
-/// time that the record is processed, there is no memory. A record `-` is filtered.
+/// They are written as a text: each letter is a record, and each `/` ends a partition. Behind a letter stands how it fails to be
+/// processed: `!` each time, `?` and `*` the first time. The class of `?` is 1, that of the others 0. `~` is no fault: the first time
+/// that the record is processed, there is no memory.
 #[derive(Drop)]
 pub(crate) struct Given {
     records: PackedList,
     ranges: Vec<Range>,
-    reads: FaultPlans,
     processes: FaultPlans,
-    writes: FaultPlans,
     wanting: Option<u64>,
     /// The records that fail each time that they are processed.
     bad: Vec<u64>,
@@ -73,9 +70,7 @@ impl Given {
         let mut given = Given {
             records: PackedList::new(alloc),
             ranges: Vec::new(alloc),
-            reads: FaultPlans::new(alloc),
             processes: FaultPlans::new(alloc),
-            writes: FaultPlans::new(alloc),
             wanting: None,
             bad: Vec::new(alloc),
         };
@@ -87,25 +82,21 @@ impl Given {
 
     fn take(&mut self, alloc: Global, sign: u8) -> Result<(), AllocError> {
         let last = self.count().saturating_sub(1);
-        let bad = FaultPlan::Bad(ClassId::new(0));
         match sign {
-            b'!' => self.take_bad(last, bad),
-            b'<' => self.reads.insert(last, bad),
-            b'>' => self.writes.insert(last, bad),
+            b'!' => self.take_bad(last),
             b'*' => self.processes.insert(last, once(alloc, ClassId::new(0))?),
             b'?' => self.processes.insert(last, once(alloc, ClassId::new(1))?),
-            b'(' => self.reads.insert(last, once(alloc, ClassId::new(1))?),
-            b')' => self.writes.insert(last, once(alloc, ClassId::new(1))?),
-            sign => self.take_record(alloc, last, sign),
+            sign => self.take_record(last, sign),
         }
     }
 
-    fn take_bad(&mut self, last: u64, plan: FaultPlan) -> Result<(), AllocError> {
+    fn take_bad(&mut self, last: u64) -> Result<(), AllocError> {
         self.bad.push(last)?;
-        self.processes.insert(last, plan)
+        let bad = FaultPlan::Bad(ClassId::new(0));
+        self.processes.insert(last, bad)
     }
 
-    fn take_record(&mut self, alloc: Global, last: u64, sign: u8) -> Result<(), AllocError> {
+    fn take_record(&mut self, last: u64, sign: u8) -> Result<(), AllocError> {
         match sign {
             b'/' => {
                 let lo = self.ranges.last().map_or(0, |range| range.hi);
@@ -152,15 +143,14 @@ impl Given {
     /// The artifacts of one partition, whose writer has these results.
     fn works(self, alloc: Global, written: PackedList) -> Result<Works, AllocError> {
         let prefix = Item::copy_of(alloc, b"x")?;
-        let filtered = Item::copy_of(alloc, b"-")?;
         let processor = Processor {
-            prefix: PrefixProcessor::new(alloc, prefix, Some(filtered), self.processes),
+            prefix: PrefixProcessor::new(alloc, prefix, None, self.processes),
             wanting: self.wanting,
         };
         Ok(ArtifactsOf {
-            reader: TableReader::new(alloc, 0, self.records, self.reads),
+            reader: TableReader::new(alloc, 0, self.records, FaultPlans::new(alloc)),
             processor,
-            writer: ListWriter::new(written, self.writes),
+            writer: ListWriter::new(written, FaultPlans::new(alloc)),
             collector: CountCollector::new(alloc),
         })
     }

@@ -26,7 +26,7 @@ const UNMET: [Unmet; 4] = [
         partitions: [SEVEN, SEVEN],
     },
     Unmet {
-        number: 7,
+        number: 1,
         records: "abcd/",
         partitions: [
             "0 4 4 0 0 4 4 4 1 0 0 0 0 0 0 done xa xb xc xd\n",
@@ -34,7 +34,7 @@ const UNMET: [Unmet; 4] = [
         ],
     },
     Unmet {
-        number: 8,
+        number: 2,
         records: "abcd/",
         partitions: [
             "0 4 4 0 0 4 4 4 2 0 0 0 0 0 0 done xa xb xc xd\n",
@@ -42,7 +42,7 @@ const UNMET: [Unmet; 4] = [
         ],
     },
     Unmet {
-        number: 17,
+        number: 3,
         records: "ab/",
         partitions: [
             "0 2 2 0 0 2 2 2 1 0 0 0 0 0 0 done xa xb\n",

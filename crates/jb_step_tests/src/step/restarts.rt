@@ -1,5 +1,5 @@
-//! Steps that are run again from their saved texts, after a stop, a failed partition or want of memory, each beside the step that
-//! nothing stops.
+//! Steps that are run again from their saved texts with the artifacts that were handed back, after a stop or want of memory, each beside
+//! the step that nothing stops.
 
 ghost use Rattle.std.specs.Prelude.{◌≡◌};
 ghost use Rattle.jb_base.specs.Limits.{max_parts};
@@ -8,8 +8,8 @@ use crate::step::given::{
     Given, Letters, Works, all_works, saved_again, stopped_after, works, works_from,
 };
 use crate::step::rows::{
-    Asked, CASES, Case, FIRST_REPEATED, ONE_SKIP, PLAIN, SEVEN, add_course, add_heard,
-    add_partition, add_reduced, assert_text, left_of,
+    Asked, CASES, Case, PLAIN, add_course, add_heard, add_partition, add_reduced, assert_text,
+    left_of,
 };
 use crate::step::runs::started_or_not;
 use jb_artifacts::ArtifactsOf;
@@ -17,7 +17,7 @@ use jb_base::MAX_PARTS;
 use jb_collect::{Analyzer, ListAnalyzer, ListReducer, Reducer, Status};
 use jb_repo::Snapshot;
 use jb_rules::Row;
-use jb_step::{Prepared, Saved, StepEnd, StepError, read_saved};
+use jb_step::{Prepared, Saved, StepEnd, StepError};
 use jb_workers::Desk;
 use std::alloc::{AllocError, Global};
 use std::marker::Brand;
@@ -28,157 +28,13 @@ use std::sync::ledger::{Blank, Ledger};
 use std::test::*;
 use std::thread::Threads;
 
-/// A step that is run more than once.
-#[derive(Clone, Copy)]
-struct Journey {
-    /// The records and the plan of its first run, and those of its restarts.
-    records: &'static str,
-    again: &'static str,
-    asked: Asked,
-    /// What the first run saved, as a text of version 1, where the restarts begin with it.
-    earlier: Option<&'static str>,
-    /// The threads that each run's plan asks for, and the run's greatest number of rounds.
-    legs: &'static [(u32, Option<u64>)],
-    /// The partitions that each run needs artifacts for, and its course.
-    courses: &'static str,
-    /// What each partition comes to.
-    partitions: &'static str,
-}
+/// The records of two partitions. The processor of the second one finds no memory, once; the restart has new artifacts.
+const WANTING: &str = "ab/c~d/";
 
-/// Seven records, stopped after one round and restarted.
-const STOPPED_ONCE: Journey = Journey {
-    records: "abc/de/fg/",
-    again: "abc/de/fg/",
-    asked: PLAIN,
-    earlier: None,
-    legs: &[(2, Some(1)), (2, None)],
-    courses: "[0, 1, 2]
-Longest(0) 1 of 2
-0:2:2 1:5:2 1:5:2:end 1 Completed 0 Stopped 2 Stopped .
-Begin Rollback After(Rollback) .
-Stopped 7
-[0, 2]
-Longest(0) 1 of 1
-0:3:3 0:3:3:end 0 Completed 2:7:2 2:7:2:end 2 Completed .
-Begin Before After(Commit) .
-Completed 6
-",
-    partitions: SEVEN,
-};
+const AGAIN: &str = "ab/cd/";
 
-/// What the first run of a step saved, as a text of version 1: of these records after their first round.
-const EARLIER_ROUND: &str =
-    r#"{"rows":[[0,3,2,0,0,2,2,2,1,0,0,0,0,0,"waiting"],[3,5,5,3,0,2,2,2,1,0,0,0,0,0,"done"],[5,7,5,5,0,0,0,0,0,0,0,0,0,0,"waiting"]],"step":"step","version":1}"#;
-
-/// The same of a chunk that was rolled back.
-const EARLIER_ROLLBACK: &str =
-    r#"{"rows":[[0,2,0,2,1,0,0,0,0,1,0,0,0,0,"waiting"]],"step":"step","version":1}"#;
-
-const JOURNEYS: [Journey; 8] = [
-    STOPPED_ONCE,
-    Journey {
-        records: "abc/de/fg/",
-        again: "abc/de/fg/",
-        asked: PLAIN,
-        earlier: None,
-        legs: &[(1, Some(1)), (1, Some(1)), (1, Some(1)), (1, Some(1))],
-        courses: "[0, 1, 2]
-FullLoad 1 of 4
-0:2:2 0 Stopped 1 Stopped 2 Stopped .
-Begin Rollback After(Rollback) .
-Stopped 5
-[0, 1, 2]
-FullLoad 1 of 3
-0:3:3 0:3:3:end 0 Completed 1 Stopped 2 Stopped .
-Begin Rollback After(Rollback) .
-Stopped 5
-[1, 2]
-FullLoad 1 of 2
-1:5:2 1:5:2:end 1 Completed 2 Stopped .
-Begin Rollback After(Rollback) .
-Stopped 5
-[2]
-Longest(2) 1 of 1
-2:7:2 2:7:2:end 2 Completed .
-Begin Before After(Commit) .
-Completed 4
-",
-        partitions: SEVEN,
-    },
-    Journey {
-        records: "a/b///",
-        again: "a/b///",
-        asked: PLAIN,
-        earlier: None,
-        legs: &[(2, Some(0)), (2, None)],
-        courses: "[0, 1]
-2 Completed 3 Completed 0 Stopped 1 Stopped .
-Begin Rollback After(Rollback) .
-Stopped 1
-[0, 1]
-Longest(0) 1 of 1
-0:1:1 0:1:1:end 0 Completed 1:2:1 1:2:1:end 1 Completed .
-Begin Before After(Commit) .
-Completed 6
-",
-        partitions: "0 1 1 0 0 1 1 1 1 0 0 0 0 0 0 done xa
-1 2 2 1 0 1 1 1 1 0 0 0 0 0 0 done xb
-2 2 2 2 0 0 0 0 0 0 0 0 0 0 0 done
-2 2 2 2 0 0 0 0 0 0 0 0 0 0 0 done
-",
-    },
-    Journey {
-        records: "a!bcd!/ef/",
-        again: "abcd/ef/",
-        asked: Asked {
-            rules: ONE_SKIP,
-            ..PLAIN
-        },
-        earlier: None,
-        legs: &[(2, None), (2, None)],
-        courses: "[0, 1]
-Longest(0) 2 of 2
-0:2:1 1:6:2 1:6:2:end 1 Completed 0 Failed .
-Begin Rollback After(Rollback) .
-Failed 9
-[0]
-Longest(0) 1 of 1
-0:4:3 0:4:3:end 0 Completed .
-Begin Before After(Commit) .
-Completed 4
-",
-        partitions: "0 4 4 0 0 3 4 3 2 1 0 1 0 0 0 done xb xc xd
-4 6 6 4 0 2 2 2 1 0 0 0 0 0 0 done xe xf
-",
-    },
-    Journey {
-        records: "a/b/c/",
-        again: "abc/",
-        asked: PLAIN,
-        earlier: None,
-        legs: &[(2, Some(0)), (0, None)],
-        courses: "[0, 1, 2]
-0 Stopped 1 Stopped 2 Stopped .
-Begin Rollback After(Rollback) .
-Stopped 1
-[0, 1, 2]
-FullLoad 3 of 3
-0:1:1 0:1:1:end 0 Completed 1:2:1 1:2:1:end 1 Completed 2:3:1 2:3:1:end 2 Completed .
-Begin Before After(Commit) .
-Completed 10
-",
-        partitions: "0 1 1 0 0 1 1 1 1 0 0 0 0 0 0 done xa
-1 2 2 1 0 1 1 1 1 0 0 0 0 0 0 done xb
-2 3 3 2 0 1 1 1 1 0 0 0 0 0 0 done xc
-",
-    },
-    Journey {
-        records: "ab/c~d/",
-        again: "ab/cd/",
-        asked: PLAIN,
-        earlier: None,
-        legs: &[(2, None), (2, None)],
-        courses: "[0, 1]
+/// The partitions that each run of that step needs artifacts for, and its course; where it has no answer, how the partitions stand too.
+const COURSES: &str = "[0, 1]
 Memory 6 1
 .
 Begin Rollback After(Rollback) .
@@ -189,44 +45,12 @@ Longest(1) 1 of 1
 1:4:2 1:4:2:end 1 Completed .
 Begin Before After(Commit) .
 Completed 4
-",
-        partitions: "0 2 2 0 0 2 2 2 1 0 0 0 0 0 0 done xa xb
+";
+
+/// What its partitions come to.
+const PARTITIONS: &str = "0 2 2 0 0 2 2 2 1 0 0 0 0 0 0 done xa xb
 2 4 4 2 0 2 2 2 1 0 0 0 0 0 0 done xc xd
-",
-    },
-    Journey {
-        earlier: Some(EARLIER_ROUND),
-        ..STOPPED_ONCE
-    },
-    Journey {
-        records: "a?b*/",
-        again: "a?b*/",
-        asked: Asked {
-            rules: FIRST_REPEATED,
-            ..PLAIN
-        },
-        earlier: Some(EARLIER_ROLLBACK),
-        legs: &[(1, Some(1)), (1, Some(1)), (1, None)],
-        courses: "[0]
-Longest(0) 1 of 1
-0 Stopped .
-Begin Rollback After(Rollback) .
-Stopped 5
-[0]
-Longest(0) 1 of 2
-0:1:1 0 Stopped .
-Begin Rollback After(Rollback) .
-Stopped 5
-[0]
-Longest(0) 1 of 1
-0:2:2 0:2:2:end 0 Completed .
-Begin Before After(Commit) .
-Completed 4
-",
-        partitions: "0 2 2 2 2 2 2 2 2 1 0 0 0 0 1 done xa xb
-",
-    },
-];
+";
 
 /// What a run leaves: the rows, as they were saved and read again, and the artifacts of the partitions, each with its number.
 #[derive(Drop)]
@@ -309,19 +133,6 @@ impl Between {
     fn hold(&mut self, alloc: Global, snapshot: &Snapshot) -> Result<(), Fail> {
         let saved = saved_again(alloc, snapshot)?;
         self.rows = Vec::from_slice(alloc, saved.rows())?;
-        self.saved = Some(saved);
-        Ok(())
-    }
-
-    /// Goes on from a text, if there is one, that has the rows which were saved.
-    fn take_text(&mut self, alloc: Global, text: Option<&str>) -> Result<(), Fail> {
-        let Some(text) = text else {
-            return Ok(());
-        };
-        let saved = read_saved(alloc, text.as_bytes())?;
-        if saved.rows() != self.rows.as_slice() {
-            return Err(Fail::from("other rows"));
-        }
         self.saved = Some(saved);
         Ok(())
     }
@@ -506,54 +317,16 @@ pub(crate) fn add_answer(
     }
 }
 
-/// The courses of a journey's runs, and what its partitions come to.
-fn travelled<R: Threads + Wait + Sync>(
-    rt: &R,
-    alloc: Global,
-    journey: &Journey,
-) -> Result<(String, String), Fail> {
-    let mut between = Between::first(alloc, journey.records)?;
-    let mut courses = String::new(alloc);
-    for (run, leg) in journey.legs.iter().enumerate() {
-        let course = course_of_leg(rt, alloc, journey, run, *leg, &mut between)?;
-        courses.push_str(course.as_str())?;
-    }
-    Ok((courses, between.partitions(alloc)?))
-}
-
-/// The course of a journey's run on so many threads, of so many rounds at most.
-fn course_of_leg<R: Threads + Wait + Sync>(
-    rt: &R,
-    alloc: Global,
-    journey: &Journey,
-    run: usize,
-    (threads, rounds): (u32, Option<u64>),
-    between: &mut Between,
-) -> Result<String, Fail> {
-    let records = if run == 0 {
-        journey.records
-    } else {
-        journey.again
-    };
-    let asked = Asked {
-        threads,
-        ..journey.asked
-    };
-    let others = records != journey.records;
-    if run == 1 {
-        between.take_text(alloc, journey.earlier)?;
-    }
-    let (_, course) = gone_on(rt, alloc, asked, records, others, rounds, between)?;
-    Ok(course)
-}
-
+/// A round in which a chunk found no memory is gone on from: nothing that the other one committed is lost.
 #[test]
-fn restarts(rt: HostRuntime) -> Result<(), Fail> {
-    for journey in &JOURNEYS {
-        let (courses, partitions) = travelled(&rt, rt.alloc(), journey)?;
-        assert_text(&rt, courses.as_str(), journey.courses);
-        assert_text(&rt, partitions.as_str(), journey.partitions);
-    }
+fn a_round_is_gone_on_from(rt: HostRuntime) -> Result<(), Fail> {
+    let alloc = rt.alloc();
+    let mut between = Between::first(alloc, WANTING)?;
+    let (_, mut courses) = gone_on(&rt, alloc, PLAIN, WANTING, false, None, &mut between)?;
+    let (_, course) = gone_on(&rt, alloc, PLAIN, AGAIN, true, None, &mut between)?;
+    courses.push_str(course.as_str())?;
+    assert_text(&rt, courses.as_str(), COURSES);
+    between.assert_partitions(&rt, alloc, PARTITIONS)?;
     Ok(())
 }
 

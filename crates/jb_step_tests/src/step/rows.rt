@@ -1,35 +1,22 @@
-//! What comes of whole steps, each beside its partitions run alone.
-
-ghost use Rattle.std.specs.Prelude.{◌≡◌};
-ghost use Rattle.jb_base.specs.Limits.{max_parts};
+//! What the tests ask of a step, the worked rows that several of them go by, and how they tell what comes of it.
 
 use crate::collect::line_of;
-use crate::step::given::{Given, Letters, Works, works};
-use crate::step::runs::{ended_with, started};
-use crate::workers::tasks::task_of;
+use crate::step::given::Works;
 use jb_artifacts::{ItemWriter, ListWriter};
-use jb_base::{ClassId, MAX_PARTS, Range, Rules};
-use jb_chunk::{PartitionTask, run_alone};
-use jb_collect::{Analyzer, ListAnalyzer, ListReducer, Reducer};
+use jb_base::Rules;
+use jb_collect::{Analyzer, Reducer};
 use jb_rules::Row;
 use jb_step::{PlanNote, StepEnd};
-use jb_workers::NoGate;
 use std::alloc::{AllocError, Global};
-use std::marker::Brand;
 use std::process::Abort;
-use std::sync::Wait;
-use std::sync::ledger::{Blank, Ledger};
 use std::test::*;
-use std::thread::Threads;
 
 /// What a case asks of its step.
 #[derive(Clone, Copy)]
 pub(crate) struct Asked {
     pub(crate) item_count: u64,
     pub(crate) rules: Rules,
-    /// The number of the analyzer's call that fails, if one does.
-    pub(crate) analyzer: Option<u64>,
-    /// On how many threads the step's course is compared.
+    /// The threads that its plan asks for.
     pub(crate) threads: u32,
 }
 
@@ -40,7 +27,7 @@ pub(crate) struct Case {
     pub(crate) asked: Asked,
     /// The step's plans, the analyzer's calls, the reducer's, and the status and the number of events.
     pub(crate) course: &'static str,
-    /// What each partition comes to, on each number of threads.
+    /// What each partition comes to.
     pub(crate) partitions: &'static str,
 }
 
@@ -52,21 +39,14 @@ pub(crate) const STRICT: Rules = Rules {
     retry_limit: 2,
 };
 
-pub(crate) const ONE_SKIP: Rules = Rules {
+const ONE_SKIP: Rules = Rules {
     skippable: 1,
     skip_limit: Some(1),
     ..STRICT
 };
 
-/// Class 1 is retried in place.
-const REPEATED: Rules = Rules {
-    retryable: 0b10,
-    no_rollback: 0b10,
-    ..STRICT
-};
-
 /// Class 0 is retried in place, class 1 rolls back.
-pub(crate) const FIRST_REPEATED: Rules = Rules {
+const FIRST_REPEATED: Rules = Rules {
     retryable: 0b11,
     no_rollback: 0b01,
     ..STRICT
@@ -75,7 +55,6 @@ pub(crate) const FIRST_REPEATED: Rules = Rules {
 pub(crate) const PLAIN: Asked = Asked {
     item_count: 2,
     rules: STRICT,
-    analyzer: None,
     threads: 2,
 };
 
@@ -85,8 +64,9 @@ pub(crate) const SEVEN: &str = "0 3 3 0 0 3 3 3 2 0 0 0 0 0 0 done xa xb xc
 5 7 7 5 0 2 2 2 1 0 0 0 0 0 0 done xf xg
 ";
 
-/// The worked rows.
-pub(crate) const CASES: [Case; 20] = [
+/// Worked rows: no fault; a retry that rolls a chunk back; a skip where it is done again in single records; and a call that is repeated in
+/// place before one that rolls the chunk back. Those of all faults stand in `cases/run`.
+pub(crate) const CASES: [Case; 4] = [
     Case {
         records: "abc/de/fg/",
         asked: PLAIN,
@@ -96,86 +76,6 @@ Begin Before After(Commit) .
 Completed 11
 ",
         partitions: SEVEN,
-    },
-    Case {
-        records: "abc/de/fg/",
-        asked: Asked {
-            threads: 1,
-            ..PLAIN
-        },
-        course: "FullLoad 4 of 4
-0:2:2 0:3:3 0:3:3:end 0 Completed 1:5:2 1:5:2:end 1 Completed 2:7:2 2:7:2:end 2 Completed .
-Begin Before After(Commit) .
-Completed 13
-",
-        partitions: SEVEN,
-    },
-    Case {
-        records: "abc/de/fg/",
-        asked: Asked {
-            analyzer: Some(1),
-            ..PLAIN
-        },
-        course: "Longest(0) 2 of 2
-0:2:2 1:5:2 .
-Begin Rollback After(Rollback) .
-Failed 11
-",
-        partitions: SEVEN,
-    },
-    Case {
-        records: "ab/c/",
-        asked: Asked {
-            threads: 1,
-            ..PLAIN
-        },
-        course: "FullLoad 2 of 2
-0:2:2 0:2:2:end 0 Completed 1:3:1 1:3:1:end 1 Completed .
-Begin Before After(Commit) .
-Completed 7
-",
-        partitions: "0 2 2 0 0 2 2 2 1 0 0 0 0 0 0 done xa xb
-2 3 3 2 0 1 1 1 1 0 0 0 0 0 0 done xc
-",
-    },
-    Case {
-        records: "/",
-        asked: PLAIN,
-        course: "0 Completed .
-Begin Before After(Commit) .
-Completed 0
-",
-        partitions: "0 0 0 0 0 0 0 0 0 0 0 0 0 0 0 done
-",
-    },
-    Case {
-        records: "a/b///",
-        asked: PLAIN,
-        course: "Longest(0) 1 of 1
-2 Completed 3 Completed 0:1:1 0:1:1:end 0 Completed 1:2:1 1:2:1:end 1 Completed .
-Begin Before After(Commit) .
-Completed 6
-",
-        partitions: "0 1 1 0 0 1 1 1 1 0 0 0 0 0 0 done xa
-1 2 2 1 0 1 1 1 1 0 0 0 0 0 0 done xb
-2 2 2 2 0 0 0 0 0 0 0 0 0 0 0 done
-2 2 2 2 0 0 0 0 0 0 0 0 0 0 0 done
-",
-    },
-    Case {
-        records: "a!bcd!/ef/",
-        asked: Asked {
-            rules: ONE_SKIP,
-            ..PLAIN
-        },
-        course: "Longest(0) 2 of 2
-0:2:1 1:6:2 1:6:2:end 1 Completed 0 Failed .
-Begin Rollback After(Rollback) .
-Failed 9
-",
-        partitions: "0 4 2 0 0 1 2 1 1 1 0 1 0 0 0 failed xb
-4 6 6 4 0 2 2 2 1 0 0 0 0 0 0 done xe xf
-",
     },
     Case {
         records: "abc?d/",
@@ -215,148 +115,6 @@ Completed 14
 ",
     },
     Case {
-        records: "a!/",
-        asked: Asked {
-            item_count: 1,
-            rules: Rules {
-                retryable: 1,
-                ..STRICT
-            },
-            ..PLAIN
-        },
-        course: "Longest(0) 1 of 1
-Longest(0) 1 of 1
-Longest(0) 1 of 1
-0 Failed .
-Begin Rollback After(Rollback) .
-Failed 12
-",
-        partitions: "0 1 0 1 2 0 0 0 0 3 0 0 0 0 0 failed
-",
-    },
-    Case {
-        records: "a<b?c/",
-        asked: Asked {
-            rules: Rules {
-                retryable: 2,
-                ..ONE_SKIP
-            },
-            ..PLAIN
-        },
-        course: "Longest(0) 1 of 2
-Longest(0) 3 of 3
-0:1:0 0:2:1 0:3:2 0:3:2:end 0 Completed .
-Begin Before After(Commit) .
-Completed 14
-",
-        partitions: "0 3 3 2 1 2 2 2 3 1 1 0 0 0 0 done xb xc
-",
-    },
-    Case {
-        records: "ab>c/",
-        asked: Asked {
-            item_count: 3,
-            rules: ONE_SKIP,
-            ..PLAIN
-        },
-        course: "Longest(0) 1 of 1
-0:3:0 0:3:0:end 0 Completed .
-Begin Before After(Commit) .
-Completed 4
-",
-        partitions: "0 3 3 0 0 0 3 0 1 0 0 0 0 1 0 done
-",
-    },
-    Case {
-        records: "a<bc/",
-        asked: Asked {
-            rules: Rules {
-                skippable: 1,
-                ..STRICT
-            },
-            ..PLAIN
-        },
-        course: "Longest(0) 2 of 2
-0:2:1 0:3:2 0:3:2:end 0 Completed .
-Begin Before After(Commit) .
-Completed 7
-",
-        partitions: "0 3 3 0 0 2 2 2 2 0 1 0 0 0 0 done xb xc
-",
-    },
-    Case {
-        records: "a<b!c>d-e?/f(ghi)/jk/",
-        asked: Asked {
-            rules: Rules {
-                retryable: 2,
-                skip_limit: Some(3),
-                ..ONE_SKIP
-            },
-            ..PLAIN
-        },
-        course: "Longest(0) 1 of 3
-Longest(1) 2 of 3
-Longest(0) 1 of 2
-Longest(1) 2 of 2
-0:2:0 0:4:0 1:7:1 1:8:2 0:5:0 0:6:1 0:6:1:end 0 Completed 1:9:3 1:10:4 1:10:4:end 1 Completed 2:12:2 2:12:2:end 2 Completed .
-Begin Before After(Commit) .
-Completed 34
-",
-        partitions: "0 6 6 6 1 1 5 1 4 1 1 1 1 1 0 done xe
-6 10 10 10 2 4 4 4 4 2 0 0 0 0 0 done xf xg xh xi
-10 12 12 10 0 2 2 2 1 0 0 0 0 0 0 done xj xk
-",
-    },
-    Case {
-        records: "abc?d/",
-        asked: Asked {
-            item_count: 4,
-            rules: REPEATED,
-            ..PLAIN
-        },
-        course: "Longest(0) 1 of 1
-0:4:4 0:4:4:end 0 Completed .
-Begin Before After(Commit) .
-Completed 4
-",
-        partitions: "0 4 4 0 1 4 4 4 1 0 0 0 0 0 1 done xa xb xc xd
-",
-    },
-    Case {
-        records: "a!/",
-        asked: Asked {
-            item_count: 1,
-            rules: Rules {
-                retryable: 1,
-                no_rollback: 1,
-                ..STRICT
-            },
-            ..PLAIN
-        },
-        course: "Longest(0) 1 of 1
-0 Failed .
-Begin Rollback After(Rollback) .
-Failed 4
-",
-        partitions: "0 1 0 0 2 0 0 0 0 1 0 0 0 0 2 failed
-",
-    },
-    Case {
-        records: "ab)c/",
-        asked: Asked {
-            item_count: 3,
-            rules: REPEATED,
-            ..PLAIN
-        },
-        course: "Longest(0) 1 of 1
-0:3:3 0:3:3:end 0 Completed .
-Begin Before After(Commit) .
-Completed 4
-",
-        partitions: "0 3 3 0 1 3 3 3 1 0 0 0 0 0 1 done xa xb xc
-",
-    },
-    Case {
         records: "a*b?/",
         asked: Asked {
             rules: FIRST_REPEATED,
@@ -369,42 +127,6 @@ Begin Before After(Commit) .
 Completed 11
 ",
         partitions: "0 2 2 2 2 2 2 2 2 1 0 0 0 0 1 done xa xb
-",
-    },
-    Case {
-        records: "a?b!c*/",
-        asked: Asked {
-            item_count: 3,
-            rules: Rules {
-                skippable: 1,
-                skip_limit: Some(1),
-                ..FIRST_REPEATED
-            },
-            ..PLAIN
-        },
-        course: "Longest(0) 1 of 1
-Longest(0) 3 of 3
-0:1:1 0:2:1 0:3:2 0:3:2:end 0 Completed .
-Begin Before After(Commit) .
-Completed 14
-",
-        partitions: "0 3 3 3 2 2 3 2 3 1 0 1 0 0 1 done xa xc
-",
-    },
-    Case {
-        records: "a(b?c)/d(e?f/",
-        asked: Asked {
-            item_count: 3,
-            rules: REPEATED,
-            ..PLAIN
-        },
-        course: "Longest(0) 1 of 1
-0 Failed 1:6:3 1:6:3:end 1 Completed .
-Begin Rollback After(Rollback) .
-Failed 6
-",
-        partitions: "0 3 0 0 2 0 0 0 0 1 0 0 0 0 2 failed
-3 6 6 3 2 3 3 3 1 0 0 0 0 0 2 done xd xe xf
 ",
     },
 ];
@@ -442,81 +164,6 @@ fn add_outputs(text: &mut String, alloc: Global, writer: &ListWriter) -> Result<
 pub(crate) fn left_of(left: &[(u32, Works)], partition: usize) -> Option<&Works> {
     let own = left.iter().find(|one| one.0 as usize == partition)?;
     Some(&own.1)
-}
-
-/// What each partition of the case comes to alone.
-fn alone(alloc: Global, case: &Case) -> Result<String, Fail> {
-    let given = Given::read(alloc, case.records)?;
-    let mut text = String::new(alloc);
-    for range in given.ranges() {
-        add_alone(&mut text, alloc, case, *range)?;
-    }
-    Ok(text)
-}
-
-fn add_alone(text: &mut String, alloc: Global, case: &Case, range: Range) -> Result<(), Fail> {
-    let (row, works) = end_alone(alloc, case, range)?;
-    add_partition(text, alloc, &row, &works)?;
-    Ok(())
-}
-
-/// The row and the artifacts of a partition that was run alone; one with nothing to do is left as it is.
-fn end_alone(alloc: Global, case: &Case, range: Range) -> Result<(Row, Works), Fail> {
-    let works = works(alloc, case.records)?;
-    let row = Row::fresh(range);
-    if range.lo >= range.hi {
-        return Ok((row, works));
-    }
-    let task = task_of::<Letters>(0, row, case.asked.rules, case.asked.item_count, works);
-    let task = run_alone(alloc, task.ok_or("a task")?).task;
-    Ok((*task.row(), task.into_artifacts()))
-}
-
-/// What the case's step comes to.
-#[derive(Drop)]
-struct Ran {
-    course: String,
-    partitions: String,
-}
-
-/// Runs the case's step on so many threads.
-fn run<L: Ledger + Send + Sync + 'static, R: Threads + Wait + Sync>(
-    rt: &R,
-    alloc: Global,
-    blank: Blank,
-    case: &Case,
-    threads: u32,
-) -> Result<Ran, Fail>
-    requires name { blank.name ≡ L.name }
-    requires parts { blank.parts ≡ L.parts }
-    requires all { blank.parts ≡ max_parts }
-{
-    let fault = case.asked.analyzer.map(|number| (number, ClassId::new(5)));
-    let mut analyzer = ListAnalyzer::new(alloc, fault);
-    let mut reducer = ListReducer::new(alloc, None);
-    let asked = Asked {
-        threads,
-        ..case.asked
-    };
-    let prepared = started(alloc, asked, case.records, &mut reducer, None)?;
-    let desk = prepared.desk::<L>(alloc, blank)?;
-    let partitions = prepared.needs().len();
-    let end = ended_with::<L, NoGate, R>(
-        rt,
-        alloc,
-        &desk,
-        prepared,
-        case.records,
-        partitions,
-        &mut analyzer,
-        &mut reducer,
-        &NoGate,
-    )?;
-    let end = end.ok().ok_or("an end")?;
-    Ok(Ran {
-        course: course_of(alloc, &end, &analyzer, &reducer)?,
-        partitions: partitions_of(alloc, case, &end)?,
-    })
 }
 
 /// The step's plans, the analyzer's calls, the reducer's, and the status and the number of events.
@@ -579,40 +226,7 @@ pub(crate) fn add_reduced(
     text.push_str(".\n")
 }
 
-/// How each partition stands; one that had nothing to do has no artifacts.
-fn partitions_of(alloc: Global, case: &Case, end: &StepEnd<Works>) -> Result<String, AllocError> {
-    let none = works(alloc, case.records)?;
-    let mut text = String::new(alloc);
-    for (partition, row) in end.snapshot.rows.iter().enumerate() {
-        let own = left_of(&end.artifacts, partition).unwrap_or(&none);
-        add_partition(&mut text, alloc, row, own)?;
-    }
-    Ok(text)
-}
-
 /// Asserts that a text is the wanted one.
 pub(crate) fn assert_text(rt: &impl Abort, text: &str, wanted: &str) {
     assert_eq!(rt; text, wanted);
-}
-
-/// Runs the case on 1 to 4 threads.
-fn runs<R: Threads + Wait + Abort + Sync>(rt: &R, alloc: Global, case: &Case) -> Result<(), Fail> {
-    for threads in 1..5 {
-        let blank = Blank::new(MAX_PARTS);
-        let ran = run::<Brand, R>(rt, alloc, blank, case, threads)?;
-        assert_text(rt, ran.partitions.as_str(), case.partitions);
-        if threads == case.asked.threads {
-            assert_text(rt, ran.course.as_str(), case.course);
-        }
-    }
-    Ok(())
-}
-
-#[test]
-fn steps(rt: HostRuntime) -> Result<(), Fail> {
-    for case in &CASES {
-        assert_text(&rt, alone(rt.alloc(), case)?.as_str(), case.partitions);
-        runs(&rt, rt.alloc(), case)?;
-    }
-    Ok(())
 }

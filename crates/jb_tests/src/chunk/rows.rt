@@ -1,10 +1,10 @@
-//! Worked rows, run alone with the ready artifacts: that they find their memory.
+//! Partitions run alone with the ready artifacts: that they find their memory.
 
 use jb_artifacts::{
-    ArtifactsOf, CountCollector, FaultPlan, FaultPlans, Item, ItemWriter, ListWriter,
-    PrefixProcessor, TableReader,
+    ArtifactsOf, CountCollector, FaultPlans, Item, ItemWriter, ListWriter, PrefixProcessor,
+    TableReader,
 };
-use jb_base::{ClassId, MAX_ITEM_COUNT, PackedList, Range, Rules};
+use jb_base::{MAX_ITEM_COUNT, PackedList, Range, Rules};
 use jb_chunk::{Alone, AloneEnd, PartitionTask, Task, run_alone};
 use jb_rules::{Row, RowState};
 use std::alloc::{AllocError, Global};
@@ -12,13 +12,6 @@ use std::test::*;
 
 /// What a partition works with.
 type Works = ArtifactsOf<TableReader, PrefixProcessor, ListWriter, CountCollector>;
-
-/// The plans by which the calls for record 1 always fail, with the class of number 0.
-fn bad_one(alloc: Global) -> Result<FaultPlans, Fail> {
-    let mut plans = FaultPlans::new(alloc);
-    plans.insert(1, FaultPlan::Bad(ClassId::new(0)))?;
-    Ok(plans)
-}
 
 /// What a partition that ran alone left.
 #[derive(Drop)]
@@ -37,17 +30,12 @@ fn letters(alloc: Global) -> Result<PackedList, Fail> {
 }
 
 /// What a partition of these records works with.
-fn works(
-    alloc: Global,
-    records: PackedList,
-    processes: FaultPlans,
-    writes: FaultPlans,
-) -> Result<Works, Fail> {
+fn works(alloc: Global, records: PackedList) -> Result<Works, Fail> {
     let prefix = Item::copy_of(alloc, b"x")?;
     Ok(ArtifactsOf {
         reader: TableReader::new(alloc, 0, records, FaultPlans::new(alloc)),
-        processor: PrefixProcessor::new(alloc, prefix, None, processes),
-        writer: ListWriter::new(PackedList::new(alloc), writes),
+        processor: PrefixProcessor::new(alloc, prefix, None, FaultPlans::new(alloc)),
+        writer: ListWriter::new(PackedList::new(alloc), FaultPlans::new(alloc)),
         collector: CountCollector::new(alloc),
     })
 }
@@ -67,18 +55,10 @@ fn left(alloc: Global, alone: Alone<Task<Works>>) -> Result<Ran, Fail> {
     })
 }
 
-/// Runs a partition of these records alone, with a processor that puts an x before each. The class of number 0 is
-/// skippable and the classes `retryable` are retried. Answers the last output too.
-fn run(
-    alloc: Global,
-    records: PackedList,
-    item_count: u64,
-    retryable: u64,
-    processes: FaultPlans,
-    writes: FaultPlans,
-) -> Result<Ran, Fail> {
+/// Runs a partition of these records alone, with a processor that puts an x before each. Answers the last output too.
+fn run(alloc: Global, records: PackedList, item_count: u64) -> Result<Ran, Fail> {
     let hi = records.len() as u64;
-    let artifacts = works(alloc, records, processes, writes)?;
+    let artifacts = works(alloc, records)?;
     let row = Row::fresh(Range { lo: 0, hi });
     if !row.sound() || row.state != RowState::Waiting || !Task::fits(&artifacts, &row) {
         return Err(Fail::from("a task"));
@@ -87,36 +67,14 @@ fn run(
         return Err(Fail::from("an item count"));
     }
     let rules = Rules {
-        skippable: 1,
-        retryable,
+        skippable: 0,
+        retryable: 0,
         no_rollback: 0,
-        skip_limit: Some(1),
-        retry_limit: 1000,
+        skip_limit: None,
+        retry_limit: 0,
     };
     let task = Task::start(0, row, rules, item_count, artifacts);
     left(alloc, run_alone(alloc, task))
-}
-
-/// A record is skipped whose calls to process it fail.
-#[test]
-fn rows(rt: HostRuntime) -> Result<(), Fail> {
-    let alloc = rt.alloc();
-    let (processes, writes) = (bad_one(alloc)?, FaultPlans::new(alloc));
-    let ran = run(alloc, letters(alloc)?, 2, 1, processes, writes)?;
-    assert!(rt; ran.end == AloneEnd::Finished && ran.last.as_slice() == b"xd".as_slice());
-    assert!(rt; ran.row.written == 3 && ran.row.counts.rollback == 1);
-    Ok(())
-}
-
-/// A write call is skipped that fails in the middle.
-#[test]
-fn torn_rows(rt: HostRuntime) -> Result<(), Fail> {
-    let alloc = rt.alloc();
-    let (processes, writes) = (FaultPlans::new(alloc), bad_one(alloc)?);
-    let ran = run(alloc, letters(alloc)?, 4, 0, processes, writes)?;
-    assert!(rt; ran.end == AloneEnd::Finished);
-    assert!(rt; ran.row.written == 0 && ran.row.counts.write_skip == 1);
-    Ok(())
 }
 
 /// With any one request refused, the partition finishes, or there is no memory for one of its two chunks: then it waits at the checkpoint
@@ -124,8 +82,7 @@ fn torn_rows(rt: HostRuntime) -> Result<(), Fail> {
 #[test]
 fn finishes_or_wants_memory(rt: HostRuntime) -> Result<(), Fail> {
     let alloc = rt.alloc();
-    let (processes, writes) = (FaultPlans::new(alloc), FaultPlans::new(alloc));
-    let ran = run(alloc, letters(alloc)?, 2, 0, processes, writes)?;
+    let ran = run(alloc, letters(alloc)?, 2)?;
     let stands = (ran.row.at, ran.row.written, ran.row.counts.commit);
     if ran.end == AloneEnd::Finished {
         assert!(rt; stands == (4, 4, 2));
@@ -147,8 +104,7 @@ fn many_records(alloc: Global) -> Result<PackedList, AllocError> {
 /// 100,000 records in chunks of so many, each of which has a result.
 fn run_many(alloc: Global, item_count: u64) -> Result<Ran, Fail> {
     let records = many_records(alloc)?;
-    let (processes, writes) = (FaultPlans::new(alloc), FaultPlans::new(alloc));
-    run(alloc, records, item_count, 0, processes, writes)
+    run(alloc, records, item_count)
 }
 
 /// One chunk of many records, and many chunks of few.
