@@ -4,9 +4,10 @@ A part of another form than its table's is passed over: that is what the schemas
 """
 import itertools
 
+import limits
 import reports
 
-MOST_PARTITIONS, MOST_CHUNKS, MOST_PAIRS, ID_BYTES, RECORD_BYTES = 1_024, 10_000_000, 1_000, 64, 4_096
+MOST_PAIRS = 1_000  # of ranges with a record in common that are told
 NUMBERS_END = 2**64
 CLASS_KEYS = [f"{name}-exception-classes" for name in ("skippable", "retryable", "no-rollback")]
 ROW_RULES = {
@@ -33,8 +34,8 @@ def faults_in(word, tree):
         yield from of_resume(tree)
     if word in ("plan", "check"):
         chunks = sum(count for count in list_in(tree, "counts") if type(count) is int)
-        if chunks > MOST_CHUNKS:
-            yield ["counts"], f"their sum is {chunks}, above {MOST_CHUNKS}"
+        if chunks > limits.CHUNKS:
+            yield ["counts"], f"their sum is {chunks}, above {limits.CHUNKS}"
 
 
 # ---- parts of a tree
@@ -80,16 +81,16 @@ def too_long(text, most, path):
 def of_job(tree):
     job, steps, data = object_in(tree, "job"), list_in(object_in(tree, "job"), "step"), list_in(tree, "data")
     declared = {name for _, name in texts_in(job, "exception-classes")}
-    yield from too_long(job.get("id"), ID_BYTES, ["job", "id"])
+    yield from too_long(job.get("id"), limits.ID_BYTES, ["job", "id"])
     for place, name in texts_in(job, "exception-classes"):
-        yield from too_long(name, ID_BYTES, ["job", "exception-classes", place])
+        yield from too_long(name, limits.ID_BYTES, ["job", "exception-classes", place])
     ids = set()
     for place, step in enumerate(steps):
         name = step.get("id") if isinstance(step, dict) else None
         if isinstance(name, str) and name in ids:
             yield ["job", "step", place, "id"], "it is the id of an earlier step"
         ids.add(name if isinstance(name, str) else None)
-        yield from too_long(name, ID_BYTES, ["job", "step", place, "id"])
+        yield from too_long(name, limits.ID_BYTES, ["job", "step", place, "id"])
         yield from of_classes(object_in(step, "chunk"), declared, ["job", "step", place, "chunk"])
     if len(data) != len(steps) and "data" in tree:
         yield ["data"], f"it has {len(data)} members, and the job {len(steps)} steps"
@@ -111,9 +112,9 @@ def of_classes(chunk, declared, path):
 def of_data(data, declared, path):
     records = list_in(data, "records")
     for place, record in enumerate(records):
-        yield from too_long(record, RECORD_BYTES, [*path, "records", place])
+        yield from too_long(record, limits.RECORD_BYTES, [*path, "records", place])
     for key in ("prefix", "drop"):
-        yield from too_long(object_in({"data": data}, "data").get(key), ID_BYTES, [*path, key])
+        yield from too_long(object_in({"data": data}, "data").get(key), limits.ID_BYTES, [*path, key])
     for kind in ("read", "process", "write"):
         yield from of_faults(list_in(object_in(data, "faults"), kind), len(records), declared, [*path, "faults", kind])
 
@@ -140,8 +141,8 @@ def of_plan(plan, records, path):
     partitions = len(ranges) if "ranges" in plan else plan.get("partitions")
     if "ranges" in plan and not ranges:
         yield [*path, "ranges"], "there is no partition"
-    if is_whole(partitions) and partitions > MOST_PARTITIONS:
-        yield [*path, "ranges" if "ranges" in plan else "partitions"], f"there are more than {MOST_PARTITIONS} partitions"
+    if is_whole(partitions) and partitions > limits.PARTITIONS:
+        yield [*path, "ranges" if "ranges" in plan else "partitions"], f"there are more than {limits.PARTITIONS} partitions"
     pairs = {place: pair for place, pair in enumerate(ranges) if isinstance(pair, list) and len(pair) == 2 and all(map(is_whole, pair))}
     for place, (lo, hi) in pairs.items():
         if hi < lo:

@@ -47,10 +47,15 @@ def fault_text(fault):
     return f"{fault.kind} fault {fault.fault_class} of record {fault.record}{others}"
 
 
-def failed_line(partition, failure):
+def failed_lines(course, partition, row):
+    """At which fault a partition failed, and whether a stop has used up its retries."""
+    failure = course.failures.get(partition)
     if failure is None:
-        return f"partition {partition} failed; the document's faults don't lead to its counts"
-    return f"partition {partition} failed in records {failure.lo}..{failure.hi - 1}: {failure.reason}, {fault_text(failure.fault)}"
+        yield f"partition {partition} failed; the document's faults don't lead to its counts"
+        return
+    yield f"partition {partition} failed in records {failure.lo}..{failure.hi - 1}: {failure.reason}, {fault_text(failure.fault)}"
+    if failure.is_at_limit() and row.retries and replay.passes_in_one_run(course.chunks, row, failure.fault.record):
+        yield f"partition {partition} would pass there in one run: after a stop shaky faults come again, and use up retries once more"
 
 
 def skipped_line(partition, count, skipped):
@@ -62,15 +67,20 @@ def skipped_line(partition, count, skipped):
     return f"partition {partition} skipped {count}: {', '.join(shown)}"
 
 
-def lines_of(course, is_last):
-    """What is to be said of the partitions of a step that failed or skipped."""
-    of_step = "" if is_last else f"step {course.step.name}, "
+def lines_of(course, is_only):
+    """What is to be said of the partitions of a step that failed or skipped; the step is named where it isn't the job's only one."""
+    of_step = "" if is_only else f"step {course.step.name}, "
     for partition, row in enumerate(course.step.rows):
-        if row.state == "failed":
-            yield f"  {of_step}{failed_line(partition, course.failures.get(partition))}"
+        for line in failed_lines(course, partition, row) if row.state == "failed" else ():
+            yield f"  {of_step}{line}"
     for partition, row in enumerate(course.step.rows):
         if reports.skips_of(row):
             yield f"  {of_step}{skipped_line(partition, reports.skips_of(row), course.skipped.get(partition, []))}"
+
+
+def failures_of(course):
+    """Of each partition that failed its failure, or None where it isn't known."""
+    return [course.failures.get(partition) for partition, row in enumerate(course.step.rows) if row.state == "failed"]
 
 
 def skipped_text(courses):

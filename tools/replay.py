@@ -7,6 +7,7 @@ only where that ends at this very row: its checkpoint, retries, repeats, commits
 import bisect
 import dataclasses
 
+import limits
 import reports
 
 KINDS = ("read", "process", "write")
@@ -31,6 +32,10 @@ class Failure:
     hi: int
     reason: str
 
+    def is_at_limit(self):
+        """Whether a limit was reached; else its class is neither skippable nor retryable."""
+        return self.reason.endswith(" reached")
+
 
 class Struck(Exception):
     """A call that ends its chunk: its fault, and `retry` where the chunk is rolled back, else why the partition fails."""
@@ -41,7 +46,8 @@ class Chunks:
 
     def __init__(self, job, step, data):
         chunk = step["chunk"]
-        self.item_count, self.skip_limit, self.retry_limit = chunk.get("item-count", 10), chunk.get("skip-limit"), chunk.get("retry-limit", 1_000)
+        self.item_count, self.skip_limit = chunk.get("item-count", limits.ITEM_COUNT_IF_ABSENT), chunk.get("skip-limit")
+        self.retry_limit = chunk.get("retry-limit", limits.RETRIES_IF_ABSENT)
         declared = job.get("exception-classes", [])
         self.skippable, self.retryable, self.no_rollback = (
             classes_of(declared, chunk.get(f"{name}-exception-classes", {})) for name in ("skippable", "retryable", "no-rollback")
@@ -156,17 +162,27 @@ class Replay:
 
     def choice(self, fault_class):
         """Whether a fault is skipped, retried by a rollback or repeated in place; else the limits that were reached."""
-        chunks, limits = self.chunks, {}
+        chunks, open_by = self.chunks, {}
         if fault_class in chunks.skippable:
-            limits["skip"] = reports.skips_of(self.row), chunks.skip_limit
+            open_by["skip"] = reports.skips_of(self.row), chunks.skip_limit
         if fault_class in chunks.retryable:
-            limits["retry"] = self.row.retries, chunks.retry_limit
+            open_by["retry"] = self.row.retries, chunks.retry_limit
         for name in ("skip", "retry") if self.row.at < self.row.redo else ("retry", "skip"):
-            used, limit = limits.get(name, (0, 0))
+            used, limit = open_by.get(name, (0, 0))
             if limit is None or used < limit:
                 return "repeat" if name == "retry" and fault_class in chunks.no_rollback else name
-        reached = [f"{name} limit {limit} reached" for name, (_, limit) in limits.items()]
+        reached = [f"{name} limit {limit} reached" for name, (_, limit) in open_by.items()]
         return " and ".join(reached) or f"{fault_class} is neither skippable nor retryable"
+
+
+def passes_in_one_run(chunks, row, record):
+    """Whether a partition that failed at this record would have passed it in one run. In a restart a shaky fault comes again where its
+    record wasn't committed, and is retried once more."""
+    replay = Replay(chunks, start_of(row))
+    while replay.failure is None and replay.row.at <= record:
+        if not replay.pass_clear_chunks(row.hi):
+            replay.chunk()
+    return replay.failure is None
 
 
 def start_of(row):

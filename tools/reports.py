@@ -1,5 +1,5 @@
 """What the tools of this folder have in common: the words of a tool, reports of `batchrun run` and `restart` and what
-`examples/array/join` prints, read and tested, their sums, and files that are put in their place whole."""
+`examples/array/join` prints, read and tested, their sums and tables, and files that are put in their place whole."""
 import argparse
 import collections
 import dataclasses
@@ -7,17 +7,21 @@ import json
 import os
 import re
 import signal
+import subprocess
 import sys
 import tempfile
 
 TOP = os.path.dirname(os.path.dirname(os.path.realpath(__file__)))
 PROGRAM = os.environ.get("BATCHRUN") or os.path.join(TOP, "crates/batchrun/out/batchrun")
+UNPROVED = os.path.join(TOP, "crates/batchrun/out/unproved/batchrun")
 Row = collections.namedtuple(
     "Row", "lo hi at redo retries written READ WRITE COMMIT ROLLBACK READ_SKIP PROCESS_SKIP FILTER WRITE_SKIP in_place state"
 )
 METRICS = Row._fields[Row._fields.index("READ") : Row._fields.index("in_place")]
 SKIPS = ("READ_SKIP", "PROCESS_SKIP", "WRITE_SKIP")
 STATES = ("done", "failed", "waiting")
+HEADINGS = ["partition", "records", "at", "state", *METRICS, "in_place", "left"]
+SUMMED = [*METRICS, "in_place", "left"]
 NUMBERS = {1: 14, 2: 15}  # of a row, by the version of the saved object
 SHOWN_LETTERS = 60  # of a value in a line
 REPORT_KEYS, STEP_KEYS = {"job", "status", "steps"}, {"heard", "outputs", "plans", "reducer", "saved", "status", "step"}
@@ -35,6 +39,9 @@ class Words(argparse.ArgumentParser):
         super().__init__(prog=tool, allow_abbrev=False)
         self.text, self.status = text, status
 
+    def add_unproved(self):
+        self.add_argument("--unproved", action="store_true")
+
     def format_help(self):
         return self.text
 
@@ -43,8 +50,20 @@ class Words(argparse.ArgumentParser):
 
 
 def end_with_the_reader():
-    """A tool that only prints ends silently where nobody reads on."""
-    signal.signal(signal.SIGPIPE, signal.SIG_DFL)
+    """A tool that only prints ends silently where nobody reads on, or at INT."""
+    for number in (signal.SIGPIPE, signal.SIGINT):
+        signal.signal(number, signal.SIG_DFL)
+
+
+def program_of(tool, is_unproved):
+    """The program that a tool runs. The unproved one is built here, where it isn't current; Refused where that can't be."""
+    if not is_unproved:
+        return PROGRAM
+    build = [os.path.join(TOP, "tools/build-program"), "--unproved"]
+    if subprocess.run([*build, "--is-current"]).returncode != 0:
+        checked(subprocess.run(build, stdin=subprocess.DEVNULL).returncode == 0, "there is no unproved program")
+    print(f"{tool}: NOTHING of this run is proved", file=sys.stderr, flush=True)
+    return UNPROVED
 
 
 def refuse(tool, reason, status=1):
@@ -77,18 +96,33 @@ def tree_in(path):
     return tree_of(content_of(path), path)
 
 
-def put_in_place(path, content):
-    """Writes a file beside its place and renames it, so that what stands there is whole, whenever this is killed."""
+def put_in_place(path, content, is_new=False):
+    """Writes a file beside its place and renames it, so that what stands there is whole, whenever this is killed. With `is_new` nothing may
+    stand there: else FileExistsError is raised."""
     with tempfile.NamedTemporaryFile(dir=os.path.dirname(path) or ".", prefix=f".{os.path.basename(path)}.", delete=False) as part:
         try:
             part.write(content)
             part.flush()
             os.fsync(part.fileno())
             os.chmod(part.name, 0o644)
-            os.replace(part.name, path)
+            (name_new if is_new else os.replace)(part.name, path)
         except BaseException:
             os.unlink(part.name)
             raise
+
+
+def name_new(part, path):
+    """Renames a file to a name that no other has, by a second name: a rename would take the place of another file."""
+    try:
+        os.link(part, path)
+    except FileExistsError:
+        raise
+    except OSError:  # a file system without second names
+        if os.path.lexists(path):
+            raise FileExistsError(path) from None
+        os.replace(part, path)
+    else:
+        os.unlink(part)
 
 
 def shown(value):
@@ -230,3 +264,20 @@ def in_words(sums):
     failed = [f"{sums['partitions_failed']} of {sums['partitions']} partitions failed"] if sums["partitions_failed"] else []
     waiting = [f"{sums['partitions_waiting']} not at their end"] if failed and sums["partitions_waiting"] else []
     return ", ".join([*failed, *waiting, f"{sums['done']} of {sums['records']} records done", f"{sums['skips']} skipped"])
+
+
+# ---- tables
+
+
+def line_of(partition, row):
+    numbers = [getattr(row, name) for name in (*METRICS, "in_place")]
+    return [partition, f"[{row.lo},{row.hi})", row.at, row.state, *numbers, row.hi - row.at]
+
+
+def table(rows, sums):
+    """The lines of a table: one for each partition, and their sums."""
+    lines = [line_of(partition, row) for partition, row in enumerate(rows)]
+    cells = [HEADINGS, *lines, ["all", "", "", "", *(sums[name] for name in SUMMED)]]
+    cells = [[str(cell) for cell in line] for line in cells]
+    widths = [max(map(len, column)) for column in zip(*cells)]
+    return ["  ".join(cell.rjust(width) for cell, width in zip(line, widths)) for line in cells]

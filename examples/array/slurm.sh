@@ -2,13 +2,28 @@
 #SBATCH --requeue
 #SBATCH --signal=B:TERM@90
 # A job array of Slurm: each task runs its slice, and where it is run again, goes on from its last report. 90 seconds before its time is
-# over it is told to end with the run that is at work.
+# over it is told to end with the run that is at work, and is put into the queue again; where that can't be, it says what to type.
 #
 # `cut` prints the line that submits it, with the numbers of the tasks and what each asks for:
 #
 #     sbatch --wait --array=0-15 --cpus-per-task=2 --mem=104M --time=7 examples/array/slurm.sh examples/array/task slices
 #
 # The first argument is the script `task`, seen from the folder in which sbatch is called, on a file system that all nodes see, since
-# Slurm runs a copy of this script.
+# Slurm runs a copy of this script. The status is the task's. SCONTROL names Slurm's command, else it is scontrol.
 set -eu
-exec "$1" "$2" "$SLURM_ARRAY_TASK_ID"
+
+task=
+trap '[ -z "$task" ] || kill -TERM "$task"' TERM
+"$1" "$2" "$SLURM_ARRAY_TASK_ID" &
+task=$!
+status=0
+wait "$task" || status=$?
+while kill -0 "$task" 2> /dev/null; do # TERM ends a wait, and not yet the task
+    status=0
+    wait "$task" || status=$?
+done
+
+if [ "$status" -eq 2 ] && ! "${SCONTROL:-scontrol}" requeue "${SLURM_ARRAY_JOB_ID}_$SLURM_ARRAY_TASK_ID"; then
+    echo "task $SLURM_ARRAY_TASK_ID: it isn't in the queue again: submit the same line once more; a completed task ends at once" >&2
+fi
+exit "$status"
