@@ -27,24 +27,33 @@ def needed(lines, stands_on):
     return sorted(found)
 
 
-def build(name, stands_on, room, words=(), given=b""):
-    """Builds the program of the folder `name` in the folder `room`, runs it once, and gives its path."""
+def take(part, place):
+    """Copies a file or a folder."""
+    os.makedirs(os.path.dirname(place), exist_ok=True)
+    (shutil.copytree if os.path.isdir(part) else shutil.copy)(part, place)
+
+
+def build(name, stands_on, room, words=(), given=b"", like=None, parts=()):
+    """Builds the program of the folder `name` in the folder `room`, runs it once, and gives its path. With `like`, it is built under the
+    name of this crate, and takes these parts of it."""
     lines = lines_of_crates()
     names = needed(lines, stands_on)
     for below in names:
         shutil.copytree(os.path.join(TOP, "crates", below), os.path.join(room, "crates", below), symlinks=True)
     with open(os.path.join(room, "crates.txt"), "w", encoding="utf-8") as file:
         file.writelines(lines[below] + "\n" for below in names)
-        file.write(f"{name}: {' '.join(stands_on)}\n")
+        file.write(f"{like or name}: {' '.join(stands_on)}\n")
     shutil.copy(os.path.join(TOP, "HANDLES"), room)
-    crate = os.path.join(room, "crates", name)
+    crate = os.path.join(room, "crates", like or name)
     shutil.copytree(os.path.join(TOP, "bench", name), crate)
+    for part in parts:
+        take(os.path.join(TOP, "crates", like, part), os.path.join(crate, part))
     for folder, _, files in os.walk(crate):
         for file in files:
             os.rename(os.path.join(folder, file), os.path.join(folder, file.removesuffix(".in")))
     rt = shutil.which("rt") or "/opt/rattle/bin/rt"
     ran = subprocess.run([rt, "run", "--", *words], cwd=crate, input=given, capture_output=True)
-    program = os.path.join(crate, "out", name)
+    program = os.path.join(crate, "out", like or name)
     if ran.returncode or not os.path.exists(program):
         sys.exit(ran.stderr.decode(errors="replace") + f"the program {name} isn't built")
     return program
