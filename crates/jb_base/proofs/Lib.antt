@@ -1,3 +1,4 @@
 pub mod Causes
+pub mod Classes
 pub mod Packed
 pub mod Pairwise

@@ -1,4 +1,5 @@
 pub mod Causes
+pub mod Classes
 pub mod Limits
 pub mod Name
 pub mod Packed

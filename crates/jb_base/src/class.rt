@@ -12,10 +12,13 @@ pub struct ClassId {
 }
 
 impl ClassId {
+    ghost use Rattle.jb_base.specs.Classes.{class_of};
+
     /// The class of a number below 64.
     pub fn new(number: u8) -> ClassId
         requires { number < max_classes }
-        ensures { result.number ≡ number }
+        ensures number { result.number ≡ number }
+        ensures class { result ≡ class_of number }
     {
         ClassId { number }
     }

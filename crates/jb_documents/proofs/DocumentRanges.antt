@@ -30,7 +30,7 @@ use Rattle.jb_job.proofs.Kept.{in-range, each-keeps}
 use Rattle.jb_cert.specs.declared.certificates.Certificate.TheVariants.{Nothing, FullLoad}
 use Rattle.jb_cert.specs.Load.{Load, IsWithinLimits}
 use Rattle.jb_documents.specs.CheckDocument.{Claim, slot_at, round_at, rounds_at, certificate_by, certificate_at, check_document_at}
-use Rattle.jb_documents.specs.Classes.{class_of}
+use Rattle.jb_base.specs.Classes.{class_of}
 use Rattle.jb_documents.specs.declared.run.document.Document.{Document}
 use Rattle.jb_documents.specs.declared.run.faults.PlannedFault.{PlannedFault}
 use Rattle.jb_documents.specs.declared.run.faults.StepFaults.{StepFaults}

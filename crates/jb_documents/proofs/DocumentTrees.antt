@@ -44,7 +44,7 @@ use Rattle.jb_documents.specs.FaultLists.{form_at, is_past, fault_number, known_
 use Rattle.jb_documents.specs.PlanDocument.{counts_at, plan_document_at}
 use Rattle.jb_documents.specs.RunDocument.{data_list_at, document_at}
 use Rattle.jb_documents.specs.StepFields.{records_at, drop_at, data_at}
-use Rattle.jb_documents.proofs.Classes.{class_of-number}
+use Rattle.jb_base.proofs.Classes.{class_of-number}
 use Rattle.jb_documents.proofs.DocumentRanges.{number_of, IsPast, IsRecord}
 
 -- ---- the document of `plan`

@@ -7,7 +7,7 @@ use Rattle.jb_job.specs.declared.field.Field.{Field}
 use Rattle.jb_job.specs.declared.field.Field.TheVariants as field
 use Rattle.jb_base.specs.declared.class.ClassId.{ClassId}
 use Rattle.jb_job.specs.Reading.{wrong_shape, unknown_class, Read, ◌>>=◌, shaped, ranged, whole_number, object_at, list_at, triple_at, each_at, optional}
-use Rattle.jb_documents.specs.Classes.{class_of}
+use Rattle.jb_base.specs.Classes.{class_of}
 use Rattle.jb_base.specs.Limits.{max_entries, max_entry_classes}
 use Rattle.jb_documents.specs.declared.run.faults.FaultKind.{FaultKind}
 use Rattle.jb_documents.specs.declared.run.faults.FaultKind.TheVariants.{Bad, Shaky}

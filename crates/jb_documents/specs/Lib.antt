@@ -1,5 +1,4 @@
 pub mod CheckDocument
-pub mod Classes
 pub mod DocumentRanges
 pub mod DocumentTrees
 pub mod FaultLists

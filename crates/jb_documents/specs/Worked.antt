@@ -9,7 +9,7 @@ use Rattle.jb_cert.specs.declared.certificates.Certificate.TheVariants.{FullLoad
 use Rattle.jb_saved.specs.SavedRows.{SavedRows}
 use Rattle.jb_saved.specs.Worked.{stopped}
 use Rattle.jb_documents.specs.CheckDocument.{Claim}
-use Rattle.jb_documents.specs.Classes.{class_of}
+use Rattle.jb_base.specs.Classes.{class_of}
 use Rattle.jb_documents.specs.declared.run.document.Document.{Document}
 use Rattle.jb_documents.specs.declared.run.faults.FaultKind.TheVariants.{Bad, Shaky}
 use Rattle.jb_documents.specs.declared.run.faults.PlannedFault.{PlannedFault}

@@ -1,10 +1,6 @@
 -- The results of a payroll are its pay slips.
-use Rattle.std.proofs.Common.{◌≡◌, ℕ, ◌+◌, List, [], ◌∷◌, Option, Some, None, refl, ap, subst}
+use Rattle.std.proofs.Common.{◌≡◌, ℕ, ◌+◌, List, [], ◌∷◌, Option, Some, None, refl}
 use Rattle.std.specs.List.{cons_option, enumerate_from, filter_map}
-use Rattle.jb_base.specs.declared.class.ClassId.{ClassId}
-use Rattle.jb_base.specs.Limits.{max_classes}
-use Rattle.std.proofs.Math.Bridge.{le_prop}
-use Rattle.std.specs.Prelude.{◌<◌}
 use Rattle.jb_records.specs.Function.{all_results, result_by, result_of}
 use Rattle.jb_collect.specs.declared.calls.Status.{Status}
 use Rattle.jb_collect.specs.declared.calls.Status.TheVariants as status
@@ -21,18 +17,6 @@ slips-from n (line ∷ lines) = λ i. cons_option (own-slip (slip_of line) i) (s
 
 pub results-are-slips : (lines : List (List ℕ)) → all_results payroll lines ≡ all_slips lines
 results-are-slips lines = slips-from 0 lines
-
--- ---- CLASSES BY THEIR NUMBERS
-
-classed : (n : ℕ) → n < max_classes → ClassId
-classed n small = record { number = n; below = small }
-
--- a class is known by its number
-pub same-class : (class other : ClassId) → class.number ≡ other.number → class ≡ other
-unfolding classed
-same-class class other e =
-    let P : ℕ → Type 0 = λ n. (small : n < max_classes) → classed class.number class.below ≡ classed n small in
-    subst P e (λ small. ap (classed class.number) (le_prop class.below small)) other.below
 
 -- ---- THE EXIT STATUS
 

@@ -1,10 +1,10 @@
 -- A payroll: the pay slips of all time sheets.
-use Rattle.std.proofs.Common.{lit<}
 use Rattle.std.specs.Prelude.{ℕ, Bool, if◌then◌else◌, List, [], ◌∷◌, Option, Some, None, IfSome}
 use Rattle.std.specs.Io.KnownBytes.{Appends}
 use Rattle.std.specs.List.{concat, filter_map}
 use Rattle.jb_collect.specs.declared.calls.Status.{Status}
 use Rattle.jb_collect.specs.declared.calls.Status.TheVariants as status
+use Rattle.jb_base.specs.Classes.{class_of}
 use Rattle.jb_base.specs.declared.class.ClassId.{ClassId}
 use Rattle.jb_ready.specs.Csv.{AreRowsOf}
 use Rattle.jb_records.specs.Function.{Function}
@@ -16,7 +16,7 @@ use Rattle.payroll.specs.Sheets.{is_shaky, slip_of}
 
 -- one without a pay slip can't be read
 abbrev pub broken_class : ClassId
-broken_class = record { number = 0; below = lit< tt }
+broken_class = class_of 0
 
 abbrev pub refusal_by : (slip : Option (List ℕ)) → Option ClassId
 refusal_by None = Some broken_class
@@ -24,7 +24,7 @@ refusal_by (Some slip) = None
 
 -- the first try at a shaky one fails
 abbrev pub unsteady_class : ClassId
-unsteady_class = record { number = 1; below = lit< tt }
+unsteady_class = class_of 1
 
 abbrev pub tries_by : (shaky : Bool) → List ClassId
 tries_by shaky = if shaky then unsteady_class ∷ [] else []

@@ -9,7 +9,7 @@ use Rattle.jb_job.specs.Worked.{classes_job}
 use Rattle.jb_rules.specs.declared.row.Row.{Row}
 use Rattle.jb_rules.specs.declared.row.RowState.TheVariants.{Waiting}
 use Rattle.jb_saved.specs.Worked.{row, stopped}
-use Rattle.jb_documents.specs.Classes.{class_of}
+use Rattle.jb_base.specs.Classes.{class_of}
 use Rattle.jb_documents.specs.declared.run.faults.PlannedFault.{PlannedFault}
 use Rattle.jb_documents.specs.DocumentRanges.{HoldsResults, IsFault, AreFaults}
 use Rattle.jb_documents.specs.Worked.{bad_record, two_texts}
