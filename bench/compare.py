@@ -8,7 +8,7 @@ compared with those of `batchrun`. `python3` reads a document of records into a 
 and does nothing else. All run on one thread, their output goes to the null device, and they take turns: `cpu s` is the least
 processor time of some runs of each, `peak MB` the most memory that one held at once, never less than this script's own, about
 15 MB. `instructions` are those for one record, or for one slot of a plan, counted by valgrind's callgrind, as the difference between a
-document of 30,000 and one of 10,000: a count that no load of the machine changes. The table is Markdown, as docs/PROOFS.md has it. No number
+document of 30,000 and one of 10,000: a count that no load of the machine changes. The table is Markdown, as README.md has it. No number
 here decides the gate.
 
 With --records there are so many short records in place of 1,000,000, and of the others so many fewer: ten times the records should take
