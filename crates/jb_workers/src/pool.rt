@@ -3,7 +3,7 @@
 //! - `mailbox`: the queue between a caller and a worker, and `signal`: the token by which they wait for each other.
 //! - `caller`: the caller's end of it, and `serving`: what the worker does at the other one.
 
-ghost use Rattle.std.specs.Prelude.{◌≡◌, false, true, None, IfErr};
+ghost use Rattle.std.specs.Prelude.{◌≡◌, ◌+◌, ◌≤◌, false, true, None, IfOk, IfErr, OnOk, OnErr};
 ghost use Rattle.std.specs.Arc.{arc_value};
 ghost use denote.Param.Send.{IsSync, IsSend};
 ghost use Rattle.crossbeam_queue.specs.Passes.{view, IsPassOf};
@@ -24,6 +24,7 @@ use crate::round::RoundError;
 use core::thread::Stack;
 use jb_chunk::PartitionTask;
 use std::alloc::Global;
+use std::marker::Model;
 use std::sync::ledger::{Ledger, Share};
 use std::sync::{Arc, Wait};
 use std::thread::{Promise, PromisedHandle, Scope, Threads};
@@ -44,15 +45,26 @@ const WORKER_STACK: usize = 512 * 1024;
 
 /// Workers that are kept between rounds: those that wait for a work, and their threads.
 ///
-/// `start_pool` starts them in a scope of threads. It can't be dropped: `end` ends and joins them.
+/// `start_pool` starts them in a scope of threads. It can't be dropped: `end` ends and joins them. Contracts see how many wait for a
+/// work.
 pub struct Pool<T: PartitionTask, L: Ledger> {
     pub(crate) idle: Vec<IdleWorker<T>>,
     threads: Vec<Handle<L>>,
 }
 
+impl<T: PartitionTask, L: Ledger> Model for Pool<T, L> {
+    ghost use Rattle.std.specs.Prelude.{ℕ, vec_len};
+
+    ghost Value = { ℕ };
+
+    ghost view = { λ pool. vec_len pool.idle };
+}
+
 impl<T: PartitionTask, L: Ledger> Pool<T, L> {
     /// A pool with no worker.
-    pub fn empty(alloc: Global) -> Pool<T, L> {
+    pub fn empty(alloc: Global) -> Pool<T, L>
+        ensures { result ≡ 0 }
+    {
         Pool {
             idle: Vec::new(alloc),
             threads: Vec::new(alloc),
@@ -60,7 +72,9 @@ impl<T: PartitionTask, L: Ledger> Pool<T, L> {
     }
 
     /// How many workers wait for a work.
-    pub fn workers(&self) -> usize {
+    pub fn workers(&self) -> usize
+        ensures { result ≡ self.now }
+    {
         self.idle.len()
     }
 
@@ -130,7 +144,10 @@ fn add_worker<
     alloc: Global,
     gate: &'s G,
     pool: &mut Pool<T, L>,
-) -> Result<(), RoundError> {
+) -> Result<(), RoundError>
+    ensures more { OnOk result (pool.new ≡ pool.old + 1) }
+    ensures same { OnErr result (pool.new ≡ pool.old) }
+{
     if pool.idle.reserve(1).is_err() || pool.threads.reserve(1).is_err() {
         return Err(RoundError::Memory);
     }
@@ -164,6 +181,7 @@ pub fn start_pool<
     gate: &'s G,
     workers: usize,
 ) -> Result<Pool<T, L>, RoundError>
+    ensures few { IfOk result (λ pool. pool ≤ workers) }
     ensures err { IfErr result (λ error. error ≡ Memory) }
 {
     let mut pool = Pool::empty(alloc);

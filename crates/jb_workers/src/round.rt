@@ -1,6 +1,6 @@
 //! A round of works.
 
-ghost use Rattle.std.specs.Prelude.{◌≡◌, IfOk, IfErr, OnOk};
+ghost use Rattle.std.specs.Prelude.{◌≡◌, ◌+◌, ◌≤◌, IfOk, IfErr, OnOk, length};
 ghost use Rattle.jb_repo.specs.declared.events.Event.TheVariants.{Round};
 ghost use Rattle.jb_workers.specs.Lock.{IsAccepted};
 ghost use Rattle.jb_workers.specs.Works.{AllCanBegin, Rise};
@@ -69,6 +69,8 @@ impl<L: Ledger> Desk<L> {
         ensures in_order { Rise T.standing works.items → IfOk result (λ dones. AreDones T.standing works.items dones.items) }
         ensures closed { OnOk result (IsAccepted Round) }
         ensures error { IfErr result (λ error. IsRoundError T.standing works.items error) }
+        ensures enough { OnOk result (length works.items ≤ pool.old + 1) }
+        ensures kept { OnOk result (pool.new ≡ pool.old) }
     {
         let works = in_order(works)?;
         if works.len().saturating_sub(1) > pool.idle.len() {

@@ -1,6 +1,6 @@
 //! The works of a round by rising partition.
 
-ghost use Rattle.std.specs.Prelude.{◌≡◌, ◌≤◌, ◌↔◌, IsTrue, IfOk, IfErr, OnOk};
+ghost use Rattle.std.specs.Prelude.{◌≡◌, ◌≤◌, ◌↔◌, IsTrue, IfOk, IfErr, OnOk, length};
 ghost use Rattle.std.specs.List.Sorted.{IsPermutation};
 ghost use Rattle.jb_workers.specs.Works.{AllCanBegin, Rise, IsOrderOf};
 ghost use Rattle.jb_workers.specs.declared.round.error.RoundError.TheVariants.{Memory};
@@ -14,6 +14,7 @@ pub(crate) fn in_order<T: PartitionTask>(works: Vec<Work<T>>) -> Result<Vec<Work
     requires { AllCanBegin T.standing works.items }
     ensures can { IfOk result (λ ordered. AllCanBegin T.standing ordered.items) }
     ensures order { IfOk result (λ ordered. IsOrderOf T.standing works.items ordered.items) }
+    ensures all { IfOk result (λ ordered. length ordered.items ≡ length works.items) }
     ensures err { IfErr result (λ error. error ≡ Memory) }
     ensures same { Rise T.standing works.items → IfOk result (λ ordered. ordered.items ≡ works.items) }
 {

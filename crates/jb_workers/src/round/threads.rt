@@ -1,6 +1,6 @@
 //! Works done at once: each by a worker of the pool, but the first, which the caller's thread does. A single work is done there alone.
 
-ghost use Rattle.std.specs.Prelude.{◌≡◌, ◌+◌, ◌≤◌, ◌<◌, ◌∷◌, [], false, IfOk, IfErr, vec_len};
+ghost use Rattle.std.specs.Prelude.{◌≡◌, ◌+◌, ◌≤◌, ◌<◌, ◌∷◌, [], false, IfOk, IfErr, OnOk, vec_len};
 ghost use Rattle.jb_workers.specs.Works.{CanBegin, AllCanBegin};
 ghost use Rattle.jb_workers.specs.Round.{AreReports, is_refusal};
 ghost use Rattle.jb_workers.specs.declared.round.error.RoundError.TheVariants.{Memory};
@@ -53,10 +53,11 @@ pub(crate) fn do_works<L: Ledger, T: PartitionTask, G: Gate, R: Wait>(
     parts: &mut Parts<L>,
 ) -> Result<Vec<Report<T>>, RoundError>
     requires can { AllCanBegin T.standing works.items }
-    requires workers { vec_len works ≤ vec_len pool.old.idle + 1 }
+    requires workers { vec_len works ≤ pool.old + 1 }
     requires part { 0 < parts.old.number }
     ensures reports { IfOk result (λ reports. AreReports T.standing works.items reports.items) }
     ensures err { IfErr result (λ error. is_refusal error ≡ false) }
+    ensures kept { OnOk result (pool.new ≡ pool.old) }
 {
     let Some(next) = works.pop() else {
         return Ok(Vec::new(alloc));
