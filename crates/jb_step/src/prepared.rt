@@ -1,6 +1,6 @@
 //! What a step begins with.
 
-ghost use Rattle.std.specs.Prelude.{◌≡◌, ◌↔◌, ◌≤◌, [], true, false, length, slice_get, option_copied, IfOk, IfErr, IsTrue, OnOk};
+ghost use Rattle.std.specs.Prelude.{◌≡◌, ◌↔◌, ◌≤◌, ◌-◌, min, [], true, false, length, slice_get, option_copied, IfOk, IfErr, IsTrue, OnOk};
 ghost use Rattle.jb_base.specs.Limits.{max_partitions, max_parts};
 ghost use Rattle.jb_chunk.specs.Standing.{HasItemCount};
 ghost use Rattle.jb_step.specs.Setup.{IsSetup, fresh_rows, needs};
@@ -161,7 +161,9 @@ impl Prepared {
 
     /// How many workers of a pool its rounds can keep at work beside the caller's thread: one fewer than it has threads, or
     /// unfinished partitions where these are fewer.
-    pub fn workers(&self) -> usize {
+    pub fn workers(&self) -> usize
+        ensures { result ≡ min (length (needs self.now.rows)) self.now.threads - 1 }
+    {
         let threads = self.threads() as usize;
         self.needs().len().min(threads).saturating_sub(1)
     }
