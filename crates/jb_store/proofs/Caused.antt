@@ -1,7 +1,16 @@
 -- Why an insertion fails, by the name of its error.
-use Rattle.std.proofs.Common.{◌≡◌, ◌&&◌, inl, inr, ℕ, zero, suc, Bool, true, false, not, List, [], ◌∷◌, length, append-nil, Result, Ok, Err, IfErr, Option, Some, None, option_map, refl, sym, ap, subst, ◌∙◌, arith, true≢false}
+use Rattle.std.proofs.Common.{◌≡◌, ◌≢◌, ◌≤◌, ◌&&◌, inl, inr, ℕ, ◌+◌, ◌^◌, zero, suc, Bool, true, false, not, List, [], ◌∷◌, length, append-nil, Result, Ok, Err, IfErr, Option, Some, None, option_map, refl, sym, ap, subst, ◌∙◌, arith, true≢false}
 use Rattle.std.proofs.lemmas.List.{length-append}
-use Rattle.std.proofs.lemmas.Bool.{cases_Bool}
+use Rattle.std.proofs.lemmas.Bool.{cases_Bool, cases_lt}
+use Rattle.std.proofs.lemmas.List.Elements.{All-from_recursion}
+use Rattle.std.proofs.lemmas.List.Sums.{sum_by-cons}
+use Rattle.std.proofs.lemmas.Nat.Bits.{bit_at-zero}
+use Rattle.std.specs.Float.{NotNan}
+use Rattle.std.specs.Int.{bit_at}
+use lib.Ieee.{is_nan}
+use Rattle.sqlite.specs.declared.types.Value.{Value}
+use Rattle.sqlite_value.specs.Order.{number as number_of}
+use Rattle.sqlite_trees.specs.View.{IsStorable}
 use Rattle.sqlite.specs.declared.error.Error.{Error}
 use Rattle.sqlite.specs.declared.error.Error.TheVariants.{SqliteFailure, SqlInputError, InvalidParameterCount, ExecuteReturnedResults, MultipleStatement}
 use Rattle.sqlite.specs.declared.error.ErrorCode.TheVariants as code
@@ -23,28 +32,59 @@ use Rattle.sqlite.proofs.Callers.{IsPlain, command_of}
 use Rattle.jb_store.specs.declared.error.StoreError.{StoreError}
 use Rattle.jb_store.specs.Errors.{name_of, IsCaused}
 use Rattle.jb_store.specs.Form.{checkpoint, checkpoint_schema}
-use Rattle.jb_store.specs.Checkpoints.{HasNumber, Holds, Kept, stored}
+use Rattle.jb_store.specs.Checkpoints.{HasNumber, Holds, IsTooLong, Kept, stored}
 use Rattle.sqlite.specs.Schema.{Schema}
 use Rattle.sqlite.specs.Edit.{Edit, edit_of}
 use Rattle.sqlite.specs.Rowids.TheVariants.{Chosen}
 use Rattle.sqlite_schema.specs.declared.schema.Keys.{Keys}
-use Rattle.sqlite_rules.specs.Edit.{are_fresh, left_by, taken_by, IsRefused}
+use Rattle.sqlite_rules.specs.Edit.{are_fresh, left_by, taken_by, IsOversized, IsRefused}
+use Rattle.sqlite_rules.specs.Lists.{Has}
+use Rattle.sqlite_schema.specs.Rules.{table_reals}
 use Rattle.sqlite_rules.specs.Action.{Writes, Leads, works}
 use Rattle.sqlite_resolve.specs.declared.compiled.Compiled.{Compiled}
 use Rattle.jb_store.proofs.Texts.{insert_text, terms, insert_is, insert_plain}
 use Rattle.jb_store.proofs.Written.{command, params, cast_int, cast_null}
 use Rattle.jb_store.proofs.Lists.{taken_has}
 
+-- a row sets nothing off, and so nothing that it sets off fails
+goes_on : (schema : Schema) (keys : Keys) (db : Trees) (why : Option Refusal) (n : ℕ) → Leads schema keys n db [] (Err why) → ⊥
+goes_on schema keys db why zero h = let e = h.1 in cc
+goes_on schema keys db why (suc n) h = omega (arith, ap length h.2, length-append h.0 (h.1 ∷ []))
+
 -- an insertion of a row whose number is there
 refused : (schema : Schema) (keys : Keys) (db : Trees) (edit : Edit) → works schema keys 0 edit.table.tree (taken_by db edit) edit.news ≡ [] → Writes schema keys db edit (Err (Some (Violates PrimaryKey)))
     → are_fresh (left_by db edit) edit.news ≡ false
 refused schema keys db edit none (inl r) = let same : r.0 ≡ Violates PrimaryKey = (let e = r.2 in cc) in subst (IsRefused schema keys db edit) same r.1
 refused schema keys db edit none (inr (inl big)) = absurd (let e = big.3 in cc)
-refused schema keys db edit none (inr (inr went)) = absurd (never went.2.0 (rw none at went.2.1))
-  where
-    never : (n : ℕ) → Leads schema keys n went.0 [] (Err (Some (Violates PrimaryKey))) → ⊥
-    never zero h = let e = h.1 in cc
-    never (suc n) h = omega (arith, ap length h.2, length-append h.0 (h.1 ∷ []))
+refused schema keys db edit none (inr (inr went)) = absurd (goes_on schema keys went.0 _ went.2.0 (rw none at went.2.1))
+
+-- one of a row that can't be stored
+oversized : (schema : Schema) (keys : Keys) (db : Trees) (edit : Edit) → works schema keys 0 edit.table.tree (taken_by db edit) edit.news ≡ [] → Writes schema keys db edit (Err None)
+    → (row : Row) × Has edit.news row × IsOversized schema edit.table row
+oversized schema keys db edit none (inl r) = absurd (let e = r.2 in cc)
+oversized schema keys db edit none (inr (inl big)) = (big.0, big.1, big.2)
+oversized schema keys db edit none (inr (inr went)) = absurd (goes_on schema keys went.0 _ went.2.0 (rw none at went.2.1))
+
+-- the row of a checkpoint can't be stored where it is too long alone
+storable : (number : ℕ) (it : Kept) → 72 + length it.saved + length it.results ≤ 10 ^ 9 → IsStorable (table_reals checkpoint) (stored number it)
+unfolding is_nan
+storable number it short = record {
+  typed = λ c set. absurd (let none : bit_at (table_reals checkpoint) c ≡ 0 = bit_at-zero c in omega arith);
+  columns = (omega arith, omega arith);
+  numbers = All-from_recursion (λ (v : Value). NotNan (number_of v)) (stored number it) (tt, (tt, (tt, (tt, tt))));
+  short = simp sum_by-cons (omega arith);
+}
+
+too_long : (number : ℕ) (it : Kept) → IsOversized checkpoint_schema checkpoint (stored number it) → IsTooLong it
+too_long number it (inr index) = absurd index.1
+too_long number it (inl never) = elim (cases_lt (10 ^ 9) (72 + length it.saved + length it.results)) [
+  | inl long ↦ long
+  | inr short ↦ absurd (never (storable number it short, omega arith))
+]
+
+only_one : (row other : Row) → Has (other ∷ []) row → row ≡ other
+only_one row other (inl same) = same
+only_one row other (inr none) = absurd none
 
 taken_of : (b : Bool) → (not b && true) ≡ false → b ≡ true
 taken_of true h = refl
@@ -52,7 +92,7 @@ taken_of false h = absurd (true≢false h)
 
 module _ (old new : State) (all : List Kept) (holds : Holds old.now all) (it : Kept) (number : ℕ) where
   abbrev Why : StoreError → Type 0
-  Why = IsCaused old new (HasNumber all number)
+  Why = IsCaused old new (HasNumber all number) (IsTooLong it)
 
   by_rules : (r : Refusal) → (r ≡ Violates PrimaryKey → HasNumber all number) → Why (name_of (edit_error r))
   by_rules (Violates Datatype) has = tt
@@ -66,13 +106,13 @@ module _ (old new : State) (all : List Kept) (holds : Holds old.now all) (it : K
   by_rules BadReference has = tt
   by_rules TooDeep has = tt
 
-  by_cause : (Big : Type 0) (cause : Cause) → HasCause old new Big cause → Why (name_of (store_error cause))
-  by_cause Big OutOfMemory has = tt
-  by_cause Big Io has = has
-  by_cause Big Corrupt has = has
-  by_cause Big Full has = has
-  by_cause Big Broken has = has
-  by_cause Big Unstorable has = tt
+  by_cause : (Big : Type 0) → (Big → IsTooLong it) → (cause : Cause) → HasCause old new Big cause → Why (name_of (store_error cause))
+  by_cause Big long OutOfMemory has = tt
+  by_cause Big long Io has = has
+  by_cause Big long Corrupt has = has
+  by_cause Big long Full has = has
+  by_cause Big long Broken has = has
+  by_cause Big long Unstorable has = long has
 
   module _ (e : Error) where
     abbrev Said : Type 0
@@ -81,8 +121,8 @@ module _ (old new : State) (all : List Kept) (holds : Holds old.now all) (it : K
     as_named : (x : Error) → e ≡ x → Why (name_of x) → Said
     as_named x is c = subst (λ y. Why (name_of y)) (sym is) c
 
-    by_failure : (Big : Type 0) → Fails old new Big e → Said
-    by_failure Big f = as_named (store_error f.0) f.1 (by_cause Big f.0 f.2)
+    by_failure : (Big : Type 0) → (Big → IsTooLong it) → Fails old new Big e → Said
+    by_failure Big long f = as_named (store_error f.0) f.1 (by_cause Big long f.0 f.2)
 
     no_statement : (sql : List ℕ) (given : Row) → IsNoStatement old sql given e → Said
     no_statement sql given (inl h) = as_named (SqlInputError h.0) h.2 tt
@@ -130,6 +170,34 @@ module _ (old new : State) (all : List Kept) (holds : Holds old.now all) (it : K
       by_insertion text (inl h) = let same : h.0 ≡ Some e = (let k = h.2 in cc) in by_rows h.0 h.1 same
       by_insertion text (inr h) = by_keys h.0 h.2
 
+      from_source : (db : Database) (given : Row) (stop : Option Error) → Sourced old.step_limit db given (Values terms 4) (Err stop) → stop ≢ None
+      from_source db given None h is = h
+      from_source db given (Some x) h is = let e = is in cc
+
+      by_row : (rows : List Row) → (edit_of old.now.trees checkpoint [] Chosen 0 rows).news ≡ stored number it ∷ [] → (why : Option Refusal)
+          → Writes checkpoint_schema (mode_of old).keys old.now.trees (edit_of old.now.trees checkpoint [] Chosen 0 rows) (Err why) → option_map edit_error why ≡ None → IsTooLong it
+      by_row rows news (Some r) writes is = absurd cc
+      by_row rows news None writes is =
+          let big = oversized checkpoint_schema (mode_of old).keys old.now.trees (edit_of old.now.trees checkpoint [] Chosen 0 rows) refl writes in
+          let same : big.0 ≡ stored number it = only_one _ _ (subst (λ n. Has n big.0) news big.1) in
+          too_long number it (subst (IsOversized checkpoint_schema checkpoint) same big.2)
+
+      big_row : Inserts task (Values terms 4) old.now.trees (Err None) → IsTooLong it
+      big_row (inl h) = absurd (from_source (record { schema = task.schema; trees = old.now.trees }) (stamped task.table task.params) h.0 h.1 (let k = h.2 in cc))
+      big_row (inr (rows, s, inl h)) = absurd (let k = h.1 in cc)
+      big_row (inr (rows, s, inr (c, t, inl h))) = by_row rows (ap (λ r. (edit_of old.now.trees checkpoint [] Chosen 0 r).news) s.1 ∙ rw (cast_int number, cast_null)) h.1.0 h.1.1 (let k = h.2 in let m = h.1.2 in cc)
+      big_row (inr (rows, s, inr (c, t, inr (mid, u, inl h)))) = absurd (let k = h.1 in cc)
+      big_row (inr (rows, s, inr (c, t, inr (mid, u, inr h)))) = absurd (let k = h.2 in cc)
+
+      big_keys : (w : Written) → Concludes task (mode_of old) None w (Err None) → ⊥
+      big_keys w (inl h) = let k = h.1.1 in let m = h.2 in cc
+      big_keys w (inr (d, s, inl h)) = let k = h.1 in cc
+      big_keys w (inr (d, s, inr h)) = let k = h.2 in cc
+
+      big : (text : List ℕ) → Does old.step_limit (mode_of old) (params number it) (record old.now { schema = checkpoint_schema }) text None command (Err None) → IsTooLong it
+      big text (inl h) = big_row (subst (λ s. Inserts task (Values terms 4) old.now.trees (Err s)) (let k = h.2 in cc) h.1)
+      big text (inr h) = absurd (big_keys h.0 h.2)
+
     caused : Executes insert_text (params number it) old new (Err e) → Said
     unfolding ExecutesIn IsNotRun
     caused h = go h
@@ -147,11 +215,18 @@ module _ (old new : State) (all : List Kept) (holds : Holds old.now all) (it : K
             let does = subst (λ k. Does old.step_limit (mode_of old) row old.now text None k (Err (Some e))) (ap command_of (known c is) ∙ insert_is) (rw ((bare c is).0) at m.1) in
             let ours = subst (λ x. Does old.step_limit (mode_of old) row (record old.now { schema = x }) text None command (Err (Some e))) holds.schema does in
             by_insertion text (subst (λ r. Does old.step_limit (mode_of old) r (record old.now { schema = checkpoint_schema }) text None command (Err (Some e))) given ours)
-        run c row given is (inr f) = by_failure _ f
+        run c row given is (inr f) = by_failure _ long f
+          where
+            long : Does old.step_limit (mode_of old) row old.now (Rattle.sqlite.specs.State.text_of insert_text c) c.returning c.command (Err None) → IsTooLong it
+            long does =
+                let text = Rattle.sqlite.specs.State.text_of insert_text c in
+                let plain = subst (λ k. Does old.step_limit (mode_of old) row old.now text None k (Err None)) (ap command_of (known c is) ∙ insert_is) (rw ((bare c is).0) at does) in
+                let ours = subst (λ x. Does old.step_limit (mode_of old) row (record old.now { schema = x }) text None command (Err None)) holds.schema plain in
+                big text (subst (λ r. Does old.step_limit (mode_of old) r (record old.now { schema = checkpoint_schema }) text None command (Err None)) given ours)
 
         go : ExecutesIn false insert_text (params number it) old new (Err e) → Said
         go (inl (inl u)) = no_statement insert_text (params number it) u.0
-        go (inl (inr f)) = by_failure _ f
+        go (inl (inr f)) = by_failure ⊥ (λ x. absurd x) f
         go (inr r) = elim (cases_Bool (shows_rows false r.0)) [
           | inl shows ↦ (let is : e ≡ ExecuteReturnedResults = (let k = (rw shows at r.2).0 in cc) in as_named ExecuteReturnedResults is tt)
           | inr runs ↦
@@ -159,6 +234,6 @@ module _ (old new : State) (all : List Kept) (holds : Holds old.now all) (it : K
               run r.0 (timed (params number it) r.0.formats r.1.now) (rw (plain, append-nil (params number it))) r.1.is (rw runs at r.2)
         ]
 
-  pub causes : (r : Result ℕ Error) → Executes insert_text (params number it) old new r → IfErr r (λ e. IsCaused old new (HasNumber all number) (name_of e))
+  pub causes : (r : Result ℕ Error) → Executes insert_text (params number it) old new r → IfErr r (λ e. IsCaused old new (HasNumber all number) (IsTooLong it) (name_of e))
   causes (Ok n) h = tt
   causes (Err e) h = caused e h

@@ -1,5 +1,5 @@
 -- The list of checkpoints, and the rows that stand for it.
-use Rattle.std.specs.Prelude.{◌≡◌, ◌⊎◌, ◌≤◌, ℕ, suc, List, [], ◌∷◌, length, pos, string_bytes, IsPermutation}
+use Rattle.std.specs.Prelude.{◌≡◌, ◌⊎◌, ◌≤◌, ◌<◌, ◌+◌, ◌^◌, ℕ, suc, List, [], ◌∷◌, length, pos, string_bytes, IsPermutation}
 use Rattle.sqlite.specs.declared.types.Value.TheVariants.{Null, Int, Text as Words, Blob as Bytes}
 use Rattle.sqlite.specs.Order.{Row}
 use Rattle.sqlite.specs.Tree.{Trees}
@@ -40,6 +40,10 @@ AreIn trees all = IsPermutation (stored_from 1 all) (trees 0)
 -- one of them has this number
 abbrev pub HasNumber : List Kept → ℕ → Type 0
 HasNumber all number = (1 ≤ number) × (number ≤ length all)
+
+-- its row is longer than SQLite's rows may be: a billion bytes, with 18 for each of its four values
+abbrev pub IsTooLong : Kept → Type 0
+IsTooLong it = 10 ^ 9 < 72 + length it.saved + length it.results
 
 -- a database of checkpoints, which has these
 pub record Holds (db : Database) (all : List Kept) : Type 0 where

@@ -27,12 +27,19 @@ name_of e = Sql e
 abbrev pub IsOfTheList : StoreError → Type 0
 IsOfTheList e = (e ≡ Foreign) ⊎ ((e ≡ Version) ⊎ (e ≡ Gap))
 
--- What came to pass where a call on a connection fails with this error: a call of the disk failed, the connection was shut before, or
--- there is a checkpoint with the number.
-abbrev pub IsCaused : State → State → (has_number : Type 0) → StoreError → Type 0
-IsCaused old new has_number Damaged = MoreFaults old.faults new.faults
-IsCaused old new has_number Full = MoreFaults old.faults new.faults
-IsCaused old new has_number Disk = MoreFaults old.faults new.faults
-IsCaused old new has_number Shut = old.is_open ≡ false
-IsCaused old new has_number Taken = has_number
-IsCaused old new has_number _ = ⊤
+-- What came to pass where an append fails with this error: a call of the disk failed, the connection was shut before, there is a
+-- checkpoint with the number, or the new one is too long. The refusals of an open don't come.
+abbrev pub IsCaused : State → State → (has_number is_too_long : Type 0) → StoreError → Type 0
+IsCaused old new has_number is_too_long Foreign = ⊥
+IsCaused old new has_number is_too_long Version = ⊥
+IsCaused old new has_number is_too_long Gap = ⊥
+IsCaused old new has_number is_too_long Busy = ⊥
+IsCaused old new has_number is_too_long CannotOpen = ⊥
+IsCaused old new has_number is_too_long Damaged = MoreFaults old.faults new.faults
+IsCaused old new has_number is_too_long Full = MoreFaults old.faults new.faults
+IsCaused old new has_number is_too_long Disk = MoreFaults old.faults new.faults
+IsCaused old new has_number is_too_long Shut = old.is_open ≡ false
+IsCaused old new has_number is_too_long TooLong = is_too_long
+IsCaused old new has_number is_too_long Taken = has_number
+IsCaused old new has_number is_too_long Memory = ⊤
+IsCaused old new has_number is_too_long (Sql e) = ⊤

@@ -4,7 +4,7 @@ ghost use Rattle.std.specs.Prelude.{◌≡◌, ◌⊎◌, ◌++◌, ◌+◌, ◌
 ghost use Rattle.std.specs.List.{AllByRecursion};
 ghost use Rattle.jb_store.specs.Errors.{IsCaused, name_of};
 ghost use Rattle.jb_store.specs.Form.{checkpoint_schema, no_schema};
-ghost use Rattle.jb_store.specs.Checkpoints.{Kept, AreIn, HasNumber, Holds, StandsFor, shown_from};
+ghost use Rattle.jb_store.specs.Checkpoints.{Kept, AreIn, HasNumber, Holds, IsTooLong, StandsFor, shown_from};
 ghost use Rattle.jb_store.specs.Connections.{Keeps};
 ghost use Rattle.sqlite.specs.Held.{state};
 ghost use Rattle.sqlite.specs.State.{HasCleanDisk, IsUnchanged};
@@ -40,7 +40,7 @@ fn insert<S: Alter>(
     ensures kept { HasCleanDisk (state S.Store conn.new) → (all : _) → Keeps (state S.Store conn.old) all
         → OnErr result (IsTrue (state S.Store conn.new).is_open → Keeps (state S.Store conn.new) all) }
     ensures cause { HasCleanDisk (state S.Store conn.new) → (all : _) → Keeps (state S.Store conn.old) all
-        → IfErr result (λ e. IsCaused (state S.Store conn.old) (state S.Store conn.new) (HasNumber all number) (name_of e)) }
+        → IfErr result (λ e. IsCaused (state S.Store conn.old) (state S.Store conn.new) (HasNumber all number) (IsTooLong (record { saved = saved.now; results = results.now })) (name_of e)) }
     ensures shut { HasCleanDisk (state S.Store conn.new) → IsTrue (state S.Store conn.old).is_open
         → IsTrue (state S.Store conn.new).is_open ⊎ MoreFaults (state S.Store conn.old).faults (state S.Store conn.new).faults }
     ensures clean { doubt (state S.Store conn.old).is_clean ≤ doubt (state S.Store conn.new).is_clean }
@@ -67,7 +67,7 @@ pub fn append<S: Alter>(
     ensures kept { HasCleanDisk (state S.Store conn.new) → (all : _) → Keeps (state S.Store conn.old) all
         → OnErr result (IsTrue (state S.Store conn.new).is_open → Keeps (state S.Store conn.new) all) }
     ensures cause { HasCleanDisk (state S.Store conn.new) → (all : _) → Keeps (state S.Store conn.old) all
-        → IfErr result (λ e. IsCaused (state S.Store conn.old) (state S.Store conn.new) (HasNumber all number) e) }
+        → IfErr result (λ e. IsCaused (state S.Store conn.old) (state S.Store conn.new) (HasNumber all number) (IsTooLong (record { saved = saved.now; results = results.now })) e) }
     ensures shut { HasCleanDisk (state S.Store conn.new) → IsTrue (state S.Store conn.old).is_open
         → IsTrue (state S.Store conn.new).is_open ⊎ MoreFaults (state S.Store conn.old).faults (state S.Store conn.new).faults }
     ensures clean { doubt (state S.Store conn.old).is_clean ≤ doubt (state S.Store conn.new).is_clean }
