@@ -28,9 +28,6 @@ sys.path.append(os.path.join(TOP, "tools"))
 import checkpoints
 
 PAYROLL = os.environ.get("PAYROLL") or os.path.join(TOP, "crates/payroll/out/payroll")
-CHECKPOINT_STANDS_ON = ("jb_store", "sqlite", "sqlite_disk")
-UNKEPT_STANDS_ON = ("jb_base", "jb_artifacts", "jb_ready", "jb_rules", "jb_workers", "jb_collect", "jb_step", "jb_records", "csv", "itoa")
-UNKEPT_PARTS = ("src/clerk.rt", "src/sheet.rt", "specs/Payroll.antt", "specs/Sheets.antt", "proofs/Paying.antt", "proofs/clerk", "proofs/sheet")
 MILLION = 1_000_000
 TIMES, MOST_BYTES = 500, 100_000_000
 BYTES = (100, 2_000, 20_000, 200_000, 2_000_000)
@@ -108,8 +105,8 @@ def main():
         rooms = [os.path.join(folder, name) for name in ("checkpoint", "unkept")]
         for room in rooms:
             os.mkdir(room)
-        print_checkpoints(build("checkpoint", CHECKPOINT_STANDS_ON, rooms[0], words=(os.path.join(folder, "first.db"), "1", "1")), folder)
-        print_payrolls(build("unkept", UNKEPT_STANDS_ON, rooms[1], words=("1",), like="payroll", parts=UNKEPT_PARTS), folder, asked)
+        print_checkpoints(build("checkpoint", rooms[0]), folder)
+        print_payrolls(build("unkept", rooms[1]), folder, asked)
 
 
 if __name__ == "__main__":

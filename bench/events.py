@@ -13,12 +13,11 @@ from measure import measure, report
 from programs import build
 
 SIZES = (10_000, 100_000, 1_000_000)
-STANDS_ON = ("jb_base", "jb_cert", "jb_repo", "jb_rules")
 
 
 def main():
     with tempfile.TemporaryDirectory() as room:
-        program = build("events", STANDS_ON, room, given=b"1\n")
+        program = build("events", room)
         rows = []
         for size in SIZES:
             path = os.path.join(room, f"{size}.txt")

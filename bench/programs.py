@@ -1,12 +1,41 @@
-"""Builds a measuring program of this folder over the crates. It is no part of the gate, which reads each .rt and .antt file of the
-repository: so its files end in .in here. It is proved and built in a copy of the crates that it stands on, which takes some
-minutes where these aren't built yet."""
+"""Builds a measuring program of this folder over the crates. Its proofs are no part of the gate, which reads each .rt and .antt file of the
+repository: so its files end in .in here, and the gate looks only whether it compiles (tests/bench-compiles). It is proved and built in a copy
+of the crates that it stands on, which takes some minutes where these aren't built yet."""
+import dataclasses
 import os
 import shutil
 import subprocess
 import sys
 
 from measure import TOP
+
+
+@dataclasses.dataclass
+class Program:
+    """What a program stands on; the words and the standard input of a first short run; the crate, if any, under whose name it is built, and
+    the parts that it takes of it."""
+
+    stands_on: tuple
+    words: tuple = ()
+    given: bytes = b""
+    like: str = None
+    parts: tuple = ()
+
+
+ROUND = ("jb_base", "jb_rules", "jb_artifacts", "jb_chunk", "jb_cert", "jb_repo", "jb_workers")
+STEP = ("jb_base", "jb_job", "jb_plan", "jb_rules", "jb_mapper", "jb_artifacts", "jb_chunk", "jb_repo", "jb_workers", "jb_collect", "jb_step")
+RECORDS = ("jb_base", "jb_artifacts", "jb_ready", "jb_rules", "jb_workers", "jb_collect", "jb_step", "jb_records", "csv", "itoa")
+PAYROLL = ("src/clerk.rt", "src/sheet.rt", "specs/Payroll.antt", "specs/Sheets.antt", "proofs/Paying.antt", "proofs/sheet")
+SAVED = b'{"rows":[[0,39000,12345,12400,37,12100,12340,12100,131,41,5,140,100,0,12,"waiting"]],"step":"pay","version":2}\n'
+
+PROGRAMS = {
+    "checkpoint": Program(("jb_store", "sqlite", "sqlite_disk"), ("first.db", "1", "1")),
+    "events": Program(("jb_base", "jb_cert", "jb_repo", "jb_rules"), given=b"1\n"),
+    "rounds": Program(ROUND, ("pool", "1", "1")),
+    "saved": Program(("jb_saved",), ("write", "1"), SAVED),
+    "step": Program(STEP, ("pool", "even", "8", "1000", "10", "2", "10")),
+    "unkept": Program(RECORDS, ("1",), like="payroll", parts=PAYROLL),
+}
 
 
 def lines_of_crates():
@@ -33,27 +62,39 @@ def take(part, place):
     (shutil.copytree if os.path.isdir(part) else shutil.copy)(part, place)
 
 
-def build(name, stands_on, room, words=(), given=b"", like=None, parts=()):
-    """Builds the program of the folder `name` in the folder `room`, runs it once, and gives its path. With `like`, it is built under the
-    name of this crate, and takes these parts of it."""
-    lines = lines_of_crates()
-    names = needed(lines, stands_on)
+def lay_out(name, room, left_out=()):
+    """Writes the program of the folder `name` into the folder `room`, as a crate beside those that it stands on, which are copied without
+    the folders of the names in `left_out`. Gives the crate's folder."""
+    program, lines = PROGRAMS[name], lines_of_crates()
+    names, crate = needed(lines, program.stands_on), program.like or name
     for below in names:
-        shutil.copytree(os.path.join(TOP, "crates", below), os.path.join(room, "crates", below), symlinks=True)
+        place = os.path.join(room, "crates", below)
+        shutil.copytree(os.path.join(TOP, "crates", below), place, symlinks=True, ignore=shutil.ignore_patterns(*left_out))
     with open(os.path.join(room, "crates.txt"), "w", encoding="utf-8") as file:
         file.writelines(lines[below] + "\n" for below in names)
-        file.write(f"{like or name}: {' '.join(stands_on)}\n")
+        file.write(f"{crate}: {' '.join(program.stands_on)}\n")
     shutil.copy(os.path.join(TOP, "HANDLES"), room)
-    crate = os.path.join(room, "crates", like or name)
-    shutil.copytree(os.path.join(TOP, "bench", name), crate)
-    for part in parts:
-        take(os.path.join(TOP, "crates", like, part), os.path.join(crate, part))
-    for folder, _, files in os.walk(crate):
+    folder = os.path.join(room, "crates", crate)
+    shutil.copytree(os.path.join(TOP, "bench", name), folder)
+    for part in program.parts:
+        take(os.path.join(TOP, "crates", program.like, part), os.path.join(folder, part))
+    for place, _, files in os.walk(folder):
         for file in files:
-            os.rename(os.path.join(folder, file), os.path.join(folder, file.removesuffix(".in")))
-    rt = shutil.which("rt") or "/opt/rattle/bin/rt"
-    ran = subprocess.run([rt, "run", "--", *words], cwd=crate, input=given, capture_output=True)
-    program = os.path.join(crate, "out", like or name)
-    if ran.returncode or not os.path.exists(program):
+            os.rename(os.path.join(place, file), os.path.join(place, file.removesuffix(".in")))
+    return folder
+
+
+def command(verb, name):
+    """The words that have `rt` build the program and run it once, in its crate's folder."""
+    return [shutil.which("rt") or "/opt/rattle/bin/rt", verb, "--", *PROGRAMS[name].words]
+
+
+def build(name, room):
+    """Proves and builds the program of the folder `name` in the folder `room`, runs it once, and gives its path."""
+    program = PROGRAMS[name]
+    crate = lay_out(name, room)
+    ran = subprocess.run(command("run", name), cwd=crate, input=program.given, capture_output=True)
+    built = os.path.join(crate, "out", program.like or name)
+    if ran.returncode or not os.path.exists(built):
         sys.exit(ran.stderr.decode(errors="replace") + f"the program {name} isn't built")
-    return program
+    return built

@@ -14,7 +14,6 @@ import tempfile
 from measure import measure
 from programs import build
 
-STANDS_ON = ("jb_base", "jb_rules", "jb_artifacts", "jb_chunk", "jb_cert", "jb_repo", "jb_workers")
 WORKS = 20_000
 SIZES = (1, 2, 4, 8, 16, 64)
 
@@ -34,7 +33,7 @@ def print_line(what, whole, begin, works):
 
 def main():
     with tempfile.TemporaryDirectory() as room:
-        program = build("rounds", STANDS_ON, room, words=("pool", "1", "1"))
+        program = build("rounds", room)
         print(f"{'microseconds per work':<44} {'cpu':>8} {'wall':>8}")
         print_line("a bare thread, started and joined", used(program, "bare", WORKS, 0), used(program, "bare", 1, 0), WORKS)
         for way, threads in (("each", "with threads of their own"), ("pool", "over one pool")):

@@ -16,7 +16,6 @@ import time
 from measure import measure
 from programs import build
 
-STANDS_ON = ("jb_saved",)
 ROWS = (16, 1_024)
 TIMES = 1_000
 RUNS = 5
@@ -49,8 +48,7 @@ def by_python(work):
 
 def main():
     with tempfile.TemporaryDirectory() as room:
-        text = json.dumps(saved(1), separators=(",", ":")) + "\n"
-        program = build("saved", STANDS_ON, room, words=("write", "1"), given=text.encode())
+        program = build("saved", room)
         print(f"{'what':<44} {'bytes':>7}  {'jb_saved us':>12} {'python3 us':>12}")
         for rows in ROWS:
             tree = saved(rows)

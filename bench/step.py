@@ -24,7 +24,6 @@ import tempfile
 from measure import instructions, measure
 from programs import build
 
-STANDS_ON = ("jb_base", "jb_job", "jb_plan", "jb_rules", "jb_mapper", "jb_artifacts", "jb_chunk", "jb_repo", "jb_workers", "jb_collect", "jb_step")
 SIZES = (100_000, 1_000_000)
 ITEM_COUNTS = (1_000, 10)
 CHUNKS = (10, 100, 1_000, 10_000)
@@ -171,7 +170,7 @@ def print_steps(program):
 def main():
     ways = {(): print_steps, ("--chunks",): print_chunks, ("--pool",): print_pool, ("--instructions",): print_instructions}
     with tempfile.TemporaryDirectory() as room:
-        ways[tuple(sys.argv[1:])](build("step", STANDS_ON, room, words=("pool", "even", "8", "1000", "10", "2", "10")))
+        ways[tuple(sys.argv[1:])](build("step", room))
 
 
 if __name__ == "__main__":
