@@ -1,3 +1,5 @@
 pub mod Noting
+pub mod Numerals
 pub mod Places
+pub mod Ranges
 pub mod Refusals
