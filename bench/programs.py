@@ -13,13 +13,14 @@ from measure import TOP
 @dataclasses.dataclass
 class Program:
     """What a program stands on; the words and the standard input of a first short run; the crate, if any, under whose name it is built, and
-    the parts that it takes of it."""
+    the parts that it takes of it; the files of this folder that it shares with others."""
 
     stands_on: tuple
     words: tuple = ()
     given: bytes = b""
     like: str = None
     parts: tuple = ()
+    shared: tuple = ()
 
 
 ROUND = ("jb_base", "jb_rules", "jb_artifacts", "jb_chunk", "jb_cert", "jb_repo", "jb_workers")
@@ -31,9 +32,9 @@ SAVED = b'{"rows":[[0,39000,12345,12400,37,12100,12340,12100,131,41,5,140,100,0,
 PROGRAMS = {
     "checkpoint": Program(("jb_store", "sqlite", "sqlite_disk"), ("first.db", "1", "1")),
     "events": Program(("jb_base", "jb_cert", "jb_repo", "jb_rules"), given=b"1\n"),
-    "rounds": Program(ROUND, ("pool", "1", "1")),
+    "rounds": Program(ROUND, ("pool", "1", "2", "10", "10"), shared=("working.rt.in",)),
     "saved": Program(("jb_saved",), ("write", "1"), SAVED),
-    "step": Program(STEP, ("pool", "even", "8", "1000", "10", "2", "10")),
+    "step": Program(STEP, ("pool", "even", "8", "1000", "10", "2", "10"), shared=("working.rt.in",)),
     "unkept": Program(RECORDS, ("1",), like="payroll", parts=PAYROLL),
 }
 
@@ -76,6 +77,8 @@ def lay_out(name, room, left_out=()):
     shutil.copy(os.path.join(TOP, "HANDLES"), room)
     folder = os.path.join(room, "crates", crate)
     shutil.copytree(os.path.join(TOP, "bench", name), folder)
+    for file in program.shared:
+        take(os.path.join(TOP, "bench", file), os.path.join(folder, "src", file))
     for part in program.parts:
         take(os.path.join(TOP, "crates", program.like, part), os.path.join(folder, part))
     for place, _, files in os.walk(folder):
@@ -89,10 +92,16 @@ def command(verb, name):
     return [shutil.which("rt") or "/opt/rattle/bin/rt", verb, "--", *PROGRAMS[name].words]
 
 
-def build(name, room):
-    """Proves and builds the program of the folder `name` in the folder `room`, runs it once, and gives its path."""
+def build(name, room, change=None):
+    """Proves and builds the program of the folder `name` in the folder `room`, runs it once, and gives its path. Before that, `change` may
+    change the copies in that folder. Where BENCH_BUILT names a folder with a program of this name, it is that one."""
+    kept = os.path.join(os.environ.get("BENCH_BUILT", ""), name)
+    if change is None and os.path.isfile(kept) and "BENCH_BUILT" in os.environ:
+        return kept
     program = PROGRAMS[name]
     crate = lay_out(name, room)
+    if change:
+        change(room)
     ran = subprocess.run(command("run", name), cwd=crate, input=program.given, capture_output=True)
     built = os.path.join(crate, "out", program.like or name)
     if ran.returncode or not os.path.exists(built):
