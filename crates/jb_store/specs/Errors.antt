@@ -1,5 +1,5 @@
 -- The names of refusals.
-use Rattle.std.specs.Prelude.{◌≡◌, ◌⊎◌, false, ⊤}
+use Rattle.std.specs.Prelude.{◌≡◌, ◌⊎◌, false, List, ⊤}
 use Rattle.sqlite_disk.specs.Disk.{MoreFaults}
 use Rattle.sqlite.specs.State.{State}
 use Rattle.sqlite.specs.declared.error.Error.{Error}
@@ -7,6 +7,8 @@ use Rattle.sqlite.specs.declared.error.Error.TheVariants.{SqliteFailure}
 use Rattle.sqlite.specs.declared.error.ErrorCode.TheVariants as code
 use Rattle.sqlite_schema.specs.declared.schema.Constraint.TheVariants.{PrimaryKey}
 use Rattle.jb_store.specs.declared.error.StoreError.{StoreError}
+use Rattle.jb_store.specs.Checkpoints.{AreIn, Kept}
+use Rattle.jb_store.specs.Form.{IsForeign, IsOtherVersion, checkpoint_schema}
 use Rattle.jb_store.specs.declared.error.StoreError.TheVariants.{Foreign, Version, Gap, Damaged, Busy, CannotOpen, Full, Disk, Shut, TooLong, Taken, Memory, Sql}
 
 -- how a refusal of SQLite is named here
@@ -26,6 +28,44 @@ name_of e = Sql e
 -- a refusal of what the database holds
 abbrev pub IsOfTheList : StoreError → Type 0
 IsOfTheList e = (e ≡ Foreign) ⊎ ((e ≡ Version) ⊎ (e ≡ Gap))
+
+-- What came to pass where a statement fails that makes the table or reads it: a call of the disk failed, the connection was shut before,
+-- memory lacked, or SQLite has another reason.
+abbrev pub IsFault : State → State → StoreError → Type 0
+IsFault old new Foreign = ⊥
+IsFault old new Version = ⊥
+IsFault old new Gap = ⊥
+IsFault old new Busy = ⊥
+IsFault old new CannotOpen = ⊥
+IsFault old new Damaged = MoreFaults old.faults new.faults
+IsFault old new Full = MoreFaults old.faults new.faults
+IsFault old new Disk = MoreFaults old.faults new.faults
+IsFault old new Shut = old.is_open ≡ false
+IsFault old new TooLong = ⊥
+IsFault old new Taken = ⊥
+IsFault old new Memory = ⊤
+IsFault old new (Sql e) = ⊤
+
+-- the same where all rows are listed, or their numbers have a gap
+abbrev pub IsListFault : State → State → StoreError → Type 0
+IsListFault old new e = (e ≡ Gap) ⊎ IsFault old new e
+
+-- What came to pass where the list of a connection that was just opened isn't taken: its database is of another kind, of another version
+-- or has a gap, or a call of the disk failed.
+abbrev pub IsOpenCause : State → State → StoreError → Type 0
+IsOpenCause old new Foreign = IsForeign old.now.schema
+IsOpenCause old new Version = IsOtherVersion old.now.schema
+IsOpenCause old new Gap = (old.now.schema ≡ checkpoint_schema) × ((all : List Kept) → ¬ AreIn old.now.trees all)
+IsOpenCause old new Busy = ⊥
+IsOpenCause old new CannotOpen = ⊥
+IsOpenCause old new Damaged = MoreFaults old.faults new.faults
+IsOpenCause old new Full = MoreFaults old.faults new.faults
+IsOpenCause old new Disk = MoreFaults old.faults new.faults
+IsOpenCause old new Shut = MoreFaults old.faults new.faults
+IsOpenCause old new TooLong = ⊥
+IsOpenCause old new Taken = ⊥
+IsOpenCause old new Memory = ⊤
+IsOpenCause old new (Sql e) = ⊤
 
 -- What came to pass where an append fails with this error: a call of the disk failed, the connection was shut before, there is a
 -- checkpoint with the number, or the new one is too long. The refusals of an open don't come.

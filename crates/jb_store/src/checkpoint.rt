@@ -1,9 +1,9 @@
 //! What is kept of a stretch of a run, and the list of a database's rows.
 
-ghost use Rattle.std.specs.Prelude.{◌≡◌, ◌≢◌, length, map, IfOk, IfErr};
+ghost use Rattle.std.specs.Prelude.{◌≡◌, ◌≢◌, ◌⊎◌, length, map, IfOk, IfErr};
 ghost use Rattle.std.specs.List.{AllByRecursion};
 ghost use Rattle.jb_store.specs.Checkpoints.{kept, shown, shown_from};
-ghost use Rattle.jb_store.specs.declared.error.StoreError.TheVariants.{Foreign, Gap, Version};
+ghost use Rattle.jb_store.specs.declared.error.StoreError.TheVariants.{Foreign, Gap, Memory, Sql, Version};
 
 use crate::error::StoreError;
 use sqlite::Row;
@@ -21,6 +21,7 @@ fn checkpoint_of(row: &Row, number: u64) -> Result<Checkpoint, StoreError>
     ensures read { length row.now ≡ 3 → IfOk result (λ c. row.now ≡ shown number (kept c)) }
     ensures named { IfErr result (λ e. (e ≢ Foreign) × (e ≢ Version)) }
     ensures gap { (it : _) → row.now ≡ shown number it → IfErr result (λ e. e ≢ Gap) }
+    ensures why { IfErr result (λ e. (e ≡ Gap) ⊎ ((e ≡ Memory) ⊎ ((why : _) × (e ≡ Sql why)))) }
 {
     let found: i64 = row.get(0)?;
     match u64::try_from(found) {
@@ -37,6 +38,7 @@ pub fn checkpoints_of(alloc: Global, rows: &[Row]) -> Result<Vec<Checkpoint>, St
     ensures read { AllByRecursion (λ row. length row ≡ 3) rows.now → IfOk result (λ done. rows.now ≡ shown_from 1 (map kept done.items)) }
     ensures named { IfErr result (λ e. (e ≢ Foreign) × (e ≢ Version)) }
     ensures gap { (all : _) → rows.now ≡ shown_from 1 all → IfErr result (λ e. e ≢ Gap) }
+    ensures why { IfErr result (λ e. (e ≡ Gap) ⊎ ((e ≡ Memory) ⊎ ((why : _) × (e ≡ Sql why)))) }
 {
     let mut done = Vec::new(alloc);
     'rows: for row in rows {

@@ -1,13 +1,15 @@
 //! The list of a database that has the table.
 
-ghost use Rattle.std.specs.Prelude.{◌≡◌, ◌≢◌, ◌≤◌, map, IfOk, IfErr, OnOk};
+ghost use Rattle.std.specs.Prelude.{◌≡◌, ◌≢◌, ◌⊎◌, ◌≤◌, map, IfOk, IfErr, IsTrue, OnOk};
 ghost use Rattle.jb_store.specs.declared.error.StoreError.TheVariants.{Foreign, Gap, Version};
+ghost use Rattle.jb_store.specs.Errors.{IsListFault};
 ghost use Rattle.jb_store.specs.Form.{checkpoint_schema};
 ghost use Rattle.jb_store.specs.Checkpoints.{AreIn, Holds, kept};
 ghost use Rattle.jb_store.specs.Connections.{Keeps};
 ghost use Rattle.sqlite.specs.Held.{state};
 ghost use Rattle.sqlite.specs.State.{HasCleanDisk};
 ghost use Rattle.sqlite_catalog.specs.Listing.{IsSound};
+ghost use Rattle.sqlite_disk.specs.Disk.{MoreFaults};
 ghost use Rattle.sqlite_trees.specs.View.{doubt};
 
 use crate::checkpoint::{Checkpoint, checkpoints_of};
@@ -32,6 +34,11 @@ pub fn list<S: Alter>(
     ensures clean { doubt (state S.Store conn.old).is_clean ≤ doubt (state S.Store conn.new).is_clean }
     ensures crash { HasCleanDisk (state S.Store conn.new) → (state S.Store conn.old).now.schema ≡ checkpoint_schema
         → (db : _) → (state S.Store conn.new).may_leave db → (state S.Store conn.old).may_leave db }
+    ensures cause { HasCleanDisk (state S.Store conn.new) → (state S.Store conn.old).now.schema ≡ checkpoint_schema
+        → IfErr result (IsListFault (state S.Store conn.old) (state S.Store conn.new)) }
+    ensures counts { (state S.Store conn.old).faults ≤ (state S.Store conn.new).faults }
+    ensures shut { HasCleanDisk (state S.Store conn.new) → IsTrue (state S.Store conn.old).is_open
+        → IsTrue (state S.Store conn.new).is_open ⊎ MoreFaults (state S.Store conn.old).faults (state S.Store conn.new).faults }
 {
     let rows = select(conn)?;
     checkpoints_of(alloc, &rows)

@@ -1,13 +1,14 @@
 //! The list of a connection that was just opened.
 
-ghost use Rattle.std.specs.Prelude.{◌≡◌, ◌≢◌, ◌⊎◌, ◌≤◌, ◌↔◌, false, map, [], None, Some, Err, IfOk, IfErr, IsOk, OnOk};
+ghost use Rattle.std.specs.Prelude.{◌≡◌, ◌≢◌, ◌⊎◌, ◌≤◌, ◌↔◌, false, map, [], None, Some, Err, IfOk, IfErr, IsOk, IsTrue, OnOk};
 ghost use Rattle.jb_store.specs.declared.error.StoreError.TheVariants.{Foreign, Version, Gap};
-ghost use Rattle.jb_store.specs.Errors.{IsOfTheList};
+ghost use Rattle.jb_store.specs.Errors.{IsFault, IsOfTheList, IsOpenCause};
 ghost use Rattle.jb_store.specs.Form.{checkpoint_schema, no_schema, IsForeign, IsOtherVersion};
 ghost use Rattle.jb_store.specs.Checkpoints.{AreIn, Has, ShowsList, StandsFor, kept};
 ghost use Rattle.jb_store.specs.Connections.{IsAsItWas, IsJustOpened, Keeps};
 ghost use Rattle.sqlite.specs.Held.{state};
 ghost use Rattle.sqlite.specs.State.{HasCleanDisk};
+ghost use Rattle.sqlite_disk.specs.Disk.{MoreFaults};
 ghost use Rattle.sqlite_trees.specs.View.{doubt};
 
 use crate::checkpoint::Checkpoint;
@@ -45,6 +46,10 @@ fn make<S: Alter>(conn: &mut Connection<S>) -> Result<(), StoreError>
     ensures clean { doubt (state S.Store conn.old).is_clean ≤ doubt (state S.Store conn.new).is_clean }
     ensures crash { HasCleanDisk (state S.Store conn.new) → (state S.Store conn.old).now.schema ≡ no_schema → (db : _) → (state S.Store conn.new).may_leave db
         → (state S.Store conn.old).may_leave db ⊎ StandsFor db [] }
+    ensures cause { HasCleanDisk (state S.Store conn.new) → IfErr result (IsFault (state S.Store conn.old) (state S.Store conn.new)) }
+    ensures counts { (state S.Store conn.old).faults ≤ (state S.Store conn.new).faults }
+    ensures shut { HasCleanDisk (state S.Store conn.new) → IsTrue (state S.Store conn.old).is_open
+        → IsTrue (state S.Store conn.new).is_open ⊎ MoreFaults (state S.Store conn.old).faults (state S.Store conn.new).faults }
 {
     if is_blank(conn.schema()) {
         create(conn)?;
@@ -67,6 +72,10 @@ pub fn begin<S: Alter>(
     ensures version { (result ≡ Err Version) ↔ IsOtherVersion (state S.Store conn.old).now.schema }
     ensures gap { HasCleanDisk (state S.Store conn.new) → IsJustOpened (state S.Store conn.old) → result ≡ Err Gap
         → ((state S.Store conn.old).now.schema ≡ checkpoint_schema) × ((all : _) → ¬ AreIn (state S.Store conn.old).now.trees all) }
+    ensures cause { HasCleanDisk (state S.Store conn.new) → IsJustOpened (state S.Store conn.old) → IfErr result (IsOpenCause (state S.Store conn.old) (state S.Store conn.new)) }
+    ensures counts { (state S.Store conn.old).faults ≤ (state S.Store conn.new).faults }
+    ensures shut { HasCleanDisk (state S.Store conn.new) → IsTrue (state S.Store conn.old).is_open
+        → IsTrue (state S.Store conn.new).is_open ⊎ MoreFaults (state S.Store conn.old).faults (state S.Store conn.new).faults }
     ensures untouched { HasCleanDisk (state S.Store conn.new) → IsJustOpened (state S.Store conn.old)
         → IfErr result (λ e. IsOfTheList e → IsAsItWas (state S.Store conn.old) (state S.Store conn.new)) }
     ensures clean { doubt (state S.Store conn.old).is_clean ≤ doubt (state S.Store conn.new).is_clean }

@@ -2,7 +2,7 @@
 
 ghost use Rattle.std.specs.Prelude.{◌≡◌, ◌⊎◌, ◌++◌, ◌+◌, ◌≤◌, false, List, [], ◌∷◌, length, IfErr, IfOk, OnOk, OnErr, IsTrue};
 ghost use Rattle.std.specs.List.{AllByRecursion};
-ghost use Rattle.jb_store.specs.Errors.{IsCaused, name_of};
+ghost use Rattle.jb_store.specs.Errors.{IsCaused, IsFault, name_of};
 ghost use Rattle.jb_store.specs.Form.{checkpoint_schema, no_schema};
 ghost use Rattle.jb_store.specs.Checkpoints.{Kept, AreIn, HasNumber, Holds, IsTooLong, StandsFor, shown_from};
 ghost use Rattle.jb_store.specs.Connections.{Keeps};
@@ -22,6 +22,11 @@ pub fn create<S: Alter>(conn: &mut Connection<S>) -> Result<usize, SqlError>
     ensures clean { doubt (state S.Store conn.old).is_clean ≤ doubt (state S.Store conn.new).is_clean }
     ensures crash { HasCleanDisk (state S.Store conn.new) → (state S.Store conn.old).now.schema ≡ no_schema → (db : _) → (state S.Store conn.new).may_leave db
         → (state S.Store conn.old).may_leave db ⊎ StandsFor db [] }
+    ensures cause { HasCleanDisk (state S.Store conn.new) → (state S.Store conn.old).now.schema ≡ no_schema
+        → IfErr result (λ e. IsFault (state S.Store conn.old) (state S.Store conn.new) (name_of e)) }
+    ensures counts { (state S.Store conn.old).faults ≤ (state S.Store conn.new).faults }
+    ensures shut { HasCleanDisk (state S.Store conn.new) → IsTrue (state S.Store conn.old).is_open
+        → IsTrue (state S.Store conn.new).is_open ⊎ MoreFaults (state S.Store conn.old).faults (state S.Store conn.new).faults }
 {
     conn.execute(
         "CREATE TABLE checkpoint (number INTEGER PRIMARY KEY, saved TEXT NOT NULL, results BLOB NOT NULL) STRICT",
@@ -43,6 +48,7 @@ fn insert<S: Alter>(
         → IfErr result (λ e. IsCaused (state S.Store conn.old) (state S.Store conn.new) (HasNumber all number) (IsTooLong (record { saved = saved.now; results = results.now })) (name_of e)) }
     ensures shut { HasCleanDisk (state S.Store conn.new) → IsTrue (state S.Store conn.old).is_open
         → IsTrue (state S.Store conn.new).is_open ⊎ MoreFaults (state S.Store conn.old).faults (state S.Store conn.new).faults }
+    ensures counts { (state S.Store conn.old).faults ≤ (state S.Store conn.new).faults }
     ensures clean { doubt (state S.Store conn.old).is_clean ≤ doubt (state S.Store conn.new).is_clean }
     ensures crash { HasCleanDisk (state S.Store conn.new) → (all : _) → Keeps (state S.Store conn.old) all → number ≡ length all + 1
         → (db : _) → (state S.Store conn.new).may_leave db
@@ -70,6 +76,7 @@ pub fn append<S: Alter>(
         → IfErr result (λ e. IsCaused (state S.Store conn.old) (state S.Store conn.new) (HasNumber all number) (IsTooLong (record { saved = saved.now; results = results.now })) e) }
     ensures shut { HasCleanDisk (state S.Store conn.new) → IsTrue (state S.Store conn.old).is_open
         → IsTrue (state S.Store conn.new).is_open ⊎ MoreFaults (state S.Store conn.old).faults (state S.Store conn.new).faults }
+    ensures counts { (state S.Store conn.old).faults ≤ (state S.Store conn.new).faults }
     ensures clean { doubt (state S.Store conn.old).is_clean ≤ doubt (state S.Store conn.new).is_clean }
     ensures crash { HasCleanDisk (state S.Store conn.new) → (all : _) → Keeps (state S.Store conn.old) all → number ≡ length all + 1
         → (db : _) → (state S.Store conn.new).may_leave db
@@ -88,6 +95,11 @@ pub fn select<S: Alter>(conn: &mut Connection<S>) -> Result<Vec<Row>, SqlError>
     ensures same { HasCleanDisk (state S.Store conn.new) → (state S.Store conn.old).now.schema ≡ checkpoint_schema → OnOk result (IsUnchanged (state S.Store conn.old) (state S.Store conn.new)) }
     ensures clean { doubt (state S.Store conn.old).is_clean ≤ doubt (state S.Store conn.new).is_clean }
     ensures crash { HasCleanDisk (state S.Store conn.new) → (state S.Store conn.old).now.schema ≡ checkpoint_schema → (db : _) → (state S.Store conn.new).may_leave db → (state S.Store conn.old).may_leave db }
+    ensures cause { HasCleanDisk (state S.Store conn.new) → (state S.Store conn.old).now.schema ≡ checkpoint_schema
+        → IfErr result (λ e. IsFault (state S.Store conn.old) (state S.Store conn.new) (name_of e)) }
+    ensures counts { (state S.Store conn.old).faults ≤ (state S.Store conn.new).faults }
+    ensures shut { HasCleanDisk (state S.Store conn.new) → IsTrue (state S.Store conn.old).is_open
+        → IsTrue (state S.Store conn.new).is_open ⊎ MoreFaults (state S.Store conn.old).faults (state S.Store conn.new).faults }
 {
     conn.query_all(
         "SELECT number, saved, results FROM checkpoint ORDER BY number",

@@ -1,12 +1,14 @@
-use Rattle.std.proofs.Common.{◌≡◌, ◌≢◌, ◌⊎◌, inl, inr, List, [], length, map, sym, ap, subst, ◌∙◌, arith, IfOk, IfErr, OnOk, Result, Ok, Err, IsTrue}
+use Rattle.std.proofs.Common.{◌≡◌, ◌≢◌, ◌⊎◌, inl, inr, rules, true≢false, List, [], length, map, sym, ap, subst, ◌∙◌, arith, IfOk, IfErr, OnOk, Result, Ok, Err, IsTrue}
 use Rattle.sqlite.specs.Held.{state}
 use Rattle.sqlite.specs.State.{State, HasCleanDisk}
 use Rattle.sqlite.specs.Tree.{Trees}
 use Rattle.jb_store.specs.declared.error.StoreError.TheVariants.{Foreign, Version, Gap}
+use Rattle.jb_store.specs.Errors.{IsOpenCause}
 use Rattle.jb_store.specs.Form.{checkpoint_schema, no_schema}
 use Rattle.jb_store.specs.Checkpoints.{Kept, kept, AreIn, Holds}
 use Rattle.jb_store.specs.Connections.{Keeps, IsJustOpened}
 use Rattle.jb_store.proofs.Opened.{is_left, is_sound, keeps_found, apart, shows_now, has_left}
+use Rattle.jb_store.proofs.CausedOpen.{later_fault}
 use Rattle.jb_store.proofs.opening.begin.Goals as goal
 
 -- what holds of an answer that was given
@@ -142,3 +144,34 @@ returns-clause-shown g c = shows_now (state g.S.Store c.args.conn.now)
 
 pub returns-clause-left : goal.returns-clause-left
 returns-clause-left g c clean opened all shows db may = has_left (before g c) opened all shows db (returns-clause-crash g c clean opened db may)
+
+pub returns-clause-cause : goal.returns-clause-cause
+returns-clause-cause g c clean opened =
+    let fits_now : (state g.S.Store c.make.new.conn).now.schema ≡ checkpoint_schema = elim (fits g c) [
+      | inl none ↦ (made g c clean opened none).shows.schema
+      | inr ours ↦ still g c ours
+    ] in
+    all_errors _ _ c.list.result (c.list.ensures.cause clean fits_now) (λ e is fault. elim fault [
+      | inl gap ↦ subst (IsOpenCause (before g c) (after g c)) (sym gap) (returns-clause-gap g c clean opened (is ∙ ap (λ x. Err x) gap))
+      | inr later ↦ later_fault (before g c) (between g c) (after g c) c.make.ensures.counts
+          (λ shut. elim (c.make.ensures.shut (early g c clean) opened.0.is_open) [
+            | inl is_open ↦ absurd (true≢false (sym is_open ∙ shut))
+            | inr more ↦ omega (arith, more, c.list.ensures.counts)
+          ]) e later
+    ])
+
+pub returns-in_err-make-clause-cause : goal.returns-in_err-make-clause-cause
+returns-in_err-make-clause-cause g c clean opened =
+    let old = state g.S.Store c.args.conn.now in
+    let new = state g.S.Store c.make.new.conn in
+    let fault : IsOpenCause old new c.in_err-make.field-0.0 = later_fault old old new (omega arith) (λ shut. absurd (true≢false (sym opened.0.is_open ∙ shut))) c.in_err-make.field-0.0 (c.in_err-make.ensures.cause clean) in
+    search (rules, fault, c.from_residual.ensures)
+
+pub returns-clause-counts : goal.returns-clause-counts
+returns-clause-counts g c = omega (arith, c.make.ensures.counts, c.list.ensures.counts)
+
+pub returns-clause-shut : goal.returns-clause-shut
+returns-clause-shut g c clean was = elim (c.make.ensures.shut (early g c clean) was) [
+  | inl still ↦ elim (c.list.ensures.shut clean still) [ inl now ↦ inl now | inr more ↦ inr (omega (arith, more, c.make.ensures.counts)) ]
+  | inr more ↦ inr (omega (arith, more, c.list.ensures.counts))
+]

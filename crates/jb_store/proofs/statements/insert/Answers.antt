@@ -31,3 +31,6 @@ pub returns-clause-cause : goal.returns-clause-cause
 returns-clause-cause g c clean all keeps =
     causes (state g.S.Store c.args.conn.now) (state g.S.Store c.execute.new.self) all keeps.shows (record { saved = c.args.saved.now; results = c.args.results.now }) c.args.number c.execute.result
     (rw (c.params-to_sql.ensures, c.params-to_sql-2.ensures, c.params-to_sql-3.ensures) at (c.execute.ensures.runs clean))
+
+pub returns-clause-counts : goal.returns-clause-counts
+returns-clause-counts g c = c.execute.ensures.survives.counts

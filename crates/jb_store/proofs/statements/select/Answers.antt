@@ -1,6 +1,7 @@
-use Rattle.std.proofs.Common.{IfOk, OnOk, Result, Ok, Err}
+use Rattle.std.proofs.Common.{IfErr, IfOk, OnOk, Result, Ok, Err}
 use Rattle.std.proofs.lemmas.Result.{IfOk-weaker}
 use Rattle.sqlite.specs.Held.{state}
+use Rattle.jb_store.proofs.CausedOpen.{not_read}
 use Rattle.jb_store.proofs.Read.{lists, lists_back, wide, unchanged, survives}
 use Rattle.jb_store.proofs.statements.select.Goals as goal
 
@@ -29,3 +30,17 @@ returns-clause-crash g c clean ours = survives (state g.S.Store c.args.conn.now)
 
 pub returns-clause-clean : goal.returns-clause-clean
 returns-clause-clean g c = c.query_all.ensures.survives.clean
+
+on_err : {T E : Type 0} (P Q : E → Type 0) (r : Result T E) → IfErr r P → ((e : E) → P e → Q e) → IfErr r Q
+on_err P Q (Ok x) h f = tt
+on_err P Q (Err e) h f = f e h
+
+pub returns-clause-cause : goal.returns-clause-cause
+returns-clause-cause g c clean ours =
+    on_err _ _ c.query_all.result (c.query_all.ensures.err clean) (λ e h. not_read (state g.S.Store c.args.conn.now) (state g.S.Store c.query_all.new.self) ours e h)
+
+pub returns-clause-counts : goal.returns-clause-counts
+returns-clause-counts g c = c.query_all.ensures.survives.counts
+
+pub returns-clause-shut : goal.returns-clause-shut
+returns-clause-shut g c = c.query_all.ensures.survives.closes
