@@ -14,4 +14,6 @@ mod step;
 #[cfg(test)]
 mod threads;
 #[cfg(test)]
+mod way;
+#[cfg(test)]
 mod workers;

@@ -344,14 +344,14 @@ fn ran<R: Threads + Wait + Clock + Copy + Send + Sync + 'static>(
     ))
 }
 
-/// A step is looked at as often as its watcher asks for, and that changes nothing; where it isn't begun there is nothing to see.
+/// A step is looked at as often as its watcher asks for, and that changes nothing; one that has no answer may be over before the first
+/// look.
 #[test]
 fn steps_over_records(rt: HostRuntime) -> Result<(), Fail> {
     for case in &CASES {
         let (is_so, looks) = ran(&rt, rt.alloc(), case)?;
-        let wanted = if case.came.is_ok() { LOOKS } else { 0 };
         assert!(rt; is_so);
-        assert_eq!(rt; looks, wanted);
+        assert!(rt; looks == LOOKS || case.came.is_err() && looks < LOOKS);
     }
     Ok(())
 }

@@ -1,7 +1,9 @@
 //! Rounds of tasks over threads.
 
 mod answers;
+mod ending;
 pub(crate) mod meeting;
 mod memory;
 pub(crate) mod most;
+pub(crate) mod rounds;
 pub(crate) mod tasks;

@@ -1,7 +1,7 @@
 //! Restarts whose plan replaces the saved partitions, beside others that go on: what is refused, and what the reducer is called with.
 
-use crate::step::callbacks::Lacking;
 use crate::step::given::{Given, begun_from};
+use crate::step::lacking::Lacking;
 use crate::step::rows::{STRICT, add_reduced, assert_text};
 use jb_base::ClassId;
 use jb_collect::{PartitionStatus, Reducer, ReducerCall};

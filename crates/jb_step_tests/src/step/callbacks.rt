@@ -3,72 +3,21 @@
 ghost use Rattle.std.specs.Prelude.{◌≡◌};
 ghost use Rattle.jb_base.specs.Limits.{max_parts};
 
-use crate::step::given::{Letters, all_works, stopped_after};
+use crate::step::given::{Letters, all_works};
+use crate::step::lacking::Lacking;
 use crate::step::restarts::{Between, add_answer};
 use crate::step::rows::{PLAIN, assert_text};
 use crate::step::runs::started;
-use jb_base::{ArtifactError, ClassId, MAX_PARTS};
-use jb_collect::{ListAnalyzer, ListReducer, PartitionStatus, Reducer, ReducerCall};
+use crate::step::ways::stopped_after;
+use crate::way::{BOTH_WAYS, Way};
+use jb_base::{ClassId, MAX_PARTS};
+use jb_collect::{ListAnalyzer, PartitionStatus, ReducerCall};
 use std::alloc::Global;
 use std::marker::Brand;
 use std::sync::Wait;
 use std::sync::ledger::{Blank, Ledger};
 use std::test::*;
 use std::thread::Threads;
-
-/// A reducer that finds no memory for one of its calls, if one is named.
-#[derive(Drop)]
-pub(crate) struct Lacking {
-    list: ListReducer,
-    call: Option<ReducerCall>,
-}
-
-impl Lacking {
-    /// With `fault`, the call of this number, the first being 0, is answered with a fault of class 3; `call` finds no memory.
-    pub(crate) fn new(alloc: Global, fault: Option<u64>, call: Option<ReducerCall>) -> Lacking {
-        let fault = fault.map(|number| (number, ClassId::new(3)));
-        Lacking {
-            list: ListReducer::new(alloc, fault),
-            call,
-        }
-    }
-}
-
-impl Reducer for Lacking {
-    ghost reduced = { λ r. ⟦<ListReducer as Reducer>⟧.reduced r.list };
-
-    fn begin(&mut self) -> Result<(), ArtifactError> {
-        if self.call == Some(ReducerCall::Begin) {
-            return Err(ArtifactError::Memory);
-        }
-        self.list.begin()
-    }
-
-    fn before_completion(&mut self) -> Result<(), ArtifactError> {
-        if self.call == Some(ReducerCall::Before) {
-            return Err(ArtifactError::Memory);
-        }
-        self.list.before_completion()
-    }
-
-    fn rollback(&mut self) -> Result<(), ArtifactError> {
-        if self.call == Some(ReducerCall::Rollback) {
-            return Err(ArtifactError::Memory);
-        }
-        self.list.rollback()
-    }
-
-    fn after(&mut self, status: PartitionStatus) -> Result<(), ArtifactError> {
-        if self.call == Some(ReducerCall::After(status)) {
-            return Err(ArtifactError::Memory);
-        }
-        self.list.after(status)
-    }
-
-    fn calls(&self) -> &[ReducerCall] {
-        self.list.calls()
-    }
-}
 
 /// What is wrong with a callback, and what comes of the step.
 struct Case {
@@ -228,6 +177,7 @@ Begin Rollback .
 
 /// The course of the step with such callbacks, and how its partitions stand then.
 fn course_with<L: Ledger + Send + Sync + 'static, R: Threads + Wait + Sync>(
+    way: Way,
     rt: &R,
     alloc: Global,
     blank: Blank,
@@ -244,6 +194,7 @@ fn course_with<L: Ledger + Send + Sync + 'static, R: Threads + Wait + Sync>(
     let desk = prepared.desk::<L>(alloc, blank)?;
     let artifacts = all_works(alloc, case.records, prepared.needs().len())?;
     let end = stopped_after::<Letters, L, R>(
+        way,
         rt,
         alloc,
         &desk,
@@ -266,10 +217,12 @@ fn course_with<L: Ledger + Send + Sync + 'static, R: Threads + Wait + Sync>(
 /// that `before_completion` is followed by a rollback, and that the analyzer hears nothing behind its fault; and no partition.
 #[test]
 fn callbacks_fail_at_the_end(rt: HostRuntime) -> Result<(), Fail> {
-    for case in &CASES {
-        let blank = Blank::new(MAX_PARTS);
-        let course = course_with::<Brand, _>(&rt, rt.alloc(), blank, case)?;
-        assert_text(&rt, course.as_str(), case.course);
+    for way in BOTH_WAYS {
+        for case in &CASES {
+            let blank = Blank::new(MAX_PARTS);
+            let course = course_with::<Brand, _>(way, &rt, rt.alloc(), blank, case)?;
+            assert_text(&rt, course.as_str(), case.course);
+        }
     }
     Ok(())
 }

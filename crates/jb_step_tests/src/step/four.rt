@@ -3,14 +3,17 @@
 ghost use Rattle.std.specs.Prelude.{◌≡◌};
 ghost use Rattle.jb_base.specs.Limits.{max_parts};
 
-use crate::step::given::{Given, Processor, ended, works};
+use crate::step::given::{Given, Processor, works};
+use crate::step::lacking::Lacking;
 use crate::step::rows::{Asked, PLAIN};
 use crate::step::runs::started;
+use crate::step::ways::ended;
+use crate::way::{BOTH_WAYS, Way};
 use crate::workers::meeting::wait_for;
 use jb_artifacts::{ArtifactsOf, CountCollector, Item, ItemProcessor, ListWriter, TableReader};
 use jb_base::{ArtifactError, MAX_PARTS};
 use jb_chunk::Task;
-use jb_collect::{ListAnalyzer, ListReducer, Status};
+use jb_collect::{ListAnalyzer, Status};
 use jb_step::Prepared;
 use jb_workers::{Desk, Gate};
 use std::alloc::Global;
@@ -159,17 +162,19 @@ fn waiting_works(alloc: Global, meeting: &Arc<Meeting>) -> Result<Vec<WaitingWor
 
 /// The step's status, and the number of its events.
 fn met<L: Ledger + Send + Sync + 'static, R: Threads + Wait + Clock + Abort + Copy + Send + Sync>(
+    way: Way,
     rt: &R,
     alloc: Global,
     desk: &Desk<L>,
     prepared: Prepared,
     processors: &Arc<Meeting>,
-    reducer: &mut ListReducer,
+    reducer: &mut Lacking,
     gate: &Lanes<R>,
 ) -> Result<(Status, u64), Fail> {
     let mut analyzer = ListAnalyzer::new(alloc, None);
     let artifacts = waiting_works(alloc, processors)?;
     let end = ended::<Task<WaitingWorks>, L, Lanes<R>, R>(
+        way,
         rt,
         alloc,
         desk,
@@ -188,6 +193,7 @@ fn met_on<
     L: Ledger + Send + Sync + 'static,
     R: Threads + Wait + Clock + Abort + Copy + Send + Sync,
 >(
+    way: Way,
     rt: &R,
     alloc: Global,
     blank: Blank,
@@ -202,14 +208,24 @@ fn met_on<
         threads: 4,
         ..PLAIN
     };
-    let mut reducer = ListReducer::new(alloc, None);
+    let mut reducer = Lacking::nothing(alloc);
     let prepared = started(alloc, asked, RECORDS, &mut reducer, None)?;
     let desk = prepared.desk::<L>(alloc, blank)?;
-    met::<L, R>(rt, alloc, &desk, prepared, processors, &mut reducer, gate)
+    met::<L, R>(
+        way,
+        rt,
+        alloc,
+        &desk,
+        prepared,
+        processors,
+        &mut reducer,
+        gate,
+    )
 }
 
 /// The four partitions' lanes meet in both rounds, and their processors meet in the first one.
 fn meet<L: Ledger + Send + Sync + 'static, R: Threads + Wait + Clock + Abort + Copy + Send + Sync>(
+    way: Way,
     rt: &R,
     alloc: Global,
     blank: Blank,
@@ -223,7 +239,7 @@ fn meet<L: Ledger + Send + Sync + 'static, R: Threads + Wait + Clock + Abort + C
         rounds: [Meeting::new(), Meeting::new()],
     };
     let processors = Arc::new(alloc, Meeting::new())?;
-    let end = met_on::<L, R>(rt, alloc, blank, &processors, &gate)?;
+    let end = met_on::<L, R>(way, rt, alloc, blank, &processors, &gate)?;
     assert_eq!(rt; gate.rounds[0].seen(), [4, 0]);
     assert_eq!(rt; gate.rounds[1].seen(), [4, 0]);
     assert_eq!(rt; processors.seen(), [4, 0]);
@@ -233,5 +249,8 @@ fn meet<L: Ledger + Send + Sync + 'static, R: Threads + Wait + Clock + Abort + C
 
 #[test]
 fn four_lanes_meet_in_both_rounds(rt: HostRuntime) -> Result<(), Fail> {
-    meet::<Brand, _>(&rt, rt.alloc(), Blank::new(MAX_PARTS))
+    for way in BOTH_WAYS {
+        meet::<Brand, _>(way, &rt, rt.alloc(), Blank::new(MAX_PARTS))?;
+    }
+    Ok(())
 }

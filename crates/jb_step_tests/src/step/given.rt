@@ -7,20 +7,16 @@ use jb_artifacts::{
 use jb_base::{
     ArtifactError, ClassId, MAX_ITEM_COUNT, MAX_RECORDS, Name, PackedList, Range, Ranges, Rules,
 };
-use jb_chunk::{PartitionTask, Task};
-use jb_collect::{Analyzer, Reducer};
+use jb_chunk::Task;
+use jb_collect::Reducer;
 use jb_job::{Spec, Step};
 use jb_mapper::PartitionMapper;
 use jb_plan::PartitionPlan;
 use jb_repo::Snapshot;
 use jb_rules::Row;
-use jb_step::{Prepared, Saved, StepEnd, StepError, prepare, read_saved, run_step, saved_text};
-use jb_workers::{Desk, Gate, NoGate};
+use jb_step::{Prepared, Saved, StepError, prepare, read_saved, saved_text};
 use std::alloc::{AllocError, Global};
-use std::sync::Wait;
-use std::sync::ledger::Ledger;
 use std::test::*;
-use std::thread::Threads;
 
 /// What a partition works with.
 pub(crate) type Works = ArtifactsOf<TableReader, Processor, ListWriter, CountCollector>;
@@ -227,45 +223,4 @@ pub(crate) fn saved_again(alloc: Global, snapshot: &Snapshot) -> Result<Saved, F
         return Err(Fail::from("other rows"));
     }
     Ok(read)
-}
-
-/// Runs the step to its end. It has no contract, so that its callers have short proofs.
-pub(crate) fn ended<
-    T: PartitionTask + Send + 'static,
-    L: Ledger + Send + Sync + 'static,
-    G: Gate + Sync,
-    R: Threads + Wait + Sync,
->(
-    rt: &R,
-    alloc: Global,
-    desk: &Desk<L>,
-    prepared: Prepared,
-    artifacts: Vec<T::Artifacts>,
-    analyzer: &mut dyn Analyzer,
-    reducer: &mut dyn Reducer,
-    gate: &G,
-) -> Result<StepEnd<T::Artifacts>, StepError> {
-    run_step::<T, L, G, R>(
-        rt, alloc, desk, prepared, artifacts, analyzer, reducer, None, gate,
-    )
-}
-
-/// Runs so many rounds of the step at most.
-pub(crate) fn stopped_after<
-    T: PartitionTask + Send + 'static,
-    L: Ledger + Send + Sync + 'static,
-    R: Threads + Wait + Sync,
->(
-    rt: &R,
-    alloc: Global,
-    desk: &Desk<L>,
-    prepared: Prepared,
-    artifacts: Vec<T::Artifacts>,
-    analyzer: &mut dyn Analyzer,
-    reducer: &mut dyn Reducer,
-    rounds: Option<u64>,
-) -> Result<StepEnd<T::Artifacts>, StepError> {
-    run_step::<T, L, NoGate, R>(
-        rt, alloc, desk, prepared, artifacts, analyzer, reducer, rounds, &NoGate,
-    )
 }

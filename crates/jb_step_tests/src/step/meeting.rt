@@ -3,11 +3,13 @@
 ghost use Rattle.std.specs.Prelude.{◌≡◌};
 ghost use Rattle.jb_base.specs.Limits.{max_parts};
 
+use crate::step::lacking::Lacking;
 use crate::step::rows::PLAIN;
 use crate::step::runs::{ended_with, started};
+use crate::way::{BOTH_WAYS, Way};
 use crate::workers::meeting::Meeting;
 use jb_base::MAX_PARTS;
-use jb_collect::{ListAnalyzer, ListReducer, Status};
+use jb_collect::{ListAnalyzer, Status};
 use jb_step::Prepared;
 use jb_workers::Desk;
 use std::alloc::Global;
@@ -23,15 +25,17 @@ const RECORDS: &str = "ab/cd/";
 
 /// The step's status, and the number of its events.
 fn met<L: Ledger + Send + Sync + 'static, R: Threads + Wait + Clock + Abort + Copy + Send + Sync>(
+    way: Way,
     rt: &R,
     alloc: Global,
     desk: &Desk<L>,
     prepared: Prepared,
-    reducer: &mut ListReducer,
+    reducer: &mut Lacking,
     gate: &Meeting<L, R>,
 ) -> Result<(Status, u64), Fail> {
     let mut analyzer = ListAnalyzer::new(alloc, None);
     let end = ended_with::<L, Meeting<L, R>, R>(
+        way,
         rt,
         alloc,
         desk,
@@ -48,6 +52,7 @@ fn met<L: Ledger + Send + Sync + 'static, R: Threads + Wait + Clock + Abort + Co
 
 /// Two partitions of one chunk each meet in the one round of their step.
 fn meet<L: Ledger + Send + Sync + 'static, R: Threads + Wait + Clock + Abort + Copy + Send + Sync>(
+    way: Way,
     rt: &R,
     alloc: Global,
     blank: Blank,
@@ -56,11 +61,11 @@ fn meet<L: Ledger + Send + Sync + 'static, R: Threads + Wait + Clock + Abort + C
     requires parts { blank.parts ≡ L.parts }
     requires all { blank.parts ≡ max_parts }
 {
-    let mut reducer = ListReducer::new(alloc, None);
+    let mut reducer = Lacking::nothing(alloc);
     let prepared = started(alloc, PLAIN, RECORDS, &mut reducer, None)?;
     let desk = Arc::new(alloc, prepared.desk::<L>(alloc, blank)?)?;
     let gate = Meeting::new(*rt, Arc::try_clone(&desk)?);
-    let end = met::<L, R>(rt, alloc, &desk, prepared, &mut reducer, &gate)?;
+    let end = met::<L, R>(way, rt, alloc, &desk, prepared, &mut reducer, &gate)?;
     assert_eq!(rt; gate.seen(), [0, 0, 1]);
     assert_eq!(rt; end, (Status::Completed, 6));
     Ok(())
@@ -68,5 +73,8 @@ fn meet<L: Ledger + Send + Sync + 'static, R: Threads + Wait + Clock + Abort + C
 
 #[test]
 fn two_lanes_meet_in_a_step(rt: HostRuntime) -> Result<(), Fail> {
-    meet::<Brand, _>(&rt, rt.alloc(), Blank::new(MAX_PARTS))
+    for way in BOTH_WAYS {
+        meet::<Brand, _>(way, &rt, rt.alloc(), Blank::new(MAX_PARTS))?;
+    }
+    Ok(())
 }

@@ -2,6 +2,7 @@
 
 use crate::step::restarts::{Between, gone_on};
 use crate::step::rows::{Asked, Case, SEVEN, case_at};
+use crate::way::{BOTH_WAYS, Way};
 use jb_collect::Status;
 use std::alloc::{AllocError, Global};
 use std::process::Abort;
@@ -102,6 +103,7 @@ fn assert_restarted<R: Threads + Wait + Abort + Sync>(
 
 /// A first run of the case's step, which may lack something, and then what belongs to it.
 fn tried<R: Threads + Wait + Abort + Sync>(
+    way: Way,
     rt: &R,
     alloc: Global,
     unmet: &Unmet,
@@ -109,6 +111,7 @@ fn tried<R: Threads + Wait + Abort + Sync>(
     let Some(case) = case_at(unmet.number) else {
         return Err(Fail::from("a case"));
     };
+    let case = case.run_in(way);
     let mut between = Between::first(alloc, case.records)?;
     let (status, course) = first_run(rt, alloc, &case, &mut between)?;
     let course = course.as_str();
@@ -126,8 +129,10 @@ fn tried<R: Threads + Wait + Abort + Sync>(
 /// test's own is refused, the test ends with that error.
 #[test]
 fn memory_refused(rt: HostRuntime) -> Result<(), Fail> {
-    for unmet in &UNMET {
-        tried(&rt, rt.alloc(), unmet)?;
+    for way in BOTH_WAYS {
+        for unmet in &UNMET {
+            tried(way, &rt, rt.alloc(), unmet)?;
+        }
     }
     Ok(())
 }

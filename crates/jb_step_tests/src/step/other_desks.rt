@@ -4,12 +4,14 @@ ghost use Rattle.std.specs.Prelude.{◌≡◌};
 ghost use Rattle.jb_base.specs.Limits.{max_parts};
 
 use crate::step::given::Works;
+use crate::step::lacking::Lacking;
 use crate::step::restarts::{Between, add_answer, gone_on};
-use crate::step::rows::{Asked, PLAIN, assert_text};
+use crate::step::rows::{Asked, PLAIN, assert_text, plain_in};
 use crate::step::runs::{ended_with, started};
+use crate::way::{BOTH_WAYS, Way};
 use jb_base::MAX_PARTS;
 use jb_cert::Certificate;
-use jb_collect::{ListAnalyzer, ListReducer, Reducer, Status};
+use jb_collect::{ListAnalyzer, Reducer, Status};
 use jb_repo::Event;
 use jb_step::{Prepared, StepEnd, StepError, read_saved};
 use jb_workers::{Desk, NoGate};
@@ -77,7 +79,7 @@ fn start(
     records: &str,
     threads: u32,
     text: Option<&str>,
-    reducer: &mut ListReducer,
+    reducer: &mut Lacking,
 ) -> Result<Prepared, Fail> {
     let saved = match text {
         Some(text) => Some(read_saved(alloc, text.as_bytes()).ok().ok_or("saved rows")?),
@@ -98,7 +100,7 @@ fn desk_of<L: Ledger, R: Wait>(
     requires parts { blank.parts ≡ L.parts }
     requires all { blank.parts ≡ max_parts }
 {
-    let mut other = ListReducer::new(alloc, None);
+    let mut other = Lacking::nothing(alloc);
     let prepared = start(alloc, case.desk, case.threads, case.saved, &mut other)?;
     let desk = prepared.desk::<L>(alloc, blank)?;
     if case.planned {
@@ -112,16 +114,18 @@ type Answer = (StepError, usize, u64, u64);
 
 /// Why the step has no answer on such a desk.
 fn error_on<L: Ledger + Send + Sync + 'static, R: Threads + Wait + Sync>(
+    way: Way,
     rt: &R,
     alloc: Global,
     desk: &Desk<L>,
     prepared: Prepared,
     records: &str,
-    reducer: &mut ListReducer,
+    reducer: &mut Lacking,
 ) -> Result<StepError, Fail> {
     let mut analyzer = ListAnalyzer::new(alloc, None);
     let partitions = prepared.needs().len();
     let end = ended_with::<L, NoGate, R>(
+        way,
         rt,
         alloc,
         desk,
@@ -136,6 +140,7 @@ fn error_on<L: Ledger + Send + Sync + 'static, R: Threads + Wait + Sync>(
 }
 
 fn refusal<L: Ledger + Send + Sync + 'static, R: Threads + Wait + Sync>(
+    way: Way,
     rt: &R,
     alloc: Global,
     blank: Blank,
@@ -145,10 +150,10 @@ fn refusal<L: Ledger + Send + Sync + 'static, R: Threads + Wait + Sync>(
     requires parts { blank.parts ≡ L.parts }
     requires all { blank.parts ≡ max_parts }
 {
-    let mut reducer = ListReducer::new(alloc, None);
+    let mut reducer = Lacking::nothing(alloc);
     let prepared = start(alloc, case.own, 2, case.saved, &mut reducer)?;
     let desk = desk_of::<L, R>(rt, alloc, blank, case)?;
-    let error = error_on(rt, alloc, &desk, prepared, case.own, &mut reducer)?;
+    let error = error_on(way, rt, alloc, &desk, prepared, case.own, &mut reducer)?;
     let after = desk.status(rt)?;
     let calls = reducer.calls().len();
     Ok((error, calls, after.events, after.totals.commit))
@@ -178,10 +183,12 @@ fn desks_are_refused(rt: HostRuntime) -> Result<(), Fail> {
             saved,
             planned,
         };
-        let blank = Blank::new(MAX_PARTS);
-        let answer = refusal::<Brand, _>(&rt, rt.alloc(), blank, &case)?;
-        let error = StepError::Repository(partition);
-        assert!(rt; answer == (error, 3, events, commits));
+        for way in BOTH_WAYS {
+            let blank = Blank::new(MAX_PARTS);
+            let answer = refusal::<Brand, _>(way, &rt, rt.alloc(), blank, &case)?;
+            let error = StepError::Repository(partition);
+            assert!(rt; answer == (error, 3, events, commits));
+        }
     }
     Ok(())
 }
@@ -196,7 +203,7 @@ fn desk_of_threes<L: Ledger>(alloc: Global, blank: Blank) -> Result<Desk<L>, Fai
         item_count: 3,
         ..PLAIN
     };
-    let mut other = ListReducer::new(alloc, None);
+    let mut other = Lacking::nothing(alloc);
     let prepared = started(alloc, asked, SIX, &mut other, None)?;
     Ok(prepared.desk::<L>(alloc, blank)?)
 }
@@ -208,7 +215,7 @@ fn told<L: Ledger, R: Wait>(
     desk: &Desk<L>,
     end: Result<StepEnd<Works>, StepError>,
     analyzer: &ListAnalyzer,
-    reducer: &ListReducer,
+    reducer: &Lacking,
     between: &mut Between,
 ) -> Result<String, Fail> {
     let snapshot = desk.status(rt)?;
@@ -220,6 +227,7 @@ fn told<L: Ledger, R: Wait>(
 
 /// Runs the six records, with two a chunk, on such a desk: how the step is refused.
 fn refused_round<L: Ledger + Send + Sync + 'static, R: Threads + Wait + Sync>(
+    way: Way,
     rt: &R,
     alloc: Global,
     blank: Blank,
@@ -231,9 +239,10 @@ fn refused_round<L: Ledger + Send + Sync + 'static, R: Threads + Wait + Sync>(
 {
     let desk = desk_of_threes::<L>(alloc, blank)?;
     let mut analyzer = ListAnalyzer::new(alloc, None);
-    let mut reducer = ListReducer::new(alloc, None);
+    let mut reducer = Lacking::nothing(alloc);
     let prepared = started(alloc, PLAIN, SIX, &mut reducer, None)?;
     let end = ended_with::<L, NoGate, R>(
+        way,
         rt,
         alloc,
         &desk,
@@ -252,14 +261,16 @@ fn refused_round<L: Ledger + Send + Sync + 'static, R: Threads + Wait + Sync>(
 #[test]
 fn a_refused_round_is_gone_on_from(rt: HostRuntime) -> Result<(), Fail> {
     let alloc = rt.alloc();
-    let mut between = Between::nothing(alloc);
-    let blank = Blank::new(MAX_PARTS);
-    let refused = refused_round::<Brand, _>(&rt, alloc, blank, &mut between)?;
-    assert_text(&rt, refused.as_str(), REFUSED);
-    between.assert_partitions(&rt, alloc, LEFT)?;
-    let (status, course) = gone_on(&rt, alloc, PLAIN, SIX, false, None, &mut between)?;
-    assert!(rt; status == Some(Status::Completed));
-    assert_text(&rt, course.as_str(), RESTARTED);
-    between.assert_partitions(&rt, alloc, WHOLE)?;
+    for way in BOTH_WAYS {
+        let mut between = Between::nothing(alloc);
+        let blank = Blank::new(MAX_PARTS);
+        let refused = refused_round::<Brand, _>(way, &rt, alloc, blank, &mut between)?;
+        assert_text(&rt, refused.as_str(), REFUSED);
+        between.assert_partitions(&rt, alloc, LEFT)?;
+        let (status, course) = gone_on(&rt, alloc, plain_in(way), SIX, false, None, &mut between)?;
+        assert!(rt; status == Some(Status::Completed));
+        assert_text(&rt, course.as_str(), RESTARTED);
+        between.assert_partitions(&rt, alloc, WHOLE)?;
+    }
     Ok(())
 }

@@ -4,10 +4,12 @@ ghost use Rattle.std.specs.Prelude.{◌≡◌, Err};
 ghost use Rattle.jb_mapper.specs.Mapping.{Mapping};
 ghost use Rattle.jb_base.specs.Limits.{max_parts};
 
-use crate::step::callbacks::Lacking;
 use crate::step::given::{Given, Letters, begun, works};
+use crate::step::lacking::Lacking;
 use crate::step::rows::{add_reduced, assert_text};
 use crate::step::runs::ended_with;
+use crate::way::{BOTH_WAYS, Way};
+use crate::workers::rounds::run_round_in;
 use crate::workers::tasks::{RULES, task_of, with_work};
 use jb_base::{ArtifactError, ClassId, MAX_PARTS, Range};
 use jb_cert::Certificate;
@@ -68,6 +70,7 @@ impl PartitionMapper for Failing {
 
 /// Commits partition 0 on the desk, by a round of the caller's own.
 fn run_own<L: Ledger + Send + Sync + 'static, R: Threads + Wait + Sync>(
+    way: Way,
     rt: &R,
     alloc: Global,
     desk: &Desk<L>,
@@ -76,7 +79,7 @@ fn run_own<L: Ledger + Send + Sync + 'static, R: Threads + Wait + Sync>(
     let task = task_of::<Letters>(0, row, RULES, 2, works(alloc, RECORDS).ok()?)?;
     let round = with_work(Vec::new(alloc), 0, task)?;
     desk.apply(rt, Event::Plan(1, Certificate::FullLoad)).ok()?;
-    desk.run_round(rt, alloc, &NoGate, round).ok()?;
+    run_round_in(way, desk, rt, alloc, &NoGate, round).ok()?;
     Some(())
 }
 
@@ -104,6 +107,7 @@ fn start(
 
 /// Why the prepared step has no answer.
 fn refusal_of<L: Ledger + Send + Sync + 'static, R: Threads + Wait + Sync>(
+    way: Way,
     rt: &R,
     alloc: Global,
     blank: Blank,
@@ -117,11 +121,12 @@ fn refusal_of<L: Ledger + Send + Sync + 'static, R: Threads + Wait + Sync>(
 {
     let desk = prepared.desk::<L>(alloc, blank)?;
     if wrong != Wrong::OneShort {
-        run_own(rt, alloc, &desk).ok_or("a round")?;
+        run_own(way, rt, alloc, &desk).ok_or("a round")?;
     }
     let mut analyzer = ListAnalyzer::new(alloc, None);
     let partitions = if wrong == Wrong::OwnRound { 2 } else { 1 };
     let end = ended_with::<L, NoGate, R>(
+        way,
         rt,
         alloc,
         &desk,
@@ -137,6 +142,7 @@ fn refusal_of<L: Ledger + Send + Sync + 'static, R: Threads + Wait + Sync>(
 
 /// Why the step has no answer; `asked` is how often a mapper that fails was asked.
 fn refusal<L: Ledger + Send + Sync + 'static, R: Threads + Wait + Sync>(
+    way: Way,
     rt: &R,
     alloc: Global,
     blank: Blank,
@@ -149,7 +155,7 @@ fn refusal<L: Ledger + Send + Sync + 'static, R: Threads + Wait + Sync>(
     requires all { blank.parts ≡ max_parts }
 {
     match start(alloc, wrong, reducer, asked)? {
-        Ok(prepared) => refusal_of::<L, R>(rt, alloc, blank, wrong, prepared, reducer),
+        Ok(prepared) => refusal_of::<L, R>(way, rt, alloc, blank, wrong, prepared, reducer),
         Err(error) => Ok(error),
     }
 }
@@ -203,20 +209,23 @@ fn refusals(rt: HostRuntime) -> Result<(), Fail> {
         (Wrong::OneShortOwnRound, None, None, unfit, 0, all),
     ];
     for (wrong, fault, lacking, error, asked, calls) in cases {
-        let mut reducer = Lacking::new(rt.alloc(), fault, lacking);
-        let blank = Blank::new(MAX_PARTS);
-        let mut so_often = 0;
-        let answer = refusal::<Brand, _>(
-            &rt,
-            rt.alloc(),
-            blank,
-            wrong,
-            &mut reducer,
-            &mut so_often,
-        )?;
-        assert_eq!(rt; answer, error);
-        assert_eq!(rt; so_often, asked);
-        assert_calls(&rt, rt.alloc(), &reducer, calls)?;
+        for way in BOTH_WAYS {
+            let mut reducer = Lacking::new(rt.alloc(), fault, lacking);
+            let blank = Blank::new(MAX_PARTS);
+            let mut so_often = 0;
+            let answer = refusal::<Brand, _>(
+                way,
+                &rt,
+                rt.alloc(),
+                blank,
+                wrong,
+                &mut reducer,
+                &mut so_often,
+            )?;
+            assert_eq!(rt; answer, error);
+            assert_eq!(rt; so_often, asked);
+            assert_calls(&rt, rt.alloc(), &reducer, calls)?;
+        }
     }
     Ok(())
 }

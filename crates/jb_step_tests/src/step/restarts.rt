@@ -4,17 +4,18 @@
 ghost use Rattle.std.specs.Prelude.{◌≡◌};
 ghost use Rattle.jb_base.specs.Limits.{max_parts};
 
-use crate::step::given::{
-    Given, Letters, Works, all_works, saved_again, stopped_after, works, works_from,
-};
+use crate::step::given::{Given, Letters, Works, all_works, saved_again, works, works_from};
+use crate::step::lacking::Lacking;
 use crate::step::rows::{
-    Asked, CASES, Case, PLAIN, add_course, add_heard, add_partition, add_reduced, assert_text,
-    left_of,
+    Asked, CASES, Case, add_course, add_heard, add_partition, add_reduced, assert_text, left_of,
+    plain_in,
 };
 use crate::step::runs::started_or_not;
+use crate::step::ways::stopped_after;
+use crate::way::{BOTH_WAYS, Way};
 use jb_artifacts::ArtifactsOf;
 use jb_base::MAX_PARTS;
-use jb_collect::{Analyzer, ListAnalyzer, ListReducer, Reducer, Status};
+use jb_collect::{Analyzer, ListAnalyzer, Reducer, Status};
 use jb_repo::Snapshot;
 use jb_rules::Row;
 use jb_step::{Prepared, Saved, StepEnd, StepError};
@@ -211,7 +212,7 @@ pub(crate) fn gone_on<R: Threads + Wait + Sync>(
     rounds: Option<u64>,
     between: &mut Between,
 ) -> Result<(Option<Status>, String), Fail> {
-    let mut reducer = ListReducer::new(alloc, None);
+    let mut reducer = Lacking::nothing(alloc);
     let (saved, left) = between.give_up(alloc);
     let artifacts = works_restarted(alloc, left, if others { Some(records) } else { None })?;
     match started_or_not(alloc, asked, records, &mut reducer, saved)? {
@@ -219,7 +220,8 @@ pub(crate) fn gone_on<R: Threads + Wait + Sync>(
             let blank = Blank::new(MAX_PARTS);
             let records = String::from_str(alloc, records)?;
             run_on::<Brand, R>(
-                rt, alloc, blank, prepared, artifacts, &records, rounds, reducer, between,
+                rt, alloc, blank, prepared, artifacts, &records, asked.way, rounds, reducer,
+                between,
             )
         }
         Err(error) => no_desk(alloc, error),
@@ -239,8 +241,9 @@ fn run_on<L: Ledger + Send + Sync + 'static, R: Threads + Wait + Sync>(
     prepared: Prepared,
     artifacts: Vec<Works>,
     records: &String,
+    way: Way,
     rounds: Option<u64>,
-    reducer: ListReducer,
+    reducer: Lacking,
     between: &mut Between,
 ) -> Result<(Option<Status>, String), Fail>
     requires name { blank.name ≡ L.name }
@@ -255,6 +258,7 @@ fn run_on<L: Ledger + Send + Sync + 'static, R: Threads + Wait + Sync>(
             prepared,
             artifacts,
             records.as_str(),
+            way,
             rounds,
             reducer,
             between,
@@ -271,13 +275,15 @@ fn run_at<L: Ledger + Send + Sync + 'static, R: Threads + Wait + Sync>(
     prepared: Prepared,
     artifacts: Vec<Works>,
     records: &str,
+    way: Way,
     rounds: Option<u64>,
-    mut reducer: ListReducer,
+    mut reducer: Lacking,
     between: &mut Between,
 ) -> Result<(Option<Status>, String), Fail> {
     let mut analyzer = ListAnalyzer::new(alloc, None);
     let mut course = format!(in alloc; "{:?}\n", prepared.needs())?;
     let end = stopped_after::<Letters, L, R>(
+        way,
         rt,
         alloc,
         desk,
@@ -321,12 +327,22 @@ pub(crate) fn add_answer(
 #[test]
 fn a_round_is_gone_on_from(rt: HostRuntime) -> Result<(), Fail> {
     let alloc = rt.alloc();
-    let mut between = Between::first(alloc, WANTING)?;
-    let (_, mut courses) = gone_on(&rt, alloc, PLAIN, WANTING, false, None, &mut between)?;
-    let (_, course) = gone_on(&rt, alloc, PLAIN, AGAIN, true, None, &mut between)?;
-    courses.push_str(course.as_str())?;
-    assert_text(&rt, courses.as_str(), COURSES);
-    between.assert_partitions(&rt, alloc, PARTITIONS)?;
+    for way in BOTH_WAYS {
+        let mut between = Between::first(alloc, WANTING)?;
+        let (_, mut courses) = gone_on(
+            &rt,
+            alloc,
+            plain_in(way),
+            WANTING,
+            false,
+            None,
+            &mut between,
+        )?;
+        let (_, course) = gone_on(&rt, alloc, plain_in(way), AGAIN, true, None, &mut between)?;
+        courses.push_str(course.as_str())?;
+        assert_text(&rt, courses.as_str(), COURSES);
+        between.assert_partitions(&rt, alloc, PARTITIONS)?;
+    }
     Ok(())
 }
 
@@ -387,8 +403,15 @@ fn is_unchanged<R: Threads + Wait + Sync>(
 
 #[test]
 fn stops_change_nothing(rt: HostRuntime) -> Result<(), Fail> {
-    for case in &CASES {
-        assert!(rt; is_unchanged(&rt, rt.alloc(), case)?, "{}", case.records);
+    for way in BOTH_WAYS {
+        for case in &CASES {
+            let case = case.run_in(way);
+            assert!(rt;
+                is_unchanged(&rt, rt.alloc(), &case)?,
+                "{way:?} {}",
+                case.records
+            );
+        }
     }
     Ok(())
 }

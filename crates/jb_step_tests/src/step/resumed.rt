@@ -3,11 +3,13 @@
 ghost use Rattle.std.specs.Prelude.{◌≡◌};
 ghost use Rattle.jb_base.specs.Limits.{max_parts};
 
+use crate::step::lacking::Lacking;
 use crate::step::restarts::{Between, gone_on};
-use crate::step::rows::{PLAIN, SEVEN, assert_text, course_of};
+use crate::step::rows::{PLAIN, SEVEN, assert_text, course_of, plain_in};
 use crate::step::runs::{ended_with, started};
+use crate::way::{BOTH_WAYS, Way};
 use jb_base::MAX_PARTS;
-use jb_collect::{ListAnalyzer, ListReducer, Status};
+use jb_collect::{ListAnalyzer, Status};
 use jb_step::Prepared;
 use jb_workers::{Desk, Gate};
 use std::alloc::Global;
@@ -83,15 +85,17 @@ impl<L: Ledger + Send + Sync> Gate for Stopping<L> {
 
 /// Runs the step on the desk that the gate stops, and gives its course.
 fn stop_at<L: Ledger + Send + Sync + 'static, R: Threads + Wait + Sync>(
+    way: Way,
     rt: &R,
     alloc: Global,
     gate: &Stopping<L>,
     prepared: Prepared,
-    reducer: &mut ListReducer,
+    reducer: &mut Lacking,
     between: &mut Between,
 ) -> Result<String, Fail> {
     let mut analyzer = ListAnalyzer::new(alloc, None);
     let end = ended_with::<L, Stopping<L>, R>(
+        way,
         rt,
         alloc,
         &gate.desk,
@@ -110,6 +114,7 @@ fn stop_at<L: Ledger + Send + Sync + 'static, R: Threads + Wait + Sync>(
 
 /// The round of this place is run to its end, and no other is begun.
 fn stop<L: Ledger + Send + Sync + 'static, R: Threads + Wait + Sync>(
+    way: Way,
     rt: &R,
     alloc: Global,
     blank: Blank,
@@ -120,10 +125,11 @@ fn stop<L: Ledger + Send + Sync + 'static, R: Threads + Wait + Sync>(
     requires parts { blank.parts ≡ L.parts }
     requires all { blank.parts ≡ max_parts }
 {
-    let mut reducer = ListReducer::new(alloc, None);
+    let mut reducer = Lacking::nothing(alloc);
     let prepared = started(alloc, PLAIN, RECORDS, &mut reducer, None)?;
     let desk = Arc::new(alloc, prepared.desk::<L>(alloc, blank)?)?;
     stop_at::<L, R>(
+        way,
         rt,
         alloc,
         &Stopping { desk, place },
@@ -135,6 +141,7 @@ fn stop<L: Ledger + Send + Sync + 'static, R: Threads + Wait + Sync>(
 
 /// Stops the step at this place, and asserts its course.
 fn stops<R: Threads + Wait + Abort + Sync>(
+    way: Way,
     rt: &R,
     alloc: Global,
     place: Place,
@@ -142,7 +149,7 @@ fn stops<R: Threads + Wait + Abort + Sync>(
     wanted: &str,
 ) -> Result<(), Fail> {
     let blank = Blank::new(MAX_PARTS);
-    let course = stop::<Brand, R>(rt, alloc, blank, place, between)?;
+    let course = stop::<Brand, R>(way, rt, alloc, blank, place, between)?;
     assert_text(rt, course.as_str(), wanted);
     Ok(())
 }
@@ -152,17 +159,27 @@ fn stops<R: Threads + Wait + Abort + Sync>(
 #[test]
 fn a_stop_in_a_round(rt: HostRuntime) -> Result<(), Fail> {
     let alloc = rt.alloc();
-    let mut between = Between::nothing(alloc);
     let place = Place {
         lane: 1,
         round: 0,
         leaving: false,
     };
-    stops(&rt, alloc, place, &mut between, COURSE)?;
-    between.assert_partitions(&rt, alloc, STOPPED)?;
-    let (status, _) = gone_on(&rt, alloc, PLAIN, RECORDS, false, None, &mut between)?;
-    assert!(rt; status == Some(Status::Completed));
-    between.assert_partitions(&rt, alloc, SEVEN)?;
+    for way in BOTH_WAYS {
+        let mut between = Between::nothing(alloc);
+        stops(way, &rt, alloc, place, &mut between, COURSE)?;
+        between.assert_partitions(&rt, alloc, STOPPED)?;
+        let (status, _) = gone_on(
+            &rt,
+            alloc,
+            plain_in(way),
+            RECORDS,
+            false,
+            None,
+            &mut between,
+        )?;
+        assert!(rt; status == Some(Status::Completed));
+        between.assert_partitions(&rt, alloc, SEVEN)?;
+    }
     Ok(())
 }
 
@@ -171,14 +188,20 @@ fn a_stop_in_a_round(rt: HostRuntime) -> Result<(), Fail> {
 #[test]
 fn a_stop_in_the_last_round(rt: HostRuntime) -> Result<(), Fail> {
     let alloc = rt.alloc();
-    for (lane, leaving) in [(1, false), (0, true)] {
+    let places = [(1, false), (0, true)];
+    for (way, (lane, leaving)) in [
+        (Way::NewThreads, places[0]),
+        (Way::NewThreads, places[1]),
+        (Way::KeptWorkers, places[0]),
+        (Way::KeptWorkers, places[1]),
+    ] {
         let mut between = Between::nothing(alloc);
         let place = Place {
             lane,
             round: 1,
             leaving,
         };
-        stops(&rt, alloc, place, &mut between, WHOLE)?;
+        stops(way, &rt, alloc, place, &mut between, WHOLE)?;
         between.assert_partitions(&rt, alloc, SEVEN)?;
     }
     Ok(())

@@ -2,6 +2,7 @@
 
 use crate::collect::line_of;
 use crate::step::given::Works;
+use crate::way::Way;
 use jb_artifacts::{ItemWriter, ListWriter};
 use jb_base::Rules;
 use jb_collect::{Analyzer, Reducer};
@@ -18,6 +19,8 @@ pub(crate) struct Asked {
     pub(crate) rules: Rules,
     /// The threads that its plan asks for.
     pub(crate) threads: u32,
+    /// How the threads of its rounds are had.
+    pub(crate) way: Way,
 }
 
 /// A step, and what comes of it.
@@ -29,6 +32,14 @@ pub(crate) struct Case {
     pub(crate) course: &'static str,
     /// What each partition comes to.
     pub(crate) partitions: &'static str,
+}
+
+impl Case {
+    /// The same, its rounds run in this way.
+    pub(crate) fn run_in(&self, way: Way) -> Case {
+        let asked = Asked { way, ..self.asked };
+        Case { asked, ..*self }
+    }
 }
 
 pub(crate) const STRICT: Rules = Rules {
@@ -56,7 +67,13 @@ pub(crate) const PLAIN: Asked = Asked {
     item_count: 2,
     rules: STRICT,
     threads: 2,
+    way: Way::NewThreads,
 };
+
+/// The same, its rounds run in this way.
+pub(crate) fn plain_in(way: Way) -> Asked {
+    Asked { way, ..PLAIN }
+}
 
 /// What the partitions of seven records come to.
 pub(crate) const SEVEN: &str = "0 3 3 0 0 3 3 3 2 0 0 0 0 0 0 done xa xb xc

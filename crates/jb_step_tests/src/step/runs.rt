@@ -1,8 +1,11 @@
 //! How the steps of the tests begin and end.
 
-use crate::step::given::{Given, Letters, Works, all_works, begun_from, ended};
+use crate::step::given::{Given, Letters, Works, all_works, begun_from};
+use crate::step::lacking::Lacking;
 use crate::step::rows::Asked;
-use jb_collect::{Analyzer, Reducer};
+use crate::step::ways::ended;
+use crate::way::Way;
+use jb_collect::{ListAnalyzer, Reducer};
 use jb_mapper::FixedMapper;
 use jb_step::{Prepared, Saved, StepEnd, StepError};
 use jb_workers::{Desk, Gate};
@@ -45,24 +48,25 @@ pub(crate) fn started_or_not(
     )
 }
 
-/// Runs the step to its end, with new artifacts for so many partitions of the records.
+/// Runs the step to its end in this way, with new artifacts for so many partitions of the records.
 pub(crate) fn ended_with<
     L: Ledger + Send + Sync + 'static,
     G: Gate + Sync,
     R: Threads + Wait + Sync,
 >(
+    way: Way,
     rt: &R,
     alloc: Global,
     desk: &Desk<L>,
     prepared: Prepared,
     records: &str,
     partitions: usize,
-    analyzer: &mut dyn Analyzer,
-    reducer: &mut dyn Reducer,
+    analyzer: &mut ListAnalyzer,
+    reducer: &mut Lacking,
     gate: &G,
 ) -> Result<Result<StepEnd<Works>, StepError>, Fail> {
     let artifacts = all_works(alloc, records, partitions)?;
     Ok(ended::<Letters, L, G, R>(
-        rt, alloc, desk, prepared, artifacts, analyzer, reducer, gate,
+        way, rt, alloc, desk, prepared, artifacts, analyzer, reducer, gate,
     ))
 }

@@ -3,12 +3,15 @@
 ghost use Rattle.std.specs.Prelude.{◌≡◌};
 ghost use Rattle.jb_base.specs.Limits.{max_parts};
 
-use crate::step::given::{Letters, Works, ended};
+use crate::step::given::{Letters, Works};
+use crate::step::lacking::Lacking;
 use crate::step::restarts::{Between, works_restarted};
-use crate::step::rows::{Asked, PLAIN, SEVEN, assert_text};
+use crate::step::rows::{Asked, SEVEN, assert_text, plain_in};
 use crate::step::runs::started;
+use crate::step::ways::ended;
+use crate::way::{BOTH_WAYS, Way};
 use jb_base::MAX_PARTS;
-use jb_collect::{ListAnalyzer, ListReducer, Status};
+use jb_collect::{ListAnalyzer, Status};
 use jb_repo::Snapshot;
 use jb_rules::Counts;
 use jb_step::{Prepared, StepEnd, StepError};
@@ -160,8 +163,9 @@ fn run_between<
     desk: &'s Desk<L>,
     looks: &'s Looks,
     prepared: Prepared,
-    mut reducer: ListReducer,
+    mut reducer: Lacking,
     artifacts: Vec<Works>,
+    way: Way,
     commits: u64,
 ) -> (Result<StepEnd<Works>, StepError>, Option<u64>) {
     let mut analyzer = ListAnalyzer::new(alloc, None);
@@ -169,6 +173,7 @@ fn run_between<
     let watcher = scope.spawn(move || watch(&*rt, &*desk, &*looks));
     let asker = scope.spawn(move || ask(&*rt, &*desk, &*looks, commits));
     let end = ended::<Letters, L, Held<'_, R>, R>(
+        way,
         rt,
         alloc,
         desk,
@@ -195,14 +200,15 @@ fn in_scope<L: Ledger + Send + Sync + 'static, R: Threads + Wait + Clock + Copy 
     alloc: Global,
     desk: &Desk<L>,
     prepared: Prepared,
-    reducer: ListReducer,
+    reducer: Lacking,
     artifacts: Vec<Works>,
+    way: Way,
     commits: u64,
 ) -> (Result<StepEnd<Works>, StepError>, Option<u64>) {
     let looks = Looks::new();
     thread::scope(thread::scope_env(), rt, |scope| {
         run_between(
-            scope, rt, alloc, desk, &looks, prepared, reducer, artifacts, commits,
+            scope, rt, alloc, desk, &looks, prepared, reducer, artifacts, way, commits,
         )
     })
 }
@@ -220,12 +226,13 @@ fn run_watched<L: Ledger + Send + Sync + 'static, R: Threads + Wait + Clock + Co
     requires parts { blank.parts ≡ L.parts }
     requires all { blank.parts ≡ max_parts }
 {
-    let mut reducer = ListReducer::new(alloc, None);
+    let way = asked.way;
+    let mut reducer = Lacking::nothing(alloc);
     let (saved, left) = between.give_up(alloc);
     let artifacts = works_restarted(alloc, left, None)?;
     let prepared = started(alloc, asked, RECORDS, &mut reducer, saved)?;
     let desk = prepared.desk::<L>(alloc, blank)?;
-    let (end, rises) = in_scope(rt, alloc, &desk, prepared, reducer, artifacts, commits);
+    let (end, rises) = in_scope(rt, alloc, &desk, prepared, reducer, artifacts, way, commits);
     let end = end.ok().ok_or("an end")?;
     let status = end.status;
     between.keep(alloc, end)?;
@@ -284,13 +291,17 @@ fn watched<R: Threads + Wait + Clock + Copy + Sync>(
 #[test]
 fn a_table_is_watched(rt: HostRuntime) -> Result<(), Fail> {
     for (threads, commits) in [(1, 0), (1, 1), (1, 2), (2, 0), (2, 2), (3, 1), (4, 0)] {
-        let mut asked = PLAIN;
-        asked.threads = threads;
-        let watched = watched(&rt, rt.alloc(), asked, commits)?;
-        let seen = if threads == 1 { 4..5 } else { 2..5 };
-        assert!(rt; watched.status == Status::Completed && watched.stops > 0);
-        assert!(rt; seen.contains(&watched.rises));
-        assert_text(&rt, watched.partitions.as_str(), SEVEN);
+        for way in BOTH_WAYS {
+            let asked = Asked {
+                threads,
+                ..plain_in(way)
+            };
+            let watched = watched(&rt, rt.alloc(), asked, commits)?;
+            let seen = if threads == 1 { 4..5 } else { 2..5 };
+            assert!(rt; watched.status == Status::Completed && watched.stops > 0);
+            assert!(rt; seen.contains(&watched.rises));
+            assert_text(&rt, watched.partitions.as_str(), SEVEN);
+        }
     }
     Ok(())
 }

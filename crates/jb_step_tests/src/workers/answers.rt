@@ -5,6 +5,8 @@ ghost use Rattle.jb_chunk.specs.Standing.{IsReady};
 ghost use Rattle.jb_workers.specs.Works.{AllCanBegin};
 ghost use Rattle.jb_base.specs.Limits.{max_parts};
 
+use crate::way::{BOTH_WAYS, Way};
+use crate::workers::rounds::run_round_in;
 use crate::workers::tasks::{
     Processor, RULES, boxes_of, fresh_rows, letters, prefixing, repository, task_of, with_work,
     writer,
@@ -357,6 +359,7 @@ fn judge<
     T: PartitionTask + Send + 'static,
     R: Threads + Wait + Sync,
 >(
+    way: Way,
     rt: &R,
     alloc: Global,
     blank: Blank,
@@ -371,7 +374,7 @@ fn judge<
     let works = works_of::<T>(alloc, case, first, other)?;
     let desk = desk_of::<L>(alloc, rt, blank, case)?;
     let gate = Counter::new(rt, &desk);
-    let round = desk.run_round(rt, alloc, &gate, works);
+    let round = run_round_in(way, &desk, rt, alloc, &gate, works);
     let came_by = gate.counted(&case.history);
     let after = desk.status(rt).ok()?;
     let left = is_left(alloc, &case.history, &after)?;
@@ -478,30 +481,32 @@ fn faults(alloc: Global, first: &First) -> Result<FaultPlans, AllocError> {
 fn rounds(rt: HostRuntime) -> Result<(), Fail> {
     let alloc = rt.alloc();
     let calls = Arc::new(alloc, AtomicU64::new(0))?;
-    for case in cases() {
-        let boxed = boxes_of(alloc, counting(alloc, &case.first, &calls)?)?;
-        let first = Artifacts {
-            reader: boxed.reader,
-            processor: boxed.processor,
-            writer: boxed.writer,
-            collector: boxed.collector,
-        };
-        let boxed = boxes_of(alloc, counting(alloc, &SOUND, &calls)?)?;
-        let other = Artifacts {
-            reader: boxed.reader,
-            processor: boxed.processor,
-            writer: boxed.writer,
-            collector: boxed.collector,
-        };
-        let blank = Blank::new(MAX_PARTS);
-        let judged = judge::<Brand, Task, _>(&rt, alloc, blank, &case, first, other);
-        assert_eq!(rt; judged, Some(true), "{:?}", case.answer);
-        assert_eq!(rt;
-            calls.swap(0, Ordering::SeqCst),
-            case.calls,
-            "{:?}",
-            case.answer
-        );
+    for way in BOTH_WAYS {
+        for case in cases() {
+            let boxed = boxes_of(alloc, counting(alloc, &case.first, &calls)?)?;
+            let first = Artifacts {
+                reader: boxed.reader,
+                processor: boxed.processor,
+                writer: boxed.writer,
+                collector: boxed.collector,
+            };
+            let boxed = boxes_of(alloc, counting(alloc, &SOUND, &calls)?)?;
+            let other = Artifacts {
+                reader: boxed.reader,
+                processor: boxed.processor,
+                writer: boxed.writer,
+                collector: boxed.collector,
+            };
+            let blank = Blank::new(MAX_PARTS);
+            let judged = judge::<Brand, Task, _>(way, &rt, alloc, blank, &case, first, other);
+            assert_eq!(rt; judged, Some(true), "{way:?} {:?}", case.answer);
+            assert_eq!(rt;
+                calls.swap(0, Ordering::SeqCst),
+                case.calls,
+                "{way:?} {:?}",
+                case.answer
+            );
+        }
     }
     Ok(())
 }

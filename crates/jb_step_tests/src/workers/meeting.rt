@@ -4,6 +4,8 @@ ghost use Rattle.std.specs.Prelude.{◌≡◌, ◌<◌, IfSome};
 ghost use Rattle.jb_workers.specs.Works.{AllCanBegin};
 ghost use Rattle.jb_base.specs.Limits.{max_parts};
 
+use crate::way::{BOTH_WAYS, Way};
+use crate::workers::rounds::run_round_in;
 use crate::workers::tasks::{RULES, boxes, fresh_rows, repository, task_of, with_work};
 use jb_artifacts::{Artifacts, FaultPlans};
 use jb_base::MAX_PARTS;
@@ -140,12 +142,12 @@ fn runs<
     L: Ledger + Send + Sync + 'static,
     T: PartitionTask + Send + 'static,
     R: Threads + Wait + Clock + Send + Sync,
->(rt: &R, alloc: Global, gate: &Meeting<L, R>, works: Vec<Work<T>>) -> Option<Snapshot>
+>(way: Way, rt: &R, alloc: Global, gate: &Meeting<L, R>, works: Vec<Work<T>>) -> Option<Snapshot>
     requires ready { AllCanBegin T.standing works.items }
 {
     let desk = &*gate.desk;
     desk.apply(rt, Event::Plan(1, Certificate::FullLoad)).ok()?;
-    let dones = desk.run_round(rt, alloc, gate, works).ok()?;
+    let dones = run_round_in(way, desk, rt, alloc, gate, works).ok()?;
     let after = desk.status(rt).ok()?;
     if are_in(&dones, &after) {
         Some(after)
@@ -163,7 +165,14 @@ fn meet<
     L: Ledger + Send + Sync + 'static,
     T: PartitionTask + Send + 'static,
     R: Threads + Wait + Clock + Copy + Send + Sync,
->(rt: &R, alloc: Global, blank: Blank, later: T::Artifacts, earlier: T::Artifacts) -> Option<Met>
+>(
+    way: Way,
+    rt: &R,
+    alloc: Global,
+    blank: Blank,
+    later: T::Artifacts,
+    earlier: T::Artifacts,
+) -> Option<Met>
     requires name { blank.name ≡ L.name }
     requires parts { blank.parts ≡ L.parts }
     requires all { blank.parts ≡ max_parts }
@@ -171,7 +180,7 @@ fn meet<
     let works = two_works::<T>(alloc, later, earlier)?;
     let desk = Desk::<L>::new(repository(alloc, &fresh_rows())?, blank);
     let gate = Meeting::new(*rt, Arc::new(alloc, desk).ok()?);
-    let after = runs(rt, alloc, &gate, works)?;
+    let after = runs(way, rt, alloc, &gate, works)?;
     let table = (
         after.events,
         after.plans,
@@ -188,22 +197,24 @@ fn meet<
 #[test]
 fn two_lanes_meet(rt: HostRuntime) -> Result<(), Fail> {
     let alloc = rt.alloc();
-    let boxed = boxes(alloc, FaultPlans::new(alloc), true)?;
-    let later = Artifacts {
-        reader: boxed.reader,
-        processor: boxed.processor,
-        writer: boxed.writer,
-        collector: boxed.collector,
-    };
-    let boxed = boxes(alloc, FaultPlans::new(alloc), true)?;
-    let earlier = Artifacts {
-        reader: boxed.reader,
-        processor: boxed.processor,
-        writer: boxed.writer,
-        collector: boxed.collector,
-    };
-    let blank = Blank::new(MAX_PARTS);
-    let met = meet::<Brand, Task, _>(&rt, alloc, blank, later, earlier);
-    assert_eq!(rt; met, Some(([0, 0, 1], (6, 1, 2, false))));
+    for way in BOTH_WAYS {
+        let boxed = boxes(alloc, FaultPlans::new(alloc), true)?;
+        let later = Artifacts {
+            reader: boxed.reader,
+            processor: boxed.processor,
+            writer: boxed.writer,
+            collector: boxed.collector,
+        };
+        let boxed = boxes(alloc, FaultPlans::new(alloc), true)?;
+        let earlier = Artifacts {
+            reader: boxed.reader,
+            processor: boxed.processor,
+            writer: boxed.writer,
+            collector: boxed.collector,
+        };
+        let blank = Blank::new(MAX_PARTS);
+        let met = meet::<Brand, Task, _>(way, &rt, alloc, blank, later, earlier);
+        assert_eq!(rt; met, Some(([0, 0, 1], (6, 1, 2, false))), "{way:?}");
+    }
     Ok(())
 }

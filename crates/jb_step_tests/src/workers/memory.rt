@@ -5,7 +5,9 @@ ghost use Rattle.jb_chunk.specs.Standing.{IsReady};
 ghost use Rattle.jb_workers.specs.Works.{AllCanBegin};
 ghost use Rattle.jb_base.specs.Limits.{max_parts};
 
+use crate::way::{BOTH_WAYS, Way};
 use crate::workers::most::commits;
+use crate::workers::rounds::run_round_in;
 use crate::workers::tasks::{
     Processor, RULES, fresh_rows, letters, prefixing, repository, task_of, with_work, writer,
 };
@@ -95,7 +97,7 @@ fn run_short<
     L: Ledger + Send + Sync + 'static,
     T: PartitionTask + Send + 'static,
     R: Threads + Wait + Sync,
->(rt: &R, alloc: Global, blank: Blank, task: T, other: T) -> Option<bool>
+>(way: Way, rt: &R, alloc: Global, blank: Blank, task: T, other: T) -> Option<bool>
     requires name { blank.name ≡ L.name }
     requires parts { blank.parts ≡ L.parts }
     requires all { blank.parts ≡ max_parts }
@@ -107,7 +109,7 @@ fn run_short<
     if let Err(refused) = desk.apply(rt, Event::Plan(1, Certificate::FullLoad)) {
         return Some(refused == Refused::Memory);
     }
-    let round = desk.run_round(rt, alloc, &NoGate, works);
+    let round = run_round_in(way, &desk, rt, alloc, &NoGate, works);
     let after = match desk.status(rt) {
         Ok(after) => after,
         Err(_) => desk.status(rt).ok()?,
@@ -119,9 +121,11 @@ fn run_short<
 #[test]
 fn memory_refused(rt: HostRuntime) {
     let alloc = rt.alloc();
-    if let (Some(task), Some(other)) = (own_task(alloc, 0), own_task(alloc, 1)) {
-        let blank = Blank::new(MAX_PARTS);
-        let is_well = run_short::<Brand, _, _>(&rt, alloc, blank, task, other);
-        assert!(rt; is_well != Some(false));
+    for way in BOTH_WAYS {
+        if let (Some(task), Some(other)) = (own_task(alloc, 0), own_task(alloc, 1)) {
+            let blank = Blank::new(MAX_PARTS);
+            let is_well = run_short::<Brand, _, _>(way, &rt, alloc, blank, task, other);
+            assert!(rt; is_well != Some(false));
+        }
     }
 }

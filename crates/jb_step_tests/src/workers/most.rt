@@ -5,6 +5,8 @@ ghost use Rattle.jb_chunk.specs.Standing.{IsReady};
 ghost use Rattle.jb_workers.specs.Works.{AllCanBegin};
 ghost use Rattle.jb_base.specs.Limits.{max_parts};
 
+use crate::way::{BOTH_WAYS, Way};
+use crate::workers::rounds::run_round_in;
 use crate::workers::tasks::{Processor, RULES, prefixing, task_of, with_work, writer};
 use jb_artifacts::{ArtifactsOf, CountCollector, FaultPlans, Item, ListWriter, TableReader};
 use jb_base::{MAX_PARTS, PackedList, Range};
@@ -56,7 +58,7 @@ pub(crate) fn own_task(alloc: Global, partition: u32) -> Option<OneRecordTask>
 }
 
 /// A work for each lane: the task that is made for its number.
-fn works<T: PartitionTask, F: Fn(u32) -> Option<T>>(
+pub(crate) fn works<T: PartitionTask, F: Fn(u32) -> Option<T>>(
     alloc: Global,
     lanes: u32,
     make: F,
@@ -90,20 +92,35 @@ fn repository(alloc: Global, partitions: u32) -> Option<Repo>
 /// The Dones of the round and those that are Committed; and of the table after it the events, the rows and the Commits.
 type Came = ((usize, usize), u64, usize, u64);
 
+/// A desk of 1,024 partitions with a plan for a round.
+pub(crate) fn planned_desk<L: Ledger>(
+    rt: &impl Wait,
+    alloc: Global,
+    blank: Blank,
+) -> Option<Desk<L>>
+    requires name { blank.name ≡ L.name }
+    requires parts { blank.parts ≡ L.parts }
+    requires all { blank.parts ≡ max_parts }
+{
+    let desk = Desk::<L>::new(repository(alloc, 1_024)?, blank);
+    desk.apply(rt, Event::Plan(16, Certificate::FullLoad)).ok()?;
+    Some(desk)
+}
+
 /// What comes of a round of these works.
 fn run<
     L: Ledger + Send + Sync + 'static,
     T: PartitionTask + Send + 'static,
     R: Threads + Wait + Sync,
->(rt: &R, alloc: Global, blank: Blank, works: Vec<Work<T>>) -> Option<Came>
+>(way: Way, rt: &R, alloc: Global, blank: Blank, works: Vec<Work<T>>) -> Option<Came>
     requires name { blank.name ≡ L.name }
     requires parts { blank.parts ≡ L.parts }
     requires all { blank.parts ≡ max_parts }
     requires ready { AllCanBegin T.standing works.items }
 {
-    let desk = Desk::<L>::new(repository(alloc, 1_024)?, blank);
-    desk.apply(rt, Event::Plan(16, Certificate::FullLoad)).ok()?;
-    let commits = commits(desk.run_round(rt, alloc, &NoGate, works).ok()?.as_slice());
+    let desk = planned_desk::<L>(rt, alloc, blank)?;
+    let dones = run_round_in(way, &desk, rt, alloc, &NoGate, works).ok()?;
+    let commits = commits(dones.as_slice());
     let after = desk.status(rt).ok()?;
     Some((commits, after.events, after.rows.len(), after.totals.commit))
 }
@@ -122,8 +139,10 @@ pub(crate) fn commits<T>(dones: &[Done<T>]) -> (usize, usize) {
 #[test]
 fn a_round_on_64_lanes(rt: HostRuntime) -> Result<(), Fail> {
     let alloc = rt.alloc();
-    let works = works(alloc, 64, |lane| own_task(alloc, lane)).ok_or("works")?;
-    let came = run::<Brand, _, _>(&rt, alloc, Blank::new(MAX_PARTS), works);
-    assert!(rt; came == Some(((64, 64), 130, 1_024, 64)));
+    for way in BOTH_WAYS {
+        let works = works(alloc, 64, |lane| own_task(alloc, lane)).ok_or("works")?;
+        let came = run::<Brand, _, _>(way, &rt, alloc, Blank::new(MAX_PARTS), works);
+        assert!(rt; came == Some(((64, 64), 130, 1_024, 64)), "{way:?}");
+    }
     Ok(())
 }

@@ -1,0 +1,12 @@
+//! The two ways in which the tests run rounds.
+
+/// How the threads of a round are had.
+#[derive(Clone, Copy, Debug, PartialEq, Eq)]
+pub(crate) enum Way {
+    /// A thread is started for each of its works but one, and joined behind it.
+    NewThreads,
+    /// The workers of a pool do them, which a step keeps between its rounds.
+    KeptWorkers,
+}
+
+pub(crate) const BOTH_WAYS: [Way; 2] = [Way::NewThreads, Way::KeptWorkers];
