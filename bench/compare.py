@@ -1,11 +1,11 @@
 #!/usr/bin/env python3
 """`batchrun` beside Python's `json` and beside a plain program, on the same documents and in one run.
 
-    bench/compare.py [--records N] [--runs N]
+    bench/compare.py [--threads] [--records N] [--runs N]
 
 `plain` is the program of the folder plain/, whose head says what it leaves out; it is built here by `rustc`, and its outputs are
 compared with those of `batchrun`. `python3` reads a document of records into a tree by its module `json` and writes that tree again,
-and does nothing else. All run on one thread, their output goes to the null device, and they take turns: `cpu s` is the least
+and does nothing else. All run on one thread (but see below), their output goes to the null device, and they take turns: `cpu s` is the least
 processor time of some runs of each, `peak MB` the most memory that one held at once, never less than this script's own, about
 15 MB. `instructions` are those for one record, or for one slot of a plan, counted by valgrind's callgrind, as the difference between a
 document of 30,000 and one of 10,000: a count that no load of the machine changes. The table is Markdown, as README.md has it. No number
@@ -13,6 +13,10 @@ here decides the gate.
 
 With --records there are so many short records in place of 1,000,000, and of the others so many fewer: ten times the records should take
 about ten times as long.
+
+With --threads both programs run the documents of short records, in chunks of 10 to 10,000, and that of faulty ones, on 1 to 64 threads:
+`batchrun` moves its threads between partitions at their checkpoints, the plain program's pool takes partitions whole. A cell is `cpu / wall` in
+seconds, the least of some runs of each, and below the table stands for each program where four threads took less wall time than one.
 """
 import argparse
 import json
@@ -48,6 +52,14 @@ CASES = (
     ("plan of {:,} slots, 4,096 partitions on 63 threads", "plan", 8_192_000, plan_of(4_096, 63)),
     ("plan of {:,} slots, one partition on 64 threads", "plan", 10_000_000, plan_of(1, 64)),
 )
+
+
+# What is run on threads: what it is called, and what makes it of a number of records.
+ON_THREADS = (
+    *((f"chunks of {count:,}, 8 partitions", documents.short, count) for count in (10, 100, 1_000, 10_000)),
+    ("1 in 50 faulty, chunks of 100, 64 partitions", documents.faulty, 100),
+)
+THREADS = (1, 2, 4, 8, 64)
 
 
 def plain_program(room):
@@ -93,12 +105,37 @@ def cells(commands, word, size, make, runs, room):
         yield f"{each:,.0f}, {cpu:.2f}, {peak:.0f}"
 
 
+def print_threads(plain, options, room):
+    commands, path, pays = {"batchrun": [PROGRAM, "run"], "plain": [plain, "run"]}, os.path.join(room, "threads.json"), {"batchrun": [], "plain": []}
+    heads = [f"`{by}`, {threads}" for by in commands for threads in THREADS]
+    print(f"| {options.records:,} records, on so many threads | {' | '.join(heads)} |\n|{'---|' * (len(heads) + 1)}")
+    for name, make, item_count in ON_THREADS:
+        taken = {}
+        for threads in THREADS:
+            documents.write(path, documents.threaded, make, threads, options.records, item_count)
+            in_a_process(compare, "run", *commands.values(), path)
+            for by, command in commands.items():
+                ran = [measure(command, path) for _ in range(options.runs)]
+                taken[by, threads] = min(cpu for _, _, cpu, _ in ran), min(wall for _, wall, _, _ in ran)
+        print(f"| {name} | {' | '.join(f'{cpu:.2f} / {wall:.2f}' for cpu, wall in (taken[by, it] for by in commands for it in THREADS))} |", flush=True)
+        for by in commands:
+            if taken[by, 4][1] < taken[by, 1][1]:
+                pays[by].append(name)
+    print()
+    for by, names in pays.items():
+        print(f"`{by}`: four threads took less wall time than one: {'; '.join(names) or 'nowhere'}")
+
+
 def main():
-    parser = argparse.ArgumentParser()
+    parser = argparse.ArgumentParser(description=__doc__, formatter_class=argparse.RawDescriptionHelpFormatter)
+    parser.add_argument("--threads", action="store_true")
     parser.add_argument("--records", type=int, default=MILLION)
     parser.add_argument("--runs", type=int, default=3)
     options = parser.parse_args()
     built()
+    if options.threads:
+        with tempfile.TemporaryDirectory() as room:
+            return print_threads(plain_program(room), options, room)
     print("| What | `batchrun`: instructions each, cpu s, peak MB | `plain`: the same | `python3`: the same |\n|---|---|---|---|")
     with tempfile.TemporaryDirectory() as room:
         plain = plain_program(room)

@@ -65,6 +65,13 @@ def half_done(records, item_count):
     return document | {"resume": {"outputs": step["outputs"], "saved": step["saved"]}}
 
 
+def threaded(make, threads, *given):
+    """The same document, for so many threads."""
+    document = make(*given)
+    document["job"]["step"][0]["partition"]["plan"]["threads"] = threads
+    return document
+
+
 def load(counts, threads):
     return {"counts": counts, "threads": threads}
 

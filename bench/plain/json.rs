@@ -1,41 +1,28 @@
-//! JSON as a tree: what the documents and the answers of `batchrun` need of it. Numbers are whole and below 2^64.
+//! JSON as a tree over its text: what the documents and the answers of `batchrun` need of it. Numbers are whole and below 2^64. A text
+//! without escapes is a part of the document.
 
-pub enum Tree {
+use std::borrow::Cow;
+
+pub enum Tree<'a> {
     /// `true`, `false` or `null`: which one, nothing here asks for.
     Word,
     Number(u64),
-    Text(String),
-    List(Vec<Tree>),
-    Object(Vec<(String, Tree)>),
+    Text(Cow<'a, str>),
+    List(Vec<Tree<'a>>),
+    Object(Vec<(Cow<'a, str>, Tree<'a>)>),
 }
 
-impl Tree {
+impl<'a> Tree<'a> {
     /// The member of an object.
-    pub fn get(&self, name: &str) -> Option<&Tree> {
+    pub fn get(&self, name: &str) -> Option<&Tree<'a>> {
         match self {
             Tree::Object(members) => members.iter().find(|(key, _)| key == name).map(|(_, value)| value),
             _ => None,
         }
     }
 
-    /// The member of an object, to be changed.
-    pub fn get_mut(&mut self, name: &str) -> Option<&mut Tree> {
-        match self {
-            Tree::Object(members) => members.iter_mut().find(|(key, _)| key == name).map(|(_, value)| value),
-            _ => None,
-        }
-    }
-
-    /// The first element of a list, to be changed.
-    pub fn first_mut(&mut self) -> Option<&mut Tree> {
-        match self {
-            Tree::List(elements) => elements.first_mut(),
-            _ => None,
-        }
-    }
-
     /// The elements of a list: none where there is no list.
-    pub fn list(&self) -> &[Tree] {
+    pub fn list(&self) -> &[Tree<'a>] {
         match self {
             Tree::List(elements) => elements,
             _ => &[],
@@ -58,7 +45,7 @@ impl Tree {
 }
 
 /// The tree of a text that is one JSON value.
-pub fn read(text: &str) -> Option<Tree> {
+pub fn read(text: &str) -> Option<Tree<'_>> {
     let mut reader = Reader { text, at: 0 };
     let tree = reader.value()?;
     reader.skip_blanks();
@@ -70,7 +57,7 @@ struct Reader<'a> {
     at: usize,
 }
 
-impl Reader<'_> {
+impl<'a> Reader<'a> {
     fn peek(&self) -> Option<u8> {
         self.text.as_bytes().get(self.at).copied()
     }
@@ -81,26 +68,31 @@ impl Reader<'_> {
         }
     }
 
-    /// Takes these bytes, behind blanks, where they stand here.
-    fn take(&mut self, word: &str) -> Option<()> {
+    /// Takes this byte, behind blanks, where it stands here.
+    fn take(&mut self, byte: u8) -> Option<()> {
         self.skip_blanks();
-        self.text.as_bytes()[self.at..].starts_with(word.as_bytes()).then(|| self.at += word.len())
+        (self.peek() == Some(byte)).then(|| self.at += 1)
     }
 
-    fn value(&mut self) -> Option<Tree> {
+    fn word(&mut self, word: &str) -> Option<Tree<'a>> {
+        self.text.as_bytes()[self.at..].starts_with(word.as_bytes()).then(|| self.at += word.len())?;
+        Some(Tree::Word)
+    }
+
+    fn value(&mut self) -> Option<Tree<'a>> {
         self.skip_blanks();
         match self.peek()? {
             b'"' => self.string().map(Tree::Text),
             b'[' => self.elements(),
             b'{' => self.members(),
             b'0'..=b'9' => self.digits(),
-            b't' => self.take("true").map(|()| Tree::Word),
-            b'f' => self.take("false").map(|()| Tree::Word),
-            _ => self.take("null").map(|()| Tree::Word),
+            b't' => self.word("true"),
+            b'f' => self.word("false"),
+            _ => self.word("null"),
         }
     }
 
-    fn digits(&mut self) -> Option<Tree> {
+    fn digits(&mut self) -> Option<Tree<'a>> {
         let begin = self.at;
         while matches!(self.peek(), Some(b'0'..=b'9')) {
             self.at += 1;
@@ -108,57 +100,60 @@ impl Reader<'_> {
         self.text[begin..self.at].parse().ok().map(Tree::Number)
     }
 
-    fn elements(&mut self) -> Option<Tree> {
-        self.take("[")?;
+    fn elements(&mut self) -> Option<Tree<'a>> {
+        self.take(b'[')?;
         let mut elements = Vec::new();
-        if self.take("]").is_some() {
+        if self.take(b']').is_some() {
             return Some(Tree::List(elements));
         }
         loop {
             elements.push(self.value()?);
-            if self.take(",").is_none() {
-                return self.take("]").map(|()| Tree::List(elements));
+            if self.take(b',').is_none() {
+                return self.take(b']').map(|()| Tree::List(elements));
             }
         }
     }
 
-    fn members(&mut self) -> Option<Tree> {
-        self.take("{")?;
+    fn members(&mut self) -> Option<Tree<'a>> {
+        self.take(b'{')?;
         let mut members = Vec::new();
-        if self.take("}").is_some() {
+        if self.take(b'}').is_some() {
             return Some(Tree::Object(members));
         }
         loop {
             self.skip_blanks();
             let name = self.string()?;
-            self.take(":")?;
+            self.take(b':')?;
             members.push((name, self.value()?));
-            if self.take(",").is_none() {
-                return self.take("}").map(|()| Tree::Object(members));
+            if self.take(b',').is_none() {
+                return self.take(b'}').map(|()| Tree::Object(members));
             }
         }
     }
 
-    /// What stands up to the next quote or escape, and whether that is the quote.
-    fn plain_part(&mut self) -> Option<(usize, usize, bool)> {
-        let begin = self.at;
-        let length = self.text.as_bytes()[begin..].iter().position(|byte| matches!(byte, b'"' | b'\\'))?;
-        self.at += length + 1;
-        Some((begin, begin + length, self.text.as_bytes()[begin + length] == b'"'))
+    /// What stands up to the next quote or escape.
+    fn part(&mut self) -> &'a str {
+        let rest = &self.text[self.at..];
+        let part = &rest[..plain_length(rest)];
+        self.at += part.len();
+        part
     }
 
-    /// A string: what stands between two escapes is copied as a whole.
-    fn string(&mut self) -> Option<String> {
-        self.take("\"")?;
-        let (begin, end, mut is_end) = self.plain_part()?;
-        let mut string = String::from(&self.text[begin..end]);
-        while !is_end {
-            string.push(self.escaped()?);
-            let part = self.plain_part()?;
-            string.push_str(&self.text[part.0..part.1]);
-            is_end = part.2;
+    fn string(&mut self) -> Option<Cow<'a, str>> {
+        self.take(b'"')?;
+        let first = self.part();
+        if self.peek()? == b'"' {
+            self.at += 1;
+            return Some(Cow::Borrowed(first));
         }
-        Some(string)
+        let mut string = String::from(first);
+        while self.peek()? == b'\\' {
+            self.at += 1;
+            string.push(self.escaped()?);
+            string.push_str(self.part());
+        }
+        self.take(b'"')?;
+        Some(Cow::Owned(string))
     }
 
     fn escaped(&mut self) -> Option<char> {
@@ -187,23 +182,47 @@ impl Reader<'_> {
         if !(0xd800..0xdc00).contains(&high) {
             return char::from_u32(high);
         }
-        self.take("\\u")?;
+        self.text[self.at..].starts_with("\\u").then(|| self.at += 2)?;
         let low = self.unit()?.checked_sub(0xdc00)?;
         char::from_u32(0x10000 + (high - 0xd800) * 0x400 + low)
     }
 }
 
-/// Writes a text as a JSON string.
-pub fn write_text(to: &mut String, text: &str) {
-    to.push('"');
-    let mut rest = text;
-    while let Some(place) = rest.bytes().position(|byte| byte == b'"' || byte == b'\\' || byte < b' ') {
-        to.push_str(&rest[..place]);
-        write_escape(to, char::from(rest.as_bytes()[place]));
-        rest = &rest[place + 1..];
+const ONES: u64 = u64::MAX / 255;
+const TOPS: u64 = ONES << 7;
+
+/// Which of eight bytes is a quote, a backslash or a control character: its top bit, and maybe those of bytes above it.
+fn special(eight: u64) -> u64 {
+    let zero = |bytes: u64| bytes.wrapping_sub(ONES) & !bytes;
+    let quote = zero(eight ^ (ONES * b'"' as u64));
+    let backslash = zero(eight ^ (ONES * b'\\' as u64));
+    let control = eight.wrapping_sub(ONES * b' ' as u64) & !eight;
+    (quote | backslash | control) & TOPS
+}
+
+/// How many bytes stand before the first quote, backslash or control character. Eight at a time.
+fn plain_length(text: &str) -> usize {
+    let mut eights = text.as_bytes().chunks_exact(8);
+    for (place, eight) in eights.by_ref().enumerate() {
+        let found = special(u64::from_le_bytes(eight.try_into().unwrap()));
+        if found != 0 {
+            return place * 8 + found.trailing_zeros() as usize / 8;
+        }
     }
-    to.push_str(rest);
-    to.push('"');
+    let rest = eights.remainder();
+    text.len() - rest.len() + rest.iter().position(|&byte| byte == b'"' || byte == b'\\' || byte < b' ').unwrap_or(rest.len())
+}
+
+/// Writes a text as it stands between the quotes of a JSON string.
+pub fn write_plain(to: &mut String, text: &str) {
+    let mut rest = text;
+    loop {
+        let length = plain_length(rest);
+        to.push_str(&rest[..length]);
+        let Some(special) = rest.as_bytes().get(length) else { return };
+        write_escape(to, char::from(*special));
+        rest = &rest[length + 1..];
+    }
 }
 
 fn write_escape(to: &mut String, c: char) {

@@ -1,53 +1,75 @@
 //! A plain program that does what `batchrun` does on the documents of bench/compare.py: `plain run`, `plain restart`, `plain plan`.
 //!
-//! It reads the document into a tree, runs each partition's chunks, and prints the outputs of each partition and what a collector
-//! told of its commits; or it prints the plan. It is written to be short and fast, to measure against. What it leaves out: it
-//! checks nothing of a document but that it is JSON, has one step, one thread, and no limits, listeners, analyzer or reducer; it
-//! makes no plan for the chunks that it runs; it knows faults of processing alone, `bad` ones, which are skipped, and `shaky` ones,
-//! which are retried after a rollback, record by record; it keeps no counts but that of results written, and no history. It looks
-//! for the faults of a chunk before it makes the results, so that a record's text is moved and nothing has to be undone. Where something isn't as it expects, it ends with status 1 and says nothing.
+//! It reads the document into a tree that borrows its texts, runs each partition's chunks, and prints the outputs of each partition and
+//! what a collector told of its commits; or it prints the plan. It is written as one would ship it, to measure against. A partition's
+//! results are written, as the report has them, into one buffer of its own. With more than one thread in the document's plan, a pool of so
+//! many takes the partitions in turn, each to its end. What it leaves out: it checks nothing of a document but that it is JSON, has one step,
+//! and no limits, listeners, analyzer or reducer; it makes no plan for the chunks that it runs; it knows faults of processing alone, in their
+//! order, `bad` ones, which are skipped, and `shaky` ones, which are retried after a rollback, record by record; it keeps no counts but that of
+//! results written, and no history. It looks for the faults of a chunk before it makes the results, so that nothing has to be undone. Where
+//! something isn't as it expects, it ends with status 1 and says nothing.
 
 mod json;
 
-use json::{Tree, read, write_text};
-use std::collections::HashMap;
+use json::{Tree, read, write_plain};
 use std::fmt::Write as _;
 use std::io::{BufWriter, Read, Write};
 use std::mem;
-use std::ops::Range;
 use std::process::ExitCode;
+use std::sync::Mutex;
+use std::thread;
 
-/// The faults of processing that are left.
-enum Fault {
-    Bad,
-    Shaky(usize),
+/// A record whose processing fails.
+struct Fault {
+    record: usize,
+    /// How often it fails still; none where it always does.
+    left: Option<usize>,
 }
 
 struct Step<'a> {
-    records: Vec<Tree>,
+    records: &'a [Tree<'a>],
     prefix: &'a str,
     drop: Option<&'a str>,
     item_count: usize,
-    faults: HashMap<usize, Fault>,
+    threads: usize,
 }
 
 /// A partition's records from `at` on are still to be run.
 struct Partition {
     at: usize,
     end: usize,
-    outputs: Vec<String>,
-    heard: Vec<String>,
+    faults: Vec<Fault>,
+    /// What is written, between the brackets of the report's list.
+    outputs: String,
+    written: usize,
+    heard: String,
+}
+
+impl Partition {
+    fn new(at: usize, end: usize) -> Partition {
+        Partition { at, end, faults: Vec::new(), outputs: String::new(), written: 0, heard: String::new() }
+    }
+
+    /// Writes the parts of a text as a result.
+    fn write(&mut self, parts: [&str; 2]) {
+        self.outputs.push_str(if self.written == 0 { "\"" } else { ",\"" });
+        for part in parts {
+            write_plain(&mut self.outputs, part);
+        }
+        self.outputs.push('"');
+        self.written += 1;
+    }
 }
 
 /// The ranges of a plan, or of a step without one.
-fn fresh(job_step: &Tree, records: usize) -> Option<Vec<Partition>> {
-    let whole = [Tree::List(vec![Tree::Number(0), Tree::Number(records as u64)])];
-    let ranges = job_step.get("partition").and_then(|it| it.get("plan")?.get("ranges")).map_or(&whole[..], Tree::list);
+fn fresh(plan: Option<&Tree>, records: usize) -> Option<Vec<Partition>> {
+    let Some(ranges) = plan.and_then(|it| it.get("ranges")) else { return Some(vec![Partition::new(0, records)]) };
     ranges
+        .list()
         .iter()
         .map(|range| {
             let [at, end] = range.list() else { return None };
-            Some(Partition { at: number(at)?, end: number(end)?, outputs: Vec::new(), heard: Vec::new() })
+            Some(Partition::new(number(at)?, number(end)?))
         })
         .collect()
 }
@@ -58,9 +80,12 @@ fn resumed(resume: &Tree) -> Option<Vec<Partition>> {
     rows.iter()
         .zip(resume.get("outputs")?.list())
         .map(|(row, outputs)| {
-            let outputs = outputs.list().iter().map(|text| text.text().map(String::from)).collect::<Option<_>>()?;
             let row = row.list();
-            Some(Partition { at: number(row.get(2)?)?, end: number(row.get(1)?)?, outputs, heard: Vec::new() })
+            let mut partition = Partition::new(number(row.get(2)?)?, number(row.get(1)?)?);
+            for text in outputs.list() {
+                partition.write(["", text.text()?]);
+            }
+            Some(partition)
         })
         .collect()
 }
@@ -69,102 +94,124 @@ fn number(tree: &Tree) -> Option<usize> {
     tree.number()?.try_into().ok()
 }
 
-fn faults_of(data: &Tree) -> Option<HashMap<usize, Fault>> {
-    let entries = data.get("faults").and_then(|it| it.get("process")).map_or(&[][..], Tree::list);
-    entries
-        .iter()
-        .map(|entry| {
-            let [record, kind, classes] = entry.list() else { return None };
-            let fault = if kind.text()? == "bad" { Fault::Bad } else { Fault::Shaky(classes.list().len()) };
-            Some((number(record)?, fault))
-        })
-        .collect()
+fn fault(entry: &Tree) -> Option<Fault> {
+    let [record, kind, classes] = entry.list() else { return None };
+    Some(Fault { record: number(record)?, left: if kind.text()? == "bad" { None } else { Some(classes.list().len()) } })
+}
+
+/// Gives each partition the faults of its records.
+fn hand_out(faults: &[Tree], partitions: &mut [Partition]) -> Option<()> {
+    let faults: Vec<Fault> = faults.iter().map(fault).collect::<Option<_>>()?;
+    let mut faults = faults.into_iter().peekable();
+    for partition in partitions {
+        while let Some(fault) = faults.next_if(|it| it.record < partition.end) {
+            if fault.record >= partition.at {
+                partition.faults.push(fault);
+            }
+        }
+    }
+    Some(())
 }
 
 /// Whether a record of a chunk fails for a time: then it fails one time less from now on.
-fn has_to_be_retried(step: &mut Step, records: Range<usize>) -> bool {
-    !step.faults.is_empty()
-        && records.into_iter().any(|record| match step.faults.get_mut(&record) {
-            Some(Fault::Shaky(left)) if *left > 0 => {
-                *left -= 1;
-                true
-            }
-            _ => false,
-        })
+fn has_to_be_retried(faults: &mut [Fault]) -> bool {
+    faults.iter_mut().filter_map(|it| it.left.as_mut()).find(|left| **left > 0).map(|left| *left -= 1).is_some()
 }
 
-/// The result of a record; None where it is skipped or filtered.
-fn result(step: &mut Step, record: usize) -> Option<String> {
-    if !step.faults.is_empty() && matches!(step.faults.get(&record), Some(Fault::Bad)) {
-        return None;
+/// Writes the results of a chunk, of those records that aren't skipped or filtered; these are its faults.
+fn write_chunk(step: &Step, partition: &mut Partition, end: usize, faults: std::ops::Range<usize>) -> Option<()> {
+    let mut next = faults.start;
+    for record in partition.at..end {
+        if next < faults.end && partition.faults[next].record == record {
+            next += 1;
+            if partition.faults[next - 1].left.is_none() {
+                continue;
+            }
+        }
+        let item = step.records[record].text()?;
+        if !step.drop.is_some_and(|drop| item.starts_with(drop)) {
+            partition.write([step.prefix, item]);
+        }
     }
-    let Tree::Text(mut item) = mem::replace(&mut step.records[record], Tree::Word) else { return None };
-    if step.drop.is_some_and(|drop| item.starts_with(drop)) {
-        return None;
-    }
-    item.insert_str(0, step.prefix);
-    Some(item)
+    partition.at = end;
+    Some(())
 }
 
 /// Runs a partition to its end. What was rolled back is run again record by record.
-fn run_partition(step: &mut Step, place: usize, partition: &mut Partition) {
+fn run_partition(step: &Step, place: usize, partition: &mut Partition) -> Option<()> {
     if partition.at == partition.end {
-        return;
+        return Some(());
     }
-    let mut singly_to = partition.at;
+    let (mut singly_to, mut fault) = (partition.at, 0);
     while partition.at < partition.end {
         let size = if partition.at < singly_to { 1 } else { step.item_count };
-        let chunk_end = partition.end.min(partition.at + size);
-        if has_to_be_retried(step, partition.at..chunk_end) {
-            singly_to = singly_to.max(chunk_end);
+        let end = partition.end.min(partition.at + size);
+        let count = partition.faults[fault..].iter().take_while(|it| it.record < end).count();
+        if has_to_be_retried(&mut partition.faults[fault..fault + count]) {
+            singly_to = singly_to.max(end);
             continue;
         }
-        partition.outputs.extend((partition.at..chunk_end).filter_map(|record| result(step, record)));
-        partition.at = chunk_end;
-        partition.heard.push(format!("{place}:{chunk_end}:{}", partition.outputs.len()));
+        write_chunk(step, partition, end, fault..fault + count)?;
+        fault += count;
+        write!(partition.heard, "\"{place}:{end}:{}\",", partition.written).ok()?;
     }
-    partition.heard.push(format!("{place}:{}:{}:end", partition.at, partition.outputs.len()));
-    partition.heard.push("COMPLETED".into());
+    write!(partition.heard, "\"{place}:{}:{}:end\",\"COMPLETED\"", partition.at, partition.written).ok()
 }
 
-fn write_lists<'a>(to: &mut String, lists: impl Iterator<Item = &'a Vec<String>>) {
-    for (place, list) in lists.enumerate() {
-        to.push(if place == 0 { '[' } else { ',' });
-        to.push('[');
-        for (place, text) in list.iter().enumerate() {
-            if place > 0 {
-                to.push(',');
-            }
-            write_text(to, text);
+/// Takes partitions in turn, until all are taken or one isn't as expected.
+fn work<'a>(step: &Step, left: &Mutex<impl Iterator<Item = (usize, &'a mut Partition)>>) -> Option<()> {
+    loop {
+        let taken = left.lock().ok()?.next();
+        match taken {
+            Some((place, partition)) => run_partition(step, place, partition)?,
+            None => return Some(()),
         }
-        to.push(']');
     }
-    to.push(']');
 }
 
-fn run(document: &mut Tree) -> Option<()> {
-    let Tree::List(records) = mem::replace(document.get_mut("data")?.first_mut()?.get_mut("records")?, Tree::Word) else { return None };
+/// Runs all partitions, over a pool of threads.
+fn run_all(step: &Step, partitions: &mut [Partition]) -> Option<()> {
+    let threads = step.threads.min(partitions.len());
+    let left = Mutex::new(partitions.iter_mut().enumerate());
+    thread::scope(|scope| {
+        let others: Vec<_> = (1..threads).map(|_| scope.spawn(|| work(step, &left))).collect();
+        let own = work(step, &left);
+        others.into_iter().try_fold((), |(), other| other.join().ok()?).and(own)
+    })
+}
+
+fn write_lists<'a>(to: &mut impl Write, lists: impl Iterator<Item = &'a String>) -> Option<()> {
+    for (place, list) in lists.enumerate() {
+        to.write_all(if place == 0 { b"[" } else { b",[" }).ok()?;
+        to.write_all(list.as_bytes()).ok()?;
+        to.write_all(b"]").ok()?;
+    }
+    Some(())
+}
+
+fn run(document: &Tree) -> Option<()> {
     let ([job_step], [data]) = (document.get("job")?.get("step")?.list(), document.get("data")?.list()) else { return None };
-    let mut step = Step {
-        records,
+    let plan = job_step.get("partition").and_then(|it| it.get("plan"));
+    let step = Step {
+        records: data.get("records")?.list(),
         prefix: data.get("prefix").and_then(Tree::text).unwrap_or(""),
         drop: data.get("drop").and_then(Tree::text),
         item_count: number(job_step.get("chunk")?.get("item-count")?)?,
-        faults: faults_of(data)?,
+        threads: plan.and_then(|it| number(it.get("threads")?)).unwrap_or(1),
     };
     let mut partitions = match document.get("resume") {
         Some(resume) => resumed(resume)?,
-        None => fresh(job_step, step.records.len())?,
+        None => fresh(plan, step.records.len())?,
     };
-    for (place, partition) in partitions.iter_mut().enumerate() {
-        run_partition(&mut step, place, partition);
-    }
-    let mut report = String::from("{\"heard\":");
-    write_lists(&mut report, partitions.iter().map(|it| &it.heard));
-    report.push_str(",\"outputs\":");
-    write_lists(&mut report, partitions.iter().map(|it| &it.outputs));
-    report.push_str("}\n");
-    std::io::stdout().write_all(report.as_bytes()).ok()
+    let faults = data.get("faults").and_then(|it| it.get("process")).map_or(&[][..], Tree::list);
+    hand_out(faults, &mut partitions)?;
+    run_all(&step, &mut partitions)?;
+    let mut out = std::io::stdout().lock();
+    out.write_all(b"{\"heard\":[").ok()?;
+    write_lists(&mut out, partitions.iter().map(|it| &it.heard))?;
+    out.write_all(b"],\"outputs\":[").ok()?;
+    write_lists(&mut out, partitions.iter().map(|it| &it.outputs))?;
+    out.write_all(b"]}\n").ok()
 }
 
 /// The partition and the chunk at a place of all partitions' chunks in a row, which is cut into lanes of so many rounds. It is looked
@@ -227,9 +274,9 @@ fn plan(document: &Tree) -> Option<()> {
 fn main() -> ExitCode {
     let word = std::env::args().nth(1).unwrap_or_default();
     let mut text = String::new();
-    let ran = std::io::stdin().read_to_string(&mut text).ok().and_then(|_| read(&text)).and_then(|mut document| {
+    let ran = std::io::stdin().read_to_string(&mut text).ok().and_then(|_| read(&text)).and_then(|document| {
         let ran = match word.as_str() {
-            "run" | "restart" => run(&mut document),
+            "run" | "restart" => run(&document),
             "plan" => plan(&document),
             _ => None,
         };
