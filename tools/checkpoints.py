@@ -11,8 +11,8 @@ import stat
 import struct
 import tempfile
 
-import beyond_schema
 import reports
+from rules import plans, rows
 
 LOG = "-wal"  # behind the file's name
 LOG_HEAD = 32  # bytes; they change whenever the log begins anew
@@ -206,20 +206,17 @@ def form_of(base):
 
 
 def fresh_rows(form):
-    """The rows of a run that begins: even ranges, the first ones longer by one record where they don't divide evenly."""
-    least, longer = divmod(form.records, form.partitions)
-    ends = [least * (place + 1) + min(place + 1, longer) for place in range(form.partitions)]
-    for lo, hi in zip([0, *ends], ends):
-        yield reports.Row(lo, hi, lo, lo, *[0] * 11, "done" if lo == hi else "waiting")
+    """The rows of a run that begins."""
+    return [rows.begun(lo, hi) for lo, hi in plans.even_ranges(form.records, form.partitions)]
 
 
-def check_rows(form, place, tree, rows):
+def check_rows(form, place, tree, found):
     """The rules of rows, the step and its ranges."""
-    for partition, row in enumerate(rows):
-        for rule, holds in beyond_schema.ROW_RULES.items():
-            reports.checked(holds(row), f"{place}, rows[{partition}] breaks this rule of rows: {rule}")
+    for partition, row in enumerate(found):
+        for rule in rows.broken_rules(row):
+            raise reports.Refused(f"{place}, rows[{partition}] breaks this rule of rows: {rule}")
     ranges = [(row.lo, row.hi) for row in fresh_rows(form)]
-    is_of_form = tree.get("step") == form.step and [(row.lo, row.hi) for row in rows] == ranges
+    is_of_form = tree.get("step") == form.step and [(row.lo, row.hi) for row in found] == ranges
     reports.checked(is_of_form, f"{place} isn't of the step and the ranges of checkpoint 1")
 
 
@@ -229,11 +226,11 @@ def rows_of(form, number, saved):
     try:
         tree = reports.tree_of(saved, place)
         reports.checked(reports.is_saved(tree), f"{place} isn't a saved object of version 1 or 2")
-        rows = reports.rows_of(tree["rows"], tree["version"], f"{place}, rows")
-        check_rows(form, place, tree, rows)
+        found = reports.rows_of(tree["rows"], tree["version"], f"{place}, rows")
+        check_rows(form, place, tree, found)
     except reports.Refused as refused:
         raise Refused("Saved", refused) from None
-    return rows
+    return found
 
 
 def run_in(base, path):
@@ -242,7 +239,7 @@ def run_in(base, path):
     count = count_of(base, path)
     form = form_of(base)
     if count == 1:
-        return Run(form, count, list(fresh_rows(form)))
+        return Run(form, count, fresh_rows(form))
     saved, = base.execute("SELECT saved FROM checkpoint WHERE number = ?", [count]).fetchone()
     return Run(form, count, rows_of(form, count, saved))
 

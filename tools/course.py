@@ -1,8 +1,10 @@
 """What became of a job's steps over all its reports: which records were skipped, at which a partition failed, and the lines on them."""
 import json
 
-import replay
 import reports
+from rules import history, rows
+from rules.chunks import Fault
+from rules.documents import chunks_of
 
 SHOWN = 5  # skips of a partition that are printed
 
@@ -10,18 +12,19 @@ SHOWN = 5  # skips of a partition that are printed
 class Course:
     """A step over all reports: its last one, the skips that could be worked out, by partition, and why partitions failed."""
 
-    def __init__(self, chunks):
-        self.chunks, self.step, self.skipped, self.failures = chunks, None, {}, {}
+    def __init__(self, chunk, data):
+        self.chunk, self.data, self.step, self.skipped, self.failures = chunk, data, None, {}, {}
 
     def go_on(self, name, step, found_before):
         """Takes the step of the report of that name. Where the document was changed since, what was found before stands."""
-        before = [replay.start_of(row) for row in step.rows] if self.step is None else self.step.rows
+        before = [rows.begun(row.lo, row.hi) for row in step.rows] if self.step is None else self.step.rows
         self.failures = {}
         for partition, (start, row) in enumerate(zip(before, step.rows)):
             skips = reports.skips_of(row) - reports.skips_of(start)
             if skips == 0 and row.state != "failed":
                 continue
-            skipped, failure = replay.met(self.chunks, start, row) or (found_before.get((name, step.name, partition), []), None)
+            met = history.met(self.chunk, self.data, start, row)
+            skipped, failure = met or (found_before.get((name, step.name, partition), []), None)
             if len(skipped) == skips:
                 self.skipped.setdefault(partition, []).extend((name, fault) for fault in skipped)
                 self.failures[partition] = failure
@@ -32,7 +35,7 @@ def courses_of(document, kept, found_before):
     """The course of each step that ran, in the order of the job, by the reports in their order, each with its name."""
     try:
         steps = zip(document["job"]["step"], document["data"])
-        courses = {step["id"]: Course(replay.Chunks(document["job"], step, data)) for step, data in steps}
+        courses = {step["id"]: Course(*chunks_of(document["job"], step, data)) for step, data in steps}
     except (LookupError, TypeError, ValueError, AttributeError):
         raise reports.Refused("the document isn't one that the program takes") from None
     for name, report in kept:
@@ -54,7 +57,7 @@ def failed_lines(course, partition, row):
         yield f"partition {partition} failed; the document's faults don't lead to its counts"
         return
     yield f"partition {partition} failed in records {failure.lo}..{failure.hi - 1}: {failure.reason}, {fault_text(failure.fault)}"
-    if failure.is_at_limit() and row.retries and replay.passes_in_one_run(course.chunks, row, failure.fault.record):
+    if failure.is_at_limit() and row.retries and history.passes_in_one_run(course.chunk, course.data, row, failure.fault.record):
         yield f"partition {partition} would pass there in one run: after a stop shaky faults come again, and use up retries once more"
 
 
@@ -99,7 +102,7 @@ def skipped_in(path):
     try:
         with open(path, "rb") as file:
             for tree in map(json.loads, file):
-                fault = replay.Fault(tree["fault"], tree["class"], tree["record"], tuple(tree["dropped"]))
+                fault = Fault(tree["fault"], tree["class"], tree["record"], tuple(tree["dropped"]))
                 found.setdefault((tree["report"], tree["step"], tree["partition"]), []).append(fault)
     except (OSError, ValueError, LookupError, TypeError):
         return {}

@@ -1,7 +1,6 @@
 """What the tools of this folder have in common: the words of a tool, reports of `batchrun run` and `restart` and what
 `examples/array/join` prints, read and tested, their sums and tables, and files that are put in their place whole."""
 import argparse
-import collections
 import dataclasses
 import json
 import os
@@ -11,18 +10,14 @@ import subprocess
 import sys
 import tempfile
 
+from rules.parts import is_whole as is_number
+from rules.rows import METRICS, NUMBERS, STATES, row_of, skips_of
+
 TOP = os.path.dirname(os.path.dirname(os.path.realpath(__file__)))
 PROGRAM = os.environ.get("BATCHRUN") or os.path.join(TOP, "crates/batchrun/out/batchrun")
 UNPROVED = os.path.join(TOP, "crates/batchrun/out/unproved/batchrun")
-Row = collections.namedtuple(
-    "Row", "lo hi at redo retries written READ WRITE COMMIT ROLLBACK READ_SKIP PROCESS_SKIP FILTER WRITE_SKIP in_place state"
-)
-METRICS = Row._fields[Row._fields.index("READ") : Row._fields.index("in_place")]
-SKIPS = ("READ_SKIP", "PROCESS_SKIP", "WRITE_SKIP")
-STATES = ("done", "failed", "waiting")
 HEADINGS = ["partition", "records", "at", "state", *METRICS, "in_place", "left"]
 SUMMED = [*METRICS, "in_place", "left"]
-NUMBERS = {1: 14, 2: 15}  # of a row, by the version of the saved object
 SHOWN_LETTERS = 60  # of a value in a line
 REPORT_KEYS, STEP_KEYS = {"job", "status", "steps"}, {"heard", "outputs", "plans", "reducer", "saved", "status", "step"}
 JOINED_KEYS = {"job", "outputs", "rows", "step", "sums"}
@@ -171,10 +166,6 @@ def has_keys(value, keys):
     return isinstance(value, dict) and keys <= value.keys()
 
 
-def is_number(value):
-    return type(value) is int and value >= 0
-
-
 def is_text(value):
     """Whether it is a text that can be printed: JSON's escapes also write halves of characters."""
     return isinstance(value, str) and not any("\ud800" <= letter <= "\udfff" for letter in value)
@@ -185,21 +176,15 @@ def is_saved(saved):
     return is_object and is_number(saved["version"]) and saved["version"] in NUMBERS
 
 
-def is_row(row, numbers):
-    if not (isinstance(row, list) and len(row) == numbers + 1 and all(map(is_number, row[:-1]))):
-        return False
-    lo, hi, at, *_, state = row
-    return lo <= at <= hi and is_text(state) and state in STATES
-
-
 def is_plan(plan):
     return isinstance(plan, list) and len(plan) == 3 and is_text(plan[0]) and all(map(is_number, plan[1:]))
 
 
 def rows_of(rows, version, place):
-    for partition, row in enumerate(rows):
-        checked(is_row(row, NUMBERS[version]), f"{place}[{partition}] isn't a partition's row")
-    return [Row(*row[: NUMBERS[1]], row[NUMBERS[1]] if version == 2 else 0, row[-1]) for row in rows]
+    found = [row_of(row, version) for row in rows]
+    for partition, row in enumerate(found):
+        checked(row is not None and row.lo <= row.at <= row.hi, f"{place}[{partition}] isn't a partition's row")
+    return found
 
 
 def step_of(tree, place):
@@ -235,11 +220,6 @@ def report_in(text, what="the text"):
 
 
 # ---- sums
-
-
-def skips_of(row):
-    """How many faults of a partition were skipped: reads, results and write calls."""
-    return sum(getattr(row, name) for name in SKIPS)
 
 
 def sums_of(steps):
