@@ -14,6 +14,7 @@ mod LeavingOut
 mod Putting
 mod Resuming
 mod Sharing
+mod Skipping
 mod Staying
 mod Steps
 mod Stretching

@@ -1,10 +1,12 @@
 pub mod Causes
 pub mod Earlier
+pub mod Failures
 pub mod Function
 pub mod Made
 pub mod Refusals
 pub mod Runs
 pub mod Shares
+pub mod Skips
 pub mod Steps
 pub mod Stretches
 pub mod Works

@@ -5,21 +5,27 @@ ghost use Rattle.jb_job.specs.Reading.{tree_of};
 ghost use Rattle.jb_saved.specs.SavedTree.{saved_tree};
 ghost use Rattle.jb_records.specs.Refusals.{IsUnsaved};
 ghost use Rattle.jb_records.specs.Shares.{joined};
+ghost use Rattle.jb_records.specs.Skips.{skipped_of};
 
 use crate::error::RecordsStepError;
+use crate::failures::Failure;
+use crate::function::RecordFunction;
 use crate::shares::joined;
+use crate::skips::skipped_of;
 use jb_base::{Name, PackedList};
 use jb_collect::Status;
+use jb_ready::Note;
 use jb_repo::Snapshot;
 use jb_step::{Saved, saved_text};
 use std::alloc::{AllocError, Global};
 
-/// How a step over records ended: its status, the rows of its partitions, and the results of each.
+/// How a step over records ended: its status, the rows of its partitions, the results of each, and those that failed.
 #[derive(Drop)]
 pub struct RecordsEnd {
     pub status: Status,
     pub snapshot: Snapshot,
     pub results: Vec<PackedList>,
+    pub failures: Vec<Failure>,
 }
 
 impl RecordsEnd {
@@ -28,6 +34,19 @@ impl RecordsEnd {
         ensures { IfOk result (λ all. all ≡ joined self.now.results.items) }
     {
         joined(alloc, &self.results)
+    }
+
+    /// The records that were skipped, this run's and those of an earlier one that it went on from: the records before the checkpoints
+    /// that this function, the run's, can't read, each with its number and the class of its fault.
+    pub fn skipped<F: RecordFunction>(
+        &self,
+        alloc: Global,
+        function: &F,
+        records: &PackedList,
+    ) -> Result<Vec<Note>, AllocError>
+        ensures { IfOk result (λ skips. skips.items ≡ skipped_of (F.function function.now) records.now self.now.snapshot.rows.items) }
+    {
+        skipped_of(alloc, function, records, &self.snapshot.rows)
     }
 
     /// The text of the rows, from which a next run of the step of this name goes on.

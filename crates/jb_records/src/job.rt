@@ -9,6 +9,7 @@ ghost use Rattle.jb_step.specs.Prepare.{IsPreparation};
 ghost use Rattle.jb_step.specs.Setup.{IsSetup};
 ghost use Rattle.jb_step.specs.Statuses.{status_of};
 ghost use Rattle.jb_records.specs.Earlier.{IsStoppedRun};
+ghost use Rattle.jb_records.specs.Failures.{AreFailures};
 ghost use Rattle.jb_records.specs.Function.{Function, all_results};
 ghost use Rattle.jb_records.specs.inside.Calls.{CanBegin, IsUnbegun, IsUnbegunWith, IsUnended, IsUnprepared, IsUnpreparedFor};
 ghost use Rattle.jb_records.specs.Made.{IsBegun, IsRunMade, even_partitions, step_record};
@@ -18,6 +19,7 @@ ghost use Rattle.jb_records.specs.Steps.{BeginsAnew};
 
 use crate::end::RecordsEnd;
 use crate::error::RecordsStepError;
+use crate::failures::failures_of;
 use crate::function::RecordFunction;
 use crate::laws::steps_keep_results;
 use crate::shares::{are_numbered, put_back, shares_of};
@@ -133,6 +135,7 @@ impl RecordsJob {
         ensures why { IfErr result (IsUnended (F.function function) self.prepared.rules records.now) }
         ensures made { IfOk result (λ end. IsRunMade (F.function function) records.now rounds self.prepared self.results.items end.snapshot end.results.items) }
         ensures status { IfOk result (λ end. end.status ≡ status_of end.snapshot.rows.items false) }
+        ensures failures { IfOk result (λ end. AreFailures (F.function function) records.now end.snapshot.rows.items end.failures.items) }
         ensures so_far { IfOk result (λ end. IsSetup self.prepared → IsSoFar (F.function function) records.now self.prepared.rows self.results.items →
             IsSoFar (F.function function) records.now end.snapshot.rows.items end.results.items) }
         ensures whole { IfOk result (λ end. IsSetup self.prepared → IsSoFar (F.function function) records.now self.prepared.rows self.results.items → end.status ≡ Completed →
@@ -158,10 +161,12 @@ impl RecordsJob {
             artifacts,
             ..
         } = end;
+        let failures = failures_of(alloc, &*function, records, &snapshot.rows, &artifacts)?;
         Ok(RecordsEnd {
             status,
             snapshot,
             results: put_back(artifacts, results),
+            failures,
         })
     }
 }

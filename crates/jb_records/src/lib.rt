@@ -5,11 +5,13 @@
 //! - `kept`: a run that stays in memory between its stretches, `stretch`: one of these, `stretch_end`: what is kept of its end, and
 //!   `news`: what is new in it.
 //! - `step`: how it runs its records. `works`: what its partitions work with. `shares`: the results of each.
+//! - `skips`: which records were skipped, and `failures`: with which fault each failed partition failed.
 //! - `laws`: what comes of it. `error`: why it has no end.
 #![tactic(auto)]
 
 mod end;
 mod error;
+mod failures;
 mod function;
 mod job;
 mod kept;
@@ -18,6 +20,7 @@ mod news;
 mod run;
 mod shared;
 mod shares;
+mod skips;
 mod step;
 mod stretch;
 mod stretch_end;
@@ -27,6 +30,7 @@ mod works;
 
 pub use end::RecordsEnd;
 pub use error::RecordsStepError;
+pub use failures::Failure;
 pub use function::RecordFunction;
 pub use kept::{RecordsRun, Standing};
 pub use laws::{results_go_on, steps_keep_results};

@@ -11,19 +11,23 @@ ghost use Rattle.jb_saved.specs.Reading.{answer_of};
 ghost use Rattle.jb_step.specs.Answers.{given_back};
 ghost use Rattle.jb_step.specs.Prepare.{DoFit};
 ghost use Rattle.jb_step.specs.Statuses.{status_of};
+ghost use Rattle.jb_records.specs.Failures.{AreFailures};
 ghost use Rattle.jb_records.specs.Function.{Function};
 ghost use Rattle.jb_records.specs.Made.{even_partitions};
 ghost use Rattle.jb_records.specs.Shares.{AreWhole};
+ghost use Rattle.jb_records.specs.Skips.{skipped_of};
 ghost use Rattle.jb_records.specs.Stretches.{HasGoneOn, IsBrokenOff, IsStretchMade, StandsOver};
 ghost use Rattle.jb_records.specs.inside.Kept.{IsGoingOn, IsRanOver, IsRunBroken};
 
 use crate::error::RecordsStepError;
+use crate::failures::{Failure, failures_of};
 use crate::function::RecordFunction;
 use crate::job::prepared_for;
 use crate::kept::{RecordsRun, Standing};
 use crate::laws::stretches_go_on;
 use crate::news::{news_of, told_of};
 use crate::shares::put_back;
+use crate::skips::skipped_of;
 use crate::step::RecordsStep;
 use crate::stretch_end::{parted, unnumbered};
 use crate::works::Works;
@@ -31,11 +35,12 @@ use jb_artifacts::Meaning;
 use jb_base::{MAX_PARTS, PackedList};
 use jb_chunk::Task;
 use jb_collect::{FaultlessAnalyzer, FaultlessReducer, Status};
+use jb_ready::Note;
 use jb_repo::Snapshot;
 use jb_saved::answers_are_computed;
 use jb_step::{Prepared, Saved, StepEnd, run_pooled_step, saved_text};
 use jb_workers::NoGate;
-use std::alloc::Global;
+use std::alloc::{AllocError, Global};
 use std::marker::Brand;
 use std::sync::Wait;
 use std::sync::ledger::{Blank, Ledger};
@@ -50,6 +55,20 @@ pub struct Stretch {
     pub saved: String,
     /// The results of each partition that are new since the stretch before, in the order of the partitions.
     pub results: Vec<PackedList>,
+}
+
+impl Stretch {
+    /// The records that were skipped up to its end, as `RecordsEnd::skipped` tells them.
+    pub fn skipped<F: RecordFunction>(
+        &self,
+        alloc: Global,
+        function: &F,
+        records: &PackedList,
+    ) -> Result<Vec<Note>, AllocError>
+        ensures { IfOk result (λ skips. skips.items ≡ skipped_of (F.function function.now) records.now self.now.snapshot.rows.items) }
+    {
+        skipped_of(alloc, function, records, &self.snapshot.rows)
+    }
 }
 
 /// One run of the step over a desk of its own, for so many rounds at most.
@@ -136,6 +155,25 @@ impl<F: RecordFunction + Drop + 'static> RecordsRun<F> {
     {
         let blank = Blank::new(MAX_PARTS);
         self.go_on_over::<Brand, R>(rt, alloc, blank, rounds)
+    }
+
+    /// The partitions that failed in the stretch that led here, as the run's function and its records have their faults.
+    pub fn failures(
+        &self,
+        alloc: Global,
+        function: &F,
+        records: &PackedList,
+        stretch: &Stretch,
+    ) -> Result<Vec<Failure>, AllocError>
+        ensures { IfOk result (λ failures. AreFailures (F.function function.now) records.now stretch.now.snapshot.rows.items failures.items) }
+    {
+        failures_of(
+            alloc,
+            function,
+            records,
+            &stretch.snapshot.rows,
+            &self.works,
+        )
     }
 
     /// The same over a desk of its own.

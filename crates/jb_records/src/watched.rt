@@ -6,6 +6,7 @@ ghost use Rattle.jb_collect.specs.declared.calls.Status.TheVariants.{Completed};
 ghost use Rattle.jb_step.specs.Setup.{IsSetup};
 ghost use Rattle.jb_step.specs.Statuses.{status_of};
 ghost use Rattle.jb_records.specs.Earlier.{IsOfStoppedRun};
+ghost use Rattle.jb_records.specs.Failures.{AreFailures};
 ghost use Rattle.jb_records.specs.Function.{all_results};
 ghost use Rattle.jb_records.specs.Causes.{IsCauseOf};
 ghost use Rattle.jb_records.specs.inside.Calls.{CanBegin, IsUnended};
@@ -48,6 +49,7 @@ pub fn run_records_watched<
     ensures why { IfErr result (IsCauseOf (F.function function) step.now records.now (option_map (λ e. (e.saved.now, e.results.now)) earlier.entry)) }
     ensures run { IfOk result (λ end. IsRecordsRun (F.function function) step.now records.now (option_map (λ e. (e.saved.now, e.results.now)) earlier.entry) rounds end.snapshot end.results.items) }
     ensures status { IfOk result (λ end. end.status ≡ status_of end.snapshot.rows.items false) }
+    ensures failures { IfOk result (λ end. AreFailures (F.function function) records.now end.snapshot.rows.items end.failures.items) }
     ensures so_far { earlier.entry ≡ None → IfOk result (λ end. IsSoFar (F.function function) records.now end.snapshot.rows.items end.results.items) }
     ensures all { earlier.entry ≡ None → IfOk result (λ end. end.status ≡ Completed → joined end.results.items ≡ all_results (F.function function) records.now) }
     ensures goes_on { IfSome earlier.entry (λ e. IsOfStoppedRun (F.function function) records.now e.saved.now e.results.now →
@@ -83,6 +85,7 @@ fn run_on<
     ensures why { IfErr result (IsUnended (F.function function) job.prepared.rules records.now) }
     ensures made { IfOk result (λ end. IsRunMade (F.function function) records.now rounds job.prepared job.results.items end.snapshot end.results.items) }
     ensures status { IfOk result (λ end. end.status ≡ status_of end.snapshot.rows.items false) }
+    ensures failures { IfOk result (λ end. AreFailures (F.function function) records.now end.snapshot.rows.items end.failures.items) }
     ensures so_far { IfOk result (λ end. IsSetup job.prepared → IsSoFar (F.function function) records.now job.prepared.rows job.results.items →
         IsSoFar (F.function function) records.now end.snapshot.rows.items end.results.items) }
     ensures whole { IfOk result (λ end. IsSetup job.prepared → IsSoFar (F.function function) records.now job.prepared.rows job.results.items → end.status ≡ Completed →

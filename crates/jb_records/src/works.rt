@@ -18,16 +18,16 @@ use jb_artifacts::{
     ArtifactsOf, CountCollector, FaultList, FaultPlan, FaultPlans, ListWriter, Meaning,
 };
 use jb_base::{ClassId, PackedList, Rules};
-use jb_ready::{AnswerProcessor, CheckedReader};
+use jb_ready::{AnswerProcessor, CheckedReader, Notes, NotingProcessor, NotingReader};
 use jb_rules::Row;
 use jb_step::Prepared;
 use std::alloc::{AllocError, Global};
 use std::sync::Arc;
 
-/// What a partition works with.
+/// What a partition works with. The faults that it meets are noted.
 pub type Works<F> = ArtifactsOf<
-    CheckedReader<Shared<F>>,
-    AnswerProcessor<Shared<F>>,
+    NotingReader<CheckedReader<Shared<F>>>,
+    NotingProcessor<AnswerProcessor<Shared<F>>>,
     ListWriter,
     CountCollector,
 >;
@@ -112,10 +112,16 @@ fn works_of<F: RecordFunction + Drop>(
         Err(_) => unreachable!(),
     };
     Ok(ArtifactsOf {
-        reader,
-        processor: AnswerProcessor {
-            function: Shared::of(function)?,
-            faults: tries,
+        reader: NotingReader {
+            inner: reader,
+            notes: Notes::new(alloc),
+        },
+        processor: NotingProcessor {
+            inner: AnswerProcessor {
+                function: Shared::of(function)?,
+                faults: tries,
+            },
+            notes: Notes::new(alloc),
         },
         writer: ListWriter::new(copy_of(alloc, results)?, FaultPlans::new(alloc)),
         collector: CountCollector::new(alloc),

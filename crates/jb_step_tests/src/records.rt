@@ -102,8 +102,9 @@ impl Watcher for Looker {
     }
 }
 
-/// What comes of a step: its status, its results, each with a bar behind it, and how many records were skipped as refused.
-type Came = Result<(Status, &'static str, u64), RecordsStepError>;
+/// What comes of a step: its status, its results, each with a bar behind it, and its faults: the records that were skipped, each as
+/// NUMBER/CLASS, and the partitions that failed, each as PARTITION:NUMBER/CLASS.
+type Came = Result<(Status, &'static str, &'static str), RecordsStepError>;
 
 /// Four records, in chunks of so many on two threads, and what comes of them: in one run, and in stretches.
 #[derive(Clone, Copy)]
@@ -131,21 +132,21 @@ const PLAIN: Case = Case {
     item_count: 1,
     rules: STRICT,
     rounds: None,
-    came: Ok((Status::Completed, "a|b|c|d|", 0)),
+    came: Ok((Status::Completed, "a|b|c|d|", "")),
     in_stretches: None,
 };
 
-/// A record that can't be read, and a try that fails, each under several rules.
-const CASES: [Case; 8] = [
+/// A record that can't be read, and a try that fails, each under several rules, and both in one chunk.
+const CASES: [Case; 9] = [
     PLAIN,
     Case {
         rounds: Some(1),
-        came: Ok((Status::Stopped, "a|c|", 0)),
+        came: Ok((Status::Stopped, "a|c|", "")),
         ..PLAIN
     },
     Case {
         records: ["a", "", "c", "d"],
-        came: Ok((Status::Failed, "a|c|d|", 0)),
+        came: Ok((Status::Failed, "a|c|d|", "0:1/0 ")),
         ..PLAIN
     },
     Case {
@@ -154,7 +155,7 @@ const CASES: [Case; 8] = [
             skippable: 1,
             ..STRICT
         },
-        came: Ok((Status::Completed, "c|d|", 2)),
+        came: Ok((Status::Completed, "c|d|", "0/0 1/0 ")),
         ..PLAIN
     },
     Case {
@@ -165,13 +166,24 @@ const CASES: [Case; 8] = [
             skip_limit: Some(1),
             ..STRICT
         },
-        came: Ok((Status::Failed, "c|d|", 0)),
+        came: Ok((Status::Failed, "c|d|", "0:1/0 ")),
+        ..PLAIN
+    },
+    Case {
+        records: ["aa", "", "c", "d"],
+        item_count: 2,
+        rules: Rules {
+            retryable: 2,
+            no_rollback: 2,
+            ..STRICT
+        },
+        came: Ok((Status::Failed, "c|d|", "0:1/0 ")),
         ..PLAIN
     },
     Case {
         records: ["aa", "b", "c", "d"],
-        came: Ok((Status::Failed, "c|d|", 0)),
-        in_stretches: Some(Ok((Status::Failed, "c|", 0))),
+        came: Ok((Status::Failed, "c|d|", "0:0/1 ")),
+        in_stretches: Some(Ok((Status::Failed, "c|", "0:0/1 "))),
         ..PLAIN
     },
     Case {
@@ -180,7 +192,7 @@ const CASES: [Case; 8] = [
             retryable: 2,
             ..STRICT
         },
-        came: Ok((Status::Completed, "aa|b|c|d|", 0)),
+        came: Ok((Status::Completed, "aa|b|c|d|", "")),
         ..PLAIN
     },
     Case {
@@ -232,34 +244,88 @@ fn in_stretches<F: RecordFunction + Drop + 'static, R: Threads + Wait + Sync>(
         run = next;
         last = stretch;
     }
+    let failures = run.failures(alloc, &**function, records, &last)?;
     grow(&mut told, last.results)?;
     Ok(RecordsEnd {
         status: last.status,
         snapshot: last.snapshot,
         results: if is_kept { told } else { run.into_results() },
+        failures,
     })
 }
 
-/// Whether the step came to this.
-fn is_so(
+/// The results, each with a bar behind it.
+fn results_of(alloc: Global, end: &RecordsEnd) -> Result<Vec<u8>, AllocError> {
+    let all = end.all_results(alloc)?;
+    let mut text = Vec::new(alloc);
+    for index in 0..all.len() {
+        text.extend_from_slice(all.at(index))?;
+        text.push(b'|')?;
+    }
+    Ok(text)
+}
+
+/// The faults, as `Came` has them.
+fn faults_of<R: Clock + Send + Sync>(
+    alloc: Global,
+    end: &RecordsEnd,
+    function: &Letters<R>,
+    records: &PackedList,
+) -> Result<String, AllocError> {
+    let mut text = String::new(alloc);
+    for skip in &end.skipped(alloc, function, records)? {
+        text.push_str(&format!(in alloc; "{}/{} ", skip.number, skip.class.number())?)?;
+    }
+    for failure in &end.failures {
+        match failure.fault {
+            Some(fault) => text.push_str(&format!(in alloc;
+                "{}:{}/{} ",
+                failure.partition,
+                fault.number,
+                fault.class.number()
+            )?)?,
+            None => text.push_str("?")?,
+        }
+    }
+    Ok(text)
+}
+
+/// Whether the step came to this. As many records are counted as skipped as are told.
+fn is_so<R: Clock + Send + Sync>(
     alloc: Global,
     end: Result<RecordsEnd, RecordsStepError>,
+    function: &Letters<R>,
+    records: &PackedList,
     came: Came,
 ) -> Result<bool, AllocError> {
     match (end, came) {
-        (Ok(end), Ok((status, results, skipped))) => {
-            let all = end.all_results(alloc)?;
-            let mut text = Vec::new(alloc);
-            for index in 0..all.len() {
-                text.extend_from_slice(all.at(index))?;
-                text.push(b'|')?;
-            }
-            let is_told = end.status == status && end.snapshot.totals.read_skip == skipped;
-            Ok(is_told && text.as_slice() == results.as_bytes())
+        (Ok(end), Ok((status, results, faults))) => {
+            let skips = end.skipped(alloc, function, records)?.len() as u64;
+            let is_told = end.status == status && end.snapshot.totals.read_skip == skips;
+            let are_results = results_of(alloc, &end)?.as_slice() == results.as_bytes();
+            let are_faults = faults_of(alloc, &end, function, records)?.as_str() == faults;
+            Ok(is_told && are_results && are_faults)
         }
         (Err(error), Err(wanted)) => Ok(error == wanted),
         _ => Ok(false),
     }
+}
+
+/// The function, which gives its results once a watcher has looked so often.
+fn new_letters<R: Copy>(
+    rt: &R,
+    alloc: Global,
+    looks: &Arc<AtomicU64, Global>,
+    awaited: u64,
+) -> Result<Letters<R>, AllocError> {
+    Ok(Letters {
+        rt: *rt,
+        alloc,
+        refused: ClassId::new(0),
+        late: ClassId::new(1),
+        looks: Arc::try_clone(looks)?,
+        awaited,
+    })
 }
 
 fn step_of(alloc: Global, case: &Case) -> Result<RecordsStep, Fail> {
@@ -284,21 +350,14 @@ fn are_stretches_so<R: Threads + Wait + Clock + Copy + Send + Sync + 'static>(
     step: &RecordsStep,
     records: &PackedList,
 ) -> Result<bool, Fail> {
-    let function = Letters {
-        rt: *rt,
-        alloc,
-        refused: ClassId::new(0),
-        late: ClassId::new(1),
-        looks: Arc::new(alloc, AtomicU64::new(0))?,
-        awaited: 0,
-    };
-    let function = Arc::new(alloc, function)?;
+    let looks = Arc::new(alloc, AtomicU64::new(0))?;
+    let function = Arc::new(alloc, new_letters(rt, alloc, &looks, 0)?)?;
     let came = case.in_stretches.unwrap_or(case.came);
     let stretches = case.rounds.unwrap_or(8);
     let end = in_stretches(rt, alloc, step, &function, records, stretches, false);
-    let is_run = is_so(alloc, end, came)?;
+    let is_run = is_so(alloc, end, &*function, records, came)?;
     let end = in_stretches(rt, alloc, step, &function, records, stretches, true);
-    Ok(is_run && is_so(alloc, end, came)?)
+    Ok(is_run && is_so(alloc, end, &*function, records, came)?)
 }
 
 /// Runs the case by itself, with who looks on, and in stretches: whether all come to what they should, and how often it was looked.
@@ -313,30 +372,17 @@ fn ran<R: Threads + Wait + Clock + Copy + Send + Sync + 'static>(
         records.push(text.as_bytes())?;
     }
     let looks = Arc::new(alloc, AtomicU64::new(0))?;
-    let alone = Letters {
-        rt: *rt,
-        alloc,
-        refused: ClassId::new(0),
-        late: ClassId::new(1),
-        looks: Arc::try_clone(&looks)?,
-        awaited: 0,
-    };
-    let seen = Letters {
-        rt: *rt,
-        alloc,
-        refused: ClassId::new(0),
-        late: ClassId::new(1),
-        looks: Arc::try_clone(&looks)?,
-        awaited: LOOKS,
-    };
+    let function = new_letters(rt, alloc, &looks, 0)?;
+    let alone = new_letters(rt, alloc, &looks, 0)?;
+    let seen = new_letters(rt, alloc, &looks, LOOKS)?;
     let looker = Looker {
         looks: Arc::try_clone(&looks)?,
         rows: 2,
     };
     let end = run_records(rt, alloc, &step, alone, &records, None, case.rounds);
-    let is_alone = is_so(alloc, end, case.came)?;
+    let is_alone = is_so(alloc, end, &function, &records, case.came)?;
     let end = run_records_watched(rt, alloc, &step, seen, &records, None, case.rounds, looker);
-    let is_seen = is_so(alloc, end, case.came)?;
+    let is_seen = is_so(alloc, end, &function, &records, case.came)?;
     let is_stretched = are_stretches_so(rt, alloc, case, &step, &records)?;
     Ok((
         is_alone && is_seen && is_stretched,

@@ -1,8 +1,10 @@
-//! The smallest job: the lines of standard input in capitals, by four threads, stopped after one round and gone on with.
+//! The smallest job: the lines of standard input in capitals, without the blank ones, by four threads, stopped after one round and gone
+//! on with.
 #![tactic(auto)]
 
-ghost use Rattle.std.specs.Prelude.{[], None, Some, map};
+ghost use Rattle.std.specs.Prelude.{◌==◌, [], None, Some, if◌then◌else◌, length, map};
 ghost use Rattle.std.specs.Char.{to_ascii_uppercase};
+ghost use Rattle.jb_base.specs.Classes.{class_of};
 
 use jb_artifacts::Item;
 use jb_base::{ClassId, DEFAULT_RETRY_LIMIT, Name, PackedList, Rules};
@@ -15,16 +17,16 @@ use std::process::ExitCode;
 use std::sync::Wait;
 use std::thread::Threads;
 
-/// No line is refused and no try fails, so nothing is skipped or retried.
+/// A line that can't be read, class 0, is skipped. No try fails, so nothing is retried.
 const RULES: Rules = Rules {
-    skippable: 0,
+    skippable: 1,
     retryable: 0,
     no_rollback: 0,
     skip_limit: None,
     retry_limit: DEFAULT_RETRY_LIMIT,
 };
 
-/// A line in capitals.
+/// A line in capitals. A blank one can't be read.
 #[derive(Drop)]
 struct Capitals {
     alloc: Global,
@@ -32,13 +34,17 @@ struct Capitals {
 
 impl RecordFunction for Capitals {
     ghost function = { λ _. record {
-      refusal = λ _. None;
+      refusal = λ line. if length line == 0 then Some (class_of 0) else None;
       answer = λ _ line. Some (map to_ascii_uppercase line);
       tries = λ _ _. [];
     } };
 
-    fn refusal_of(&self, _line: &[u8]) -> Result<Option<ClassId>, AllocError> {
-        Ok(None)
+    fn refusal_of(&self, line: &[u8]) -> Result<Option<ClassId>, AllocError> {
+        Ok(if line.is_empty() {
+            Some(ClassId::new(0))
+        } else {
+            None
+        })
     }
 
     fn answer_of(&self, _number: u64, line: &[u8]) -> Result<Option<Item>, AllocError> {
@@ -102,6 +108,23 @@ fn main(rt: HostRuntime) -> io::Result<ExitCode> {
             return Ok(ExitCode::from(3));
         }
     };
+    for skip in &end.skipped(alloc, &Capitals { alloc }, &lines)? {
+        eprintln!(rt;
+            "line {} is skipped, by class {}",
+            skip.number,
+            skip.class.number()
+        )?;
+    }
+    for failure in &end.failures {
+        if let Some(fault) = failure.fault {
+            eprintln!(rt;
+                "partition {} failed at line {}, by class {}",
+                failure.partition,
+                fault.number,
+                fault.class.number()
+            )?;
+        }
+    }
     let results = end.all_results(alloc)?;
     let mut out = rt.stdout();
     for index in 0..results.len() {

@@ -22,7 +22,7 @@ returns-clause-work g c =
         reads = λ k. ap (λ (r : Reader). r.faults k) reader ∙ (λ i. checked_plans (g.F.RecordFunction.function (checks i)).refusal c.args.row.now.lo (own i) k);
         answers = λ k item. ap (λ a. (g.F.RecordFunction.function a).answer k item) answers;
         tries = c.in_ok-tries.ensures.never_skipped;
-        writes = λ k. ap (λ (w : Writer). w.faults k) c.new-3.ensures ∙ ap (λ (plans : FaultTable). plans k) c.new-2.ensures;
+        writes = λ k. ap (λ (w : Writer). w.faults k) c.new-5.ensures ∙ ap (λ (plans : FaultTable). plans k) c.new-4.ensures;
       };
       first_tries = λ k. c.in_ok-tries.ensures.tries k ∙ (λ i. tries_plan (g.F.RecordFunction.function (c.deref.ensures i)) c.args.row.now.lo (own i) k);
     }

@@ -1,0 +1,132 @@
+//! With which fault each failed partition failed.
+
+ghost use Rattle.std.specs.Prelude.{◌≡◌, ◌+◌, ◌<◌, ◌^◌, filter, length, IfOk, IfSome};
+ghost use Rattle.std.specs.List.{enumerate_from};
+ghost use Rattle.jb_base.specs.Pairwise.{Pairwise};
+ghost use Rattle.jb_rules.specs.States.{is_failed};
+ghost use Rattle.jb_records.specs.Failures.{AreFailures, IsFailure, IsFaultIn, IsFaultOf};
+
+use crate::function::RecordFunction;
+use crate::works::Works;
+use jb_artifacts::record_of;
+use jb_base::{ClassId, PackedList};
+use jb_ready::Note;
+use jb_rules::Row;
+use std::alloc::{AllocError, Global};
+
+/// A partition that failed.
+#[derive(Clone, Copy, Debug, PartialEq, Eq)]
+pub struct Failure {
+    pub partition: u32,
+    /// The record whose fault was neither skipped nor retried, and its class. None where there was no memory to note it.
+    pub fault: Option<Note>,
+}
+
+/// The later of two faults: a record that can't be read isn't tried, and an attempt that fails goes on to no later record.
+fn later_of(read: Option<&Note>, tried: Option<&Note>) -> Option<Note> {
+    match (read, tried) {
+        (Some(read), Some(tried)) if read.number < tried.number => Some(*tried),
+        (Some(read), _) => Some(*read),
+        (None, Some(tried)) => Some(*tried),
+        (None, None) => None,
+    }
+}
+
+/// The fault that the partition of this number met last, if all of its faults were noted.
+fn noted_of<F: RecordFunction>(works: &[(u32, Works<F>)], partition: u32) -> Option<Note> {
+    for one in works {
+        if one.0 == partition {
+            let (reads, tries) = (&one.1.reader.notes, &one.1.processor.notes);
+            if reads.lost() > 0 || tries.lost() > 0 {
+                return None;
+            }
+            return later_of(reads.kept().last(), tries.kept().last());
+        }
+    }
+    None
+}
+
+/// The class of this record's fault: that with which it can't be read, or else this one, if a first try at it fails with it.
+fn fault_of<F: RecordFunction>(
+    alloc: Global,
+    function: &F,
+    number: u64,
+    item: &[u8],
+    class: ClassId,
+) -> Result<Option<ClassId>, AllocError>
+    ensures { IfOk result (λ fault. IfSome fault (IsFaultOf (F.function function.now) number item.now)) }
+{
+    if let Some(refusal) = function.refusal_of(item)? {
+        return Ok(Some(refusal));
+    }
+    let tries = function.tries_of(alloc, number, item)?;
+    if tries.contains(&class) {
+        Ok(Some(class))
+    } else {
+        Ok(None)
+    }
+}
+
+/// The fault that was noted, if it is one of a record of this row that isn't committed.
+fn fault_in<F: RecordFunction>(
+    alloc: Global,
+    function: &F,
+    records: &PackedList,
+    row: &Row,
+    noted: Option<Note>,
+) -> Result<Option<Note>, AllocError>
+    ensures { IfOk result (λ fault. IfSome fault (IsFaultIn (F.function function.now) records.now row.now)) }
+{
+    let Some(note) = noted else {
+        return Ok(None);
+    };
+    if note.number < row.at || row.hi <= note.number {
+        return Ok(None);
+    }
+    let item = record_of(records, 0, note.number);
+    match fault_of(alloc, function, note.number, item, note.class)? {
+        Some(class) => Ok(Some(Note {
+            number: note.number,
+            class,
+        })),
+        None => Ok(None),
+    }
+}
+
+/// The failed ones of these partitions, the first of which has the number `partition`.
+fn failures_from<F: RecordFunction>(
+    alloc: Global,
+    function: &F,
+    records: &PackedList,
+    partition: u32,
+    rows: &[Row],
+    works: &[(u32, Works<F>)],
+) -> Result<Vec<Failure>, AllocError>
+    requires { partition + length rows.now < 2 ^ 32 }
+    ensures { IfOk result (λ failures. Pairwise (IsFailure (F.function function.now) records.now)
+        (filter (λ n. is_failed n.1.state) (enumerate_from partition rows.now)) failures.items) }
+{
+    let Some((row, others)) = rows.split_first() else {
+        return Ok(Vec::new(alloc));
+    };
+    let mut failures = failures_from(alloc, function, records, partition + 1, others, works)?;
+    if row.state.is_failed() {
+        let fault = fault_in(alloc, function, records, row, noted_of(works, partition))?;
+        failures.insert(0, Failure { partition, fault })?;
+    }
+    Ok(failures)
+}
+
+/// The partitions that failed, each with its fault.
+pub(crate) fn failures_of<F: RecordFunction>(
+    alloc: Global,
+    function: &F,
+    records: &PackedList,
+    rows: &[Row],
+    works: &[(u32, Works<F>)],
+) -> Result<Vec<Failure>, AllocError>
+    requires { length rows.now < 2 ^ 32 }
+    ensures { IfOk result (λ failures. AreFailures (F.function function.now) records.now rows.now failures.items) }
+{
+    failures_from(alloc, function, records, 0, rows, works)
+}

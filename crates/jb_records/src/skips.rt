@@ -1,0 +1,61 @@
+//! Which records were skipped.
+
+ghost use Rattle.std.specs.Prelude.{◌≡◌, ◌++◌, IfOk, OnOk, option_to_list};
+ghost use Rattle.jb_records.specs.Skips.{skip_by, skipped_of, skips_between};
+ghost use Rattle.jb_records.specs.Works.{record_of};
+
+use crate::function::RecordFunction;
+use jb_artifacts::record_of;
+use jb_base::PackedList;
+use jb_ready::Note;
+use jb_rules::Row;
+use std::alloc::{AllocError, Global};
+
+/// Puts the record of this number behind the others, if it can't be read.
+fn push_skip<F: RecordFunction>(
+    function: &F,
+    records: &PackedList,
+    number: u64,
+    skips: &mut Vec<Note>,
+) -> Result<(), AllocError>
+    ensures { OnOk result (skips.new.items ≡
+        skips.old.items ++ option_to_list (skip_by number ((F.function function.now).refusal (record_of 0 records.now number)))) }
+{
+    if let Some(class) = function.refusal_of(record_of(records, 0, number))? {
+        skips.push(Note { number, class })?;
+    }
+    Ok(())
+}
+
+/// Puts the records from number `lo` to `hi - 1` that can't be read behind the others.
+fn push_skips<F: RecordFunction>(
+    function: &F,
+    records: &PackedList,
+    lo: u64,
+    hi: u64,
+    skips: &mut Vec<Note>,
+) -> Result<(), AllocError>
+    ensures { OnOk result (skips.new.items ≡ skips.old.items ++ skips_between (F.function function.now) records.now lo hi) }
+{
+    let count = hi.saturating_sub(lo);
+    for index in 0..count {
+        push_skip(function, records, lo + index, skips)?;
+    }
+    Ok(())
+}
+
+/// The records before the checkpoints of these rows that can't be read: those that were skipped.
+pub(crate) fn skipped_of<F: RecordFunction>(
+    alloc: Global,
+    function: &F,
+    records: &PackedList,
+    rows: &[Row],
+) -> Result<Vec<Note>, AllocError>
+    ensures { IfOk result (λ skips. skips.items ≡ skipped_of (F.function function.now) records.now rows.now) }
+{
+    let mut skips = Vec::new(alloc);
+    for row in rows {
+        push_skips(function, records, row.lo, row.at, &mut skips)?;
+    }
+    Ok(skips)
+}
