@@ -1,7 +1,7 @@
 #!/usr/bin/env python3
 """What it costs a run to keep its checkpoints in a file.
 
-    bench/durable.py [--records N] [--runs N] [--folder PATH]
+    bench/durable.py [--records N] [--runs N] [--threads N..] [--folder PATH]
 
 First a checkpoint by itself: 500 of them, fewer of the largest ones, each with the saved text of eight rows and with results of so many
 bytes, by the program `checkpoint`: microseconds of processor time, and of wall time the least and the median, which a busy machine makes many
@@ -84,7 +84,7 @@ def print_payrolls(unkept, folder, asked):
     sheets = os.path.join(folder, "sheets")
     write_sheets(sheets, asked.records)
     print(f"\n{'':<40} {'unkept cpu s':>13} {'kept cpu s':>11} {'to unkept':>10} {'checkpoints':>12} {'bytes kept':>11}")
-    for threads in THREADS:
+    for threads in asked.threads:
         files = [os.path.join(folder, f"{threads}-{run}.db") for run in range(asked.runs + 1)]
         if slips_of([PAYROLL, str(threads), files[-1]], sheets) != slips_of([unkept, str(threads)], sheets):
             sys.exit("the payroll and the step in memory don't write the same")
@@ -99,6 +99,7 @@ def main():
     parser = argparse.ArgumentParser(description=__doc__, formatter_class=argparse.RawDescriptionHelpFormatter)
     parser.add_argument("--records", type=int, default=MILLION)
     parser.add_argument("--runs", type=int, default=3)
+    parser.add_argument("--threads", type=int, nargs="+", default=THREADS, metavar="N")
     parser.add_argument("--folder")
     asked = parser.parse_args()
     with tempfile.TemporaryDirectory(dir=asked.folder) as folder:

@@ -6,7 +6,7 @@ import time
 import limits
 from job_folder import Ended
 
-FIRST_ROUNDS, A_MINUTE, MOST_GROWTH = 100_000, 60, 10
+A_MINUTE, MOST_GROWTH = 60, 10
 
 
 class Refused(Exception):
@@ -18,10 +18,11 @@ class Refused(Exception):
 
 
 class Runner:
-    """Runs the program. `rounds` is the number of each run, or None: then as many as make about a minute."""
+    """Runs the program. `rounds` is the number of each run, or None: then `first` is that of the first one, and then as many as make about a
+    minute."""
 
-    def __init__(self, program, rounds):
-        self.program, self.rounds = program, rounds or FIRST_ROUNDS
+    def __init__(self, program, rounds, first):
+        self.program, self.rounds = program, rounds or first
         self.is_fixed, self.is_stopping, self.process = rounds is not None, False, None
         for number in (signal.SIGTERM, signal.SIGINT):
             signal.signal(number, self.stop)
