@@ -12,5 +12,5 @@ THREADS = 64  # that are used
 RECORDS = 10_000_000
 ENTRIES, ENTRY_CLASSES = 10_000_000, 1_000  # of a list of faults; of a shaky entry
 ROLLBACKS, IN_PLACE = 1_000_000_000_000, 1_000_000_000_000  # of a partition
-LOAD_PARTITIONS, CHUNKS, PLACE = 4_096, 10_000_000, 2**32 - 1  # of `plan` and `check`: chunks all together, a lane's or a partition's number
+LOAD_PARTITIONS, CHUNKS, PLACE = 4_096, 10_000_000, 2**32 - 1  # of `plan` and `check`; the largest number of a lane or a partition
 ROUNDS = 1_000_000_000  # of `--rounds`

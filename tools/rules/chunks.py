@@ -1,29 +1,15 @@
 """A partition's chunks, one after the other: which faults are met, and what becomes of them."""
 import collections
-import dataclasses
 
 from .data import KINDS
 from .rows import skips_of
 
-
-@dataclasses.dataclass(frozen=True)
-class Fault:
-    """A call that failed on a record. `dropped` are the records without a result by it: a write drops its whole list."""
-
-    kind: str
-    fault_class: str
-    record: int
-    dropped: tuple = ()
+# A call that failed on a record. `dropped` are the records without a result by it: a write drops its whole list.
+Fault = collections.namedtuple("Fault", "kind fault_class record dropped", defaults=[()])
 
 
-@dataclasses.dataclass(frozen=True)
-class Failure:
+class Failure(collections.namedtuple("Failure", "fault lo hi reason")):
     """The fault at which a partition failed, the records [lo,hi) of its chunk, and why it was neither skipped nor retried."""
-
-    fault: Fault
-    lo: int
-    hi: int
-    reason: str
 
     def is_at_limit(self):
         """Whether a limit was reached; else its class is neither skippable nor retryable."""
@@ -41,7 +27,7 @@ def block_of(row, item_count):
 
 class Partition:
     """A partition on its way from a row on, by its step's `chunk` and `data`; one that failed waits again, and fault lists are read anew.
-    `skipped` are the faults that were skipped since, and `failure` the one at which it failed."""
+    `skipped` are the faults that were skipped since, and `failure` is the one at which it failed."""
 
     def __init__(self, chunk, data, row):
         self.chunk, self.data, self.row = chunk, data, row._replace(state="done" if row.at == row.hi else "waiting")
@@ -52,10 +38,8 @@ class Partition:
         self.row = self.row._replace(**{name: getattr(self.row, name) + number for name, number in numbers.items()})
 
     def chunks_left(self):
-        if self.failure is not None:
-            return 0
         single = max(self.row.redo - self.row.at, 0)
-        return single + -(-(self.row.hi - self.row.at - single) // self.chunk.item_count)
+        return 0 if self.failure else single + -(-(self.row.hi - self.row.at - single) // self.chunk.item_count)
 
     def attempt(self):
         """Does the next chunk: it commits, is rolled back for a retry, or fails. Whether it was committed."""
@@ -70,11 +54,11 @@ class Partition:
         return True
 
     def commit(self, end, _):
-        """Ends the chunk at this record; with the faults that were skipped in it."""
+        """Ends the chunk at this record, with the faults that were skipped in it."""
         self.row = self.row._replace(at=end, COMMIT=self.row.COMMIT + 1, state="done" if end == self.row.hi else "waiting")
 
     def roll_back(self, before, end, fault, choice):
-        """Drops the counts of the chunk; what was repeated in place has used up retries."""
+        """Drops the counts of the chunk, but for the retries that were used up in place."""
         self.row = before._replace(retries=self.row.retries, in_place=self.row.in_place, ROLLBACK=before.ROLLBACK + 1)
         if choice == "retry":
             self.row = self.row._replace(retries=self.row.retries + 1, redo=max(before.redo, end))
@@ -87,27 +71,23 @@ class Partition:
         places, gone = self.data.places_in(lo, hi), set()
         for record in places:
             for kind, count in (("read", "READ_SKIP"), ("process", "PROCESS_SKIP")):
-                fault = self.called(kind, [record])
-                if fault:
-                    self.skip(fault, count, (record,))
+                if record not in gone and (fault := self.called(kind, [record])):
+                    self.skip(fault, count, [record])
                     gone.add(record)
-                    break
-
-        fault = self.called("write", self.results_of(places, gone))
-        if fault:
-            self.skip(fault, "WRITE_SKIP", tuple(self.results_of(range(lo, hi), gone)))
+        if fault := self.called("write", self.results_of(places, gone)):
+            self.skip(fault, "WRITE_SKIP", self.results_of(range(lo, hi), gone))
 
     def results_of(self, records, gone):
         """Those of the records that have a result."""
         return [record for record in records if record not in gone and not self.data.is_filtered(record)]
 
     def skip(self, fault, count, dropped):
-        self.skipped.append(dataclasses.replace(fault, dropped=dropped))
+        self.skipped.append(fault._replace(dropped=tuple(dropped)))
         self.add(**{count: 1})
 
     def called(self, kind, records):
         """Makes a call, again where its fault is repeated in place: None where it went well, else its fault, which is skipped."""
-        while (fault := self.strike(kind, records)) is not None:
+        while fault := self.strike(kind, records):
             choice = self.choice(fault.fault_class)
             if choice == "skip":
                 return fault
@@ -120,9 +100,7 @@ class Partition:
         """The fault of the call, if it has one: a bad record's each time, each of a shaky one's once."""
         for record in records:
             fails, classes = self.data.faults[KINDS.index(kind)].get(record, ("shaky", ()))
-            if fails == "bad":
-                return Fault(kind, classes[0], record)
-            met = self.met[kind, record]
+            met = 0 if fails == "bad" else self.met[kind, record]
             if met < len(classes):
                 self.met[kind, record] += 1
                 return Fault(kind, classes[met], record)

@@ -1,78 +1,30 @@
 """The documents of the words, and what no JSON Schema can say of one."""
-import dataclasses
+from collections import namedtuple
 
 import limits
 
-from .data import Data, data_of, faults_of
-from .job import Job, chunk_of, classes_of, job_of
+from .data import FAULTS, Data, data_of
+from .job import CHUNK, JOB, classes_of
 from .json_text import NUMBERS_END
-from .parts import Part, is_whole, members, number
-from .saved import Resume, resume_of
+from .parts import Part, Table, is_whole, listed, number
+from .saved import resume_of
+
+Load = namedtuple("Load", "counts threads rounds certificate", defaults=[None, None])
+Document = namedtuple("Document", "job data resume", defaults=[None])
 
 
-@dataclasses.dataclass
-class Document:
-    """A document of `run` or `restart`."""
-
-    job: Job
-    data: list
-    resume: Resume | None
-
-    def first(self):
-        """The place of the step at which it begins; None where there is none."""
-        ids = [step.name for step in self.job.steps]
-        return 0 if self.resume is None else ids.index(self.resume.step) if self.resume.step in ids else None
-
-
-def document_of(part, word):
-    given = part.with_keys("job", "data", *(["resume"] if word == "restart" else []))
-    job = given.required("job", job_of) or Job(None, [], [])
-
-    def data_list(part):
-        listed = part.tree if part.shaped(isinstance(part.tree, list)) else []
-        part.shaped(len(listed) == len(job.steps), f"it has {len(listed)} members, and the job {len(job.steps)} steps")
-        return [data_of(part.at(place), job.classes) for place in range(len(listed))]
-
-    data = given.required("data", data_list) or []
-    ids = [step.name for step in job.steps]
-    return Document(job, data, given.required("resume", lambda part: resume_of(part, ids)) if word == "restart" else None)
-
-
-@dataclasses.dataclass
-class Load:
-    """A document of `plan` or `check`."""
-
-    counts: list
-    threads: int
-    rounds: list | None = None
-    certificate: str | int | None = None
-
-
-def chunks_of(job, step, data):
-    """How a step does its chunks, and its data, as they stand in a document that may have faults."""
-    classes = Part(job).optional("exception-classes", classes_of, [])
-    records = data["records"]
-    faults = faults_of(Part(data), classes, len(records))
-    return chunk_of(Part(step["chunk"]), classes), Data(records, data.get("prefix", ""), data.get("drop"), faults)
-
-
-def load_of(part, word):
-    given = part.with_keys("counts", "threads", *(["rounds", "certificate"] if word == "check" else []))
-    load = Load(given.required("counts", counts_of), given.required("threads", number(1, limits.THREADS)))
-    if word == "check":
-        load.rounds, load.certificate = given.required("rounds", rounds_of), given.required("certificate", certificate_of)
-    return load
+def data_list(part):
+    """The data of each step."""
+    tree, steps = part.tree if part.shaped(isinstance(part.tree, list)) else [], len(part.reading.steps)
+    part.shaped(len(tree) == steps, f"it has {len(tree)} members, and the job {steps} steps")
+    return [data_of(part.at(place)) for place in range(len(tree))]
 
 
 def counts_of(part):
-    counts = [number(0, limits.CHUNKS)(count) for count in members(0, limits.LOAD_PARTITIONS, part)]
+    counts = listed(0, limits.LOAD_PARTITIONS, number(0, limits.CHUNKS))(part)
     chunks = sum(count for count in part.tree if type(count) is int) if isinstance(part.tree, list) else 0
     part.ranged(chunks <= limits.CHUNKS, f"their sum is {chunks}, above {limits.CHUNKS}")
     return counts
-
-
-def rounds_of(part):
-    return [[slot_of(slot) for slot in members(0, NUMBERS_END, slots)] for slots in members(0, NUMBERS_END, part)]
 
 
 def slot_of(part):
@@ -90,24 +42,50 @@ def certificate_of(part):
     return part.tree
 
 
+ANY = float("inf")
+RUN = ("job", JOB), ("data", data_list)
+LOAD = ("counts", counts_of), ("threads", number(1, limits.THREADS))
+DOCUMENTS = {
+    "run": Table(Document, *RUN),
+    "restart": Table(Document, *RUN, ("resume", resume_of)),
+    "plan": Table(Load, *LOAD),
+    "check": Table(Load, *LOAD, ("rounds", listed(0, ANY, listed(0, ANY, slot_of))), ("certificate", certificate_of)),
+}
+
+
+def from_step(resume, steps, data):
+    """The steps that are run, with their data: from the one on that goes on."""
+    first = next((place for place, step in enumerate(steps) if resume is None or step.name == resume.step), len(steps))
+    return list(zip(steps, data))[first:]
+
+
+def chunks_of(job, step, data):
+    """How a step does its chunks, and its data, as they stand in a document that may have faults."""
+    part = Part({"job": job, "step": step, "data": data})
+    if "exception-classes" in job:
+        classes_of(part.at("job").at("exception-classes"))
+    chunk, part.reading.records = CHUNK(part.at("step").at("chunk")), len(data["records"])
+    faults = FAULTS(part.at("data").at("faults")) if "faults" in data else [{}, {}, {}]
+    return chunk, Data(data["records"], data.get("prefix", ""), data.get("drop"), faults)
+
+
 # ---- what no schema can say
 
 
 def beyond_schema(word, tree):
     """Each fault of a word's document that its schema can't say: its path in the document, and a line."""
     part = Part(tree)
-    document = document_of(part, word) if word in ("run", "restart") else load_of(part, word)
+    document, lines, steps = DOCUMENTS[word](part), part.reading.lines, part.reading.steps
     yield from numbers(tree)
-    yield from (each for each in part.lines if each[0][0] != "resume")
-    if not isinstance(document, Document):
+    yield from (each for each in lines if each[0][0] != "resume")
+    if isinstance(document, Load):
         return
-    for place, (step, data) in enumerate(zip(document.job.steps, document.data)):
+    for place, (step, data) in enumerate(zip(steps, document.data or [])):
         for _, where, line in step.plan.faults(len(data.records)):
             yield ("job", "step", place, "partition", "plan", *where), line
-    yield from (each for each in part.lines if each[0][0] == "resume")
-    first = document.first()
-    if document.resume and first in range(len(document.data)) and not document.job.steps[first].plan.override:
-        for place, line in document.resume.past_end(len(document.data[first].records)):
+    yield from (each for each in lines if each[0][0] == "resume")
+    for step, data in from_step(document.resume, steps, document.data or [])[:1] if document.resume else ():
+        for place, line in () if step.plan.override else document.resume.past_end(len(data.records)):
             yield ("resume", "saved", "rows", place), line
 
 

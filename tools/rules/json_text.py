@@ -1,11 +1,10 @@
-"""JSON texts as the program reads them: bytes to trees."""
+"""JSON texts as the program reads them: bytes to trees, with None for what is of no kind that a document has."""
 import json
+import math
+
+from .parts import Refused
 
 NUMBERS_END, DEEPEST = 2**64, 127
-
-
-class OtherNumber:
-    """A number that isn't whole, not negative and below 2^64."""
 
 
 class Members(dict):
@@ -17,18 +16,13 @@ class Members(dict):
 
 
 def other_number(text):
-    if float(text) in (float("inf"), float("-inf")):
+    if not math.isfinite(float(text)):
         raise ValueError("outside the range of floats")
-    return OtherNumber()
 
 
 def whole_number(digits):
-    other, number = other_number(digits), int(digits)
-    return number if digits != "-0" and 0 <= number < NUMBERS_END else other
-
-
-def no_constant(name):
-    raise ValueError(name)
+    other_number(digits)
+    return int(digits) if digits != "-0" and 0 <= int(digits) < NUMBERS_END else None
 
 
 def check(tree, depth=0):
@@ -42,14 +36,12 @@ def check(tree, depth=0):
             check(member, depth + 1)
 
 
-READ = {"parse_int": whole_number, "parse_float": other_number, "parse_constant": no_constant, "object_pairs_hook": Members}
-
-
 def tree_of(text):
-    """The tree, or ValueError where the program reads none."""
+    """The tree of these bytes."""
+    numbers = {"parse_int": whole_number, "parse_float": other_number, "parse_constant": other_number}
     try:
-        tree = json.loads(text.decode(), **READ)
+        tree = json.loads(text.decode(), object_pairs_hook=Members, **numbers)
         check(tree)
-    except RecursionError:
-        raise ValueError("too deep") from None
+    except (ValueError, RecursionError):
+        raise Refused("NotJson") from None
     return tree

@@ -9,33 +9,40 @@ class Refused(Exception):
     """The first fault of a document."""
 
 
-class Part:
-    """A part at its path. `refusals` names what is wrong, in the order in which the program looks; `lines` has paths, each with a line."""
+class Reading:
+    """What was found so far: the names of what is wrong, in the order in which the program looks; lines, each with its path; and what
+    later parts depend on: the classes that are declared, the steps, and how many records the last one has."""
 
-    def __init__(self, tree, path=(), found=None):
-        self.tree, self.path = tree, path
-        self.refusals, self.lines = found or ([], [])
+    def __init__(self):
+        self.refusals, self.lines = [], []
+        self.classes, self.steps, self.records = [], [], 0
+
+
+class Part:
+    """A part of a document at its path, in an object or list."""
+
+    def __init__(self, tree, path=(), reading=None, holder=None):
+        self.tree, self.path, self.reading, self.holder = tree, path, reading or Reading(), holder
 
     def at(self, key):
-        """The member at this key or place."""
-        return Part(self.tree[key], (*self.path, key), (self.refusals, self.lines))
+        return Part(self.tree[key], (*self.path, key), self.reading, self.tree)
 
     def place(self, *keys):
-        """The place of a member, whether or not it is there."""
-        return Part(None, (*self.path, *keys), (self.refusals, self.lines))
+        """The place of a part below, whether or not it is there."""
+        return Part(None, (*self.path, *keys), self.reading)
 
     @property
     def field(self):
         """The key at which it stands, or the list that it is in."""
         return next((key for key in reversed(self.path) if isinstance(key, str)), "unknown")
 
-    def refuse(self, name, line=None):
-        self.refusals.append(name)
-        self.tell(line)
-
     def tell(self, line):
         if line is not None:
-            self.lines.append((self.path, line))
+            self.reading.lines.append((self.path, line))
+
+    def refuse(self, name, line=None):
+        self.reading.refusals.append(name)
+        self.tell(line)
 
     def shaped(self, is_right, line=None):
         if not is_right:
@@ -46,31 +53,29 @@ class Part:
         if not is_right:
             self.refuse(f"OutOfRange({self.field})", line)
 
-    # ---- objects
 
-    def with_keys(self, *keys):
-        """The same as an object that has no other keys than its table."""
-        if not self.shaped(isinstance(self.tree, dict)):
-            return Part({}, self.path, (self.refusals, self.lines))
-        if not self.tree.keys() <= set(keys):
-            self.refuse("WrongShape(unknown)")
-        return self
+class Table:
+    """An object: a line for each key, with the kind of its value and what holds where it is absent; where nothing does, it is required."""
 
-    def optional(self, key, read, absent=None):
-        return read(self.at(key)) if key in self.tree else absent
+    def __init__(self, make, *lines):
+        self.make, self.lines = make, lines
 
-    def required(self, key, read):
-        if key not in self.tree:
-            self.refuse(f"WrongShape({key})")
-            return None
-        return read(self.at(key))
+    def __call__(self, part):
+        tree = part.tree if part.shaped(isinstance(part.tree, dict)) else {}
+        if not tree.keys() <= {key for key, *_ in self.lines}:
+            part.refuse("WrongShape(unknown)")
+        return self.make(*(self.value(part, tree, *line) for line in self.lines))
+
+    def value(self, part, tree, key, read, *absent):
+        if key in tree:
+            return read(part.at(key))
+        if not absent:
+            part.refuse(f"WrongShape({key})")
+        return absent[0] if absent else None
 
 
 def is_whole(tree):
     return type(tree) is int and tree >= 0
-
-
-# ---- kinds of values
 
 
 def number(low, high):
@@ -83,13 +88,16 @@ def number(low, high):
     return read
 
 
+def bytes_in(text):
+    return len(text.encode(errors="replace"))  # a tool also reads halves of characters
+
+
 def text(low, high):
     def read(part):
         if not part.shaped(isinstance(part.tree, str)):
             return None
-        length = len(part.tree.encode(errors="replace"))
-        is_beyond = len(part.tree) <= high < length
-        part.ranged(low <= length <= high, f"it has {length} bytes, and may have {high}" if is_beyond else None)
+        length, is_beyond = bytes_in(part.tree), len(part.tree) <= high
+        part.ranged(low <= length <= high, f"it has {length} bytes, and may have {high}" if length > high and is_beyond else None)
         return part.tree
 
     return read
@@ -110,6 +118,6 @@ def items(low, high, part):
     return part.tree
 
 
-def members(low, high, part):
-    """The members of such a list."""
-    return (part.at(place) for place in range(len(items(low, high, part))))
+def listed(low, high, read):
+    """A list of so many members of a kind."""
+    return lambda part: [read(part.at(place)) for place in range(len(items(low, high, part)))]

@@ -1,22 +1,16 @@
 """A step's partition plan: into which ranges its records are divided, and on how many threads they are done."""
-import dataclasses
 import itertools
+from collections import namedtuple
 
 import limits
 
-from .parts import Refused, flag, is_whole, members, number
+from .parts import Refused, Table, flag, is_whole, listed, number
 
 MOST_PAIRS = 1_000  # of ranges with a record in common that are told
 
 
-@dataclasses.dataclass
-class Plan:
+class Plan(namedtuple("Plan", "partitions threads override ranges")):
     """`ranges` is None where the records are divided evenly."""
-
-    partitions: int
-    threads: int
-    override: bool
-    ranges: list | None
 
     def ranges_of(self, records):
         """The ranges of so many records; the first fault of the plan is refused."""
@@ -24,45 +18,21 @@ class Plan:
             raise Refused(name)
         return even_ranges(records, self.partitions) if self.ranges is None else self.ranges
 
-    def threads_for(self, partitions):
-        return min(self.threads or partitions, limits.THREADS)
-
     def faults(self, records):
         """What is wrong with it for so many records, in the order in which the program looks: a name, a place in the plan, and a line."""
-        is_even = self.ranges is None
-        asked, ranges = (self.partitions, []) if is_even else (len(self.ranges), self.ranges)
-        if asked == 0 and not is_even:
-            yield "NoPartition", ["ranges"], "there is no partition"
+        key, asked = ("partitions", self.partitions) if self.ranges is None else ("ranges", len(self.ranges))
+        if self.ranges == []:
+            yield "NoPartition", [key], "there is no partition"
         if asked is not None and asked > limits.PARTITIONS:
-            yield "TooMany", ["partitions" if is_even else "ranges"], f"there are more than {limits.PARTITIONS} partitions"
-        pairs = {place: pair for place, pair in enumerate(ranges) if pair is not None}
+            yield "TooMany", [key], f"there are more than {limits.PARTITIONS} partitions"
+        pairs = {place: pair for place, pair in enumerate(self.ranges or []) if pair is not None}
         for place, (lo, hi) in pairs.items():
             if hi < lo:
-                yield f"Reversed({place})", ["ranges", place], "it ends before it begins"
+                yield f"Reversed({place})", [key, place], "it ends before it begins"
             if hi > records:
-                yield f"PastEnd({place})", ["ranges", place], past_end(records)
+                yield f"PastEnd({place})", [key, place], f"it ends behind the last of {records} records"
         for i, j, line in itertools.islice(overlaps(pairs), MOST_PAIRS):
-            yield f"Overlap({i},{j})", ["ranges", j], line
-
-
-def plan_of(part):
-    given = part.with_keys("partitions", "threads", "override", "ranges")
-    partitions = given.optional("partitions", number(1, limits.PARTITIONS_ASKED), 1)
-    threads = given.optional("threads", number(0, limits.THREADS_ASKED), 0)
-    override = given.optional("override", flag, False)
-
-    def ranges_of(part):
-        part.shaped("partitions" not in given.tree)
-        return [range_of(pair) for pair in members(0, limits.RANGES, part)]
-
-    return Plan(partitions, threads, override, given.optional("ranges", ranges_of))
-
-
-def range_of(part):
-    if not part.shaped(isinstance(part.tree, list) and len(part.tree) == 2 and all(map(is_whole, part.tree))):
-        return None
-    part.ranged(max(part.tree) <= limits.RECORDS)
-    return tuple(part.tree)
+            yield f"Overlap({i},{j})", [key, j], line
 
 
 def even_ranges(records, partitions):
@@ -82,5 +52,24 @@ def overlaps(pairs):
                 yield i, j, f"it has record {max(one[0], other[0])} in common with range {i}"
 
 
-def past_end(records):
-    return f"it ends behind the last of {records} records"
+def range_of(part):
+    if not part.shaped(isinstance(part.tree, list) and len(part.tree) == 2 and all(map(is_whole, part.tree))):
+        return None
+    part.ranged(max(part.tree) <= limits.RECORDS)
+    return tuple(part.tree)
+
+
+def ranges_of(part):
+    part.shaped("partitions" not in part.holder)
+    return listed(0, limits.RANGES, range_of)(part)
+
+
+PLAN = Table(
+    Plan,
+    ("partitions", number(1, limits.PARTITIONS_ASKED), 1),
+    ("threads", number(0, limits.THREADS_ASKED), 0),
+    ("override", flag, False),
+    ("ranges", ranges_of, None),
+)
+ONE_PARTITION = Plan(1, 0, False, None)
+PARTITION = Table(lambda plan: plan or ONE_PARTITION, ("plan", PLAN))

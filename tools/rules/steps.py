@@ -18,38 +18,34 @@ class Partition(chunks.Partition):
         self.outputs = outputs[: row.written]
 
     def commit(self, end, skipped):
-        block, gone = range(self.row.at, end), {fault.record for fault in skipped if fault.kind != "write"}
-        dropped = {record for fault in skipped for record in fault.dropped}
-        read = len(block) - sum(fault.kind == "read" for fault in skipped)
-        results = [self.data.prefix + self.data.records[record] for record in self.results_of(block, dropped)]
-        filtered = sum(self.data.is_filtered(record) for record in block if record not in gone)
+        block, dropped = range(self.row.at, end), {record for fault in skipped for record in fault.dropped}
+        results = self.results_of(block, dropped)
+        self.outputs += [self.data.prefix + self.data.records[record] for record in results]
+        read, filtered = len(block) - sum(fault.kind == "read" for fault in skipped), len(block) - len(dropped) - len(results)
         self.add(READ=read, FILTER=filtered, WRITE=len(results), written=len(results))
-        self.outputs += results
         super().commit(end, skipped)
 
 
 class StepRun:
     """A run of a step: the plans of its rounds, and what was heard of each partition."""
 
-    def __init__(self, step, tasks, ranges):
-        self.name, self.tasks, self.threads = step.name, tasks, step.plan.threads_for(ranges)
+    def __init__(self, step, tasks, partitions):
+        self.name, self.tasks, self.threads = step.name, tasks, min(step.plan.threads or partitions, limits.THREADS)
         self.begun, self.stopped, self.plans, self.heard = ["begin"], False, [], [[] for _ in tasks]
 
     def run(self, limit):
-        """Runs the partitions to their ends, in at most so many rounds."""
-        done, plan = 0, None
+        """Runs the partitions to their ends, in at most so many rounds. A chunk that isn't committed ends the plan after its round."""
         while any(counts := [task.chunks_left() for task in self.tasks]):
-            if done == limit:
+            if limit == 0:
                 return self.stop()
-            if plan is None:
-                certificate, rounds = wrapped(counts, self.threads)
-                plan = iter(rounds)
-                self.plans.append([certificate, len(rounds), 0])
-            whole_round = [self.attempt(slot[0]) for slot in next(plan) if slot is not None]
-            done += 1
-            self.plans[-1][2] += 1
-            if not all(whole_round) or self.plans[-1][1] == self.plans[-1][2]:
-                plan = None
+            certificate, rounds = wrapped(counts, self.threads)
+            self.plans.append([certificate, len(rounds), 0])
+            for slots in rounds:
+                are_committed = [self.attempt(slot[0]) for slot in slots if slot is not None]
+                self.plans[-1][2] += 1
+                limit -= 1
+                if limit == 0 or not all(are_committed):
+                    break
 
     def stop(self):
         self.stopped = True
@@ -75,13 +71,12 @@ class StepRun:
         return "FAILED" if any(task.failure for task in self.tasks) else "STOPPED" if self.stopped else "COMPLETED"
 
     def report(self):
-        closed = ["before", "after COMMIT"] if self.status == "COMPLETED" else ["rollback", "after ROLLBACK"]
         return {
             "heard": self.heard,
             "outputs": [task.outputs for task in self.tasks],
             "plans": self.plans,
-            "reducer": [*self.begun, *closed],
-            "saved": {"rows": [[*task.row] for task in self.tasks], "step": self.name, "version": rows.VERSION},
+            "reducer": self.begun + (["before", "after COMMIT"] if self.status == "COMPLETED" else ["rollback", "after ROLLBACK"]),
+            "saved": {"rows": [task.row for task in self.tasks], "step": self.name, "version": rows.VERSION},
             "status": self.status,
             "step": self.name,
         }
@@ -97,13 +92,11 @@ def begun(step, data):
 
 def resumed(step, data, resume):
     """A run that goes on from saved rows, where the plan gives the number of threads alone; with `override` it begins anew."""
-    records = len(data.records)
-    ranges = step.plan.ranges_of(records)
+    ranges = step.plan.ranges_of(len(data.records))
     if step.plan.override:
         run = begun(step, data)
         run.begun.append("rollback")
         return run
-    if resume.past_end(records):
+    if resume.past_end(len(data.records)):
         raise Refused("Saved(Records)")
-    tasks = [Partition(step.chunk, data, row, outputs) for row, outputs in zip(resume.rows.values(), resume.outputs)]
-    return StepRun(step, tasks, len(ranges))
+    return StepRun(step, [Partition(step.chunk, data, *each) for each in zip(resume.rows.values(), resume.outputs)], len(ranges))
