@@ -56,14 +56,17 @@ class Numbers:
 def numbers_of(step, data):
     """Those of a step and of its data, trees of a document."""
     chunk, plan, records = step["chunk"], step.get("partition", {}).get("plan", {}), len(data["records"])
-    ranges = plan["ranges"] if "ranges" in plan else even_ranges(records, plan.get("partitions", 1))
+    item_count, partitions = chunk.get("item-count", limits.ITEM_COUNT_IF_ABSENT), plan.get("partitions", 1)
+    if min(item_count, partitions) < 1:
+        raise ValueError(f"item-count {item_count}, partitions {partitions}")
+    ranges = plan["ranges"] if "ranges" in plan else even_ranges(records, min(partitions, limits.PARTITIONS_ASKED))
     faults = data.get("faults", {})
     entries = [entry for kind in faults.values() for entry in kind]
     names = lambda key: chunk.get(key, {}).get("include", [])
     is_retried = bool(names("retryable-exception-classes"))
     return Numbers(
         [hi - lo for lo, hi in ranges],
-        chunk.get("item-count", limits.ITEM_COUNT_IF_ABSENT),
+        item_count,
         chunk.get("retry-limit", limits.RETRIES_IF_ABSENT) if is_retried else 0,
         len(entries),
         sum(len(entry[2]) for entry in entries if entry[1] == "shaky"),
