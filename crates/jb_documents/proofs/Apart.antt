@@ -1,93 +1,45 @@
--- An object apart: a member, and the object without it, as data.
-use Rattle.std.proofs.Common.{◌≡◌, ℕ, Bool, true, false, cond, List, Option, Some, None, option_map, option_and_then, Ok, refl, sym, ap, subst, ◌∙◌, bytes_eq, nat_cmp, Ordering, Less, Equal, Greater}
-use Rattle.std.specs.List.{list_all}
-use Rattle.std.specs.Prelude.{⊤}
-use Rattle.std.specs.Cmp.Lexicographic.{slice_cmp}
-use Rattle.std.specs.Ordering.{match_ordering}
+-- An object apart: its last member of a name, and the object without it.
+use Rattle.std.proofs.Common.{◌≡◌, ℕ, suc, ◌≤◌, ◌<◌, Bool, true, false, cond, List, [], ◌∷◌, ◌++◌, length, get_or, take, drop, Option, Some, None, option_map, IfSome, MatchOption, Vec, Global, Bor, refl, sym, ap, subst, ◌∙◌, bytes_eq, arith}
+use Rattle.std.specs.List.{remove}
 use Rattle.std.proofs.lemmas.Bool.{and_parts}
-use Rattle.std.proofs.lemmas.Option.{option_and_then_some, same_Some}
+use Rattle.std.proofs.lemmas.List.{take-append-drop}
 use Rattle.std.proofs.lemmas.Slice.Eq.{bytes_eq-Decides}
+use Rattle.std.proofs.Math.Seq.{drop-cons}
 use Rattle.json.specs.Json as json
 use Rattle.json.specs.Find as find
 use Rattle.json.specs.Find.{later_or}
-use Rattle.serde_json.specs.Data.{Data, object, Members, no_members, member, put}
+use Rattle.json.specs.Tree.{depth, members_depth, HasNumbers, MembersHaveNumbers}
+use Rattle.json.specs.Value.{value_view, members_view}
+use Rattle.json.specs.declared.value.Value.{Value, Object}
+use Rattle.json.proofs.Trees.{view-Object}
+use Rattle.serde_json.specs.Data.{Data, Members, no_members, put}
 use Rattle.serde_json.specs.Find.{get, get_member}
-use Rattle.serde_json.specs.Read.{of_json, of_members}
+use Rattle.serde_json.specs.Read.{max_depth}
 use Rattle.serde_json.proofs.Views.{get_member-put, get_member-put_other}
-use Rattle.jb_job.specs.declared.field.Field.{Field}
-use Rattle.jb_job.specs.Reading.{is_named, member_names, object_at}
-use Rattle.jb_documents.specs.inside.Borrowed.{keys, joined, IsApart}
-
--- ---- each member is data
-
-abbrev IsData : json.Json → Type 0
-IsData j = (d : Data) × (of_json j ≡ Some d)
-
-AreData : json.Members → Type 0
-AreData json.no_members = ⊤
-AreData (json.member k j ms) = IsData j × AreData ms
-
-one_then : (j : json.Json) (ms : json.Members) (k : List ℕ) (old found : Members) → of_members (json.member k j ms) old ≡ Some found → (d : Data) × (of_json j ≡ Some d) × (of_members ms (put k d old) ≡ Some found)
-one_then j ms k old found e = option_and_then_some (λ d. of_members ms (put k d old)) (of_json j) found e (λ d is more. (d, is, more))
-
-are_data : (ms : json.Members) (old found : Members) → of_members ms old ≡ Some found → AreData ms
-unfolding AreData
-are_data json.no_members old found e = tt
-are_data (json.member k j ms) old found e = let one = one_then j ms k old found e in ((one.0, one.1), are_data ms (put k one.0 old) found one.2)
-
-found_all : (ms : json.Members) (old : Members) → AreData ms → (found : Members) × (of_members ms old ≡ Some found)
-unfolding AreData
-found_all json.no_members old all = (old, refl)
-found_all (json.member k j ms) old all =
-    let more = found_all ms (put k all.0.0 old) all.1 in
-    (more.0, ap (option_and_then (λ d. of_members ms (put k d old))) all.0.1 ∙ more.1)
-
-put_in : (front back : json.Members) (name : List ℕ) (part : json.Json) → IsData part → AreData (joined front back) → AreData (joined front (json.member name part back))
-unfolding AreData
-put_in json.no_members back name part is all = (is, all)
-put_in (json.member k j ms) back name part is all = (all.0, put_in ms back name part is all.1)
+use Rattle.jb_documents.specs.inside.Borrowed.{data_of, members_data, in_range, members_in_range, seen, joined, IsApart, IsReadable}
 
 -- ---- the last member of a name is the one that is found
 
 abbrev chosen : Option json.Json → Option Data → Option Data
 chosen None earlier = earlier
-chosen (Some j) earlier = of_json j
+chosen (Some j) earlier = Some (data_of j)
 
-chosen_later : (later : Option json.Json) (same : Bool) (j : json.Json) (d : Data) (old new : Option Data) → of_json j ≡ Some d
-    → (same ≡ true → new ≡ Some d) → (same ≡ false → new ≡ old) → chosen later new ≡ chosen (later_or later (cond same (Some j) None)) old
-chosen_later (Some x) same j d old new is here there = refl
-chosen_later None true j d old new is here there = here refl ∙ sym is
-chosen_later None false j d old new is here there = there refl
+chosen_later : (later : Option json.Json) (same : Bool) (j : json.Json) (old new : Option Data)
+    → (same ≡ true → new ≡ Some (data_of j)) → (same ≡ false → new ≡ old) → chosen later new ≡ chosen (later_or later (cond same (Some j) None)) old
+chosen_later (Some x) same j old new here there = refl
+chosen_later None true j old new here there = here refl
+chosen_later None false j old new here there = there refl
 
-pub found_last : (name : List ℕ) (ms : json.Members) (old found : Members) → of_members ms old ≡ Some found → get_member name found ≡ chosen (find.get_member name ms) (get_member name old)
-found_last name json.no_members old found e = ap (get_member name) (sym (same_Some old found e))
-found_last name (json.member k j ms) old found e =
-    let one = one_then j ms k old found e in
-    found_last name ms (put k one.0 old) found one.2
-    ∙ chosen_later (find.get_member name ms) (bytes_eq k name) j one.0 (get_member name old) (get_member name (put k one.0 old)) one.1
-    (λ same. let is : k ≡ name = (bytes_eq-Decides k name).0 same in subst (λ n. get_member n (put k one.0 old) ≡ Some one.0) is (get_member-put k one.0 old))
-    (λ other. get_member-put_other name k one.0 old (λ is. absurd (cc (sym other ∙ (bytes_eq-Decides k name).1 (sym is)))))
+found_last : (name : List ℕ) (ms : json.Members) (found : Members) → get_member name (members_data ms found) ≡ chosen (find.get_member name ms) (get_member name found)
+found_last name json.no_members found = refl
+found_last name (json.member k j ms) found =
+    found_last name ms (put k (data_of j) found)
+    ∙ chosen_later (find.get_member name ms) (bytes_eq k name) j (get_member name found) (get_member name (put k (data_of j) found))
+    (λ same. let is : k ≡ name = (bytes_eq-Decides k name).0 same in subst (λ n. get_member n (put k (data_of j) found) ≡ Some (data_of j)) is (get_member-put k (data_of j) found))
+    (λ other. get_member-put_other name k (data_of j) found (λ is. absurd (cc (sym other ∙ (bytes_eq-Decides k name).1 (sym is)))))
 
--- ---- the keys that are found are those of the members
-
-names_put_at : (p : List ℕ → Bool) (o : Ordering) (k l : List ℕ) (d e : Data) (ms : Members) → p k ≡ true → p l ≡ true → list_all p (member_names ms) ≡ true → list_all p (member_names (put k d ms)) ≡ true
-    → list_all p (member_names (match_ordering o (member k d (member l e ms)) (member l d ms) (member l e (put k d ms)))) ≡ true
-names_put_at p Less k l d e ms here there all later = rw (here, there, all) refl
-names_put_at p Equal k l d e ms here there all later = rw (there, all) refl
-names_put_at p Greater k l d e ms here there all later = rw (there, later) refl
-
-names_put : (p : List ℕ → Bool) (k : List ℕ) (d : Data) (ms : Members) → p k ≡ true → list_all p (member_names ms) ≡ true → list_all p (member_names (put k d ms)) ≡ true
-names_put p k d no_members here all = rw here refl
-names_put p k d (member l e ms) here all =
-    let parts = and_parts (p l) (list_all p (member_names ms)) all in
-    names_put_at p (slice_cmp nat_cmp k l) k l d e ms here parts.0 parts.1 (names_put p k d ms here parts.1)
-
-pub names_found : (p : List ℕ → Bool) (ms : json.Members) (old found : Members) → list_all p (keys ms) ≡ true → list_all p (member_names old) ≡ true → of_members ms old ≡ Some found → list_all p (member_names found) ≡ true
-names_found p json.no_members old found named all e = subst (λ ms. list_all p (member_names ms) ≡ true) (same_Some old found e) all
-names_found p (json.member k j ms) old found named all e =
-    let parts = and_parts (p k) (list_all p (keys ms)) named in
-    let one = one_then j ms k old found e in
-    names_found p ms (put k one.0 old) found parts.1 (names_put p k one.0 old parts.0 all) one.2
+pub none_found : (name : List ℕ) (ms : json.Members) → find.get_member name ms ≡ None → get_member name (members_data ms no_members) ≡ None
+none_found name ms none = found_last name ms no_members ∙ ap (λ o. chosen o None) none
 
 -- ---- a member that is put between others
 
@@ -104,51 +56,114 @@ others_stay : (front back : json.Members) (name k : List ℕ) (part : json.Json)
 others_stay json.no_members back name k part other = skipped (find.get_member name back) part (bytes_eq k name) (other_test k name _ refl other)
 others_stay (json.member l j ms) back name k part other = ap (λ later. later_or later (cond (bytes_eq l name) (Some j) None)) (others_stay ms back name k part other)
 
-none_later : (later here : Option json.Json) → later_or later here ≡ None → (later ≡ None) × (here ≡ None)
-none_later None here e = (refl, e)
-none_later (Some x) here e = absurd (cc)
-
-same_test : (name : List ℕ) → bytes_eq name name ≡ true
-same_test name = (bytes_eq-Decides name name).1 refl
-
-found_between : (front back : json.Members) (name : List ℕ) (part : json.Json) → find.get_member name (joined front back) ≡ None
+found_between : (front back : json.Members) (name : List ℕ) (part : json.Json) → find.get_member name back ≡ None
     → find.get_member name (joined front (json.member name part back)) ≡ Some part
-found_between json.no_members back name part none = rw (none, same_test name) refl
-found_between (json.member l j ms) back name part none =
-    let later = none_later (find.get_member name (joined ms back)) (cond (bytes_eq l name) (Some j) None) none in
-    ap (λ later. later_or later (cond (bytes_eq l name) (Some j) None)) (found_between ms back name part later.0)
+found_between json.no_members back name part none = rw (none, (bytes_eq-Decides name name).1 refl) refl
+found_between (json.member l j ms) back name part none = ap (λ later. later_or later (cond (bytes_eq l name) (Some j) None)) (found_between ms back name part none)
 
--- ---- an object apart
+pub part_found : (name : List ℕ) (whole part rest : json.Json) → IsApart name whole part rest → get name (data_of whole) ≡ Some (data_of part)
+part_found name whole part rest a =
+    ap (λ j. get name (data_of j)) a.whole_is ∙ found_last name (joined a.front (json.member name part a.back)) no_members
+    ∙ ap (λ o. chosen o None) (found_between a.front a.back name part a.last)
 
-pub record Apart (f : Field) (table : List Field) (name : List ℕ) (whole : json.Json) (part rest : Data) : Type 0 where
-  pub found : Data
-  pub is : of_json whole ≡ Some found
-  pub keyed : object_at f table found ≡ Ok found
-  pub member_is : get name found ≡ Some part
-  pub others : (other : List ℕ) → (other ≡ name → ⊥) → get other found ≡ get other rest
+pub others_found : (name : List ℕ) (whole part rest : json.Json) → IsApart name whole part rest → (other : List ℕ) → (other ≡ name → ⊥) → get other (data_of rest) ≡ get other (data_of whole)
+others_found name whole part rest a other differs =
+    ap (λ j. get other (data_of j)) a.rest_is ∙ found_last other (joined a.front a.back) no_members
+    ∙ ap (λ o. chosen o None) (sym (others_stay a.front a.back other name part differs))
+    ∙ sym (ap (λ j. get other (data_of j)) a.whole_is ∙ found_last other (joined a.front (json.member name part a.back)) no_members)
 
-object_parts : (o : Option Members) (r : Data) → option_map object o ≡ Some r → (found : Members) × (o ≡ Some found) × (r ≡ object found)
-object_parts None r e = absurd (cc)
-object_parts (Some found) r e = (found, refl, sym (same_Some (object found) r e))
+-- ---- the parts can be printed and read again, where the whole can
 
-pub apart : (f : Field) (table : List Field) (name : List ℕ) (whole part rest : json.Json) (p r : Data) → IsApart table name whole part rest → of_json part ≡ Some p → of_json rest ≡ Some r → Apart f table name whole p r
-unfolding object_at
-apart f table name whole part rest p r a is_part is_rest =
-    let front = a.front in
-    let back = a.back in
-    let left = object_parts (of_members (joined front back) no_members) r (sym (ap of_json a.rest_is) ∙ is_rest) in
-    let every = put_in front back name part (p, is_part) (are_data (joined front back) no_members left.0 left.1) in
-    let all = found_all (joined front (json.member name part back)) no_members every in
-    let keyed = names_found (is_named table) (joined front (json.member name part back)) no_members all.0 a.named refl all.1 in
-    let here = found_between front back name part a.once in
+numbers_apart : (front back : json.Members) (name : List ℕ) (part : json.Json) → MembersHaveNumbers (joined front (json.member name part back)) → HasNumbers part × MembersHaveNumbers (joined front back)
+numbers_apart json.no_members back name part h = (h.0, h.1)
+numbers_apart (json.member k j ms) back name part h = let more = numbers_apart ms back name part h.1 in (more.0, (h.0, more.1))
+
+depth_apart : (front back : json.Members) (name : List ℕ) (part : json.Json) (d : ℕ) → members_depth (joined front (json.member name part back)) ≤ d → (depth part ≤ d) × (members_depth (joined front back) ≤ d)
+depth_apart json.no_members back name part d h = (omega (arith, h), omega (arith, h))
+depth_apart (json.member k j ms) back name part d h =
+    let more = depth_apart ms back name part d (omega (arith, h)) in
+    (more.0, omega (arith, h, more.1))
+
+ranges_apart : (front back : json.Members) (name : List ℕ) (part : json.Json) → members_in_range (joined front (json.member name part back)) ≡ true → (in_range part ≡ true) × (members_in_range (joined front back) ≡ true)
+ranges_apart json.no_members back name part h = let both = and_parts (in_range part) (members_in_range back) h in (both.0, both.1)
+ranges_apart (json.member k j ms) back name part h =
+    let both = and_parts (in_range j) (members_in_range (joined ms (json.member name part back))) h in
+    let more = ranges_apart ms back name part both.1 in
+    (more.0, rw (both.0, more.1) refl)
+
+pub readable_apart : (name : List ℕ) (whole part rest : json.Json) → IsApart name whole part rest → IsReadable whole → IsReadable part × IsReadable rest
+readable_apart name whole part rest a r =
+    let numbers = numbers_apart a.front a.back name part (subst HasNumbers a.whole_is r.numbers) in
+    let deep : suc (members_depth (joined a.front (json.member name part a.back))) ≤ max_depth = subst (λ j. depth j ≤ max_depth) a.whole_is r.nests in
+    let depths = depth_apart a.front a.back name part 126 (omega (arith, deep)) in
+    let ranges = ranges_apart a.front a.back name part (subst (λ j. in_range j ≡ true) a.whole_is r.ranges) in (
+      record { numbers = numbers.0; nests = omega (arith, depths.0); ranges = ranges.0 },
+      subst IsReadable (sym a.rest_is) (record { numbers = numbers.1; nests = omega (arith, depths.1); ranges = ranges.1 }),
+    )
+
+-- ---- a member that is removed
+
+abbrev Member : Type 0 → Type 0
+Member A = Bor (List ℕ) × Value A
+
+joined_view : {A : Type 0} (xs ys : List (Member A)) → members_view (xs ++ ys) ≡ joined (members_view xs) (members_view ys)
+joined_view [] ys = refl
+joined_view (x ∷ xs) ys = ap (json.member x.0.now (value_view x.1)) (joined_view xs ys)
+
+split_at : {A : Type 0} (xs : List (Member A)) (i : ℕ) (x : Member A) → i < length xs → x ≡ get_or xs i x → take i xs ++ (x ∷ drop (suc i) xs) ≡ xs
+split_at xs i x within is = ap (λ y. take i xs ++ (y ∷ drop (suc i) xs)) is ∙ ap (λ ys. take i xs ++ ys) (sym (drop-cons xs i x within)) ∙ take-append-drop i xs
+
+pub apart_at : {A : Type 0} (name : List ℕ) (xs : List (Member A)) (i : ℕ) (x : Member A)
+    → i < length xs → x ≡ get_or xs i x → x.0.now ≡ name → find.get_member name (members_view (drop (suc i) xs)) ≡ None
+    → IsApart name (json.object (members_view xs)) (value_view x.1) (json.object (members_view (remove xs i)))
+apart_at name xs i x within is called last =
+    let front = members_view (take i xs) in
+    let back = members_view (drop (suc i) xs) in
+    let all : members_view xs ≡ joined front (json.member name (value_view x.1) back) =
+    ap members_view (sym (split_at xs i x within is)) ∙ joined_view (take i xs) (x ∷ drop (suc i) xs) ∙ ap (λ k. joined front (json.member k (value_view x.1) back)) called in
+    record { front = front; back = back; whole_is = ap json.object all; rest_is = ap json.object (joined_view (take i xs) (drop (suc i) xs)); last = last }
+
+-- ---- a field that is taken out
+
+-- the last member of a name is taken out of these members, where one is there
+abbrev pub Takes : (name : List ℕ) → List (Member Global) → Option (Value Global) → List (Member Global) → Type 0
+Takes name old taken new = MatchOption taken ((find.get_member name (members_view old) ≡ None) × (new ≡ old))
+    (λ part. IsApart name (json.object (members_view old)) (value_view part) (json.object (members_view new)))
+
+abbrev object_of : List (Member Global) → json.Json
+object_of members = json.object (members_view members)
+
+part_of : (name : List ℕ) (old new : List (Member Global)) (taken : Option (Value Global)) → Takes name old taken new → option_map seen taken ≡ get name (data_of (object_of old))
+part_of name old new None t = sym (none_found name (members_view old) t.0)
+part_of name old new (Some part) t = sym (part_found name (object_of old) (value_view part) (object_of new) t)
+
+others_of : (name : List ℕ) (old new : List (Member Global)) (taken : Option (Value Global)) → Takes name old taken new → (other : List ℕ) → (other ≡ name → ⊥) → get other (data_of (object_of new)) ≡ get other (data_of (object_of old))
+others_of name old new None t other differs = ap (λ ms. get other (data_of (object_of ms))) t.1
+others_of name old new (Some part) t other differs = others_found name (object_of old) (value_view part) (object_of new) t other differs
+
+readable_part_of : (name : List ℕ) (old new : List (Member Global)) (taken : Option (Value Global)) → Takes name old taken new → IsReadable (object_of old) → IfSome taken (λ part. IsReadable (value_view part))
+readable_part_of name old new None t r = tt
+readable_part_of name old new (Some part) t r = (readable_apart name (object_of old) (value_view part) (object_of new) t r).0
+
+readable_rest_of : (name : List ℕ) (old new : List (Member Global)) (taken : Option (Value Global)) → Takes name old taken new → IsReadable (object_of old) → IsReadable (object_of new)
+readable_rest_of name old new None t r = subst (λ ms. IsReadable (object_of ms)) (sym t.1) r
+readable_rest_of name old new (Some part) t r = (readable_apart name (object_of old) (value_view part) (object_of new) t r).1
+
+-- what taking a field by this name does to the tree of the members
+pub record TakesField (name : List ℕ) (tree : Value Global) (taken : Option (Value Global)) (rest : Value Global) : Type 0 where
+  pub part : option_map seen taken ≡ get name (seen tree)
+  pub others : (other : List ℕ) → (other ≡ name → ⊥) → get other (seen rest) ≡ get other (seen tree)
+  pub readable : IsReadable (value_view tree) → IfSome taken (λ part. IsReadable (value_view part))
+  pub readable_rest : IsReadable (value_view tree) → IsReadable (value_view rest)
+
+pub takes_field : (name : List ℕ) (tree : Value Global) (old new : Vec (Member Global) Global) (taken : Option (Value Global)) → tree ≡ Object old → Takes name old.items taken new.items
+    → TakesField name tree taken (Object new)
+takes_field name tree old new taken is t =
+    let whole : value_view tree ≡ object_of old.items = ap value_view is ∙ view-Object old in
+    let rest : value_view (Object new) ≡ object_of new.items = view-Object new in
     record {
-      found = object all.0;
-      is = ap of_json a.whole_is ∙ ap (option_map object) all.1;
-      keyed = rw keyed refl;
-      member_is = found_last name (joined front (json.member name part back)) no_members all.0 all.1 ∙ ap (λ o. chosen o None) here ∙ is_part;
-      others = λ other differs.
-          found_last other (joined front (json.member name part back)) no_members all.0 all.1
-          ∙ ap (λ o. chosen o None) (others_stay front back other name part differs)
-          ∙ sym (found_last other (joined front back) no_members left.0 left.1)
-          ∙ ap (get other) (sym left.2);
+      part = part_of name old.items new.items taken t ∙ ap (λ j. get name (data_of j)) (sym whole);
+      others = λ other differs. ap (λ j. get other (data_of j)) rest ∙ others_of name old.items new.items taken t other differs ∙ ap (λ j. get other (data_of j)) (sym whole);
+      readable = λ r. readable_part_of name old.items new.items taken t (subst IsReadable whole r);
+      readable_rest = λ r. subst IsReadable (sym rest) (readable_rest_of name old.items new.items taken t (subst IsReadable whole r));
     }

@@ -1,8 +1,8 @@
 -- A list of planned faults that was read is in order.
-use Rattle.std.proofs.Common.{◌≡◌, ℕ, ◌-◌, ◌≤◌, ◌<◌, List, [], length, get_or, map, Ok, IfOk, refl, subst, arith}
+use Rattle.std.proofs.Common.{◌≡◌, ℕ, ◌-◌, ◌≤◌, ◌<◌, List, [], length, get_or, Ok, IfOk, refl, subst, arith}
 use Rattle.std.specs.Prelude.{slice_get}
 use Rattle.std.proofs.lemmas.Result.{IfOk-weaker}
-use Rattle.std.proofs.lemmas.List.{get_or-map, map-id}
+use Rattle.std.proofs.lemmas.List.{get_or-map}
 use Rattle.std.proofs.lemmas.List.Sorted.{IsNonDecreasingBy-push, IsNonDecreasingBy-short}
 use Rattle.serde_json.specs.Data.{Data, Items}
 use Rattle.serde_json.specs.Find.{as_str}
@@ -37,6 +37,5 @@ all-follow classes f records items =
     [] items no-fault
 
 -- what reading the members gives is in order
-pub planned-in-order : (classes : List (List ℕ)) (f : Field) (records : ℕ) (items : Items) (faults : List PlannedFault) → each_at (planned_fault_at classes f records) items ≡ Ok (map (λ one. one) faults) → AreInOrder faults
-planned-in-order classes f records items faults is =
-    subst AreInOrder (map-id faults) (subst (λ (read : Read (List PlannedFault)). IfOk read AreInOrder) is (all-follow classes f records items))
+pub planned-in-order : (classes : List (List ℕ)) (f : Field) (records : ℕ) (items : Items) (faults : List PlannedFault) → each_at (planned_fault_at classes f records) items ≡ Ok faults → AreInOrder faults
+planned-in-order classes f records items faults is = subst (λ (read : Read (List PlannedFault)). IfOk read AreInOrder) is (all-follow classes f records items)

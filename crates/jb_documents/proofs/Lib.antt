@@ -4,8 +4,7 @@ pub mod Counts
 pub mod DocumentRanges
 pub mod DocumentTrees
 pub mod FaultOrder
-pub mod Plain
-pub mod PlainRestart
+pub mod InRange
 pub mod Resumed
 pub mod TextTrees
 pub mod Trees

@@ -9,10 +9,11 @@ use Rattle.jb_job.specs.Names.{name_of}
 use Rattle.jb_job.specs.Reading.{object_at, required}
 use Rattle.jb_documents.specs.RestartDocument.{restart_at}
 use Rattle.jb_documents.specs.inside.Parts.{parts_at}
+use Rattle.jb_documents.specs.inside.Taken.{taken}
 
-pub restart-parts : (d document : Data) (job : Job) (given left : Option Data)
-    → object_at field.Unknown (field.Job ∷ field.Data ∷ field.Resume ∷ []) d ≡ Ok document → required (λ f. job_at) field.Job document ≡ Ok job
-    → given ≡ get (name_of field.Data) document → left ≡ get (name_of field.Resume) document
+pub restart-parts : (d : Data) (job : Job) (named given left : Option Data)
+    → object_at field.Unknown (field.Job ∷ field.Data ∷ field.Resume ∷ []) d ≡ Ok d → taken (λ f. job_at) field.Job named ≡ Ok job
+    → named ≡ get (name_of field.Job) d → given ≡ get (name_of field.Data) d → left ≡ get (name_of field.Resume) d
     → restart_at d ≡ parts_at job given left
 unfolding restart_at parts_at required
-restart-parts d document job given left is-document is-job is-given is-left = rw (is-document, is-job, ← is-given, ← is-left) refl
+restart-parts d job named given left is-document is-job is-named is-given is-left = rw (is-document, ← is-named, is-job, ← is-given, ← is-left) refl

@@ -1,62 +1,113 @@
--- JSON trees that are taken apart.
-use Rattle.std.proofs.Common.{◌≡◌, ℕ, List, [], ◌∷◌, Option, Some, None, Ok, Err, BTreeMap, Bool, true, false, cond, is_eq, String, Global, string_bytes, nat_cmp, if◌then◌else◌, refl, sym, ap, subst, ◌∙◌}
+-- Trees that borrow their text, as code sees them, beside the data that they are.
+use Rattle.std.proofs.Common.{◌≡◌, ℕ, ◌&&◌, suc, List, [], ◌∷◌, length, Bool, true, false, Option, Some, None, option_and_then, Vec, Bor, Ordering, Less, Equal, Greater, nat_cmp, is_eq, refl, sym, ap, ◌∙◌}
 use Rattle.std.proofs.lemmas.Map.Text.{is_eq-slice_cmp}
 use Rattle.std.proofs.lemmas.Slice.Eq.{bytes_eq-Decides}
 use Rattle.std.specs.Cmp.Lexicographic.{slice_cmp}
+use Rattle.std.specs.List.{list_all}
 use Rattle.std.specs.Ordering.{match_ordering}
-use Rattle.std.specs.Map.{remove_entry}
-use Rattle.std.specs.BTreeMap.{is_at}
-use Rattle.serde_json.specs.Data.{Data, Members}
-use Rattle.serde_json.specs.Find.{as_object, get, get_member}
-use Rattle.serde_json.specs.View.{view, members_view}
-use Rattle.serde_json.specs.declared.value.Value.{Value, Object}
-use Rattle.jb_job.specs.declared.field.Field.{Field}
-use Rattle.jb_job.specs.Reading.{Fault, Read, ◌>>=◌, with_keys_of, object_at, shaped}
-use Rattle.serde_json.proofs.Views.{Entry, items_len-items_view, member_later, view-Object}
+use Rattle.json.specs.Json as json
+use Rattle.json.specs.Find as find
+use Rattle.json.specs.Value.{members_view}
+use Rattle.json.specs.declared.value.Value.{Value, Array, Object}
+use Rattle.json.proofs.Trees.{view-Array, view-Object}
+use Rattle.serde_json.specs.Data.{Data, Num, array, object, Members, no_members, member, put}
+use Rattle.serde_json.specs.Events.{items_len}
+use Rattle.serde_json.specs.Find.{as_number, as_str, as_u64}
+use Rattle.serde_json.specs.Read.{number_of}
+use Rattle.jb_job.specs.Reading.{member_names, triple_of, whole_number}
+use Rattle.jb_documents.specs.inside.Borrowed.{number_data, data_of, members_data, seen, all_seen, keys}
 
--- the members without the one of this name
-abbrev pub without : (key : List ℕ) → List Entry → List Entry
-without key = remove_entry (is_at (λ k. slice_cmp nat_cmp key (string_bytes k)))
+-- ---- kinds
 
-member-kept : (name key : List ℕ) (e : Entry) (es rest : List Entry) (b : Bool) → is_eq (slice_cmp nat_cmp key (string_bytes e.0)) ≡ b → (name ≡ key → ⊥)
-    → get_member name (members_view rest) ≡ get_member name (members_view es)
-    → get_member name (members_view (cond b es (e ∷ rest))) ≡ get_member name (members_view (e ∷ es))
-member-kept name key e es rest true is other later =
-    let same : key ≡ string_bytes e.0 = (bytes_eq-Decides key (string_bytes e.0)).0 (sym (is_eq-slice_cmp key (string_bytes e.0)) ∙ is) in
-    sym (member_later name e es (λ h. other (h ∙ sym same)))
-member-kept name key e es rest false is other later = ap (λ r. match_ordering (slice_cmp nat_cmp name (string_bytes e.0)) r (Some (view e.1)) r) later
+pub seen-Array : {A : Type 0} (v : Vec (Value A) A) → seen (Array v) ≡ array (all_seen v.items)
+seen-Array v = ap data_of (view-Array v)
 
--- each other name finds what it found
-pub get_member-without : (name key : List ℕ) (es : List Entry) → (name ≡ key → ⊥) → get_member name (members_view (without key es)) ≡ get_member name (members_view es)
-get_member-without name key [] other = refl
-get_member-without name key (e ∷ es) other = member-kept name key e es (without key es) _ refl other (get_member-without name key es other)
+pub seen-Object : {A : Type 0} (v : Vec (Bor (List ℕ) × Value A) A) → seen (Object v) ≡ object (members_data (members_view v.items) no_members)
+seen-Object v = ap data_of (view-Object v)
 
--- what an object has at a name, its members have
-pub get-object : (tree : Value) (members : BTreeMap (String Global) Value) (name : List ℕ) → tree ≡ Object members → get_member name (members_view members.entries) ≡ get name (view tree)
-get-object tree members name is = rw (is, view-Object members) refl
+no_text : (o : Option Num) → as_str (number_data o) ≡ None
+no_text None = refl
+no_text (Some n) = refl
 
--- each other name finds in the object without the member what it found in the whole one
-pub get-without : (tree : Value) (members kept : BTreeMap (String Global) Value) (name key : List ℕ) → tree ≡ Object members → kept.entries ≡ without key members.entries → (name ≡ key → ⊥) → get name (view (Object kept)) ≡ get name (view tree)
-get-without tree members kept name key is removed other = rw (is, view-Object members, view-Object kept, removed) (get_member-without name key members.entries other)
+pub as_str-data_of : (j : json.Json) → as_str (data_of j) ≡ find.as_str j
+as_str-data_of json.null = refl
+as_str-data_of (json.boolean b) = refl
+as_str-data_of (json.number s) = no_text (number_of s)
+as_str-data_of (json.string s) = refl
+as_str-data_of (json.array js) = refl
+as_str-data_of (json.object ms) = refl
 
--- ---- what a test of an object gives is the object itself
+-- the whole number of a number's text
+abbrev pub whole_of : List ℕ → Option ℕ
+whole_of s = option_and_then as_u64 (number_of s)
 
-Same : Data → Read Data → Type 0
-Same tree (Ok found) = found ≡ tree
-Same tree (Err fault) = Unit {0}
+that_number : (o : Option Num) → option_and_then as_u64 (as_number (number_data o)) ≡ option_and_then as_u64 o
+that_number None = refl
+that_number (Some n) = refl
 
-with_keys_of-same : (tree : Data) (fault : Fault) (b : Bool) → Same tree (if b then Ok tree else Err fault)
-unfolding Same
-with_keys_of-same tree fault true = refl
-with_keys_of-same tree fault false = tt
+pub whole_number-data_of : (j : json.Json) → whole_number (data_of j) ≡ option_and_then whole_of (find.as_number j)
+whole_number-data_of json.null = refl
+whole_number-data_of (json.boolean b) = refl
+whole_number-data_of (json.number s) = that_number (number_of s)
+whole_number-data_of (json.string s) = refl
+whole_number-data_of (json.array js) = refl
+whole_number-data_of (json.object ms) = refl
 
-shaped-same : (f : Field) (table : List Field) (tree : Data) (o : Option Members) → Same tree (shaped f o >>= with_keys_of table tree)
-unfolding Same
-shaped-same f table tree None = tt
-shaped-same f table tree (Some ms) = with_keys_of-same tree _ _
+-- ---- lists
 
-pub object_at-itself : (f : Field) (table : List Field) (tree found : Data) → object_at f table tree ≡ Ok found → object_at f table tree ≡ Ok tree
-unfolding Same object_at
-object_at-itself f table tree found e = e ∙ ap Ok (subst (Same tree) e (shaped-same f table tree (as_object tree)))
+pub items_len-all_seen : {A : Type 0} (vs : List (Value A)) → items_len (all_seen vs) ≡ length vs
+items_len-all_seen [] = refl
+items_len-all_seen (v ∷ vs) = ap suc (items_len-all_seen vs)
 
-pub ruleset tree_steps = (items_len-items_view, object_at-itself)
+pub triple_of-not_three : {A : Type 0} (vs : List (Value A)) → (length vs ≡ 3 → ⊥) → triple_of (all_seen vs) ≡ None
+triple_of-not_three [] h = refl
+triple_of-not_three (a ∷ []) h = refl
+triple_of-not_three (a ∷ b ∷ []) h = refl
+triple_of-not_three (a ∷ b ∷ c ∷ []) h = absurd (h refl)
+triple_of-not_three (a ∷ b ∷ c ∷ v ∷ vs) h = refl
+
+-- ---- the keys of an object are those of its members
+
+and_in : (a b c : Bool) → a && (b && c) ≡ b && (a && c)
+and_in true b c = refl
+and_in false true c = refl
+and_in false false c = refl
+
+and_twice : (a b c : Bool) → a ≡ b → a && (b && c) ≡ b && c
+and_twice true true c e = refl
+and_twice true false c e = absurd (cc)
+and_twice false true c e = absurd (cc)
+and_twice false false c e = refl
+
+and_over : (a b c : Bool) → a && (b && c) ≡ (a && b) && c
+and_over true b c = refl
+and_over false b c = refl
+
+names_put_at : (p : List ℕ → Bool) (o : Ordering) (k l : List ℕ) (d e : Data) (ms : Members) → slice_cmp nat_cmp k l ≡ o → list_all p (member_names (put k d ms)) ≡ p k && list_all p (member_names ms)
+    → list_all p (member_names (match_ordering o (member k d (member l e ms)) (member l d ms) (member l e (put k d ms)))) ≡ p k && (p l && list_all p (member_names ms))
+names_put_at p Less k l d e ms is later = refl
+names_put_at p Equal k l d e ms is later =
+    let same : k ≡ l = (bytes_eq-Decides k l).0 (sym (is_eq-slice_cmp k l) ∙ ap is_eq is) in
+    sym (and_twice (p k) (p l) (list_all p (member_names ms)) (ap p same))
+names_put_at p Greater k l d e ms is later = ap (λ b. p l && b) later ∙ and_in (p l) (p k) (list_all p (member_names ms))
+
+names_put : (p : List ℕ → Bool) (k : List ℕ) (d : Data) (ms : Members) → list_all p (member_names (put k d ms)) ≡ p k && list_all p (member_names ms)
+names_put p k d no_members = refl
+names_put p k d (member l e ms) = names_put_at p (slice_cmp nat_cmp k l) k l d e ms refl (names_put p k d ms)
+
+names_found : (p : List ℕ → Bool) (ms : json.Members) (found : Members) → list_all p (member_names (members_data ms found)) ≡ list_all p (keys ms) && list_all p (member_names found)
+names_found p json.no_members found = refl
+names_found p (json.member k j ms) found =
+    names_found p ms (put k (data_of j) found)
+    ∙ ap (λ b. list_all p (keys ms) && b) (names_put p k (data_of j) found)
+    ∙ and_in (list_all p (keys ms)) (p k) (list_all p (member_names found))
+    ∙ and_over (p k) (list_all p (keys ms)) (list_all p (member_names found))
+
+and_true : (b : Bool) → b && true ≡ b
+and_true true = refl
+and_true false = refl
+
+pub all_names : (p : List ℕ → Bool) (ms : json.Members) → list_all p (member_names (members_data ms no_members)) ≡ list_all p (keys ms)
+all_names p ms = names_found p ms no_members ∙ and_true (list_all p (keys ms))
+
+pub ruleset tree_steps = (seen-Array, seen-Object, as_str-data_of, whole_number-data_of, items_len-all_seen, triple_of-not_three, all_names)

@@ -1,5 +1,4 @@
 pub mod Borrowed
-pub mod Filled
 pub mod Forms
 pub mod Parts
 pub mod Taken

@@ -4,21 +4,23 @@
 //! - `restart`: the document of `restart`, which says besides what the run before left.
 //! - `plan`: the document of `plan`, counts of chunks and a number of threads.
 //! - `check`: the document of `check`, a plan that someone made and its certificate.
-//! - `taken`: trees taken apart by value.
-//! - `borrowed`: trees that borrow their text, for documents in which all is plain.
-//! - `packed`: texts packed into one buffer.
+//! - `borrowed`: trees that borrow their text, so that no text of a document has a string of its own.
+//! - `ranges`, `numbers`: whether the numbers of such a tree are in range, and which they are.
+//! - `kinds`, `fields`: the fields of such a tree, and such trees taken apart by value.
 //!
 //! Each field is checked in the order of its document's table, and the first fault is the answer.
 #![tactic(auto)]
 
 mod borrowed;
 mod check;
+mod fields;
+mod kinds;
 mod laws;
-mod packed;
+mod numbers;
 mod plan;
+mod ranges;
 mod restart;
 mod run;
-mod taken;
 
 pub use check::{PlanClaim, read_claim};
 pub use laws::{documents_have_trees, documents_keep_ranges, worked_documents};

@@ -3,7 +3,6 @@
 mod document;
 mod fault;
 mod outputs;
-mod plain;
 mod resume;
 mod resume_fields;
 

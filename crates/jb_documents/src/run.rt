@@ -3,7 +3,6 @@
 mod document;
 mod fault_lists;
 mod faults;
-mod plain;
 mod records;
 mod step_data;
 mod step_fields;
@@ -11,6 +10,5 @@ mod step_fields;
 pub(crate) use document::{document_data, document_job};
 pub use document::{DataList, Document, read_document};
 pub use faults::{ClassIds, FaultKind, PlannedFault, PlannedFaults, StepFaults};
-pub(crate) use plain::data_list as plain_data;
 pub use records::Records;
 pub use step_data::StepData;

@@ -1,43 +1,87 @@
--- Documents that are read from trees which borrow their text, as `json` makes them: with no string of its own for a record.
-use Rattle.std.specs.Prelude.{◌≡◌, ℕ, true, List, [], ◌∷◌, length, Some, None, Ok}
-use Rattle.std.specs.List.{list_all}
+-- Trees that borrow their text, as `json` makes them: no text in one has a string of its own. What they are as data, which
+-- is what the text is, as `serde_json` reads it.
+use Rattle.std.specs.Prelude.{◌≡◌, ℕ, ◌≤◌, ◌&&◌, Bool, true, List, [], ◌∷◌, Option, Some, None, is_some}
 use Rattle.json.specs.Json as json
-use Rattle.json.specs.Json.{Json, object, Members, no_members, member}
+use Rattle.json.specs.Json.{Json}
 use Rattle.json.specs.Find.{get_member}
-use Rattle.serde_json.specs.Data.{Data, Items}
-use Rattle.serde_json.specs.Events.{items_len}
-use Rattle.serde_json.specs.Read.{of_json, of_items}
-use Rattle.jb_job.specs.declared.field.Field.{Field}
-use Rattle.jb_job.specs.Reading.{Read, each_at, is_named}
+use Rattle.json.specs.Tree.{depth, HasNumbers}
+use Rattle.json.specs.Value.{value_view, items_view}
+use Rattle.json.specs.declared.value.Value.{Value}
+use Rattle.serde_json.specs.Data.{Data, Num, null, boolean, number, string, array, object, Items, no_items, item, Members, no_members, put}
+use Rattle.serde_json.specs.Read.{number_of, max_depth}
 
--- the text's tree is data, and what a kind gives for the data is this value
-pub record Stands {A : Type 0} (kind : Data → Read A) (tree : Json) (value : A) : Type 0 where
-  pub tree_data : Data
-  pub is : of_json tree ≡ Some tree_data
-  pub gives : kind tree_data ≡ Ok value
+-- ---- what a tree is
 
--- the trees of a list are data, of which a kind, each by those before it, gives these values
-pub record AllStand {A : Type 0} (kind : List A → Data → Read A) (trees : json.Items) (values : List A) : Type 0 where
-  pub all : Items
-  pub are : of_items trees ≡ Some all
-  pub long : items_len all ≡ length values
-  pub give : each_at kind all ≡ Ok values
+-- a number in the range of numbers; for one that isn't, whose text has no tree, it is no matter
+abbrev pub number_data : Option Num → Data
+number_data None = null
+number_data (Some n) = number n
+
+-- the members go in one after another, so the last value of a key stays
+abbrev mutual
+  pub data_of : Json → Data
+  data_of json.null = null
+  data_of (json.boolean b) = boolean b
+  data_of (json.number s) = number_data (number_of s)
+  data_of (json.string s) = string s
+  data_of (json.array js) = array (items_data js)
+  data_of (json.object ms) = object (members_data ms no_members)
+
+  pub items_data : json.Items → Items
+  items_data json.no_items = no_items
+  items_data (json.item j js) = item (data_of j) (items_data js)
+
+  pub members_data : json.Members → Members → Members
+  members_data json.no_members found = found
+  members_data (json.member k j ms) found = members_data ms (put k (data_of j) found)
+
+-- each number is in range
+abbrev mutual
+  pub in_range : Json → Bool
+  in_range json.null = true
+  in_range (json.boolean b) = true
+  in_range (json.number s) = is_some (number_of s)
+  in_range (json.string s) = true
+  in_range (json.array js) = items_in_range js
+  in_range (json.object ms) = members_in_range ms
+
+  pub items_in_range : json.Items → Bool
+  items_in_range json.no_items = true
+  items_in_range (json.item j js) = in_range j && items_in_range js
+
+  pub members_in_range : json.Members → Bool
+  members_in_range json.no_members = true
+  members_in_range (json.member k j ms) = in_range j && members_in_range ms
+
+-- what code sees of a tree, and of trees
+abbrev pub seen : {A : Type 0} → Value A → Data
+seen tree = data_of (value_view tree)
+
+abbrev pub all_seen : {A : Type 0} → List (Value A) → Items
+all_seen trees = items_data (items_view trees)
+
+-- a tree that can be printed and read again
+pub record IsReadable (tree : Json) : Type 0 where
+  pub numbers : HasNumbers tree
+  pub nests : depth tree ≤ max_depth
+  pub ranges : in_range tree ≡ true
+
+-- ---- a member that is taken out of an object
 
 -- the keys of an object's members
-abbrev pub keys : Members → List (List ℕ)
-keys no_members = []
-keys (member k j ms) = k ∷ keys ms
+abbrev pub keys : json.Members → List (List ℕ)
+keys json.no_members = []
+keys (json.member k j ms) = k ∷ keys ms
 
 -- the members of the front, and then the others
-abbrev pub joined : Members → Members → Members
-joined no_members back = back
-joined (member k j ms) back = member k j (joined ms back)
+abbrev pub joined : json.Members → json.Members → json.Members
+joined json.no_members back = back
+joined (json.member k j ms) back = json.member k j (joined ms back)
 
--- An object that has keys of a table alone, apart: the only member of a name, and the object without it.
-pub record IsApart (table : List Field) (name : List ℕ) (whole part rest : Json) : Type 0 where
-  pub front : Members
-  pub back : Members
-  pub whole_is : whole ≡ object (joined front (member name part back))
-  pub rest_is : rest ≡ object (joined front back)
-  pub once : get_member name (joined front back) ≡ None
-  pub named : list_all (is_named table) (keys (joined front (member name part back))) ≡ true
+-- the last member of a name, and the object without it
+pub record IsApart (name : List ℕ) (whole part rest : Json) : Type 0 where
+  pub front : json.Members
+  pub back : json.Members
+  pub whole_is : whole ≡ json.object (joined front (json.member name part back))
+  pub rest_is : rest ≡ json.object (joined front back)
+  pub last : get_member name back ≡ None

@@ -1,21 +1,23 @@
 //! The document of `restart`: a document of `run`, and what the run before left.
 
-ghost use Rattle.std.specs.Prelude.{◌≡◌, option_map, IfOk, IfErr};
+ghost use Rattle.std.specs.Prelude.{◌≡◌, option_map, IfOk, IfErr, IfSome};
+ghost use Rattle.json.specs.Value.{value_view};
 ghost use Rattle.serde_json.specs.Find.{get};
-ghost use Rattle.serde_json.specs.View.{view};
 ghost use Rattle.jb_job.specs.Names.{name_of};
 ghost use Rattle.jb_job.specs.declared.field.Field.TheVariants as field;
 ghost use Rattle.jb_documents.specs.RestartDocument.{GivesRestart, IsRestart, IsRefusedRestart, restart_at};
+ghost use Rattle.jb_documents.specs.inside.Borrowed.{IsReadable, seen};
 ghost use Rattle.jb_documents.specs.inside.Parts.{parts_at};
 
 use super::fault::RestartFault;
-use super::plain::plain_restart;
 use super::resume::Resume;
 use super::resume_fields::resume;
+use crate::borrowed::borrowed_tree;
+use crate::fields::take_field;
+use crate::kinds::object;
 use crate::run::{DataList, document_data, document_job};
-use crate::taken::{take_field, take_object};
-use jb_job::{Field, Job, JobError, read_tree};
-use serde_json::Value;
+use jb_job::{Field, Job, JobError};
+use json::{Scratch, Value as Borrowed};
 use std::alloc::Global;
 
 /// A job, the data of its steps, and what the run before left.
@@ -26,14 +28,26 @@ pub struct RestartDocument {
     pub resume: Resume,
 }
 
-/// The fields of the data and of what the run before left, where they are there.
-fn take_parts(tree: Value) -> (Option<Value>, Option<Value>)
-    ensures data { option_map view result.0 ≡ get (name_of field.Data) (view tree) }
-    ensures resume { option_map view result.1 ≡ get (name_of field.Resume) (view tree) }
+/// The fields of the job, of the data and of what the run before left, where they are there.
+#[derive(Drop)]
+struct Fields<'a> {
+    job: Option<Borrowed<'a>>,
+    given: Option<Borrowed<'a>>,
+    resume: Option<Borrowed<'a>>,
+}
+
+fn take_fields<'a>(tree: Borrowed<'a>) -> Fields<'a>
+    requires { IsReadable (value_view tree) }
+    ensures job { option_map seen result.job ≡ get (name_of field.Job) (seen tree.entry) }
+    ensures given { option_map seen result.given ≡ get (name_of field.Data) (seen tree.entry) }
+    ensures resume { option_map seen result.resume ≡ get (name_of field.Resume) (seen tree.entry) }
+    ensures readable_job { IfSome result.job (λ job. IsReadable (value_view job)) }
+    ensures readable_resume { IfSome result.resume (λ resume. IsReadable (value_view resume)) }
 {
-    let (data, rest) = take_field(Field::Data, tree);
-    let (resume, _job_tree) = take_field(Field::Resume, rest);
-    (data, resume)
+    let (job, rest) = take_field(Field::Job, tree);
+    let (given, rest) = take_field(Field::Data, rest);
+    let (resume, _nothing) = take_field(Field::Resume, rest);
+    Fields { job, given, resume }
 }
 
 /// The document of a job, its data and what the run before left, where these are there.
@@ -41,10 +55,11 @@ fn take_parts(tree: Value) -> (Option<Value>, Option<Value>)
 fn of_parts(
     alloc: Global,
     job: Job,
-    given: Option<Value>,
-    left: Option<Value>,
+    given: Option<Borrowed<'_>>,
+    left: Option<Borrowed<'_>>,
 ) -> Result<RestartDocument, RestartFault>
-    ensures { GivesRestart result (parts_at job (option_map view given) (option_map view left)) }
+    requires { IfSome left (λ tree. IsReadable (value_view tree)) }
+    ensures { GivesRestart result (parts_at job (option_map seen given.entry) (option_map seen left.entry)) }
 {
     let steps = document_data(alloc, &job, given)?;
     let left = left.ok_or(JobError::WrongShape(Field::Resume))?;
@@ -54,28 +69,24 @@ fn of_parts(
 
 /// The document that the tree stands for, or its first fault.
 #[tactic(auto, unfolding(crate::specs::RestartDocument::restart_at, jb_job::specs::Reading::required))]
-fn document_of(alloc: Global, tree: Value) -> Result<RestartDocument, RestartFault>
-    ensures { GivesRestart result (restart_at (view tree)) }
+fn document_of(alloc: Global, tree: Borrowed<'_>) -> Result<RestartDocument, RestartFault>
+    requires { IsReadable (value_view tree) }
+    ensures { GivesRestart result (restart_at (seen tree.entry)) }
 {
     let table = [Field::Job, Field::Data, Field::Resume];
-    let document = take_object(Field::Unknown, &table, tree)?;
-    let job = document_job(alloc, &document)?;
-    let (data, left) = take_parts(document);
-    of_parts(alloc, job, data, left)
+    object(Field::Unknown, &table, &tree)?;
+    let fields = take_fields(tree);
+    let job = document_job(alloc, fields.job)?;
+    of_parts(alloc, job, fields.given, fields.resume)
 }
 
 /// The document that the bytes stand for, or their first fault: `NotJson` where they are no JSON text. The bytes are let
-/// go once they are read. A plain document is read with no string for a record; in any doubt its tree decides.
+/// go once they are read.
 pub fn read_restart(alloc: Global, bytes: Vec<u8>) -> Result<RestartDocument, RestartFault>
     ensures document { IfOk result (IsRestart bytes.items) }
     ensures refused { IfErr result (λ fault. IsRefusedRestart fault bytes.items) }
 {
-    match plain_restart(alloc, &bytes) {
-        Ok(document) => return Ok(document),
-        Err(RestartFault::Document(JobError::Memory)) => return Err(JobError::Memory.into()),
-        Err(_) => {}
-    }
-    let tree = read_tree(alloc, &bytes)?;
-    drop(bytes);
+    let mut scratch = Scratch::new(alloc);
+    let tree = borrowed_tree(alloc, &bytes, &mut scratch)?;
     document_of(alloc, tree)
 }

@@ -1,49 +1,67 @@
 //! Reading what the run before left, field by field.
 
-ghost use Rattle.std.specs.Prelude.{◌≡◌, bytes_eq, option_map};
+ghost use Rattle.std.specs.Prelude.{◌≡◌, bytes_eq, option_map, IfSome};
 ghost use Rattle.std.specs.List.{list_all, list_any, zip};
-ghost use Rattle.serde_json.specs.Find.{get};
-ghost use Rattle.serde_json.specs.View.{view};
+ghost use Rattle.json.specs.Value.{value_view};
+ghost use Rattle.serde_json.specs.Find.{as_str, get};
 ghost use Rattle.jb_job.specs.Names.{name_of};
-ghost use Rattle.jb_job.specs.Reading.{Gives, GivesExactly};
+ghost use Rattle.jb_job.specs.Reading.{Gives, GivesExactly, each_at, shaped};
 ghost use Rattle.jb_job.specs.declared.field.Field.TheVariants as field;
 ghost use Rattle.jb_documents.specs.ResumeFields.{texts_at, outputs_at, holds, held_at};
 ghost use Rattle.jb_documents.specs.RestartDocument.{GivesRestart, resume_at, saves};
+ghost use Rattle.jb_documents.specs.inside.Borrowed.{IsReadable, all_seen, seen};
 ghost use Rattle.jb_saved.specs.Reading.{saved_at};
 
 use super::fault::RestartFault;
 use super::outputs::{Outputs, WriterTexts};
 use super::resume::Resume;
-use crate::packed::pack;
-use crate::taken::{take_array, take_field, take_object, take_text_of};
-use jb_base::Text;
-use jb_job::kinds::{each_by_value, required};
+use crate::borrowed::owned;
+use crate::fields::take_field;
+use crate::kinds::{any_text, array, items, object, text_bytes};
+use jb_base::PackedList;
 use jb_job::{Field, JobError, Step};
 use jb_rules::Row;
 use jb_saved::{Saved, SavedPlace, StepError};
-use serde_json::Value;
+use json::Value as Borrowed;
 use std::alloc::Global;
-use std::marker::Brand;
+
+/// The texts of the list, packed into exact room.
+fn packed(alloc: Global, items: &Vec<Borrowed<'_>>) -> Result<PackedList, JobError>
+    ensures { Gives (λ texts. texts) result (each_at (λ _ text. shaped field.Outputs (as_str text)) (all_seen items.now.items)) }
+{
+    let mut texts = PackedList::with_room(alloc, items.len(), text_bytes(items))?;
+    for item in items {
+        texts.push(any_text(Field::Outputs, item)?.as_bytes())?;
+    }
+    Ok(texts)
+}
 
 #[tactic(auto, unfolding(crate::specs::ResumeFields::texts_at))]
-fn writer_texts(alloc: Global, tree: Value) -> Result<WriterTexts, JobError>
-    ensures { Gives (λ t. t) result (texts_at field.Outputs (view tree)) }
+fn writer_texts(alloc: Global, tree: Borrowed<'_>) -> Result<WriterTexts, JobError>
+    ensures { Gives (λ t. t) result (texts_at field.Outputs (seen tree.entry)) }
 {
-    let items = take_array(Field::Outputs, tree)?;
-    let texts = each_by_value::<Brand, Text, _>(alloc, items, |_, tree| {
-        take_text_of(Field::Outputs, tree)
-    })?;
-    Ok(WriterTexts::new(pack(alloc, texts)?))
+    let items = items(Field::Outputs, &tree)?;
+    Ok(WriterTexts::new(packed(alloc, items)?))
+}
+
+/// The texts of each writer. The tree of each is let go once its texts are packed.
+fn writers(alloc: Global, trees: Vec<Borrowed<'_>>) -> Result<Vec<WriterTexts>, JobError>
+    ensures { Gives (λ v. v.items) result (each_at (λ _. texts_at field.Outputs) (all_seen trees.entry.items)) }
+{
+    let mut writers = Vec::with_capacity(alloc, trees.len())?;
+    for tree in trees {
+        let texts = writer_texts(alloc, tree)?;
+        writers.push(texts)?;
+    }
+    Ok(writers)
 }
 
 #[tactic(auto, unfolding(crate::specs::ResumeFields::outputs_at))]
-fn outputs(alloc: Global, tree: Value) -> Result<Outputs, JobError>
-    ensures { Gives (λ o. o) result (outputs_at field.Outputs (view tree)) }
+fn outputs(alloc: Global, tree: Borrowed<'_>) -> Result<Outputs, JobError>
+    ensures { Gives (λ o. o) result (outputs_at field.Outputs (seen tree.entry)) }
 {
-    let items = take_array(Field::Outputs, tree)?;
-    let writers = each_by_value::<Brand, WriterTexts, _>(alloc, items, |_, tree| {
-        writer_texts(alloc, tree)
-    })?;
+    let trees = array(Field::Outputs, tree)?;
+    let writers = writers(alloc, trees)?;
     Ok(Outputs::new(writers))
 }
 
@@ -79,36 +97,47 @@ fn has_id(steps: &[Step], id: &str) -> bool
 }
 
 /// The saved rows of the tree.
-fn saved(alloc: Global, tree: &Value) -> Result<Saved, RestartFault>
-    ensures { GivesRestart result (saves (saved_at (view tree.now))) }
+fn saved(alloc: Global, tree: Borrowed<'_>) -> Result<Saved, RestartFault>
+    requires { IsReadable (value_view tree) }
+    ensures { GivesRestart result (saves (saved_at (seen tree.entry))) }
 {
-    match Saved::of_value(alloc, tree) {
+    let tree = owned(alloc, &tree)?;
+    match Saved::of_value(alloc, &tree) {
         Ok(saved) => Ok(saved),
         Err(StepError::Saved(place)) => Err(RestartFault::Saved(place)),
         Err(_) => Err(RestartFault::Document(JobError::Memory)),
     }
 }
 
-/// The field of the outputs, where it is there, and the object of the saved rows.
-fn take_outputs(tree: Value) -> (Option<Value>, Value)
-    ensures outputs { option_map view result.0 ≡ get (name_of field.Outputs) (view tree) }
-    ensures saved { get (name_of field.Saved) (view result.1) ≡ get (name_of field.Saved) (view tree) }
+/// The fields of the outputs and of the saved rows, where they are there.
+fn take_parts<'a>(tree: Borrowed<'a>) -> (Option<Borrowed<'a>>, Option<Borrowed<'a>>)
+    ensures outputs { option_map seen result.0 ≡ get (name_of field.Outputs) (seen tree.entry) }
+    ensures saved { option_map seen result.1 ≡ get (name_of field.Saved) (seen tree.entry) }
+    ensures readable { IsReadable (value_view tree.entry) → IfSome result.1 (λ saved. IsReadable (value_view saved)) }
 {
-    take_field(Field::Outputs, tree)
+    let (outputs, rest) = take_field(Field::Outputs, tree);
+    let (saved, _nothing) = take_field(Field::Saved, rest);
+    (outputs, saved)
 }
 
 /// What the run before left, as the tree says it, or its first fault.
 #[tactic(auto, unfolding(crate::specs::RestartDocument::resume_at, jb_job::specs::Reading::required))]
-pub fn resume(alloc: Global, steps: &[Step], tree: Value) -> Result<Resume, RestartFault>
-    ensures { GivesRestart result (resume_at steps.now field.Resume (view tree)) }
+pub fn resume(alloc: Global, steps: &[Step], tree: Borrowed<'_>) -> Result<Resume, RestartFault>
+    requires { IsReadable (value_view tree) }
+    ensures { GivesRestart result (resume_at steps.now field.Resume (seen tree.entry)) }
 {
-    let resume = take_object(Field::Resume, &[Field::Outputs, Field::Saved], tree)?;
-    let (taken, rest) = take_outputs(resume);
-    let outputs = outputs(alloc, taken.ok_or(JobError::WrongShape(Field::Outputs))?)?;
-    let saved = saved(alloc, required(Field::Saved, &rest)?)?;
-    let outputs = held(outputs, saved.rows())?;
+    object(Field::Resume, &[Field::Outputs, Field::Saved], &tree)?;
+    let (outputs_tree, saved_tree) = take_parts(tree);
+    let outputs_tree = outputs_tree.ok_or(JobError::WrongShape(Field::Outputs))?;
+    let outputs = outputs(alloc, outputs_tree)?;
+    let saved_tree = saved_tree.ok_or(JobError::WrongShape(Field::Saved))?;
+    let saved = saved(alloc, saved_tree)?;
+    let held = held(outputs, saved.rows())?;
     if has_id(steps, saved.step_id()) {
-        Ok(Resume { outputs, saved })
+        Ok(Resume {
+            outputs: held,
+            saved,
+        })
     } else {
         Err(RestartFault::Saved(SavedPlace::Step))
     }

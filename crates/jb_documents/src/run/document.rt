@@ -1,24 +1,27 @@
 //! The document of `run`: a job record, and the data of each of its steps.
 
-ghost use Rattle.std.specs.Prelude.{◌≡◌, ◌==◌, length, option_map, IfOk, IfErr};
+ghost use Rattle.std.specs.Prelude.{◌≡◌, ◌==◌, length, option_map, IfOk, IfErr, IfSome};
+ghost use Rattle.json.specs.Value.{value_view};
 ghost use Rattle.serde_json.specs.Events.{items_len};
-ghost use Rattle.serde_json.specs.View.{view, items_view};
+ghost use Rattle.serde_json.specs.Find.{get};
 ghost use Rattle.jb_job.specs.declared.field.Field.TheVariants as field;
 ghost use Rattle.jb_job.specs.JobRecord.{job_at};
-ghost use Rattle.jb_job.specs.Reading.{Gives, required};
+ghost use Rattle.jb_job.specs.Names.{name_of};
+ghost use Rattle.jb_job.specs.Reading.{Gives, each_at};
 ghost use Rattle.jb_documents.specs.RunDocument.{IsDocument, IsRefusedDocument, data_list_at, document_at};
+ghost use Rattle.jb_documents.specs.StepFields.{data_at};
+ghost use Rattle.jb_documents.specs.inside.Borrowed.{IsReadable, all_seen, seen};
 ghost use Rattle.jb_documents.specs.inside.Taken.{taken};
 
-use super::plain::plain_document;
 use super::step_data::StepData;
 use super::step_fields::step_data;
-use crate::taken::{take_array, take_field, take_object};
+use crate::borrowed::{borrowed_tree, owned};
+use crate::fields::take_field;
+use crate::kinds::{array, object};
 use jb_base::Listed;
-use jb_job::kinds::{each_by_value, required};
-use jb_job::{Field, Job, JobError, job_of, read_tree};
-use serde_json::Value;
+use jb_job::{Field, Job, JobError, job_of};
+use json::{Scratch, Value as Borrowed};
 use std::alloc::Global;
-use std::marker::Brand;
 
 /// The data of a job's steps, in order.
 pub type DataList = Listed<StepData>;
@@ -31,70 +34,89 @@ pub struct Document {
 }
 
 #[tactic(auto, using(crate::proofs::Trees::tree_steps))]
-fn is_one_for_each_step(job: &Job, items: &Vec<Value>) -> bool
-    ensures { result ≡ (items_len (items_view items.now.items) == length job.now.steps) }
+fn is_one_for_each_step(job: &Job, items: &Vec<Borrowed<'_>>) -> bool
+    ensures { result ≡ (items_len (all_seen items.now.items) == length job.now.steps) }
 {
     items.len() == job.steps.as_slice().len()
 }
 
+/// The data of the steps, in order. The tree of each is let go once it is read.
+fn steps_data(alloc: Global, job: &Job, trees: Vec<Borrowed<'_>>) -> Result<Vec<StepData>, JobError>
+    ensures { Gives (λ v. v.items) result (each_at (λ _. data_at job.now.classes) (all_seen trees.entry.items)) }
+{
+    let mut steps = Vec::with_capacity(alloc, trees.len())?;
+    for tree in trees {
+        let step = step_data(alloc, job, tree)?;
+        steps.push(step)?;
+    }
+    Ok(steps)
+}
+
 /// The list of data, one for each of the job's steps.
 #[tactic(auto, unfolding(crate::specs::RunDocument::data_list_at))]
-fn data_list(alloc: Global, job: &Job, tree: Value) -> Result<DataList, JobError>
-    ensures { Gives (λ ds. ds) result (data_list_at job.now field.Data (view tree)) }
+fn data_list(alloc: Global, job: &Job, tree: Borrowed<'_>) -> Result<DataList, JobError>
+    ensures { Gives (λ ds. ds) result (data_list_at job.now field.Data (seen tree.entry)) }
 {
-    let items = take_array(Field::Data, tree)?;
+    let items = array(Field::Data, tree)?;
     if !is_one_for_each_step(job, &items) {
         return Err(JobError::WrongShape(Field::Data));
     }
-    let steps = each_by_value::<Brand, StepData, _>(alloc, items, |_, tree| {
-        step_data(alloc, job, tree)
-    })?;
+    let steps = steps_data(alloc, job, items)?;
     Ok(DataList::new(steps))
 }
 
-/// The job of a document.
-#[tactic(auto, unfolding(jb_job::specs::Reading::required))]
-pub(crate) fn document_job(alloc: Global, document: &Value) -> Result<Job, JobError>
-    ensures { Gives (λ job. job) result (required (λ _. job_at) field.Job (view document.now)) }
+/// The job that was taken out of a document, which has to be there.
+pub(crate) fn document_job(alloc: Global, found: Option<Borrowed<'_>>) -> Result<Job, JobError>
+    requires { IfSome found (λ tree. IsReadable (value_view tree)) }
+    ensures { Gives (λ job. job) result (taken (λ _. job_at) field.Job (option_map seen found.entry)) }
 {
-    job_of(alloc, required(Field::Job, document)?)
+    let tree = found.ok_or(JobError::WrongShape(Field::Job))?;
+    let tree = owned(alloc, &tree)?;
+    job_of(alloc, &tree)
 }
 
 /// The list of data that was taken out of a document, which has to be there.
 pub(crate) fn document_data(
     alloc: Global,
     job: &Job,
-    found: Option<Value>,
+    found: Option<Borrowed<'_>>,
 ) -> Result<DataList, JobError>
-    ensures { Gives (λ ds. ds) result (taken (data_list_at job.now) field.Data (option_map view found)) }
+    ensures { Gives (λ ds. ds) result (taken (data_list_at job.now) field.Data (option_map seen found.entry)) }
 {
     data_list(alloc, job, found.ok_or(JobError::WrongShape(Field::Data))?)
 }
 
+/// The fields of the job and of the data, where they are there.
+fn take_parts<'a>(tree: Borrowed<'a>) -> (Option<Borrowed<'a>>, Option<Borrowed<'a>>)
+    ensures job { option_map seen result.0 ≡ get (name_of field.Job) (seen tree.entry) }
+    ensures given { option_map seen result.1 ≡ get (name_of field.Data) (seen tree.entry) }
+    ensures readable { IsReadable (value_view tree.entry) → IfSome result.0 (λ job. IsReadable (value_view job)) }
+{
+    let (job, rest) = take_field(Field::Job, tree);
+    let (given, _nothing) = take_field(Field::Data, rest);
+    (job, given)
+}
+
 /// The document that the tree stands for, or its first fault.
 #[tactic(auto, unfolding(crate::specs::RunDocument::document_at, jb_job::specs::Reading::required))]
-fn document_of(alloc: Global, tree: Value) -> Result<Document, JobError>
-    ensures { Gives (λ d. d) result (document_at (view tree)) }
+fn document_of(alloc: Global, tree: Borrowed<'_>) -> Result<Document, JobError>
+    requires { IsReadable (value_view tree) }
+    ensures { Gives (λ d. d) result (document_at (seen tree.entry)) }
 {
-    let document = take_object(Field::Unknown, &[Field::Job, Field::Data], tree)?;
-    let job = document_job(alloc, &document)?;
-    let (taken, _job_tree) = take_field(Field::Data, document);
-    let steps = document_data(alloc, &job, taken)?;
+    object(Field::Unknown, &[Field::Job, Field::Data], &tree)?;
+    let (job, given) = take_parts(tree);
+    let job = document_job(alloc, job)?;
+    let steps = document_data(alloc, &job, given)?;
     Ok(Document { job, steps })
 }
 
 /// The document that the bytes stand for, or their first fault: `NotJson` where they are no JSON text. The bytes are let
-/// go once they are read. A plain document is read with no string for a record; in any doubt its tree decides.
+/// go once they are read.
 pub fn read_document(alloc: Global, bytes: Vec<u8>) -> Result<Document, JobError>
     ensures document { IfOk result (IsDocument bytes.items) }
     ensures refused { IfErr result (λ fault. IsRefusedDocument fault bytes.items) }
 {
-    match plain_document(alloc, &bytes) {
-        Ok(document) => return Ok(document),
-        Err(JobError::Memory) => return Err(JobError::Memory),
-        Err(_) => {}
-    }
-    let tree = read_tree(alloc, &bytes)?;
-    drop(bytes);
+    let mut scratch = Scratch::new(alloc);
+    let tree = borrowed_tree(alloc, &bytes, &mut scratch)?;
     document_of(alloc, tree)
 }

@@ -1,127 +1,138 @@
 //! Reading the data of a step, field by field.
 
-ghost use Rattle.std.specs.Prelude.{◌≡◌, [], None, option_map};
+ghost use Rattle.std.specs.Prelude.{◌≡◌, [], length, None, option_map, IfOk};
 ghost use Rattle.serde_json.specs.Find.{get};
-ghost use Rattle.serde_json.specs.View.{view};
 ghost use Rattle.jb_job.specs.declared.field.Field.TheVariants as field;
-ghost use Rattle.jb_base.specs.Limits.{max_affix};
+ghost use Rattle.jb_base.specs.Limits.{max_affix, max_record};
 ghost use Rattle.jb_job.specs.Names.{name_of};
-ghost use Rattle.jb_job.specs.Reading.{Gives, optional, text_at};
+ghost use Rattle.jb_job.specs.Reading.{Gives, each_at, or_else, text_at};
 ghost use Rattle.jb_documents.specs.FaultLists.{no_faults, step_faults_at};
 ghost use Rattle.jb_documents.specs.StepFields.{data_at, drop_at, records_at};
-ghost use Rattle.jb_documents.specs.inside.Filled.{filled_at};
+ghost use Rattle.jb_documents.specs.inside.Borrowed.{all_seen, seen};
 ghost use Rattle.jb_documents.specs.inside.Taken.{taken};
 
 use super::fault_lists::step_faults;
 use super::faults::StepFaults;
 use super::records::Records;
 use super::step_data::StepData;
-use crate::packed::pack;
-use crate::taken::{take_field, take_list, take_object, take_text};
-use jb_base::{MAX_AFFIX, MAX_RECORD, MAX_RECORDS, Text};
-use jb_job::kinds::{each_by_value, text};
+use crate::fields::take_field;
+use crate::kinds::{list, object, text, text_bytes};
+use jb_base::{MAX_AFFIX, MAX_RECORD, MAX_RECORDS, PackedList, Text};
 use jb_job::{Field, Job, JobError};
-use serde_json::Value;
+use json::Value as Borrowed;
 use std::alloc::Global;
-use std::marker::Brand;
 
-#[tactic(auto, unfolding(crate::specs::StepFields::records_at))]
-fn records(alloc: Global, tree: Value) -> Result<Records, JobError>
-    ensures { Gives (λ r. r) result (records_at field.Records (view tree)) }
+/// The texts of the list, packed into exact room.
+fn packed(alloc: Global, items: &Vec<Borrowed<'_>>) -> Result<PackedList, JobError>
+    ensures exact { Gives (λ texts. texts) result (each_at (λ _. text_at 0 max_record field.Records) (all_seen items.now.items)) }
+    ensures long { IfOk result (λ texts. length texts ≡ length items.now.items) }
 {
-    let items = take_list(0, MAX_RECORDS as usize, Field::Records, tree)?;
-    let texts = each_by_value::<Brand, Text, _>(alloc, items, |_, tree| {
-        take_text(0, MAX_RECORD, Field::Records, tree)
-    })?;
-    Ok(Records::new(pack(alloc, texts)?))
+    let mut texts = PackedList::with_room(alloc, items.len(), text_bytes(items))?;
+    for item in items {
+        texts.push(text(0, MAX_RECORD, Field::Records, item)?.as_bytes())?;
+    }
+    Ok(texts)
 }
 
-#[tactic(auto, unfolding(jb_job::specs::Reading::optional))]
-fn prefix(alloc: Global, tree: &Value) -> Result<Text, JobError>
-    ensures { Gives (λ t. t) result (optional (text_at 0 max_affix) [] field.Prefix (view tree.now)) }
+#[tactic(auto, unfolding(crate::specs::StepFields::records_at))]
+fn records(alloc: Global, tree: Borrowed<'_>) -> Result<Records, JobError>
+    ensures { Gives (λ r. r) result (records_at field.Records (seen tree.entry)) }
 {
-    match tree.get(Field::Prefix.name()) {
+    let items = list(0, MAX_RECORDS as usize, Field::Records, &tree)?;
+    Ok(Records::new(packed(alloc, items)?))
+}
+
+/// The records that were taken out of an object, which have to be there.
+fn taken_records(alloc: Global, found: Option<Borrowed<'_>>) -> Result<Records, JobError>
+    ensures { Gives (λ r. r) result (taken records_at field.Records (option_map seen found.entry)) }
+{
+    records(alloc, found.ok_or(JobError::WrongShape(Field::Records))?)
+}
+
+fn prefix(alloc: Global, found: Option<Borrowed<'_>>) -> Result<Text, JobError>
+    ensures { Gives (λ t. t) result (or_else (text_at 0 max_affix field.Prefix) [] (option_map seen found.entry)) }
+{
+    match found {
         None => Ok(Text::new(String::new(alloc))),
         Some(given) => {
-            let prefix = text(0, MAX_AFFIX, Field::Prefix, given)?;
+            let prefix = text(0, MAX_AFFIX, Field::Prefix, &given)?;
             Ok(Text::new(String::from_str(alloc, prefix)?))
         }
     }
 }
 
-#[tactic(auto, unfolding(crate::specs::StepFields::drop_at, jb_job::specs::Reading::optional))]
-fn dropped(alloc: Global, tree: &Value) -> Result<Option<Text>, JobError>
-    ensures { Gives (λ t. t) result (optional drop_at None field.Drop (view tree.now)) }
+#[tactic(auto, unfolding(crate::specs::StepFields::drop_at))]
+fn dropped(alloc: Global, found: Option<Borrowed<'_>>) -> Result<Option<Text>, JobError>
+    ensures { Gives (λ t. t) result (or_else (drop_at field.Drop) None (option_map seen found.entry)) }
 {
-    match tree.get(Field::Drop.name()) {
+    match found {
         None => Ok(None),
         Some(given) => {
-            let dropped = text(1, MAX_AFFIX, Field::Drop, given)?;
+            let dropped = text(1, MAX_AFFIX, Field::Drop, &given)?;
             Ok(Some(Text::new(String::from_str(alloc, dropped)?)))
         }
     }
 }
 
-#[tactic(auto, unfolding(jb_job::specs::Reading::optional))]
-fn faults(alloc: Global, job: &Job, records: u64, tree: &Value) -> Result<StepFaults, JobError>
-    ensures { Gives (λ f. f) result (optional (step_faults_at job.now.classes records) no_faults field.Faults (view tree.now)) }
+fn faults(
+    alloc: Global,
+    job: &Job,
+    records: u64,
+    found: Option<Borrowed<'_>>,
+) -> Result<StepFaults, JobError>
+    ensures { Gives (λ f. f) result (or_else (step_faults_at job.now.classes records field.Faults) no_faults (option_map seen found.entry)) }
 {
-    match tree.get(Field::Faults.name()) {
+    match found {
         None => Ok(StepFaults::none(alloc)),
         Some(given) => step_faults(alloc, job, records, given),
     }
 }
 
-/// The field of the records, where it is there, and the object of the other fields.
-fn take_records(tree: Value) -> (Option<Value>, Value)
-    ensures records { option_map view result.0 ≡ get (name_of field.Records) (view tree) }
-    ensures prefix { get (name_of field.Prefix) (view result.1) ≡ get (name_of field.Prefix) (view tree) }
-    ensures drop { get (name_of field.Drop) (view result.1) ≡ get (name_of field.Drop) (view tree) }
-    ensures faults { get (name_of field.Faults) (view result.1) ≡ get (name_of field.Faults) (view tree) }
-{
-    take_field(Field::Records, tree)
+/// The fields of the data of a step, where they are there.
+#[derive(Drop)]
+struct Parts<'a> {
+    records: Option<Borrowed<'a>>,
+    prefix: Option<Borrowed<'a>>,
+    drop: Option<Borrowed<'a>>,
+    faults: Option<Borrowed<'a>>,
 }
 
-/// The records that were taken out of an object, which have to be there.
-fn taken_records(alloc: Global, found: Option<Value>) -> Result<Records, JobError>
-    ensures { Gives (λ r. r) result (taken records_at field.Records (option_map view found)) }
+fn take_parts<'a>(tree: Borrowed<'a>) -> Parts<'a>
+    ensures records { option_map seen result.records ≡ get (name_of field.Records) (seen tree.entry) }
+    ensures prefix { option_map seen result.prefix ≡ get (name_of field.Prefix) (seen tree.entry) }
+    ensures drop { option_map seen result.drop ≡ get (name_of field.Drop) (seen tree.entry) }
+    ensures faults { option_map seen result.faults ≡ get (name_of field.Faults) (seen tree.entry) }
 {
-    records(alloc, found.ok_or(JobError::WrongShape(Field::Records))?)
+    let (records, rest) = take_field(Field::Records, tree);
+    let (prefix, rest) = take_field(Field::Prefix, rest);
+    let (drop, rest) = take_field(Field::Drop, rest);
+    let (faults, _nothing) = take_field(Field::Faults, rest);
+    Parts {
+        records,
+        prefix,
+        drop,
+        faults,
+    }
 }
 
-/// The data of a step with these records, whose other fields the object has, or their first fault.
-#[tactic(auto, unfolding(crate::specs::inside::Filled::filled_at))]
-pub fn filled(
-    alloc: Global,
-    job: &Job,
-    records: Records,
-    others: &Value,
-) -> Result<StepData, JobError>
-    ensures { Gives (λ s. s) result (filled_at job.now.classes records (view others.now)) }
+/// The data of one of the job's steps that the tree stands for, or its first fault. The tree's records are let go as soon
+/// as they are packed.
+#[tactic(auto, unfolding(crate::specs::StepFields::data_at, jb_job::specs::Reading::required, jb_job::specs::Reading::optional))]
+pub fn step_data(alloc: Global, job: &Job, tree: Borrowed<'_>) -> Result<StepData, JobError>
+    ensures { Gives (λ s. s) result (data_at job.now.classes (seen tree.entry)) }
 {
-    let prefix = prefix(alloc, others)?;
-    let drop = dropped(alloc, others)?;
+    let table = [Field::Records, Field::Prefix, Field::Drop, Field::Faults];
+    object(Field::Data, &table, &tree)?;
+    let parts = take_parts(tree);
+    let records = taken_records(alloc, parts.records)?;
+    let prefix = prefix(alloc, parts.prefix)?;
+    let drop = dropped(alloc, parts.drop)?;
     let count = records.as_list().len() as u64;
-    let faults = faults(alloc, job, count, others)?;
+    let faults = faults(alloc, job, count, parts.faults)?;
     Ok(StepData {
         records,
         prefix,
         drop,
         faults,
     })
-}
-
-/// The data of one of the job's steps that the tree stands for, or its first fault.
-#[tactic(auto, unfolding(crate::specs::StepFields::data_at, crate::specs::inside::Filled::filled_at, jb_job::specs::Reading::required, jb_job::specs::Reading::optional))]
-pub fn step_data(alloc: Global, job: &Job, tree: Value) -> Result<StepData, JobError>
-    ensures { Gives (λ s. s) result (data_at job.now.classes (view tree)) }
-{
-    let data = take_object(
-        Field::Data,
-        &[Field::Records, Field::Prefix, Field::Drop, Field::Faults],
-        tree,
-    )?;
-    let (taken, rest) = take_records(data);
-    let records = taken_records(alloc, taken)?;
-    filled(alloc, job, records, &rest)
 }
