@@ -252,7 +252,7 @@ results-join f first records lo at hi from to =
 -- ---- HOW A BLOCK ENDS
 
 -- a fault that settles a block isn't skipped, and its block isn't committed
-abbrev Commits : ChunkEnd → Type 0
+abbrev pub Commits : ChunkEnd → Type 0
 Commits (Committed delta) = Unit {0}
 Commits (Rolled class) = ⊥
 Commits (Failed class) = ⊥
@@ -282,10 +282,10 @@ sound-failing plans [] is = refl
 sound-failing plans (r ∷ rs) is = ap (λ (p : FaultPlan). cond (is_some (live p)) (Some r) (failing plans rs)) (is r.0) ∙ sound-failing plans rs is
 
 -- all that is committed is written
-abbrev whole_counts : TaskState → Counts
+abbrev pub whole_counts : TaskState → Counts
 whole_counts t = counts_of t (length (results_of t)) 0
 
-all-written : (t : TaskState) → ((k : ℕ) → t.work.writer.faults k ≡ Sound) → Commits (end_of t) → end_of t ≡ Committed (whole_counts t)
+pub all-written : (t : TaskState) → ((k : ℕ) → t.work.writer.faults k ≡ Sound) → Commits (end_of t) → end_of t ≡ Committed (whole_counts t)
 unfolding end_of
 all-written t is e =
     let sound : write_fault t.work.writer (results_of t) ≡ None = ap (fault_of t.work.writer.faults) (sound-failing t.work.writer.faults (results_of t) is) in
@@ -307,7 +307,7 @@ abbrev IsNumbered : TaskState → Type 0
 IsNumbered t = length t.work.writer.written ≡ t.row.written
 
 -- the task's next block has a record and lies in its range
-abbrev HasBlock : TaskState → Type 0
+abbrev pub HasBlock : TaskState → Type 0
 HasBlock t = (t.row.at < (block_of t).hi) × ((block_of t).hi ≤ t.row.hi)
 
 attempt-written : (f : Function) (records : List (List ℕ)) (t : TaskState) (again : ℕ) → settled_at t ≡ None → HasBlock t → HasResults f records t → IsNumbered (ending_by t again (Committed (whole_counts t))).task
@@ -362,7 +362,7 @@ repeated-task t = record t { row = repeated_row t.row (again_of t); work = (afte
 pub same-task : RepeatsAreRetries → (t : TaskState) → after_repeats t ≡ repeated-task t
 same-task law t = λ i. record t { row = law t i; work = (after_repeats t).work }
 
-repeats-have : (f : Function) (records : List (List ℕ)) (t : TaskState) → HasResults f records t → HasResults f records (repeated-task t)
+pub repeats-have : (f : Function) (records : List (List ℕ)) (t : TaskState) → HasResults f records t → HasResults f records (repeated-task t)
 repeats-have f records t has =
     let kept = after-kept f t.rules t.row.lo (own_records records t.row) t has.work in
     record {

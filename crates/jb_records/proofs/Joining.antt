@@ -32,7 +32,7 @@ results-all f first (x ∷ xs) =
     ∙ results-all f (first + 1) xs)
 
 -- a partition's records are those of all that have their numbers
-own-record : (records : List (List ℕ)) (lo hi k : ℕ) → lo ≤ k → k < hi → record_of lo (take (hi - lo) (drop lo records)) k ≡ record_of 0 records k
+pub own-record : (records : List (List ℕ)) (lo hi k : ℕ) → lo ≤ k → k < hi → record_of lo (take (hi - lo) (drop lo records)) k ≡ record_of 0 records k
 own-record records lo hi k from to =
     get_or-take (hi - lo) (drop lo records) (k - lo) [] (omega (arith, from, to)) ∙ get_or-drop lo records (k - lo) []
     ∙ (let e : lo + (k - lo) ≡ k - 0 = omega (arith, from) in ap (λ i. slice_index_or records i []) e)

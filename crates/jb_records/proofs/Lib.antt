@@ -5,6 +5,7 @@ mod Begun
 mod Breaking
 mod Calling
 mod Causes
+mod Counting
 mod Evenly
 mod Going
 mod Growing

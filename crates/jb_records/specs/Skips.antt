@@ -1,10 +1,19 @@
 -- Which records were skipped.
-use Rattle.std.specs.Prelude.{ℕ, ◌-◌, List, Option, None, Some}
-use Rattle.std.specs.List.{filter_map, flat_map, range_with_len}
+use Rattle.std.specs.Prelude.{ℕ, ◌≡◌, ◌-◌, List, length, Option, None, Some}
+use Rattle.std.specs.List.{AllByRecursion, filter_map, flat_map, range_with_len}
+use Rattle.jb_artifacts.specs.Meaning.{ArtifactsMeaning}
 use Rattle.jb_base.specs.declared.class.ClassId.{ClassId}
+use Rattle.jb_base.specs.declared.range.Range.{Range}
 use Rattle.jb_ready.specs.declared.notes.Note.{Note}
+use Rattle.jb_repo.specs.declared.snapshot.Snapshot.{Snapshot}
 use Rattle.jb_rules.specs.declared.row.Row.{Row}
+use Rattle.jb_step.specs.Alone.{AreOnTheWay}
+use Rattle.jb_step.specs.Answers.{tasks_left}
+use Rattle.jb_step.specs.Prepare.{DoFit}
+use Rattle.jb_step.specs.Setup.{IsSetup, Setup, first_tasks, fresh_rows, rows_now, unfinished}
 use Rattle.jb_records.specs.Function.{Function}
+use Rattle.jb_records.specs.Shares.{IsSoFar}
+use Rattle.jb_records.specs.Steps.{AreWorks}
 use Rattle.jb_records.specs.Works.{record_of}
 
 -- the record of this number can't be read, with this class, if there is one
@@ -19,3 +28,24 @@ skips_between f records lo hi = filter_map (λ k. skip_by k (f.refusal (record_o
 -- THE SKIPPED RECORDS of a step: those before its partitions' checkpoints that can't be read
 abbrev pub skipped_of : Function → (records : List (List ℕ)) → List Row → List Note
 skipped_of f records rows = flat_map (λ row. skips_between f records row.lo row.at) rows
+
+-- ---- AS MANY AS ARE COUNTED
+
+-- the row counts as many records as skipped at their read
+abbrev pub IsCounted : Function → (records : List (List ℕ)) → Row → Type 0
+IsCounted f records row = row.counts.read_skip ≡ length (skips_between f records row.lo row.at)
+
+abbrev pub AreCounted : Function → (records : List (List ℕ)) → List Row → Type 0
+AreCounted f records rows = AllByRecursion (IsCounted f records) rows
+
+-- THE LAW: where a run of the step ends, its rows count the skipped records, if they did when it began
+abbrev pub SkipsAreCounted : Type 0
+SkipsAreCounted =
+    (f : Function) (records : List (List ℕ)) (shares : List (List (List ℕ))) (s : Setup) (works : List ArtifactsMeaning) (snapshot : Snapshot) (left : List (ℕ × ArtifactsMeaning))
+    → IsSetup s → DoFit s works → AreWorks f s.rules records shares (unfinished s.rows) works
+    → AreOnTheWay (first_tasks s works) (tasks_left s snapshot left) → snapshot.rows.items ≡ rows_now s.rows (tasks_left s snapshot left)
+    → IsSoFar f records s.rows shares → AreCounted f records s.rows → AreCounted f records snapshot.rows.items
+
+-- and new rows do
+abbrev pub NewRowsAreCounted : Type 0
+NewRowsAreCounted = (f : Function) (records : List (List ℕ)) (ranges : List Range) → AreCounted f records (fresh_rows ranges)

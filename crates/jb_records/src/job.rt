@@ -15,13 +15,14 @@ ghost use Rattle.jb_records.specs.inside.Calls.{CanBegin, IsUnbegun, IsUnbegunWi
 ghost use Rattle.jb_records.specs.Made.{IsBegun, IsRunMade, even_partitions, step_record};
 ghost use Rattle.jb_saved.specs.GoingOn.{rows_restarted};
 ghost use Rattle.jb_records.specs.Shares.{AreNumbered, IsSoFar, joined};
+ghost use Rattle.jb_records.specs.Skips.{AreCounted};
 ghost use Rattle.jb_records.specs.Steps.{BeginsAnew};
 
 use crate::end::RecordsEnd;
 use crate::error::RecordsStepError;
 use crate::failures::failures_of;
 use crate::function::RecordFunction;
-use crate::laws::steps_keep_results;
+use crate::laws::{skips_are_counted, steps_keep_results};
 use crate::shares::{are_numbered, put_back, shares_of};
 use crate::step::RecordsStep;
 use crate::works::{Works, all_works};
@@ -65,9 +66,11 @@ impl RecordsJob {
         ensures begun { IfOk result (λ job. IsBegun step.now (length records.now) saved earlier.now job.prepared job.results.items) }
         ensures few { OnOk result (length records.now ≤ max_records) }
         ensures new { saved ≡ None → IfOk result (λ job. (f : Function) → IsSoFar f records.now job.prepared.rows job.results.items) }
+        ensures counted { saved ≡ None → IfOk result (λ job. (f : Function) → AreCounted f records.now job.prepared.rows) }
         ensures goes_on { IfOk result (λ job. (f : Function) → IsStoppedRun f records.now saved earlier.now → IsSoFar f records.now job.prepared.rows job.results.items) }
     {
         steps_keep_results();
+        skips_are_counted();
         let mut reducer = FaultlessReducer::new(alloc);
         let count = records.len() as u64;
         let prepared = prepared_for(alloc, step, count, &mut reducer, saved)?;
@@ -140,8 +143,11 @@ impl RecordsJob {
             IsSoFar (F.function function) records.now end.snapshot.rows.items end.results.items) }
         ensures whole { IfOk result (λ end. IsSetup self.prepared → IsSoFar (F.function function) records.now self.prepared.rows self.results.items → end.status ≡ Completed →
             joined end.results.items ≡ all_results (F.function function) records.now) }
+        ensures counted { IfOk result (λ end. IsSetup self.prepared → IsSoFar (F.function function) records.now self.prepared.rows self.results.items →
+            AreCounted (F.function function) records.now self.prepared.rows → AreCounted (F.function function) records.now end.snapshot.rows.items) }
     {
         steps_keep_results();
+        skips_are_counted();
         let RecordsJob {
             prepared,
             results,

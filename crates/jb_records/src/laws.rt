@@ -3,6 +3,7 @@
 ghost use Rattle.jb_records.specs.Function.{OthersAreLeftOut};
 ghost use Rattle.jb_records.specs.Runs.{PartsStay, ResultsGoOn};
 ghost use Rattle.jb_records.specs.Shares.{NewStepsBegin, SharesJoin};
+ghost use Rattle.jb_records.specs.Skips.{NewRowsAreCounted, SkipsAreCounted};
 ghost use Rattle.jb_records.specs.Steps.{StepsKeepResults};
 ghost use Rattle.jb_records.specs.inside.Kept.{RowsAreSaved, StretchesGoOn, WorksFit};
 
@@ -28,6 +29,19 @@ pub fn steps_keep_results()
     ensures joined { SharesJoin }
     ensures left_out { OthersAreLeftOut }
 {
+    results_go_on();
+    plans_can_be_run();
+}
+
+/// Wherever a step's run ends, its rows count as many records as skipped at their read as can't be read before their checkpoints, if
+/// they did when it began; new rows do.
+pub fn skips_are_counted()
+    ensures counted { SkipsAreCounted }
+    ensures begun { NewRowsAreCounted }
+{
+    tasks_stand_at_checkpoints();
+    runs_lead_to_an_end();
+    attempts_are_steps();
     results_go_on();
     plans_can_be_run();
 }

@@ -33,7 +33,7 @@ pub use error::RecordsStepError;
 pub use failures::Failure;
 pub use function::RecordFunction;
 pub use kept::{RecordsRun, Standing};
-pub use laws::{results_go_on, steps_keep_results};
+pub use laws::{results_go_on, skips_are_counted, steps_keep_results};
 pub use run::{Earlier, run_records};
 pub use step::RecordsStep;
 pub use stretch::Stretch;

@@ -12,6 +12,7 @@ ghost use Rattle.jb_records.specs.Causes.{IsCauseOf};
 ghost use Rattle.jb_records.specs.inside.Calls.{CanBegin, IsUnbegunBehind, IsUnended};
 ghost use Rattle.jb_records.specs.Made.{IsBegunBehind, IsRecordsRun, IsRunMade};
 ghost use Rattle.jb_records.specs.Shares.{IsSoFar, joined};
+ghost use Rattle.jb_records.specs.Skips.{AreCounted};
 
 use crate::end::RecordsEnd;
 use crate::error::RecordsStepError;
@@ -54,6 +55,7 @@ pub fn run_records<F: RecordFunction + Drop + 'static, R: Threads + Wait + Sync>
     ensures run { IfOk result (λ end. IsRecordsRun (F.function function) step.now records.now (option_map (λ e. (e.saved.now, e.results.now)) earlier.entry) rounds end.snapshot end.results.items) }
     ensures status { IfOk result (λ end. end.status ≡ status_of end.snapshot.rows.items false) }
     ensures failures { IfOk result (λ end. AreFailures (F.function function) records.now end.snapshot.rows.items end.failures.items) }
+    ensures counted { earlier.entry ≡ None → IfOk result (λ end. AreCounted (F.function function) records.now end.snapshot.rows.items) }
     ensures so_far { earlier.entry ≡ None → IfOk result (λ end. IsSoFar (F.function function) records.now end.snapshot.rows.items end.results.items) }
     ensures all { earlier.entry ≡ None → IfOk result (λ end. end.status ≡ Completed → joined end.results.items ≡ all_results (F.function function) records.now) }
     ensures goes_on { IfSome earlier.entry (λ e. IsOfStoppedRun (F.function function) records.now e.saved.now e.results.now →
@@ -76,6 +78,7 @@ pub(crate) fn begun(
     ensures why { IfErr result (IsUnbegunBehind step.now (length records.now) (option_map (λ e. (e.saved.now, e.results.now)) earlier.now)) }
     ensures begun { IfOk result (λ job. IsBegunBehind step.now (length records.now) (option_map (λ e. (e.saved.now, e.results.now)) earlier.now) job.prepared job.results.items) }
     ensures new { earlier.now ≡ None → IfOk result (λ job. (f : Function) → IsSoFar f records.now job.prepared.rows job.results.items) }
+    ensures counted { earlier.now ≡ None → IfOk result (λ job. (f : Function) → AreCounted f records.now job.prepared.rows) }
     ensures goes_on { IfSome earlier.now (λ e. IfOk result (λ job. (f : Function) → IsOfStoppedRun f records.now e.saved.now e.results.now →
         IsSoFar f records.now job.prepared.rows job.results.items)) }
 {
@@ -114,6 +117,8 @@ fn run_on<
         IsSoFar (F.function function) records.now end.snapshot.rows.items end.results.items) }
     ensures whole { IfOk result (λ end. IsSetup job.prepared → IsSoFar (F.function function) records.now job.prepared.rows job.results.items → end.status ≡ Completed →
         joined end.results.items ≡ all_results (F.function function) records.now) }
+    ensures counted { IfOk result (λ end. IsSetup job.prepared → IsSoFar (F.function function) records.now job.prepared.rows job.results.items →
+        AreCounted (F.function function) records.now job.prepared.rows → AreCounted (F.function function) records.now end.snapshot.rows.items) }
 {
     let desk = job.prepared.desk::<L>(alloc, blank)?;
     job.run(rt, alloc, &desk, function, records, rounds)

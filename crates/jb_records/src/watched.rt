@@ -12,6 +12,7 @@ ghost use Rattle.jb_records.specs.Causes.{IsCauseOf};
 ghost use Rattle.jb_records.specs.inside.Calls.{CanBegin, IsUnended};
 ghost use Rattle.jb_records.specs.Made.{IsRecordsRun, IsRunMade};
 ghost use Rattle.jb_records.specs.Shares.{IsSoFar, joined};
+ghost use Rattle.jb_records.specs.Skips.{AreCounted};
 
 use crate::end::RecordsEnd;
 use crate::error::RecordsStepError;
@@ -50,6 +51,7 @@ pub fn run_records_watched<
     ensures run { IfOk result (λ end. IsRecordsRun (F.function function) step.now records.now (option_map (λ e. (e.saved.now, e.results.now)) earlier.entry) rounds end.snapshot end.results.items) }
     ensures status { IfOk result (λ end. end.status ≡ status_of end.snapshot.rows.items false) }
     ensures failures { IfOk result (λ end. AreFailures (F.function function) records.now end.snapshot.rows.items end.failures.items) }
+    ensures counted { earlier.entry ≡ None → IfOk result (λ end. AreCounted (F.function function) records.now end.snapshot.rows.items) }
     ensures so_far { earlier.entry ≡ None → IfOk result (λ end. IsSoFar (F.function function) records.now end.snapshot.rows.items end.results.items) }
     ensures all { earlier.entry ≡ None → IfOk result (λ end. end.status ≡ Completed → joined end.results.items ≡ all_results (F.function function) records.now) }
     ensures goes_on { IfSome earlier.entry (λ e. IsOfStoppedRun (F.function function) records.now e.saved.now e.results.now →
@@ -90,6 +92,8 @@ fn run_on<
         IsSoFar (F.function function) records.now end.snapshot.rows.items end.results.items) }
     ensures whole { IfOk result (λ end. IsSetup job.prepared → IsSoFar (F.function function) records.now job.prepared.rows job.results.items → end.status ≡ Completed →
         joined end.results.items ≡ all_results (F.function function) records.now) }
+    ensures counted { IfOk result (λ end. IsSetup job.prepared → IsSoFar (F.function function) records.now job.prepared.rows job.results.items →
+        AreCounted (F.function function) records.now job.prepared.rows → AreCounted (F.function function) records.now end.snapshot.rows.items) }
 {
     let desk = Arc::new(alloc, job.prepared.desk::<L>(alloc, blank)?)?;
     let watch = Watch::begin(rt, alloc, watcher, &desk)?;

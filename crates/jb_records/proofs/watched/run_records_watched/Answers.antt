@@ -11,6 +11,10 @@ pub returns-clause-so_far : goal.returns-clause-so_far
 returns-clause-so_far g c none =
     IfOk-weaker c.run_on.result _ _ (λ end goes. goes c.in_ok-job.ensures.begun.begun.setup (c.in_ok-job.ensures.new none (g.F.RecordFunction.function c.args.function))) c.run_on.ensures.so_far
 
+pub returns-clause-counted : goal.returns-clause-counted
+returns-clause-counted g c none =
+    IfOk-weaker c.run_on.result _ _ (λ end goes. goes c.in_ok-job.ensures.begun.begun.setup (c.in_ok-job.ensures.new none (g.F.RecordFunction.function c.args.function)) (c.in_ok-job.ensures.counted none (g.F.RecordFunction.function c.args.function))) c.run_on.ensures.counted
+
 pub returns-clause-all : goal.returns-clause-all
 returns-clause-all g c none =
     IfOk-weaker c.run_on.result _ _ (λ end goes. goes c.in_ok-job.ensures.begun.begun.setup (c.in_ok-job.ensures.new none (g.F.RecordFunction.function c.args.function))) c.run_on.ensures.whole

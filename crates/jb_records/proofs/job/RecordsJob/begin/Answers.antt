@@ -2,6 +2,7 @@ use Rattle.std.proofs.Common.{Ok, length, subst}
 use Rattle.jb_step.specs.Prepare.{IsPreparation}
 use Rattle.jb_records.specs.Made.{even_partitions, step_record}
 use Rattle.jb_records.specs.Steps.{BeginsAnew}
+use Rattle.jb_records.proofs.Counting.{anew-counted}
 use Rattle.jb_records.proofs.Resuming.{going-on}
 use Rattle.jb_records.proofs.Steps.{begun-anew}
 use Rattle.jb_records.proofs.Causes.{handed-on, opened-rows, others-refused}
@@ -11,6 +12,9 @@ pub returns-clause-new : goal.returns-clause-new
 returns-clause-new c none f =
     let prepared = c.in_ok-prepared.prepared in
     begun-anew c.steps_keep_results.ensures.begun f c.args.records.now prepared _ (subst (λ n. BeginsAnew n prepared) c.len-count.ensures (c.in_ok-prepared.ensures.new none)) c.in_ok-results.ensures.numbered
+
+pub returns-clause-counted : goal.returns-clause-counted
+returns-clause-counted c none f = anew-counted c.skips_are_counted.ensures.begun f c.args.records.now _ c.in_ok-prepared.prepared (c.in_ok-prepared.ensures.new none)
 
 pub returns-clause-goes_on : goal.returns-clause-goes_on
 returns-clause-goes_on c f stopped =

@@ -1,6 +1,7 @@
 use Rattle.std.proofs.Common.{rules, ◌≡◌, ◌∙◌, ap, refl, sym, subst, Ok, Err}
 use Rattle.jb_records.specs.Shares.{IsSoFar}
 use Rattle.jb_records.proofs.Answered.{err-of, ok-of}
+use Rattle.jb_records.proofs.Counting.{led-counted}
 use Rattle.jb_records.proofs.Begun.{same-works, works-at-first}
 use Rattle.jb_records.proofs.Steps.{completed-whole, led, stands}
 use Rattle.jb_records.specs.declared.error.RecordsStepError.TheVariants.{Step}
@@ -16,6 +17,14 @@ returns-clause-so_far g c setup so =
     let are = same-works _ f _ own.prepared.rules c.args.records.now _ own.results.items _ _ (ap g.F.RecordFunction.function c.in_ok-function.ensures.ok) (sym own.same_rules) c.deref.ensures.value c.in_ok-works.ensures.works in
     let end = led c.steps_keep_results.ensures.kept f c.args.records.now own.results.items _ (ok-of _ _ _ is c.run_pooled_step-end.ensures.run) (works-at-first _ _ _ _ _ _ are) (ok-of _ _ _ is c.run_pooled_step-end.ensures.fit) (ok-of _ _ _ is c.run_pooled_step-end.ensures.on_the_way) setup so in
     subst (IsSoFar f c.args.records.now _) (sym c.put_back.ensures) end
+
+pub returns-clause-counted : goal.returns-clause-counted
+returns-clause-counted g c setup so counted =
+    let is : c.run_pooled_step-end.result.0 ≡ Ok c.in_ok-end.end = search rules in
+    let f = g.F.RecordFunction.function c.args.function in
+    let own = c.args.self in
+    let are = same-works _ f _ own.prepared.rules c.args.records.now _ own.results.items _ _ (ap g.F.RecordFunction.function c.in_ok-function.ensures.ok) (sym own.same_rules) c.deref.ensures.value c.in_ok-works.ensures.works in
+    led-counted c.skips_are_counted.ensures.counted f c.args.records.now own.results.items _ (ok-of _ _ _ is c.run_pooled_step-end.ensures.run) (works-at-first _ _ _ _ _ _ are) (ok-of _ _ _ is c.run_pooled_step-end.ensures.fit) (ok-of _ _ _ is c.run_pooled_step-end.ensures.on_the_way) setup so counted
 
 pub returns-clause-whole : goal.returns-clause-whole
 returns-clause-whole g c setup so completed =

@@ -1,0 +1,211 @@
+-- As many records are counted as skipped as can't be read.
+use Rattle.std.proofs.Common.{◌≡◌, ℕ, zero, suc, ◌+◌, ◌-◌, ◌≤◌, ◌<◌, ◌++◌, Bool, true, false, cond, List, [], ◌∷◌, length, map, Option, None, Some, is_some, refl, ap, ap₂, sym, subst, ◌∙◌, arith}
+use Rattle.std.specs.Prelude.{nat_eq, slice_get}
+use Rattle.std.specs.List.{cons_option, count_by, enumerate_from, filter_map, range_with_len}
+use Rattle.std.proofs.lemmas.List.{length-append}
+use Rattle.std.proofs.lemmas.List.Elements.{filter_map-append}
+use Rattle.std.proofs.lemmas.List.Sums.{sum_by-cons}
+use Rattle.jb_base.specs.declared.class.ClassId.{ClassId}
+use Rattle.jb_base.specs.declared.range.Range.{Range}
+use Rattle.jb_base.specs.Rules.{RulesRecord}
+use Rattle.jb_ready.specs.declared.notes.Note.{Note}
+use Rattle.jb_ready.proofs.Refusals.{check-decides}
+use Rattle.jb_rules.specs.declared.row.Row.{Row}
+use Rattle.jb_artifacts.specs.Faults.{live}
+use Rattle.jb_artifacts.specs.Meaning.{ArtifactsMeaning}
+use Rattle.jb_artifacts.specs.Reader.{record_at}
+use Rattle.jb_chunk.specs.Alone.{IsOnTheWay, IsRunOf}
+use Rattle.jb_chunk.specs.Attempt.{AttemptEnd, again_of, block_of, end_of, ending_by}
+use Rattle.jb_chunk.specs.Block.{count_of, entry, entry_by}
+use Rattle.jb_chunk.specs.Entries.{is_read_fault}
+use Rattle.jb_chunk.specs.Laws.{RepeatsAreRetries, TasksStandAtCheckpoints, WaysJoin}
+use Rattle.jb_chunk.specs.Standing.{IsReady, TaskState}
+use Rattle.jb_chunk.specs.declared.chunk_end.ChunkEnd.{ChunkEnd}
+use Rattle.jb_chunk.specs.declared.chunk_end.ChunkEnd.TheVariants.{Committed, Rolled, Failed}
+use Rattle.jb_chunk.proofs.SettlingRecord.{numbers-split}
+use Rattle.jb_step.specs.Alone.{AreOnTheWay}
+use Rattle.jb_step.specs.Answers.{IsRunOfStep, StepRun, tasks_left}
+use Rattle.jb_step.specs.PlanLaws.{AreTasksOf, BeginsWithRows, BeginsWithTable}
+use Rattle.jb_step.specs.Prepare.{DoFit}
+use Rattle.jb_step.specs.Setup.{IsSetup, Setup, first_tasks, fresh_rows, row_now, rows_now, unfinished}
+use Rattle.jb_records.specs.Function.{Function}
+use Rattle.jb_records.specs.Runs.{HasResults, PartsStay, ResultsGoOn}
+use Rattle.jb_records.specs.Shares.{IsSoFar}
+use Rattle.jb_records.specs.Skips.{AreCounted, IsCounted, NewRowsAreCounted, SkipsAreCounted, skip_by, skips_between}
+use Rattle.jb_records.specs.Steps.{AreWorks, BeginsAnew}
+use Rattle.jb_records.specs.Works.{IsWork, own_records, record_of}
+use Rattle.jb_records.proofs.Going.{Commits, HasBlock, all-written, repeated-task, repeats-have, same-task, way-on, whole_counts}
+use Rattle.jb_records.proofs.Joining.{own-record}
+use Rattle.jb_records.proofs.Skipping.{skips-none}
+use Rattle.jb_records.proofs.Steps.{HaveResults, all-begun}
+
+-- ---- A BLOCK
+
+-- a record that can't be read is a read fault, and no other is
+fault-by : (refusal fault : Option ClassId) (answer : Option (List ℕ)) → is_read_fault (entry_by refusal fault answer) ≡ is_some refusal
+fault-by (Some class) fault answer = refl
+fault-by None (Some class) answer = refl
+fault-by None None None = refl
+fault-by None None (Some text) = refl
+
+read-fault : (f : Function) (first : ℕ) (records : List (List ℕ)) (rules : RulesRecord) (w : ArtifactsMeaning) (k : ℕ) → IsWork f rules first records w
+    → first ≤ k → k < first + length records → is_read_fault (entry w k) ≡ is_some (f.refusal (record_of first records k))
+unfolding entry
+read-fault f first records rules w k is from to =
+    let own = record_of first records k in
+    let fault : live (w.reader.faults k) ≡ f.refusal own = ap live (is.reads k) ∙ check-decides f.refusal first records k own from to refl in
+    fault-by (live (w.reader.faults k)) (live (w.processor.faults k)) (w.processor.answer k (record_at w.reader k)) ∙ ap is_some fault
+
+noted : (k : ℕ) (refusal : Option ClassId) → is_some refusal ≡ is_some (skip_by k refusal)
+noted k None = refl
+noted k (Some class) = refl
+
+one-more : (o : Option Note) (xs : List Note) → cond (is_some o) 1 0 + length xs ≡ length (cons_option o xs)
+one-more None xs = omega arith
+one-more (Some note) xs = omega arith
+
+counted-are : (p : ℕ → Bool) (g : ℕ → Option Note) (n lo : ℕ) → ((k : ℕ) → lo ≤ k → k < lo + n → p k ≡ is_some (g k)) → count_by p (range_with_len lo n) ≡ length (filter_map g (range_with_len lo n))
+counted-are p g zero lo are = refl
+counted-are p g (suc n) lo are =
+    let rest = counted-are p g n (lo + 1) (λ k from to. are k (omega (arith, from)) (omega (arith, to))) in
+    sum_by-cons (λ k. cond (p k) 1 0) lo (range_with_len (lo + 1) n)
+    ∙ ap₂ (λ (b : Bool) (m : ℕ). cond b 1 0 + m) (are lo (omega arith) (omega arith)) rest
+    ∙ one-more (g lo) (filter_map g (range_with_len (lo + 1) n))
+
+block-counted : (f : Function) (records : List (List ℕ)) (t : TaskState) (hi : ℕ) → HasResults f records t → hi ≤ t.row.hi → count_of is_read_fault t.work t.row.at hi ≡ length (skips_between f records t.row.at hi)
+unfolding count_of
+block-counted f records t hi has last =
+    let own = own_records records t.row in
+    let above = has.from in
+    let served = has.served in
+    counted-are (λ k. is_read_fault (entry t.work k)) (λ k. skip_by k (f.refusal (record_of 0 records k))) (hi - t.row.at) t.row.at
+    (λ k from to.
+    let lo : t.row.lo ≤ k = omega (arith, above, from) in
+    let inside : k < t.row.hi = omega (arith, last, from, to) in
+    let below : k < t.row.lo + length own = omega (arith, served, inside) in
+    read-fault f t.row.lo own t.rules t.work k has.work lo below
+    ∙ ap (λ (bytes : List ℕ). is_some (f.refusal bytes)) (own-record records t.row.lo t.row.hi k lo inside)
+    ∙ noted k (f.refusal (record_of 0 records k)))
+
+-- ---- ATTEMPT BY ATTEMPT
+
+skips-join : (f : Function) (records : List (List ℕ)) (lo at hi : ℕ) → lo ≤ at → at ≤ hi → skips_between f records lo at ++ skips_between f records at hi ≡ skips_between f records lo hi
+skips-join f records lo at hi from to =
+    let g : ℕ → Option Note = λ k. skip_by k (f.refusal (record_of 0 records k)) in
+    let start : lo + (at - lo) ≡ at = omega (arith, from) in
+    let whole : (at - lo) + (hi - at) ≡ hi - lo = omega (arith, from, to) in
+    ap (λ a. filter_map g (range_with_len lo (at - lo)) ++ filter_map g (range_with_len a (hi - at))) (sym start)
+    ∙ sym (filter_map-append g (range_with_len lo (at - lo)) (range_with_len (lo + (at - lo)) (hi - at)))
+    ∙ ap (filter_map g) (sym (numbers-split lo (at - lo) (hi - at)))
+    ∙ ap (λ n. filter_map g (range_with_len lo n)) whole
+
+-- what was counted between two checkpoints
+record Counts (f : Function) (records : List (List ℕ)) (row now : Row) : Type 0 where
+  pub counted : now.counts.read_skip ≡ row.counts.read_skip + length (skips_between f records row.at now.at)
+  pub on : row.at ≤ now.at
+
+same-counts : (f : Function) (records : List (List ℕ)) (row now : Row) → now.at ≡ row.at → now.counts.read_skip ≡ row.counts.read_skip → Counts f records row now
+same-counts f records row now at same =
+    let none : length (skips_between f records row.at now.at) ≡ 0 = ap (λ n. length (skips_between f records row.at n)) at ∙ ap length (skips-none f records row.at) in
+    record { counted = omega (arith, same, none); on = omega (arith, at) }
+
+counts-join : (f : Function) (records : List (List ℕ)) (row between now : Row) → Counts f records row between → Counts f records between now → Counts f records row now
+counts-join f records row between now first later =
+    let from = first.on in
+    let to = later.on in
+    let one = first.counted in
+    let other = later.counted in
+    let all = sym (length-append (skips_between f records row.at between.at) (skips_between f records between.at now.at)) ∙ ap length (skips-join f records row.at between.at now.at from to) in
+    record { counted = omega (arith, one, other, all); on = omega (arith, from, to) }
+
+attempt-counts : (f : Function) (records : List (List ℕ)) (t : TaskState) (again : ℕ) (e : ChunkEnd) → end_of t ≡ e → HasBlock t → HasResults f records t → Counts f records t.row (ending_by t again e).task.row
+attempt-counts f records t again (Committed delta) is block has =
+    let lt = block.0 in
+    let commits = subst Commits (sym is) tt in
+    let same : Committed (whole_counts t) ≡ Committed delta = sym (all-written t has.work.writes commits) ∙ is in
+    let whole : Counts f records t.row (ending_by t again (Committed (whole_counts t))).task.row = record {
+      counted = ap (λ n. t.row.counts.read_skip + n) (block-counted f records t (block_of t).hi has block.1);
+      on = omega (arith, lt);
+    } in
+    subst (λ (e : ChunkEnd). Counts f records t.row (ending_by t again e).task.row) same whole
+attempt-counts f records t again (Rolled class) is block has = same-counts f records t.row _ refl refl
+attempt-counts f records t again (Failed class) is block has = same-counts f records t.row _ refl refl
+
+run-counts : TasksStandAtCheckpoints → WaysJoin → RepeatsAreRetries → ResultsGoOn → (f : Function) (records : List (List ℕ)) (start : TaskState) → IsReady start → HasResults f records start
+    → (es : List AttemptEnd) (t s : TaskState) → IsOnTheWay start t → IsRunOf t es s → Counts f records t.row s.row
+run-counts stand join law goes f records start ready begun [] t s way run = subst (λ (x : TaskState). Counts f records t.row x.row) (sym run) (same-counts f records t.row t.row refl refl)
+run-counts stand join law goes f records start ready begun (e ∷ es) t s way run =
+    let waiting = run.0 in
+    let on = way-on join start t e.task e way waiting run.1 refl in
+    let again = again_of t in
+    let u = repeated-task t in
+    let is : e ≡ ending_by u again (end_of u) = run.1 ∙ ap (λ (x : TaskState). ending_by x again (end_of x)) (same-task law t) in
+    let has = goes f records start t ready begun way in
+    let once = attempt-counts f records u again (end_of u) refl ((stand start t ready way).chunk waiting) (repeats-have f records t has) in
+    let here = subst (λ (x : AttemptEnd). Counts f records u.row x.task.row) (sym is) once in
+    counts-join f records t.row e.task.row s.row (record { counted = here.counted; on = here.on }) (run-counts stand join law goes f records start ready begun es e.task s on run.2)
+
+-- ---- THE PARTITIONS OF A STEP
+
+-- a row that is counted is still so
+abbrev Stays : Function → List (List ℕ) → Row → Row → Type 0
+Stays f records row now = IsCounted f records row → IsCounted f records now
+
+task-stays : (f : Function) (records : List (List ℕ)) (t x : TaskState) → t.row.lo ≤ t.row.at → x.row.lo ≡ t.row.lo → Counts f records t.row x.row → Stays f records t.row x.row
+task-stays f records t x from lo more is =
+    let on = more.on in
+    let one = more.counted in
+    let all = sym (length-append (skips_between f records t.row.lo t.row.at) (skips_between f records t.row.at x.row.at)) ∙ ap length (skips-join f records t.row.lo t.row.at x.row.at from on) in
+    let same = ap (λ n. length (skips_between f records n x.row.at)) lo in
+    omega (arith, is, one, all, same)
+
+stays-by : (f : Function) (records : List (List ℕ)) (b : Bool) (first now row other : Row) → Stays f records first now → Stays f records row other → Stays f records (cond b first row) (cond b now other)
+stays-by f records true first now row other is others = is
+stays-by f records false first now row other is others = others
+
+abbrev TasksStay : Function → List (List ℕ) → List TaskState → List TaskState → Type 0
+TasksStay f records ts now = (p : ℕ) (row : Row) → Stays f records (row_now ts p row) (row_now now p row)
+
+tasks-stay : TasksStandAtCheckpoints → WaysJoin → RepeatsAreRetries → ResultsGoOn → PartsStay → (f : Function) (records : List (List ℕ)) (s : Setup) (ts now : List TaskState)
+    → AreTasksOf s ts → HaveResults f records ts → AreOnTheWay ts now → TasksStay f records ts now
+tasks-stay stand join law goes parts f records s [] [] ready have ways p row = λ is. is
+tasks-stay stand join law goes parts f records s [] (x ∷ xs) ready have ways p row = absurd ways
+tasks-stay stand join law goes parts f records s (t ∷ ts) [] ready have ways p row = absurd ways
+tasks-stay stand join law goes parts f records s (t ∷ ts) (x ∷ xs) ready have ways p row =
+    let same = parts t x ways.0 in
+    let more = run-counts stand join law goes f records t ready.0.0 have.0 ways.0.attempts t x (record { attempts = []; run = refl }) ways.0.run in
+    let here = task-stays f records t x have.0.from same.lo more in
+    let later = tasks-stay stand join law goes parts f records s ts xs ready.1 have.1 ways.1 p row in
+    let both = stays-by f records (nat_eq t.partition p) t.row x.row (row_now ts p row) (row_now xs p row) here later in
+    subst (λ q. Stays f records (cond (nat_eq t.partition p) t.row (row_now ts p row)) (cond (nat_eq q p) x.row (row_now xs p row))) (sym same.partition) both
+
+rows-stay : (f : Function) (records : List (List ℕ)) (ts now : List TaskState) (k : ℕ) (rows : List Row) → TasksStay f records ts now
+    → AreCounted f records (map (λ n. row_now ts n.0 n.1) (enumerate_from k rows)) → AreCounted f records (map (λ n. row_now now n.0 n.1) (enumerate_from k rows))
+rows-stay f records ts now k [] stay are = tt
+rows-stay f records ts now k (row ∷ rows) stay are = (stay k row are.0, rows-stay f records ts now (k + 1) rows stay are.1)
+
+pub skips-counted : TasksStandAtCheckpoints → WaysJoin → RepeatsAreRetries → ResultsGoOn → PartsStay → BeginsWithTable → BeginsWithRows → SkipsAreCounted
+skips-counted stand join law goes parts begins same f records shares s works snapshot left is fit are ways rows so-far counted =
+    let ready = (begins s works is fit).tasks in
+    let ts = first_tasks s works in
+    let now = tasks_left s snapshot left in
+    let begun = all-begun f records shares s 0 s.rows shares works so-far.each (λ i share get. let e : i ≡ 0 + i = omega arith in subst (λ m. slice_get shares m ≡ Some share) e get) are ready in
+    let stay = tasks-stay stand join law goes parts f records s ts now ready begun ways in
+    let first : AreCounted f records (rows_now s.rows ts) = subst (AreCounted f records) (sym (same s works fit)) counted in
+    subst (AreCounted f records) (sym rows) (rows-stay f records ts now 0 s.rows stay first)
+
+-- ---- A STEP THAT BEGINS ANEW
+
+pub new-counted : (f : Function) (records : List (List ℕ)) (ranges : List Range) → AreCounted f records (fresh_rows ranges)
+new-counted f records [] = tt
+new-counted f records (r ∷ rs) = (sym (ap length (skips-none f records r.lo)), new-counted f records rs)
+
+pub anew-counted : NewRowsAreCounted → (f : Function) (records : List (List ℕ)) (count : ℕ) (s : Setup) → BeginsAnew count s → AreCounted f records s.rows
+anew-counted law f records count s anew = subst (AreCounted f records) (sym anew.rows) (law f records anew.ranges)
+
+-- ---- HOW IT ENDS
+
+pub led-counted : SkipsAreCounted → (f : Function) (records : List (List ℕ)) (shares : List (List (List ℕ))) (r : StepRun) → IsRunOfStep r → AreWorks f r.setup.rules records shares (unfinished r.setup.rows) r.works → DoFit r.setup r.works
+    → AreOnTheWay (first_tasks r.setup r.works) (tasks_left r.setup r.snapshot r.left) → IsSetup r.setup → IsSoFar f records r.setup.rows shares → AreCounted f records r.setup.rows → AreCounted f records r.snapshot.rows.items
+led-counted law f records shares r run are fit ways is so-far counted =
+    law f records shares r.setup r.works r.snapshot r.left is fit are ways (run.rows ∙ ap (rows_now r.setup.rows) (sym run.tasks)) so-far counted
