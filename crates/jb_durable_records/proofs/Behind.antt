@@ -1,5 +1,5 @@
 -- From one checkpoint to the next.
-use Rattle.std.proofs.Common.{ℕ, ◌≡◌, ◌⊎◌, inl, inr, Bool, true, false, cond, List, [], ◌∷◌, ◌++◌, length, map, Result, Ok, Err, Some, ◌-◌, IfOk, OnOk, refl, sym, ap, subst, ◌∙◌, arith}
+use Rattle.std.proofs.Common.{ℕ, ◌≡◌, ◌⊎◌, inl, inr, Bool, true, false, cond, List, [], ◌∷◌, ◌++◌, length, map, Result, Ok, Err, None, Some, zero, suc, ◌-◌, IfOk, MatchResult, OnOk, refl, sym, ap, subst, ◌∙◌, arith}
 use Rattle.jb_base.proofs.Pairwise.{pairwise-push}
 use Rattle.jb_job.specs.Reading.{tree_of}
 use Rattle.jb_rules.specs.declared.row.Row.{Row}
@@ -22,6 +22,7 @@ use Rattle.jb_durable_records.specs.Checkpoints.{AreCoded, AreStretches, IsOf, I
 use Rattle.jb_durable_records.specs.Work.{GoesOnBehind, HasBegun, IsAfter, IsBehind, IsUnderway, StandsAt}
 use Rattle.jb_durable_records.specs.declared.place.Stage.{Stage}
 use Rattle.jb_durable_records.proofs.Growing.{empty_shares, one_more}
+use Rattle.jb_durable_records.proofs.Telling.{whole_after}
 
 -- ---- rows that wait again
 
@@ -42,6 +43,11 @@ whole_before (row ∷ rows) whole = (finished_by (is_failed row.state) row refl 
 mapped_length : (rows : List Row) → length (map restarted rows) ≡ length rows
 mapped_length [] = refl
 mapped_length (row ∷ rows) = let more = mapped_length rows in omega (arith, more)
+
+-- where nothing waits again, the rows of the text are whole
+pub told_behind : (text : List ℕ) (s : RunState) (id : List ℕ) (shares : List (List (List ℕ))) (held : SavedRows) (rows : List Row) → BeginsBehind id text shares s → answer_of (tree_of text) ≡ Ok held → rows ≡ held.rows
+    → AreWhole s.setup.rows → AreWhole rows
+told_behind text s id shares held rows behind read rows_are whole = subst AreWhole (sym rows_are) (whole_before held.rows (subst AreWhole (begun_rows text s id shares held behind read) whole))
 
 -- ---- a run that begins
 
@@ -83,6 +89,11 @@ module _ (f : Function) (step : RecordsStep) (records : List (List ℕ)) (first 
   so_far_then = subst (λ (r : List Row). IsSoFar f records r results) rows_are
       (subst (λ (x : List (List (List ℕ))). IsSoFar f records rows x) (sym results_are)
       (subst (λ (r : List Row). IsSoFar f records r (grown_by (no_results (length r)) all.news)) same_rows all.so_far))
+
+  -- behind a whole run's nothing waits
+  pub whole_again : (s : RunState) → BeginsBehind step.id last.saved results s → AreWhole all.held.rows → AreWhole s.setup.rows
+  whole_again s behind whole =
+      subst AreWhole (sym (begun_rows last.saved s step.id results held behind read ∙ ap (map restarted) (sym rows_are))) (whole_after rows (subst AreWhole same_rows whole))
 
   pub taken : (s : RunState) → BeginsBehind step.id last.saved results s → StandsOver f records s → IsUnderway f step records s rows (first ∷ later)
   taken s behind stands =
@@ -222,8 +233,41 @@ stretches_in f step records first later done x all is so = go (subst (λ (d : Li
     go (own, inl none) = absurd (some_later later x is none)
     go (own, inr stretches) = (own, stretches)
 
+-- a first checkpoint alone isn't a whole run's
+no_members : (before : List Kept) (last : Kept) → [] ≡ before ++ last ∷ [] → ⊥
+no_members [] last is = cc
+no_members (x ∷ before) last is = cc
+
+pub never_whole : (f : Function) (step : RecordsStep) (records : List (List ℕ)) (all : List Kept) (first : Kept) → all ≡ first ∷ [] → IsWholeRun f step records all → ⊥
+never_whole f step records all first is whole =
+    let stretches = (subst (IsWholeRun f step records) is whole).1.0 in
+    no_members stretches.before stretches.last stretches.last_is
+
+-- where there is no last checkpoint there is none
+last_there : (n : ℕ) (xs : List Checkpoint) → length xs ≡ suc n → slice_get xs n ≡ None → ⊥
+last_there n [] number none = omega (arith, number)
+last_there zero (x ∷ xs) number none = let never : ⊥ = cc in never
+last_there (suc n) (x ∷ xs) number none = last_there n xs (omega (arith, number)) none
+
+pub no_last : (xs : List Checkpoint) → slice_get xs (length xs - 1) ≡ None → xs ≡ []
+no_last [] none = refl
+no_last (x ∷ xs) none = absurd (last_there (length (x ∷ xs) - 1) (x ∷ xs) (omega arith) none)
+
 pub behind_text : (id a b : List ℕ) (shares : List (List (List ℕ))) (s : RunState) → a ≡ b → BeginsBehind id a shares s → BeginsBehind id b shares s
 behind_text id a b shares s same behind = subst (λ (t : List ℕ). BeginsBehind id t shares s) same behind
 
 pub underway_of : (f : Function) (step : RecordsStep) (records : List (List ℕ)) (s : RunState) (rows : List Row) (a b : List Kept) → a ≡ b → IsUnderway f step records s rows a → IsUnderway f step records s rows b
 underway_of f step records s rows a b same at = subst (λ (l : List Kept). IsUnderway f step records s rows l) same at
+
+-- a whole run is one so far
+pub whole_so_far : (f : Function) (step : RecordsStep) (records : List (List ℕ)) (all : List Kept) → IsWholeRun f step records all → IsRunSoFar f step records all
+whole_so_far f step records [] whole = absurd whole
+whole_so_far f step records (first ∷ later) whole = (whole.0, inr whole.1.0)
+
+-- what holds of the value that was answered
+pub match_ok : {T E : Type 0} (r : Result T E) (P : T → Type 0) (Q : E → Type 0) (x : T) → r ≡ Ok x → MatchResult r P Q → P x
+match_ok r P Q x is m = subst (λ y. MatchResult y P Q) is m
+
+pub told_again : {T E : Type 0} (r : Result T E) (P A : T → Type 0) (Keeping : Type 0) → MatchResult r P (λ e. ⊥) → IfOk r (λ x. P x → A x) → Keeping → IfOk r (λ x. P x × A x × Keeping)
+told_again (Ok x) P A Keeping said all keeps = (said, all said, keeps)
+told_again (Err e) P A Keeping said all keeps = tt

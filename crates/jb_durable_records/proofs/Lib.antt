@@ -4,5 +4,6 @@ pub mod Read
 pub mod Forms
 pub mod Feeding
 pub mod Growing
+pub mod Telling
 pub mod Behind
 pub mod Resting

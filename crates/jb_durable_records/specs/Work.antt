@@ -1,9 +1,11 @@
 -- Where the work stands.
-use Rattle.std.specs.Prelude.{ℕ, ◌≡◌, List, [], ◌∷◌, ◌++◌, length, Ok}
+use Rattle.std.specs.Prelude.{ℕ, ◌≡◌, Bool, false, List, [], ◌∷◌, ◌++◌, length, IsTrue, Ok}
+use Rattle.jb_collect.specs.declared.calls.Status.TheVariants.{Failed}
 use Rattle.jb_job.specs.Reading.{tree_of}
 use Rattle.jb_rules.specs.declared.row.Row.{Row}
 use Rattle.jb_saved.specs.Reading.{answer_of}
 use Rattle.jb_saved.specs.SavedRows.{SavedRows}
+use Rattle.jb_step.specs.Statuses.{status_of}
 use Rattle.jb_records.specs.declared.step.RecordsStep.{RecordsStep}
 use Rattle.jb_records.specs.Function.{Function}
 use Rattle.jb_records.specs.Shares.{AreWhole, IsSoFar}
@@ -53,6 +55,19 @@ abbrev pub StandsAt : Function → RecordsStep → (records : List (List ℕ)) �
 StandsAt f step records (Blank first) s rows all = (all ≡ []) × IsOf step records (kept first) × IsBehind f records [] s
 StandsAt f step records Begun s rows all = HasBegun f step records s all
 StandsAt f step records Underway s rows all = IsUnderway f step records s rows all
+
+-- ---- what its rows tell
+
+-- where a partition failed they tell FAILED, and where nothing is left to be run each partition is finished
+pub record IsTold (has_failed : Bool) (s : RunState) (rows : List Row) : Type 0 where
+  pub failed : IsTrue has_failed → status_of rows false ≡ Failed
+  pub whole : AreWhole s.setup.rows → AreWhole rows
+
+-- nothing is left to be run, and that is kept
+pub record IsDone (has_failed : Bool) (stage : Stage) (s : RunState) : Type 0 where
+  pub well : has_failed ≡ false
+  pub kept : stage ≡ Underway
+  pub whole : AreWhole s.setup.rows
 
 -- ---- one stretch
 

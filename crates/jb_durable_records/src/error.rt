@@ -33,12 +33,6 @@ pub enum DurableError {
     /// The step over records isn't begun, or a stretch broke off.
     #[error("{0}")]
     Step(RecordsStepError),
-    /// A partition failed, and that is kept. `run_records_durably` doesn't answer it: there it is an end.
-    #[error("a partition has failed")]
-    Failed,
-    /// The work wasn't taken up, or a stretch before broke off.
-    #[error("the run was not taken up, or it broke off")]
-    Over,
     /// There are 4,294,967,295 checkpoints.
     #[error("there are 4,294,967,295 checkpoints")]
     TooMany,

@@ -1,6 +1,6 @@
 //! Where the work stands: a run in memory, behind its checkpoints.
 
-ghost use Rattle.std.specs.Prelude.{◌≡◌, List, ℕ, IfErr, IfOk, None};
+ghost use Rattle.std.specs.Prelude.{◌≡◌, List, ℕ, IfErr, IfOk, MatchResult, None};
 ghost use Rattle.jb_records.specs.declared.step.RecordsStep.{RecordsStep as StepOfRecords};
 ghost use Rattle.jb_records.specs.Function.{Function};
 ghost use Rattle.jb_records.specs.Shares.{AreWhole};
@@ -8,7 +8,7 @@ ghost use Rattle.jb_store.specs.Checkpoints.{Kept, kept};
 ghost use Rattle.jb_durable.specs.Works.{GoesOn};
 ghost use Rattle.jb_durable_records.specs.Checkpoints.{IsRunSoFar, IsWholeRun};
 ghost use Rattle.jb_durable_records.specs.Refusals.{IsOfOwn};
-ghost use Rattle.jb_durable_records.specs.Work.{GoesOnBehind, StandsAt};
+ghost use Rattle.jb_durable_records.specs.Work.{GoesOnBehind, IsDone, IsTold, StandsAt};
 ghost use Rattle.jb_durable_records.specs.declared.place.Stage.TheVariants.{Underway};
 
 use crate::coding::coding_of;
@@ -53,6 +53,7 @@ fn stretched<F: RecordFunction + Drop + 'static, R: Threads + Wait + Sync>(
 ) -> Result<(Place<F>, Checkpoint), DurableError>
     ensures behind { IfOk result (λ r. GoesOnBehind (⟦<RecordsRun<F> as Standing>⟧.standing run) (⟦<RecordsRun<F> as Standing>⟧.standing r.0.run) r.0.rows.items (kept r.1)) }
     ensures stage { IfOk result (λ r. r.0.stage ≡ Underway) }
+    ensures told { IfOk result (λ r. IsTold r.0.has_failed (⟦<RecordsRun<F> as Standing>⟧.standing r.0.run) r.0.rows.items) }
     ensures own { IfErr result IsOfOwn }
 {
     let (run, stretch) = run.go_on(rt, alloc, Some(rounds))?;
@@ -87,6 +88,8 @@ impl<F: RecordFunction + Drop + 'static> Place<F> {
             (StandsAt f step records r.0.stage (⟦<RecordsRun<F> as Standing>⟧.standing r.0.run) r.0.rows.items) all r.1) }
         ensures own { IfErr result IsOfOwn }
         ensures whole { IfOk result (λ r. r.1 ≡ None → AreWhole (⟦<RecordsRun<F> as Standing>⟧.standing r.0.run).setup.rows) }
+        ensures told { IsTold self.has_failed (⟦<RecordsRun<F> as Standing>⟧.standing self.run) self.rows.items → IfOk result (λ r. IsTold r.0.has_failed (⟦<RecordsRun<F> as Standing>⟧.standing r.0.run) r.0.rows.items) }
+        ensures again { IsDone self.has_failed self.stage (⟦<RecordsRun<F> as Standing>⟧.standing self.run) → MatchResult result (λ r. r.1 ≡ None) (λ e. ⊥) }
     {
         let Place {
             run,

@@ -1,12 +1,13 @@
 //! Stretch after stretch, each kept before the next begins.
 
-ghost use Rattle.std.specs.Prelude.{◌≡◌, ◌≢◌, ◌≤◌, ◌⊎◌, ◌+◌, ℕ, List, IfErr, IfOk, OnOk, false};
+ghost use Rattle.std.specs.Prelude.{◌≡◌, ◌≢◌, ◌≤◌, ◌⊎◌, ◌+◌, ℕ, List, IfErr, IfOk, IsTrue, MatchResult, OnOk, false};
 ghost use Rattle.std.specs.Arc.{arc_value};
 ghost use Rattle.sqlite.specs.Held.{state};
 ghost use Rattle.sqlite.specs.State.{HasCleanDisk};
 ghost use Rattle.sqlite_trees.specs.View.{doubt};
 ghost use Rattle.jb_collect.specs.declared.calls.Status.TheVariants.{Completed, Failed};
 ghost use Rattle.jb_rules.specs.declared.row.Row.{Row as RowRecord};
+ghost use Rattle.jb_step.specs.Statuses.{status_of};
 ghost use Rattle.jb_records.specs.declared.step.RecordsStep.{RecordsStep as StepOfRecords};
 ghost use Rattle.jb_records.specs.Function.{Function, all_results};
 ghost use Rattle.jb_records.specs.Shares.{AreWhole, IsSoFar, joined};
@@ -15,9 +16,9 @@ ghost use Rattle.jb_store.specs.Connections.{IsJustOpened, Keeps};
 ghost use Rattle.jb_durable.specs.Files.{IsOfARun};
 ghost use Rattle.jb_durable_records.specs.Checkpoints.{IsRunSoFar, IsWholeRun};
 ghost use Rattle.jb_durable_records.specs.Refusals.{IsOfOwn, IsOtherJob, IsOverOthers, OtherRun};
-ghost use Rattle.jb_durable_records.specs.Work.{IsAtRest};
+ghost use Rattle.jb_durable_records.specs.Work.{IsAtRest, IsDone, IsTold};
 ghost use Rattle.jb_durable_records.specs.declared.error.DurableError.TheVariants.{OtherJob, OtherRecords};
-ghost use Rattle.jb_durable_records.specs.declared.run.Pause.TheVariants.{Whole};
+ghost use Rattle.jb_durable_records.specs.declared.run.Pause.TheVariants.{Failed as Failing, Whole};
 
 use crate::error::DurableError;
 use crate::onlooker::{Onlooker, progress_of};
@@ -79,6 +80,10 @@ pub(crate) fn taken_from<F: RecordFunction + Drop, S: Alter>(
     ensures rests { HasCleanDisk (state S.Store conn.new) → IsJustOpened (state S.Store conn.old) → (all : List Kept) → ShowsList (state S.Store conn.old).now all
         → IsRunSoFar (F.function (arc_value function.now)) step.now records.now all → IfOk result (λ r. IsAtRest (F.function (arc_value function.now)) step.now records.now
         (state S.Store conn.new) r.0.stage (⟦<RecordsRun<F> as Standing>⟧.standing r.0.run) r.0.rows.items r.1 all) }
+    ensures told { IfOk result (λ r. IsTold r.0.has_failed (⟦<RecordsRun<F> as Standing>⟧.standing r.0.run) r.0.rows.items) }
+    ensures done { HasCleanDisk (state S.Store conn.new) → IsJustOpened (state S.Store conn.old) → (all : List Kept) → ShowsList (state S.Store conn.old).now all
+        → IsWholeRun (F.function (arc_value function.now)) step.now records.now all → IfOk result (λ r. IsDone r.0.has_failed r.0.stage (⟦<RecordsRun<F> as Standing>⟧.standing r.0.run)) }
+    ensures left { HasCleanDisk (state S.Store conn.new) → IsJustOpened (state S.Store conn.old) → (all : List Kept) → ShowsList (state S.Store conn.old).now all → (db : _) → (state S.Store conn.new).may_leave db → Has db all }
     ensures own { HasCleanDisk (state S.Store conn.new) → IsJustOpened (state S.Store conn.old) → (all : List Kept) → ShowsList (state S.Store conn.old).now all
         → OnOk result (OtherRun step.now records.now all → ⊥) }
     ensures other_job { HasCleanDisk (state S.Store conn.new) → IsJustOpened (state S.Store conn.old) → (all : List Kept) → ShowsList (state S.Store conn.old).now all
@@ -113,6 +118,8 @@ fn advance<F: RecordFunction + Drop + 'static, R: Threads + Wait + Sync, S: Alte
         × (r.1 ≡ false → IsWholeRun f step records now)) }
     ensures own { IfErr result IsOfOwn }
     ensures whole { IfOk result (λ r. r.1 ≡ false → AreWhole (⟦<RecordsRun<F> as Standing>⟧.standing r.0.run).setup.rows) }
+    ensures told { IsTold place.has_failed (⟦<RecordsRun<F> as Standing>⟧.standing place.run) place.rows.items → IfOk result (λ r. IsTold r.0.has_failed (⟦<RecordsRun<F> as Standing>⟧.standing r.0.run) r.0.rows.items) }
+    ensures again { IsDone place.has_failed place.stage (⟦<RecordsRun<F> as Standing>⟧.standing place.run) → MatchResult result (λ r. r.1 ≡ false) (λ e. ⊥) × (conn.new ≡ conn.old) }
     ensures clean { doubt (state S.Store conn.old).is_clean ≤ doubt (state S.Store conn.new).is_clean }
     ensures crash { HasCleanDisk (state S.Store conn.new) → (f : Function) (step : StepOfRecords) (records : List (List ℕ)) (all : List Kept)
         → IsAtRest f step records (state S.Store conn.old) place.stage (⟦<RecordsRun<F> as Standing>⟧.standing place.run) place.rows.items count.old all
@@ -161,6 +168,9 @@ pub(crate) fn run<
         × (r.1 ≡ Whole → IsWholeRun f step over now)) }
     ensures own { IfErr result IsOfOwn }
     ensures whole { IfOk result (λ r. r.1 ≡ Whole → AreWhole (⟦<RecordsRun<F> as Standing>⟧.standing r.0.run).setup.rows) }
+    ensures told { IsTold place.has_failed (⟦<RecordsRun<F> as Standing>⟧.standing place.run) place.rows.items → IfOk result (λ r. IsTold r.0.has_failed (⟦<RecordsRun<F> as Standing>⟧.standing r.0.run) r.0.rows.items) }
+    ensures failed { IfOk result (λ r. r.1 ≡ Failing → IsTrue r.0.has_failed) }
+    ensures again { IsDone place.has_failed place.stage (⟦<RecordsRun<F> as Standing>⟧.standing place.run) → 1 ≤ stretches → MatchResult result (λ r. r.1 ≡ Whole) (λ e. ⊥) × (conn.new ≡ conn.old) }
     ensures clean { doubt (state S.Store conn.old).is_clean ≤ doubt (state S.Store conn.new).is_clean }
     ensures crash { HasCleanDisk (state S.Store conn.new) → (f : Function) (step : StepOfRecords) (over : List (List ℕ)) (all : List Kept)
         → IsAtRest f step over (state S.Store conn.old) place.stage (⟦<RecordsRun<F> as Standing>⟧.standing place.run) place.rows.items count all
@@ -192,6 +202,9 @@ fn ended<F: RecordFunction + Drop>(
     ensures results { IfOk result (λ end. end.results.items ≡ (⟦<RecordsRun<F> as Standing>⟧.standing place.run).shares) }
     ensures whole { IfOk result (λ end. end.status ≡ Completed → pause ≡ Whole) }
     ensures status { IfOk result (λ end. (end.status ≡ Completed) ⊎ (end.status ≡ Failed)) }
+    ensures told { IsTold place.has_failed (⟦<RecordsRun<F> as Standing>⟧.standing place.run) place.rows.items → (pause ≡ Whole → AreWhole (⟦<RecordsRun<F> as Standing>⟧.standing place.run).setup.rows) → (pause ≡ Failing → IsTrue place.has_failed)
+        → IfOk result (λ end. end.status ≡ status_of end.rows.items false) }
+    ensures again { pause ≡ Whole → MatchResult result (λ end. end.status ≡ Completed) (λ e. ⊥) }
     ensures own { IfErr result IsOfOwn }
 {
     let status = match pause {
@@ -240,6 +253,12 @@ pub fn run_records_durably<
     ensures so_far { HasCleanDisk (state S.Store conn.new) → IsJustOpened (state S.Store conn.old) → (all : List Kept) → ShowsList (state S.Store conn.old).now all
         → IsRunSoFar (F.function function) step.now records.now all → IfOk result (λ end. (rows : List RowRecord) × IsSoFar (F.function function) records.now rows end.results.items) }
     ensures status { IfOk result (λ end. (end.status ≡ Completed) ⊎ (end.status ≡ Failed)) }
+    ensures told { IfOk result (λ end. end.status ≡ status_of end.rows.items false) }
+    ensures again { HasCleanDisk (state S.Store conn.new) → IsJustOpened (state S.Store conn.old) → (all : List Kept) → ShowsList (state S.Store conn.old).now all
+        → IsWholeRun (F.function function) step.now records.now all
+        → IfOk result (λ end. (end.status ≡ Completed) × (joined end.results.items ≡ all_results (F.function function) records.now) × Keeps (state S.Store conn.new) all) }
+    ensures untouched { HasCleanDisk (state S.Store conn.new) → IsJustOpened (state S.Store conn.old) → (all : List Kept) → ShowsList (state S.Store conn.old).now all
+        → IsWholeRun (F.function function) step.now records.now all → (db : _) → (state S.Store conn.new).may_leave db → Has db all }
     ensures own { HasCleanDisk (state S.Store conn.new) → IsJustOpened (state S.Store conn.old) → (all : List Kept) → ShowsList (state S.Store conn.old).now all
         → OnOk result (OtherRun step.now records.now all → ⊥) }
     ensures other_job { HasCleanDisk (state S.Store conn.new) → IsJustOpened (state S.Store conn.old) → (all : List Kept) → ShowsList (state S.Store conn.old).now all

@@ -6,9 +6,9 @@ ghost use Rattle.jb_job.specs.Reading.{tree_of};
 ghost use Rattle.jb_saved.specs.Reading.{answer_of};
 ghost use Rattle.jb_saved.specs.SavedRows.{SavedRows};
 ghost use Rattle.jb_store.specs.Checkpoints.{Kept, kept};
-ghost use Rattle.jb_durable_records.specs.Checkpoints.{AreCoded, AreStretches, IsOf, IsRunSoFar, grown_by, no_results};
+ghost use Rattle.jb_durable_records.specs.Checkpoints.{AreCoded, AreStretches, IsOf, IsRunSoFar, IsWholeRun, grown_by, no_results};
 ghost use Rattle.jb_durable_records.specs.Refusals.{IsOfOwn, IsOtherJob, IsOverOthers, OtherRun};
-ghost use Rattle.jb_durable_records.specs.Work.{IsBehind, IsUnderway, StandsAt};
+ghost use Rattle.jb_durable_records.specs.Work.{IsBehind, IsDone, IsTold, IsUnderway, StandsAt};
 ghost use Rattle.jb_durable_records.specs.declared.error.DurableError.TheVariants.{Damaged, Memory, OtherJob, OtherRecords};
 ghost use Rattle.jb_durable_records.specs.declared.place.Stage.TheVariants.{Underway};
 
@@ -107,6 +107,7 @@ fn begun<F: RecordFunction + Drop>(
 ) -> Result<Place<F>, DurableError>
     ensures behind { IfOk result (λ place. IsBehind (F.function (arc_value function.now)) records.now [] (⟦<RecordsRun<F> as Standing>⟧.standing place.run)) }
     ensures stage { IfOk result (λ place. place.stage ≡ stage) }
+    ensures told { IfOk result (λ place. IsTold place.has_failed (⟦<RecordsRun<F> as Standing>⟧.standing place.run) place.rows.items) }
     ensures why { IfErr result IsOfOwn }
 {
     let run = RecordsRun::begin(alloc, step, function, records)?;
@@ -131,6 +132,8 @@ fn behind<F: RecordFunction + Drop>(
     ensures underway { (first : Kept) → IsOf step.now records.now first → AreStretches (F.function (arc_value function.now)) records.now (map kept later.now)
         → IfOk result (λ place. IsUnderway (F.function (arc_value function.now)) step.now records.now (⟦<RecordsRun<F> as Standing>⟧.standing place.run) place.rows.items (first ∷ map kept later.now)) }
     ensures stage { IfOk result (λ place. place.stage ≡ Underway) }
+    ensures told { IfOk result (λ place. IsTold place.has_failed (⟦<RecordsRun<F> as Standing>⟧.standing place.run) place.rows.items) }
+    ensures done { (first : Kept) → IsWholeRun (F.function (arc_value function.now)) step.now records.now (first ∷ map kept later.now) → IfOk result (λ place. IsDone place.has_failed place.stage (⟦<RecordsRun<F> as Standing>⟧.standing place.run)) }
     ensures why { IfErr result IsOfOwn }
 {
     let held = read_saved(alloc, last.saved.as_bytes())?;
@@ -165,6 +168,8 @@ pub(crate) fn taken_up<F: RecordFunction + Drop>(
 ) -> Result<Place<F>, DurableError>
     ensures stands { IsRunSoFar (F.function (arc_value function.now)) step.now records.now (map kept done.now)
         → IfOk result (λ place. StandsAt (F.function (arc_value function.now)) step.now records.now place.stage (⟦<RecordsRun<F> as Standing>⟧.standing place.run) place.rows.items (map kept done.now)) }
+    ensures told { IfOk result (λ place. IsTold place.has_failed (⟦<RecordsRun<F> as Standing>⟧.standing place.run) place.rows.items) }
+    ensures done { IsWholeRun (F.function (arc_value function.now)) step.now records.now (map kept done.now) → IfOk result (λ place. IsDone place.has_failed place.stage (⟦<RecordsRun<F> as Standing>⟧.standing place.run)) }
     ensures own { OnOk result (OtherRun step.now records.now (map kept done.now) → ⊥) }
     ensures other_job { IfErr result (λ e. e ≡ OtherJob → IsOtherJob step.now records.now (map kept done.now)) }
     ensures other_records { IfErr result (λ e. e ≡ OtherRecords → IsOverOthers step.now records.now (map kept done.now)) }

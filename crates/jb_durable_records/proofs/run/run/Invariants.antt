@@ -1,4 +1,4 @@
-use Rattle.std.proofs.Common.{List, ℕ, ◌≤◌}
+use Rattle.std.proofs.Common.{List, ℕ, ◌≡◌, ◌≤◌}
 use Rattle.sqlite.specs.Held.{state}
 use Rattle.sqlite.specs.State.{HasCleanDisk}
 use Rattle.sqlite_trees.specs.View.{doubt}
@@ -6,7 +6,7 @@ use Rattle.jb_records.specs.contracts.kept.RecordsRunStanding.TheImpl as run_of
 use Rattle.jb_records.specs.declared.step.RecordsStep.{RecordsStep}
 use Rattle.jb_records.specs.Function.{Function}
 use Rattle.jb_store.specs.Checkpoints.{Kept}
-use Rattle.jb_durable_records.specs.Work.{IsAtRest}
+use Rattle.jb_durable_records.specs.Work.{IsAtRest, IsDone, IsTold}
 use Rattle.jb_durable_records.proofs.run.run.Given as goal
 
 -- the connection keeps the checkpoints so far, and the run stands behind them
@@ -18,4 +18,7 @@ invariant-stretches g l =
       rests : HasCleanDisk (state g.S.Store l.conn) → (f : Function) (step : RecordsStep) (over : List (List ℕ)) (all : List Kept)
           → IsAtRest f step over (state g.S.Store l.fn.conn) l.fn.place.stage (standing l.fn.place.run) l.fn.place.rows.items l.fn.count all
           → (now : List Kept) × IsAtRest f step over (state g.S.Store l.conn) l.place.stage (standing l.place.run) l.place.rows.items l.count now;
+      told : IsTold l.fn.place.has_failed (standing l.fn.place.run) l.fn.place.rows.items → IsTold l.place.has_failed (standing l.place.run) l.place.rows.items;
+      again : IsDone l.fn.place.has_failed l.fn.place.stage (standing l.fn.place.run)
+          → (l.counter ≡ 0) × IsDone l.place.has_failed l.place.stage (standing l.place.run) × (l.conn ≡ l.fn.conn);
     }

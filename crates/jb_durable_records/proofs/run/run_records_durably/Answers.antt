@@ -1,4 +1,5 @@
-use Rattle.std.proofs.Common.{◌≡◌, List, sym, subst, ap, ◌∙◌, arith}
+use Rattle.std.proofs.Common.{◌≡◌, List, sym, subst, ap, ◌∙◌, arith, lit≤}
+use Rattle.jb_store.specs.Connections.{Keeps}
 use Rattle.std.specs.Arc.{arc_value}
 use Rattle.std.proofs.lemmas.Result.{IfOk-weaker}
 use Rattle.sqlite.specs.Held.{state}
@@ -8,7 +9,7 @@ use Rattle.jb_records.specs.Function.{all_results}
 use Rattle.jb_records.specs.Shares.{IsSoFar, joined}
 use Rattle.jb_durable.specs.Files.{IsOfARun}
 use Rattle.jb_durable_records.specs.Checkpoints.{IsRunSoFar, IsWholeRun}
-use Rattle.jb_durable_records.proofs.Behind.{both_ok, on_ok}
+use Rattle.jb_durable_records.proofs.Behind.{both_ok, match_ok, on_ok, told_again, whole_so_far}
 use Rattle.jb_durable_records.proofs.Resting.{shares_so_far, whole_results}
 use Rattle.jb_durable_records.proofs.run.run_records_durably.Goals as goal
 
@@ -84,3 +85,34 @@ returns-in_err-place-2-clause-crash g c clean opened all shows so db may =
     let early : HasCleanDisk (state g.S.Store c.taken_from.new.conn) = omega (arith, clean, c.run.ensures.clean) in
     let rest = c.in_ok-place.ensures.rests early opened all shows (subst (λ x. IsRunSoFar (F x) step records all) (sym e) so) in
     subst (λ x. IsOfARun (IsRunSoFar (F x) step records) db) e (c.run.ensures.crash clean (F (arc_value c.in_ok-function.function)) step records all rest db may)
+
+pub returns-clause-told : goal.returns-clause-told
+returns-clause-told g c =
+    c.ended.ensures.told (c.in_ok-place-2.ensures.told c.in_ok-place.ensures.told) c.in_ok-place-2.ensures.whole c.in_ok-place-2.ensures.failed
+
+pub returns-clause-again : goal.returns-clause-again
+returns-clause-again g c clean opened all shows whole =
+    let F = g.F.RecordFunction.function in
+    let own = arc_value c.in_ok-function.function in
+    let step = c.args.step.now in
+    let records = c.args.records.now in
+    let e : own ≡ c.args.function = c.in_ok-function.ensures.ok in
+    let early : HasCleanDisk (state g.S.Store c.taken_from.new.conn) = omega (arith, clean, c.run.ensures.clean) in
+    let done = c.in_ok-place.ensures.done early opened all shows (subst (λ x. IsWholeRun (F x) step records all) (sym e) whole) in
+    let went = c.run.ensures.again done (lit≤ tt) in
+    let rest = c.in_ok-place.ensures.rests early opened all shows (subst (λ x. IsRunSoFar (F x) step records all) (sym e) (whole_so_far (F c.args.function) step records all whole)) in
+    let keeps = subst (λ x. Keeps (state g.S.Store x) all) (sym went.1) rest.keeps in
+    let pause = match_ok c.run.result _ _ _ c.in_ok-place-2.was went.0 in
+    told_again c.ended.result _ _ _ (c.ended.ensures.again pause) (returns-clause-all g c clean opened all shows (whole_so_far (F c.args.function) step records all whole)) keeps
+
+pub returns-clause-untouched : goal.returns-clause-untouched
+returns-clause-untouched g c clean opened all shows whole db may =
+    let F = g.F.RecordFunction.function in
+    let own = arc_value c.in_ok-function.function in
+    let step = c.args.step.now in
+    let records = c.args.records.now in
+    let e : own ≡ c.args.function = c.in_ok-function.ensures.ok in
+    let early : HasCleanDisk (state g.S.Store c.taken_from.new.conn) = omega (arith, clean, c.run.ensures.clean) in
+    let done = c.in_ok-place.ensures.done early opened all shows (subst (λ x. IsWholeRun (F x) step records all) (sym e) whole) in
+    let went = c.run.ensures.again done (lit≤ tt) in
+    c.taken_from.ensures.left early opened all shows db (subst (λ x. (state g.S.Store x).may_leave db) went.1 may)
