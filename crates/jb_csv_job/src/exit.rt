@@ -1,0 +1,22 @@
+//! The exit status.
+
+use crate::failure::{Failure, FailureText};
+use crate::job::CsvJob;
+use std::process::ExitCode;
+
+/// The exit status of a job's answer: 0 for COMPLETED, 1 for FAILED, and 3 where there is none, which a line on standard error says why.
+pub fn exit_code<T: Eprint>(rt: &T, job: &CsvJob, answer: Result<u8, Failure>) -> ExitCode {
+    match answer {
+        Ok(status) => ExitCode::from(status),
+        Err(failure) => {
+            let text = FailureText {
+                name: job.name,
+                input: job.input,
+                records: job.records,
+                failure,
+            };
+            let _told = eprintln!(rt; "{text}");
+            ExitCode::from(3)
+        }
+    }
+}
