@@ -1,3 +1,1 @@
 mod Paying
-mod Resuming
-mod Writing

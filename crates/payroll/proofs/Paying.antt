@@ -2,9 +2,7 @@
 use Rattle.std.proofs.Common.{◌≡◌, ℕ, ◌+◌, List, [], ◌∷◌, Option, Some, None, refl}
 use Rattle.std.specs.List.{cons_option, enumerate_from, filter_map}
 use Rattle.jb_records.specs.Function.{all_results, result_by, result_of}
-use Rattle.jb_collect.specs.declared.calls.Status.{Status}
-use Rattle.jb_collect.specs.declared.calls.Status.TheVariants as status
-use Rattle.payroll.specs.Payroll.{all_slips, exit_status, payroll, refusal_by}
+use Rattle.payroll.specs.Payroll.{all_slips, payroll, refusal_by}
 use Rattle.payroll.specs.Sheets.{slip_of}
 
 own-slip : (slip : Option (List ℕ)) → result_by (refusal_by slip) slip ≡ slip
@@ -17,12 +15,3 @@ slips-from n (line ∷ lines) = λ i. cons_option (own-slip (slip_of line) i) (s
 
 pub results-are-slips : (lines : List (List ℕ)) → all_results payroll lines ≡ all_slips lines
 results-are-slips lines = slips-from 0 lines
-
--- ---- THE EXIT STATUS
-
--- it is 0 where the step is completed alone
-pub completed-if : (s : Status) → 0 ≡ exit_status s → s ≡ status.Completed
-completed-if status.Completed e = refl
-completed-if status.Failed e = absurd cc
-completed-if status.Stopped e = absurd cc
-completed-if status.Started e = absurd cc

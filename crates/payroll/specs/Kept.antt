@@ -1,10 +1,9 @@
--- What the file of a payroll keeps.
-use Rattle.std.specs.Prelude.{ℕ, ◌≡◌, List, [], ◌∷◌, Option, None, Some, codes, length}
+-- What the file of a payroll keeps, and what is written so far.
+use Rattle.std.specs.Prelude.{ℕ, List, Option, None, codes}
 use Rattle.jb_base.specs.Rules.{RulesRecord}
-use Rattle.jb_durable_records.specs.Checkpoints.{IsRunSoFar, form_of}
+use Rattle.jb_csv_job.specs.Done.{IsDoneSoFar}
+use Rattle.jb_csv_job.specs.Kept.{IsJobSoFar}
 use Rattle.jb_durable_records.specs.Form.{Form}
-use Rattle.jb_ready.specs.Csv.{AreRowsOf}
-use Rattle.jb_records.specs.declared.step.RecordsStep.{RecordsStep}
 use Rattle.jb_store.specs.Checkpoints.{Kept}
 use Rattle.payroll.specs.Payroll.{payroll}
 
@@ -17,11 +16,10 @@ abbrev pub payroll_form : (sheets : ℕ) → Form
 payroll_form sheets = record { step = codes "payroll"; records = sheets; partitions = 8; item_count = 2; rules = payroll_rules }
 
 -- THE CHECKPOINTS OF A PAYROLL SO FAR, none or some, of the time sheets in these bytes; nothing is so where the bytes of a stream aren't known
-pub record IsPayrollSoFar (text : Option (List ℕ)) (all : List Kept) : Type 0 where
-  pub bytes : List ℕ
-  pub known : text ≡ Some bytes
-  pub lines : List (List ℕ)
-  pub sheets : AreRowsOf bytes lines
-  pub step : RecordsStep
-  pub form : form_of step (length lines) ≡ payroll_form (length lines)
-  pub so_far : IsRunSoFar payroll step lines all
+abbrev pub IsPayrollSoFar : (text : Option (List ℕ)) → (all : List Kept) → Type 0
+IsPayrollSoFar text all = IsJobSoFar payroll payroll_form text all
+
+-- So far as the step is, what was written is the pay slips of each partition's time sheets before its checkpoint, one partition behind
+-- the other.
+abbrev pub IsPaidSoFar : (text old new : Option (List ℕ)) → Type 0
+IsPaidSoFar text old new = IsDoneSoFar payroll text old new

@@ -1,4 +1,3 @@
-pub mod Failures
 pub mod Kept
 pub mod Payroll
 pub mod Sheets

@@ -2,14 +2,10 @@
 use Rattle.std.specs.Prelude.{ℕ, Bool, if◌then◌else◌, List, [], ◌∷◌, Option, Some, None, IfSome}
 use Rattle.std.specs.Io.KnownBytes.{Appends}
 use Rattle.std.specs.List.{concat, filter_map}
-use Rattle.jb_collect.specs.declared.calls.Status.{Status}
-use Rattle.jb_collect.specs.declared.calls.Status.TheVariants as status
 use Rattle.jb_base.specs.Classes.{class_of}
 use Rattle.jb_base.specs.declared.class.ClassId.{ClassId}
 use Rattle.jb_ready.specs.Csv.{AreRowsOf}
 use Rattle.jb_records.specs.Function.{Function}
-use Rattle.jb_records.specs.Shares.{IsSoFar, joined}
-use Rattle.jb_rules.specs.declared.row.Row.{Row}
 use Rattle.payroll.specs.Sheets.{is_shaky, slip_of}
 
 -- ---- WHAT IS DONE TO A TIME SHEET
@@ -49,19 +45,3 @@ pub record IsPaid (text old new : Option (List ℕ)) : Type 0 where
   pub lines : List (List ℕ)
   pub read : IfSome text (λ bytes. AreRowsOf bytes lines)
   pub written : Appends old new (concat (all_slips lines))
-
--- So far as the step is, that is the pay slips of each partition's time sheets before its checkpoint, one partition behind the other.
-pub record IsPaidSoFar (text old new : Option (List ℕ)) : Type 0 where
-  pub lines : List (List ℕ)
-  pub rows : List Row
-  pub shares : List (List (List ℕ))
-  pub read : IfSome text (λ bytes. AreRowsOf bytes lines)
-  pub so_far : IsSoFar payroll lines rows shares
-  pub written : Appends old new (concat (joined shares))
-
--- the exit status: 0 for COMPLETED, 1 for FAILED, 2 where it was stopped
-abbrev pub exit_status : Status → ℕ
-exit_status status.Completed = 0
-exit_status status.Failed = 1
-exit_status status.Stopped = 2
-exit_status status.Started = 2

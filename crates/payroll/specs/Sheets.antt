@@ -1,30 +1,8 @@
 -- A time sheet and its pay slip, each a line of CSV.
-use Rattle.std.specs.Prelude.{ℕ, ◌+◌, ◌-◌, ◌*◌, ◌^◌, ◌&&◌, nat_le, nat_lt, Bool, false, if◌then◌else◌, List, [], ◌∷◌, length, Option, Some, None, bytes_eq, codes, decimal, option_map, option_and_then}
-use Rattle.std.specs.Char.{is_ascii_digit}
+use Rattle.std.specs.Prelude.{ℕ, Bool, false, List, [], ◌∷◌, Option, Some, None, bytes_eq, codes, decimal, option_map}
 use Rattle.csv.specs.Records.{field_at}
 use Rattle.jb_ready.specs.Csv.{first_fields, row_of}
-
--- ---- numbers
-
--- a sum and a product that are below 2^64
-abbrev pub sum_of : ℕ → ℕ → Option ℕ
-sum_of a b = if nat_lt (a + b) (2 ^ 64) then Some (a + b) else None
-
-abbrev pub product_of : ℕ → ℕ → Option ℕ
-product_of a b = if nat_lt (a * b) (2 ^ 64) then Some (a * b) else None
-
--- the number with this digit behind those of `front`, if it is below 2^64
-abbrev pub with_digit : (front digit : ℕ) → Option ℕ
-with_digit front digit = if is_ascii_digit digit then option_and_then (λ tens. sum_of tens (digit - 48)) (product_of front 10) else None
-
--- the number with these digits behind those of `front`, if it is below 2^64
-abbrev pub number_from : (front : ℕ) → List ℕ → Option ℕ
-number_from front [] = Some front
-number_from front (digit ∷ rest) = option_and_then (λ number. number_from number rest) (with_digit front digit)
-
--- the number of 1 to 20 digits, if it is below 2^64
-abbrev pub number_of : List ℕ → Option ℕ
-number_of digits = if nat_le 1 (length digits) && nat_le (length digits) 20 then number_from 0 digits else None
+use Rattle.jb_ready.specs.Numbers.{number_of, product_of}
 
 -- ---- pay
 

@@ -2,53 +2,18 @@
 
 ghost use Rattle.std.specs.Prelude.{◌≡◌, option_map, IfOk};
 ghost use Rattle.csv.specs.Records.{fields_of};
-ghost use Rattle.payroll.specs.Sheets.{is_shaky, number_from, number_of, pay_by, pay_in, product_of, slip_of, with_digit};
+ghost use Rattle.jb_ready.specs.Numbers.{number_of};
+ghost use Rattle.payroll.specs.Sheets.{is_shaky, pay_by, pay_in, slip_of};
 
 use csv::ByteRecord;
 use itoa::Buffer;
 use jb_artifacts::Item;
 use jb_ready::csv_rows::{first_record_of, row_of};
+use jb_ready::numbers::{number_of, product_of};
 use std::alloc::{AllocError, Global};
 
 /// What the fourth field of a time sheet says whose first try fails.
 const SHAKY: &[u8] = b"shaky";
-
-/// The product, if it is below 2^64.
-fn product_of(a: u64, b: u64) -> Option<u64>
-    ensures { result ≡ product_of a b }
-{
-    a.checked_mul(b)
-}
-
-/// The number with this digit behind those of `front`, if it is below 2^64.
-fn with_digit(front: u64, digit: u8) -> Option<u64>
-    ensures { result ≡ with_digit front digit }
-{
-    if !digit.is_ascii_digit() {
-        return None;
-    }
-    product_of(front, 10)?.checked_add(u64::from(digit - b'0'))
-}
-
-/// The number with these digits behind those of `front`, if it is below 2^64.
-fn number_from(front: u64, digits: &[u8]) -> Option<u64>
-    ensures { result ≡ number_from front digits.now }
-{
-    let Some((digit, rest)) = digits.split_first() else {
-        return Some(front);
-    };
-    number_from(with_digit(front, *digit)?, rest)
-}
-
-/// The number of 1 to 20 digits, if it is below 2^64.
-fn number_of(digits: &[u8]) -> Option<u64>
-    ensures { result ≡ number_of digits.now }
-{
-    if digits.is_empty() || digits.len() > 20 {
-        return None;
-    }
-    number_from(0, digits)
-}
 
 /// The pay in cents, if the two fields are numbers and their product is below 2^64.
 fn pay_of(hours: &[u8], rate: &[u8]) -> Option<u64>
