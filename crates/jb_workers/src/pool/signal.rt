@@ -11,7 +11,7 @@ const GIVEN: u64 = 1;
 const ASLEEP: u64 = 2;
 
 /// How often a thread looks for the token before it sleeps (the crate's README has what other numbers cost).
-const LOOKS: u32 = 200;
+const LOOKS: u32 = 50;
 
 /// One token, which `give` gives and `wait` takes. A token that is given before the last one was taken is the same one. One thread
 /// at a time waits.
