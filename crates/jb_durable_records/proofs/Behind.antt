@@ -30,7 +30,7 @@ finished_by : (b : Bool) (row : Row) → is_failed row.state ≡ b → (cond b (
 finished_by true row is e = let none : ⊥ = cc in absurd none
 finished_by false row is e = e
 
-ok_once : (x y : SavedRows) → ◌≡◌ {A = Result SavedRows SavedPlace} (Ok x) (Ok y) → x ≡ y
+pub ok_once : (x y : SavedRows) → ◌≡◌ {A = Result SavedRows SavedPlace} (Ok x) (Ok y) → x ≡ y
 ok_once x y e = cc
 
 pub begun_rows : (text : List ℕ) (s : RunState) (id : List ℕ) (shares : List (List (List ℕ))) (held : SavedRows) → BeginsBehind id text shares s → answer_of (tree_of text) ≡ Ok held → s.setup.rows ≡ map restarted held.rows

@@ -7,3 +7,4 @@ pub mod Growing
 pub mod Telling
 pub mod Behind
 pub mod Resting
+pub mod Causing

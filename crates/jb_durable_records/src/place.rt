@@ -4,10 +4,11 @@ ghost use Rattle.std.specs.Prelude.{◌≡◌, List, ℕ, IfErr, IfOk, MatchResu
 ghost use Rattle.jb_records.specs.declared.step.RecordsStep.{RecordsStep as StepOfRecords};
 ghost use Rattle.jb_records.specs.Function.{Function};
 ghost use Rattle.jb_records.specs.Shares.{AreWhole};
+ghost use Rattle.jb_records.specs.Stretches.{StandsOver};
 ghost use Rattle.jb_store.specs.Checkpoints.{Kept, kept};
 ghost use Rattle.jb_durable.specs.Works.{GoesOn};
 ghost use Rattle.jb_durable_records.specs.Checkpoints.{IsRunSoFar, IsWholeRun};
-ghost use Rattle.jb_durable_records.specs.Refusals.{IsOfOwn};
+ghost use Rattle.jb_durable_records.specs.Refusals.{IsOfOwn, IsStretchCause};
 ghost use Rattle.jb_durable_records.specs.Work.{GoesOnBehind, IsDone, IsTold, StandsAt};
 ghost use Rattle.jb_durable_records.specs.declared.place.Stage.TheVariants.{Underway};
 
@@ -55,6 +56,7 @@ fn stretched<F: RecordFunction + Drop + 'static, R: Threads + Wait + Sync>(
     ensures stage { IfOk result (λ r. r.0.stage ≡ Underway) }
     ensures told { IfOk result (λ r. IsTold r.0.has_failed (⟦<RecordsRun<F> as Standing>⟧.standing r.0.run) r.0.rows.items) }
     ensures own { IfErr result IsOfOwn }
+    ensures why { (f : Function) (records : List (List ℕ)) → StandsOver f records (⟦<RecordsRun<F> as Standing>⟧.standing run) → IfErr result (IsStretchCause f records) }
 {
     let (run, stretch) = run.go_on(rt, alloc, Some(rounds))?;
     let results = coding_of(alloc, &stretch.results)?;
@@ -87,6 +89,8 @@ impl<F: RecordFunction + Drop + 'static> Place<F> {
             → IfOk result (λ r. GoesOn (IsRunSoFar f step records) (IsWholeRun f step records)
             (StandsAt f step records r.0.stage (⟦<RecordsRun<F> as Standing>⟧.standing r.0.run) r.0.rows.items) all r.1) }
         ensures own { IfErr result IsOfOwn }
+        ensures why { (f : Function) (step : StepOfRecords) (records : List (List ℕ)) (all : List Kept)
+            → StandsAt f step records self.stage (⟦<RecordsRun<F> as Standing>⟧.standing self.run) self.rows.items all → IfErr result (IsStretchCause f records) }
         ensures whole { IfOk result (λ r. r.1 ≡ None → AreWhole (⟦<RecordsRun<F> as Standing>⟧.standing r.0.run).setup.rows) }
         ensures told { IsTold self.has_failed (⟦<RecordsRun<F> as Standing>⟧.standing self.run) self.rows.items → IfOk result (λ r. IsTold r.0.has_failed (⟦<RecordsRun<F> as Standing>⟧.standing r.0.run) r.0.rows.items) }
         ensures again { IsDone self.has_failed self.stage (⟦<RecordsRun<F> as Standing>⟧.standing self.run) → MatchResult result (λ r. r.1 ≡ None) (λ e. ⊥) }

@@ -15,9 +15,9 @@ ghost use Rattle.jb_store.specs.Checkpoints.{Has, Kept, ShowsList};
 ghost use Rattle.jb_store.specs.Connections.{IsJustOpened, Keeps};
 ghost use Rattle.jb_durable.specs.Files.{IsOfARun};
 ghost use Rattle.jb_durable_records.specs.Checkpoints.{IsRunSoFar, IsWholeRun};
-ghost use Rattle.jb_durable_records.specs.Refusals.{IsOfOwn, IsOtherJob, IsOverOthers, OtherRun};
+ghost use Rattle.jb_durable_records.specs.Refusals.{IsCauseOfNoEnd, IsGoneCause, IsOfOwn, IsOtherJob, IsOverOthers, OtherRun};
 ghost use Rattle.jb_durable_records.specs.Work.{IsAtRest, IsDone, IsTold};
-ghost use Rattle.jb_durable_records.specs.declared.error.DurableError.TheVariants.{OtherJob, OtherRecords};
+ghost use Rattle.jb_durable_records.specs.declared.error.DurableError.TheVariants.{OtherJob, OtherRecords, TooMany};
 ghost use Rattle.jb_durable_records.specs.declared.run.Pause.TheVariants.{Failed as Failing, Whole};
 
 use crate::error::DurableError;
@@ -90,6 +90,8 @@ pub(crate) fn taken_from<F: RecordFunction + Drop, S: Alter>(
         → IfErr result (λ e. e ≡ OtherJob → IsOtherJob step.now records.now all × Keeps (state S.Store conn.new) all) }
     ensures other_records { HasCleanDisk (state S.Store conn.new) → IsJustOpened (state S.Store conn.old) → (all : List Kept) → ShowsList (state S.Store conn.old).now all
         → IfErr result (λ e. e ≡ OtherRecords → IsOverOthers step.now records.now all × Keeps (state S.Store conn.new) all) }
+    ensures cause { HasCleanDisk (state S.Store conn.new) → IsJustOpened (state S.Store conn.old) → (all : List Kept) → ShowsList (state S.Store conn.old).now all
+        → IfErr result (IsCauseOfNoEnd (F.function (arc_value function.now)) step.now records.now all) }
     ensures clean { doubt (state S.Store conn.old).is_clean ≤ doubt (state S.Store conn.new).is_clean }
     ensures crash { HasCleanDisk (state S.Store conn.new) → IsJustOpened (state S.Store conn.old) → (so_far : List Kept) → ShowsList (state S.Store conn.old).now so_far
         → IsRunSoFar (F.function (arc_value function.now)) step.now records.now so_far
@@ -117,6 +119,8 @@ fn advance<F: RecordFunction + Drop + 'static, R: Threads + Wait + Sync, S: Alte
         → IfOk result (λ r. (now : List Kept) × IsAtRest f step records (state S.Store conn.new) r.0.stage (⟦<RecordsRun<F> as Standing>⟧.standing r.0.run) r.0.rows.items count.new now
         × (r.1 ≡ false → IsWholeRun f step records now)) }
     ensures own { IfErr result IsOfOwn }
+    ensures cause { HasCleanDisk (state S.Store conn.new) → (f : Function) (step : StepOfRecords) (records : List (List ℕ)) (all : List Kept)
+        → IsAtRest f step records (state S.Store conn.old) place.stage (⟦<RecordsRun<F> as Standing>⟧.standing place.run) place.rows.items count.old all → IfErr result (IsGoneCause f records) }
     ensures whole { IfOk result (λ r. r.1 ≡ false → AreWhole (⟦<RecordsRun<F> as Standing>⟧.standing r.0.run).setup.rows) }
     ensures told { IsTold place.has_failed (⟦<RecordsRun<F> as Standing>⟧.standing place.run) place.rows.items → IfOk result (λ r. IsTold r.0.has_failed (⟦<RecordsRun<F> as Standing>⟧.standing r.0.run) r.0.rows.items) }
     ensures again { IsDone place.has_failed place.stage (⟦<RecordsRun<F> as Standing>⟧.standing place.run) → MatchResult result (λ r. r.1 ≡ false) (λ e. ⊥) × (conn.new ≡ conn.old) }
@@ -167,6 +171,8 @@ pub(crate) fn run<
         → IfOk result (λ r. (now : List Kept) × (number : ℕ) × IsAtRest f step over (state S.Store conn.new) r.0.stage (⟦<RecordsRun<F> as Standing>⟧.standing r.0.run) r.0.rows.items number now
         × (r.1 ≡ Whole → IsWholeRun f step over now)) }
     ensures own { IfErr result IsOfOwn }
+    ensures cause { HasCleanDisk (state S.Store conn.new) → (f : Function) (step : StepOfRecords) (over : List (List ℕ)) (all : List Kept)
+        → IsAtRest f step over (state S.Store conn.old) place.stage (⟦<RecordsRun<F> as Standing>⟧.standing place.run) place.rows.items count all → IfErr result (IsGoneCause f over) }
     ensures whole { IfOk result (λ r. r.1 ≡ Whole → AreWhole (⟦<RecordsRun<F> as Standing>⟧.standing r.0.run).setup.rows) }
     ensures told { IsTold place.has_failed (⟦<RecordsRun<F> as Standing>⟧.standing place.run) place.rows.items → IfOk result (λ r. IsTold r.0.has_failed (⟦<RecordsRun<F> as Standing>⟧.standing r.0.run) r.0.rows.items) }
     ensures failed { IfOk result (λ r. r.1 ≡ Failing → IsTrue r.0.has_failed) }
@@ -206,6 +212,7 @@ fn ended<F: RecordFunction + Drop>(
         → IfOk result (λ end. end.status ≡ status_of end.rows.items false) }
     ensures again { pause ≡ Whole → MatchResult result (λ end. end.status ≡ Completed) (λ e. ⊥) }
     ensures own { IfErr result IsOfOwn }
+    ensures cause { IfErr result (λ e. e ≡ TooMany) }
 {
     let status = match pause {
         Pause::Whole => Status::Completed,
@@ -265,6 +272,8 @@ pub fn run_records_durably<
         → IfErr result (λ e. e ≡ OtherJob → IsOtherJob step.now records.now all × Keeps (state S.Store conn.new) all) }
     ensures other_records { HasCleanDisk (state S.Store conn.new) → IsJustOpened (state S.Store conn.old) → (all : List Kept) → ShowsList (state S.Store conn.old).now all
         → IfErr result (λ e. e ≡ OtherRecords → IsOverOthers step.now records.now all × Keeps (state S.Store conn.new) all) }
+    ensures cause { HasCleanDisk (state S.Store conn.new) → IsJustOpened (state S.Store conn.old) → (all : List Kept) → ShowsList (state S.Store conn.old).now all
+        → IsRunSoFar (F.function function) step.now records.now all → IfErr result (IsCauseOfNoEnd (F.function function) step.now records.now all) }
     ensures clean { doubt (state S.Store conn.old).is_clean ≤ doubt (state S.Store conn.new).is_clean }
     ensures crash { HasCleanDisk (state S.Store conn.new) → IsJustOpened (state S.Store conn.old) → (all : List Kept) → ShowsList (state S.Store conn.old).now all
         → IsRunSoFar (F.function function) step.now records.now all

@@ -1,15 +1,18 @@
 //! Taking a run up behind its checkpoints.
 
-ghost use Rattle.std.specs.Prelude.{◌≡◌, ◌≢◌, ◌⊎◌, ◌-◌, ◌∷◌, [], ℕ, List, length, map, replicate, slice_get, IfErr, IfOk, Err, Ok, OnOk, Some, string_bytes};
+ghost use Rattle.std.specs.Prelude.{◌≡◌, ◌≢◌, ◌⊎◌, ◌-◌, ◌∷◌, [], ℕ, List, length, map, replicate, slice_get, IfErr, IfOk, Err, None, Ok, OnOk, Some, string_bytes};
 ghost use Rattle.std.specs.Arc.{arc_value};
 ghost use Rattle.jb_job.specs.Reading.{tree_of};
 ghost use Rattle.jb_saved.specs.Reading.{answer_of};
 ghost use Rattle.jb_saved.specs.SavedRows.{SavedRows};
+ghost use Rattle.jb_records.specs.Causes.{IsCauseOf};
+ghost use Rattle.jb_records.specs.declared.error.RecordsStepError.{RecordsStepError as RecordsStepFault};
 ghost use Rattle.jb_store.specs.Checkpoints.{Kept, kept};
+ghost use Rattle.jb_durable_records.specs.Coding.{IsCodable};
 ghost use Rattle.jb_durable_records.specs.Checkpoints.{AreCoded, AreStretches, IsOf, IsRunSoFar, IsWholeRun, grown_by, no_results};
-ghost use Rattle.jb_durable_records.specs.Refusals.{IsOfOwn, IsOtherJob, IsOverOthers, OtherRun};
+ghost use Rattle.jb_durable_records.specs.Refusals.{IsOfOwn, IsOtherJob, IsOverOthers, IsTakenCause, OtherRun};
 ghost use Rattle.jb_durable_records.specs.Work.{IsBehind, IsDone, IsTold, IsUnderway, StandsAt};
-ghost use Rattle.jb_durable_records.specs.declared.error.DurableError.TheVariants.{Damaged, Memory, OtherJob, OtherRecords};
+ghost use Rattle.jb_durable_records.specs.declared.error.DurableError.TheVariants.{Damaged, Memory, OtherJob, OtherRecords, Step, TooLong};
 ghost use Rattle.jb_durable_records.specs.declared.place.Stage.TheVariants.{Underway};
 
 use crate::digest::digest_of;
@@ -32,6 +35,7 @@ fn first_of(
 ) -> Result<Checkpoint, DurableError>
     ensures of { IfOk result (λ first. IsOf step.now records.now (kept first)) }
     ensures why { IfErr result IsOfOwn }
+    ensures cause { IfErr result (λ e. (e ≡ Memory) ⊎ (e ≡ TooLong) × (IsCodable records.now → ⊥)) }
 {
     let saved = form_text(
         alloc,
@@ -76,6 +80,7 @@ fn empty_shares(alloc: Global, count: usize) -> Result<Vec<PackedList>, AllocErr
 fn read_all(later: &[Checkpoint], shares: &mut [PackedList]) -> Result<(), DurableError>
     ensures given { (news : _) → AreCoded (length shares.old) (map kept later.now) news → OnOk result (shares.new ≡ grown_by shares.old news) }
     ensures why { IfErr result IsOfOwn }
+    ensures cause { IfErr result (λ e. (e ≡ Memory) ⊎ (e ≡ Damaged) × ((news : _) → AreCoded (length shares.old) (map kept later.now) news → ⊥)) }
 {
     for checkpoint in later {
         read_into(&checkpoint.results, shares)?;
@@ -91,6 +96,7 @@ fn results_of(
 ) -> Result<Vec<PackedList>, DurableError>
     ensures given { (news : _) → AreCoded count (map kept later.now) news → IfOk result (λ shares. shares.items ≡ grown_by (no_results count) news) }
     ensures why { IfErr result IsOfOwn }
+    ensures cause { IfErr result (λ e. (e ≡ Memory) ⊎ (e ≡ Damaged) × ((news : _) → AreCoded count (map kept later.now) news → ⊥)) }
 {
     let mut shares = empty_shares(alloc, count)?;
     read_all(later, &mut shares)?;
@@ -109,6 +115,7 @@ fn begun<F: RecordFunction + Drop>(
     ensures stage { IfOk result (λ place. place.stage ≡ stage) }
     ensures told { IfOk result (λ place. IsTold place.has_failed (⟦<RecordsRun<F> as Standing>⟧.standing place.run) place.rows.items) }
     ensures why { IfErr result IsOfOwn }
+    ensures cause { IfErr result (λ e. (why : RecordsStepFault) × (e ≡ Step why) × IsCauseOf (F.function (arc_value function.now)) step.now records.now None why) }
 {
     let run = RecordsRun::begin(alloc, step, function, records)?;
     Ok(Place {
@@ -135,6 +142,7 @@ fn behind<F: RecordFunction + Drop>(
     ensures told { IfOk result (λ place. IsTold place.has_failed (⟦<RecordsRun<F> as Standing>⟧.standing place.run) place.rows.items) }
     ensures done { (first : Kept) → IsWholeRun (F.function (arc_value function.now)) step.now records.now (first ∷ map kept later.now) → IfOk result (λ place. IsDone place.has_failed place.stage (⟦<RecordsRun<F> as Standing>⟧.standing place.run)) }
     ensures why { IfErr result IsOfOwn }
+    ensures cause { (first : Kept) → IfErr result (IsTakenCause (F.function (arc_value function.now)) step.now records.now (first ∷ map kept later.now)) }
 {
     let held = read_saved(alloc, last.saved.as_bytes())?;
     let rows = Vec::from_slice(alloc, held.rows())?;
@@ -173,6 +181,7 @@ pub(crate) fn taken_up<F: RecordFunction + Drop>(
     ensures own { OnOk result (OtherRun step.now records.now (map kept done.now) → ⊥) }
     ensures other_job { IfErr result (λ e. e ≡ OtherJob → IsOtherJob step.now records.now (map kept done.now)) }
     ensures other_records { IfErr result (λ e. e ≡ OtherRecords → IsOverOthers step.now records.now (map kept done.now)) }
+    ensures cause { IfErr result (IsTakenCause (F.function (arc_value function.now)) step.now records.now (map kept done.now)) }
 {
     let own = first_of(alloc, step, records)?;
     let Some((first, later)) = done.split_first() else {

@@ -9,6 +9,9 @@ use Rattle.jb_records.specs.Function.{all_results}
 use Rattle.jb_records.specs.Shares.{IsSoFar, joined}
 use Rattle.jb_durable.specs.Files.{IsOfARun}
 use Rattle.jb_durable_records.specs.Checkpoints.{IsRunSoFar, IsWholeRun}
+use Rattle.jb_durable_records.specs.declared.error.DurableError.{DurableError}
+use Rattle.jb_durable_records.specs.Refusals.{IsCauseOfNoEnd}
+use Rattle.jb_durable_records.proofs.Causing.{err_to}
 use Rattle.jb_durable_records.proofs.Behind.{both_ok, match_ok, on_ok, told_again, whole_so_far}
 use Rattle.jb_durable_records.proofs.Resting.{shares_so_far, whole_results}
 use Rattle.jb_durable_records.proofs.run.run_records_durably.Goals as goal
@@ -116,3 +119,8 @@ returns-clause-untouched g c clean opened all shows whole db may =
     let done = c.in_ok-place.ensures.done early opened all shows (subst (λ x. IsWholeRun (F x) step records all) (sym e) whole) in
     let went = c.run.ensures.again done (lit≤ tt) in
     c.taken_from.ensures.left early opened all shows db (subst (λ x. (state g.S.Store x).may_leave db) went.1 may)
+
+pub returns-clause-cause : goal.returns-clause-cause
+returns-clause-cause g c clean opened all shows so =
+    let f = g.F.RecordFunction.function c.args.function in
+    err_to c.ended.result _ _ (λ e many. subst (λ (x : DurableError). IsCauseOfNoEnd f c.args.step.now c.args.records.now all x) (sym many) tt) c.ended.ensures.cause

@@ -1,6 +1,7 @@
-use Rattle.std.proofs.Common.{◌∷◌, ◌∙◌, map, sym, ap, subst}
+use Rattle.std.proofs.Common.{List, IfErr, ◌∷◌, ◌∙◌, map, sym, ap, subst}
 use Rattle.std.specs.Arc.{arc_value}
-use Rattle.jb_store.specs.Checkpoints.{kept}
+use Rattle.jb_store.specs.Checkpoints.{Kept, kept}
+use Rattle.jb_durable_records.specs.Refusals.{IsTakenCause}
 use Rattle.jb_durable_records.specs.declared.place.Stage.TheVariants.{Underway}
 use Rattle.jb_durable_records.specs.Checkpoints.{IsWholeRun}
 use Rattle.jb_durable_records.proofs.Behind.{both_ok, never_whole, no_last, stands_as, stretches_in, underway_of}
@@ -28,3 +29,9 @@ returns-clause-done g c whole =
     let f = g.F.RecordFunction.function (arc_value c.args.function.now) in
     let all = c.in-Some.ensures.cases.0 in
     c.behind.ensures.done (kept c.in-Some.first.now) (subst (IsWholeRun f c.args.step.now c.args.records.now) (ap (map kept) all) whole)
+
+pub returns-clause-cause : goal.returns-clause-cause
+returns-clause-cause g c =
+    let f = g.F.RecordFunction.function (arc_value c.args.function.now) in
+    let all = c.in-Some.ensures.cases.0 in
+    subst (λ (l : List Kept). IfErr c.behind.result (IsTakenCause f c.args.step.now c.args.records.now l)) (sym (ap (map kept) all)) (c.behind.ensures.cause (kept c.in-Some.first.now))
