@@ -1,0 +1,68 @@
+//! The reader: lines of usage, which all partitions share.
+
+ghost use Rattle.std.specs.Prelude.{◌≡◌, ◌≤◌, length, IfOk};
+ghost use Rattle.std.specs.Arc.{arc_value};
+ghost use Rattle.jb_ready.specs.Checks.{checked_plans};
+ghost use Rattle.bills.specs.Bills.{refusal_of};
+
+use crate::bill::{Tariff, bill_of};
+use jb_artifacts::{Item, ItemReader};
+use jb_base::{ArtifactError, ClassId, PackedList};
+use std::alloc::{AllocError, Global};
+use std::sync::Arc;
+
+/// A reader of lines of usage, with a place of its own. A line that has no bill can't be read.
+#[derive(Drop)]
+pub struct UsageReader {
+    pub alloc: Global,
+    pub tariff: Tariff,
+    /// The first one has the number 0.
+    pub lines: Arc<PackedList, Global>,
+    pub place: u64,
+    pub ghost within: { place ≤ length (arc_value lines) },
+}
+
+/// The class with which the read of a line fails, if it does.
+fn refusal_of(alloc: Global, tariff: Tariff, line: &[u8]) -> Result<Option<ClassId>, AllocError>
+    ensures { IfOk result (λ class. class ≡ refusal_of tariff line.now) }
+{
+    match bill_of(alloc, tariff, line)? {
+        Some(_) => Ok(None),
+        None => Ok(Some(ClassId::new(0))),
+    }
+}
+
+impl ItemReader for UsageReader {
+    ghost reader = { λ r. record { first = 0; records = arc_value r.lines; place = r.place; faults = checked_plans (refusal_of r.tariff) 0 (arc_value r.lines) } };
+
+    fn first(&self) -> u64 {
+        0
+    }
+
+    fn end(&self) -> u64 {
+        self.lines.len() as u64
+    }
+
+    fn place(&self) -> u64 {
+        self.place
+    }
+
+    fn open_at(&mut self, at: u64) {
+        self.place = at;
+    }
+
+    fn read_item(&mut self) -> Result<Option<Item>, ArtifactError> {
+        let index = self.place as usize;
+        if index >= self.lines.len() {
+            return Ok(None);
+        }
+        let line = self.lines.at(index);
+        if let Some(class) = refusal_of(self.alloc, self.tariff, line)? {
+            self.place += 1;
+            return Err(ArtifactError::Fault(class));
+        }
+        let item = Item::copy_of(self.alloc, line)?;
+        self.place += 1;
+        Ok(Some(item))
+    }
+}

@@ -1,0 +1,118 @@
+//! The step: its partitions, what each works with, and its run.
+
+ghost use Rattle.std.specs.Prelude.{◌≡◌, ◌≤◌, length};
+ghost use Rattle.jb_base.specs.Limits.{max_parts, max_records};
+
+use crate::bill::Tariff;
+use crate::processor::BillProcessor;
+use crate::reader::UsageReader;
+use crate::writer::BillWriter;
+use jb_artifacts::{ArtifactsOf, CountCollector};
+use jb_base::{DEFAULT_RETRY_LIMIT, MAX_PARTS, Name, PackedList, Rules};
+use jb_chunk::Task;
+use jb_collect::{FaultlessAnalyzer, FaultlessReducer};
+use jb_job::{Spec, Step};
+use jb_mapper::EvenMapper;
+use jb_ready::{Notes, NotingReader};
+use jb_step::{Prepared, StepEnd, StepError, prepare, run_pooled_step};
+use jb_workers::NoGate;
+use std::alloc::{AllocError, Global};
+use std::marker::Brand;
+use std::sync::ledger::{Blank, Ledger};
+use std::sync::{Arc, Wait};
+use std::thread::Threads;
+
+/// What a partition works with. The lines that it can't read are noted.
+pub type Works = ArtifactsOf<NotingReader<UsageReader>, BillProcessor, BillWriter, CountCollector>;
+
+const TARIFF: Tariff = Tariff {
+    standing: 500,
+    per_unit: 30,
+};
+
+/// A line that has no bill, class 0, is skipped. No other call fails, so nothing is retried.
+const RULES: Rules = Rules {
+    skippable: 1,
+    retryable: 0,
+    no_rollback: 0,
+    skip_limit: None,
+    retry_limit: DEFAULT_RETRY_LIMIT,
+};
+
+const PARTITIONS: u32 = 8;
+
+const THREADS: u32 = 4;
+
+const ITEM_COUNT: u64 = 2;
+
+/// What a partition works with as it begins.
+fn new_works(alloc: Global, lines: &Arc<PackedList, Global>) -> Result<Works, AllocError> {
+    Ok(ArtifactsOf {
+        reader: NotingReader {
+            inner: UsageReader {
+                alloc,
+                tariff: TARIFF,
+                lines: Arc::try_clone(lines)?,
+                place: 0,
+            },
+            notes: Notes::new(alloc),
+        },
+        processor: BillProcessor {
+            alloc,
+            tariff: TARIFF,
+        },
+        writer: BillWriter {
+            bills: PackedList::new(alloc),
+        },
+        collector: CountCollector::new(alloc),
+    })
+}
+
+/// Runs the step over these lines to its end.
+pub fn run<R: Threads + Wait + Sync>(
+    rt: &R,
+    alloc: Global,
+    lines: PackedList,
+) -> Result<StepEnd<Works>, StepError>
+    requires { length lines ≤ max_records }
+{
+    let count = lines.len() as u64;
+    let lines = Arc::new(alloc, lines)?;
+    let id = Name::new(String::from_str(alloc, "bills")?);
+    let step = Step::new(
+        id,
+        ITEM_COUNT,
+        RULES,
+        Spec::new(PARTITIONS, THREADS, false, None),
+    );
+    let mut mapper = EvenMapper::new(alloc, PARTITIONS, THREADS, false);
+    let mut reducer = FaultlessReducer::new(alloc);
+    let prepared = prepare(alloc, &step, count, &mut mapper, &mut reducer, None)?;
+    let mut works = Vec::new(alloc);
+    for _ in prepared.needs() {
+        works.push(new_works(alloc, &lines)?)?;
+    }
+    let blank = Blank::new(MAX_PARTS);
+    over_desk::<Brand, R>(rt, alloc, blank, prepared, works, reducer)
+}
+
+/// Runs it over a desk of its own, whose ledger has the name of `L`.
+fn over_desk<L: Ledger + Send + Sync + 'static, R: Threads + Wait + Sync>(
+    rt: &R,
+    alloc: Global,
+    blank: Blank,
+    prepared: Prepared,
+    works: Vec<Works>,
+    reducer: FaultlessReducer,
+) -> Result<StepEnd<Works>, StepError>
+    requires name { blank.name ≡ L.name }
+    requires parts { blank.parts ≡ L.parts }
+    requires all { blank.parts ≡ max_parts }
+{
+    let desk = prepared.desk::<L>(alloc, blank)?;
+    let analyzer = FaultlessAnalyzer::new(alloc);
+    let (end, _, _) = run_pooled_step::<Task<Works>, L, NoGate, R>(
+        rt, alloc, &desk, prepared, works, analyzer, reducer, None, &NoGate,
+    );
+    end
+}
