@@ -8,10 +8,11 @@ use crate::step::lacking::Lacking;
 use crate::step::restarts::{Between, add_answer};
 use crate::step::rows::{PLAIN, assert_text};
 use crate::step::runs::started;
-use crate::step::ways::stopped_after;
+use crate::step::ways::run_in;
 use crate::way::{BOTH_WAYS, Way};
 use jb_base::{ClassId, MAX_PARTS};
 use jb_collect::{ListAnalyzer, PartitionStatus, ReducerCall};
+use jb_workers::NoGate;
 use std::alloc::Global;
 use std::marker::Brand;
 use std::sync::Wait;
@@ -193,7 +194,7 @@ fn course_with<L: Ledger + Send + Sync + 'static, R: Threads + Wait + Sync>(
     let prepared = started(alloc, PLAIN, case.records, &mut reducer, None)?;
     let desk = prepared.desk::<L>(alloc, blank)?;
     let artifacts = all_works(alloc, case.records, prepared.needs().len())?;
-    let end = stopped_after::<Letters, L, R>(
+    let end = run_in::<Letters, L, NoGate, R>(
         way,
         rt,
         alloc,
@@ -203,6 +204,7 @@ fn course_with<L: Ledger + Send + Sync + 'static, R: Threads + Wait + Sync>(
         &mut analyzer,
         &mut reducer,
         case.rounds,
+        &NoGate,
     );
     let snapshot = desk.status(rt)?;
     let mut course = String::new(alloc);

@@ -7,7 +7,7 @@ use crate::step::given::{Given, Processor, works};
 use crate::step::lacking::Lacking;
 use crate::step::rows::{Asked, PLAIN};
 use crate::step::runs::started;
-use crate::step::ways::ended;
+use crate::step::ways::run_in;
 use crate::way::{BOTH_WAYS, Way};
 use crate::workers::meeting::wait_for;
 use jb_artifacts::{ArtifactsOf, CountCollector, Item, ItemProcessor, ListWriter, TableReader};
@@ -173,7 +173,7 @@ fn met<L: Ledger + Send + Sync + 'static, R: Threads + Wait + Clock + Abort + Co
 ) -> Result<(Status, u64), Fail> {
     let mut analyzer = ListAnalyzer::new(alloc, None);
     let artifacts = waiting_works(alloc, processors)?;
-    let end = ended::<Task<WaitingWorks>, L, Lanes<R>, R>(
+    let end = run_in::<Task<WaitingWorks>, L, Lanes<R>, R>(
         way,
         rt,
         alloc,
@@ -182,6 +182,7 @@ fn met<L: Ledger + Send + Sync + 'static, R: Threads + Wait + Clock + Abort + Co
         artifacts,
         &mut analyzer,
         reducer,
+        None,
         gate,
     );
     let end = end.ok().ok_or("an end")?;

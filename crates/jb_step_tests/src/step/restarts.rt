@@ -11,7 +11,7 @@ use crate::step::rows::{
     plain_in,
 };
 use crate::step::runs::started_or_not;
-use crate::step::ways::stopped_after;
+use crate::step::ways::run_in;
 use crate::way::{BOTH_WAYS, Way};
 use jb_artifacts::ArtifactsOf;
 use jb_base::MAX_PARTS;
@@ -19,7 +19,7 @@ use jb_collect::{Analyzer, ListAnalyzer, Reducer, Status};
 use jb_repo::Snapshot;
 use jb_rules::Row;
 use jb_step::{Prepared, Saved, StepEnd, StepError};
-use jb_workers::Desk;
+use jb_workers::{Desk, NoGate};
 use std::alloc::{AllocError, Global};
 use std::marker::Brand;
 use std::mem;
@@ -282,7 +282,7 @@ fn run_at<L: Ledger + Send + Sync + 'static, R: Threads + Wait + Sync>(
 ) -> Result<(Option<Status>, String), Fail> {
     let mut analyzer = ListAnalyzer::new(alloc, None);
     let mut course = format!(in alloc; "{:?}\n", prepared.needs())?;
-    let end = stopped_after::<Letters, L, R>(
+    let end = run_in::<Letters, L, NoGate, R>(
         way,
         rt,
         alloc,
@@ -292,6 +292,7 @@ fn run_at<L: Ledger + Send + Sync + 'static, R: Threads + Wait + Sync>(
         &mut analyzer,
         &mut reducer,
         rounds,
+        &NoGate,
     );
     let snapshot = desk.status(rt)?;
     add_answer(&mut course, alloc, &snapshot, &end, &analyzer, &reducer)?;

@@ -3,7 +3,7 @@
 use crate::step::given::{Given, Letters, Works, all_works, begun_from};
 use crate::step::lacking::Lacking;
 use crate::step::rows::Asked;
-use crate::step::ways::ended;
+use crate::step::ways::run_in;
 use crate::way::Way;
 use jb_collect::{ListAnalyzer, Reducer};
 use jb_mapper::FixedMapper;
@@ -66,7 +66,7 @@ pub(crate) fn ended_with<
     gate: &G,
 ) -> Result<Result<StepEnd<Works>, StepError>, Fail> {
     let artifacts = all_works(alloc, records, partitions)?;
-    Ok(ended::<Letters, L, G, R>(
-        way, rt, alloc, desk, prepared, artifacts, analyzer, reducer, gate,
+    Ok(run_in::<Letters, L, G, R>(
+        way, rt, alloc, desk, prepared, artifacts, analyzer, reducer, None, gate,
     ))
 }

@@ -8,7 +8,7 @@ use crate::step::lacking::Lacking;
 use crate::step::restarts::{Between, works_restarted};
 use crate::step::rows::{Asked, SEVEN, assert_text, plain_in};
 use crate::step::runs::started;
-use crate::step::ways::ended;
+use crate::step::ways::run_in;
 use crate::way::{BOTH_WAYS, Way};
 use jb_base::MAX_PARTS;
 use jb_collect::{ListAnalyzer, Status};
@@ -172,7 +172,7 @@ fn run_between<
     ask_once(rt, desk, commits);
     let watcher = scope.spawn(move || watch(&*rt, &*desk, &*looks));
     let asker = scope.spawn(move || ask(&*rt, &*desk, &*looks, commits));
-    let end = ended::<Letters, L, Held<'_, R>, R>(
+    let end = run_in::<Letters, L, Held<'_, R>, R>(
         way,
         rt,
         alloc,
@@ -181,6 +181,7 @@ fn run_between<
         artifacts,
         &mut analyzer,
         &mut reducer,
+        None,
         &Held { rt: *rt, looks },
     );
     looks.is_over.store(true, Ordering::SeqCst);

@@ -5,58 +5,16 @@ use crate::way::Way;
 use jb_chunk::PartitionTask;
 use jb_collect::ListAnalyzer;
 use jb_step::{Prepared, StepEnd, StepError, run_step, run_step_by};
-use jb_workers::{Desk, Gate, NoGate, Pool, start_pool};
+use jb_workers::{Desk, Gate, Pool, start_pool};
 use std::alloc::Global;
 use std::sync::Wait;
 use std::sync::ledger::Ledger;
 use std::thread;
 use std::thread::{Scope, Threads};
 
-/// Runs the step to its end in this way. As the others here it has no contract, so that its callers have short proofs.
-pub(crate) fn ended<
-    T: PartitionTask + Send + 'static,
-    L: Ledger + Send + Sync + 'static,
-    G: Gate + Sync,
-    R: Threads + Wait + Sync,
->(
-    way: Way,
-    rt: &R,
-    alloc: Global,
-    desk: &Desk<L>,
-    prepared: Prepared,
-    artifacts: Vec<T::Artifacts>,
-    analyzer: &mut ListAnalyzer,
-    reducer: &mut Lacking,
-    gate: &G,
-) -> Result<StepEnd<T::Artifacts>, StepError> {
-    run_in::<T, L, G, R>(
-        way, rt, alloc, desk, prepared, artifacts, analyzer, reducer, None, gate,
-    )
-}
-
-/// Runs at most so many rounds of the step.
-pub(crate) fn stopped_after<
-    T: PartitionTask + Send + 'static,
-    L: Ledger + Send + Sync + 'static,
-    R: Threads + Wait + Sync,
->(
-    way: Way,
-    rt: &R,
-    alloc: Global,
-    desk: &Desk<L>,
-    prepared: Prepared,
-    artifacts: Vec<T::Artifacts>,
-    analyzer: &mut ListAnalyzer,
-    reducer: &mut Lacking,
-    rounds: Option<u64>,
-) -> Result<StepEnd<T::Artifacts>, StepError> {
-    run_in::<T, L, NoGate, R>(
-        way, rt, alloc, desk, prepared, artifacts, analyzer, reducer, rounds, &NoGate,
-    )
-}
-
-/// Runs at most so many rounds, with a gate.
-fn run_in<
+/// Runs the step in this way, for so many rounds at most; with none, to its end. As the other one here it has no contract, so that its
+/// callers have short proofs.
+pub(crate) fn run_in<
     'a,
     T: PartitionTask + Send + 'static,
     L: Ledger + Send + Sync + 'static,
