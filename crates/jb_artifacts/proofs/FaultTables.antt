@@ -8,10 +8,10 @@ use Rattle.std.specs.BTreeMap.{is_at}
 use Rattle.std.specs.Map.{lookup}
 use Rattle.jb_artifacts.specs.declared.faults.FaultPlan.{FaultPlan}
 use Rattle.jb_artifacts.specs.declared.faults.FaultPlan.TheVariants.{Sound, Bad, Shaky}
-use Rattle.jb_artifacts.specs.Faults.{FaultTable, live, used, used_at, plans_of}
+use Rattle.jb_artifacts.specs.Faults.{FaultTable, live, used, used_at, with_plan, plans_of}
 use Rattle.std.proofs.lemmas.Bool.Decides.{nat_tests}
 
-found_by : (k j : ℕ) → is_at (nat_cmp k) j ≡ (j == k)
+pub found_by : (k j : ℕ) → is_at (nat_cmp k) j ≡ (j == k)
 found_by k j = grind (arith, nat_tests)
 
 idle-at : (plan : Option FaultPlan) (b : Bool) → (b ≡ true → plan ≡ None) → unwrap_or plan Sound ≡ (if b then used (unwrap_or plan Sound) else unwrap_or plan Sound)
@@ -38,6 +38,18 @@ struck m n k plan next some one is = fun_ext (λ j. struck-at (lookup (is_at (na
     (λ same. ap (λ n. lookup (is_at (nat_cmp n)) m) (eqb-true j k same) ∙ some)
     one
     (is j ∙ ap (λ b. if b then Some next else lookup (is_at (nat_cmp j)) m) (found_by k j)))
+
+planned-at : (before : Option FaultPlan) (plan : FaultPlan) (b : Bool)
+    → unwrap_or (if b then Some plan else before) Sound ≡ (if b then plan else unwrap_or before Sound)
+planned-at before plan true = refl
+planned-at before plan false = refl
+
+-- the plans with one more
+pub planned : (m n : List (ℕ × FaultPlan)) (k : ℕ) (plan : FaultPlan)
+    → ((q : ℕ) → lookup (is_at (nat_cmp q)) n ≡ (if is_at (nat_cmp k) q then Some plan else lookup (is_at (nat_cmp q)) m))
+    → plans_of n ≡ with_plan (plans_of m) k plan
+planned m n k plan is = fun_ext (λ j. ap (λ p. unwrap_or p Sound) (is j ∙ ap (λ b. if b then Some plan else lookup (is_at (nat_cmp j)) m) (found_by k j))
+    ∙ planned-at (lookup (is_at (nat_cmp j)) m) plan (j == k))
 
 sound_used : (plan : FaultPlan) → live plan ≡ None → used plan ≡ plan
 sound_used Sound none = refl

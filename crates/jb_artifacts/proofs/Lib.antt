@@ -1,3 +1,4 @@
 pub mod Packing
+pub mod FaultPlaces
 pub mod FaultTables
 pub mod Writing

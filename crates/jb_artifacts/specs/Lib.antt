@@ -6,3 +6,4 @@ pub mod Prefix
 pub mod Processor
 pub mod Reader
 pub mod Writer
+pub mod inside

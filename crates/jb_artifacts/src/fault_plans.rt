@@ -3,26 +3,33 @@
 ghost use Rattle.std.specs.Prelude.{◌≡◌, IsTrue, None, OnOk, OnErr};
 ghost use Rattle.jb_artifacts.specs.Faults.{live, plans_of, used_at, with_plan};
 
+use crate::fault_places::search;
 use crate::faults::FaultPlan;
 use jb_base::ClassId;
 use std::alloc::{AllocError, Global};
-use std::collections::BTreeMap;
 use std::marker::Model;
 
 /// A fault plan for each record, by its number. A contract sees the table of those that were put in; each other record
-/// is sound. A look-up takes time in proportion to the logarithm of their number.
+/// is sound. Where records come in order, a look-up takes a few steps, since it begins where the one before it ended, and
+/// otherwise time in proportion to the logarithm of the plans' number.
 #[derive(Drop)]
 pub struct FaultPlans {
-    table: BTreeMap<u64, FaultPlan>,
+    // In the order of the records' numbers.
+    table: Vec<(u64, FaultPlan)>,
+    // Where the last look-up ended.
+    place: usize,
 }
 
 impl Model for FaultPlans {
     ghost use Rattle.std.specs.Prelude.{ℕ, List};
     ghost use Rattle.jb_artifacts.specs.declared.faults.FaultPlan.{FaultPlan};
+    ghost use Rattle.jb_artifacts.specs.inside.FaultPlaces.{AreInOrder};
 
     ghost Value = { List (ℕ × FaultPlan) };
 
-    ghost view = { λ plans. plans.table.entries };
+    ghost view = { λ plans. plans.table.items };
+
+    ghost invariant = { λ plans. AreInOrder plans.table.items };
 }
 
 impl FaultPlans {
@@ -33,7 +40,8 @@ impl FaultPlans {
         ensures { plans_of result ≡ λ _. Sound }
     {
         FaultPlans {
-            table: BTreeMap::new(alloc),
+            table: Vec::new(alloc),
+            place: 0,
         }
     }
 
@@ -42,9 +50,16 @@ impl FaultPlans {
         ensures ok { OnOk result (plans_of self.new ≡ with_plan (plans_of self.old) number plan) }
         ensures err { OnErr result (plans_of self.new ≡ plans_of self.old) }
     {
-        match self.table.insert(number, plan) {
-            Ok(_) => Ok(()),
-            Err(_) => Err(AllocError),
+        match search(number, &self.table, self.place) {
+            Ok(place) => {
+                self.table[place].1 = plan;
+                Ok(())
+            }
+            Err(place) => {
+                self.place = place;
+                self.table.insert(place, (number, plan))?;
+                Ok(())
+            }
         }
     }
 
@@ -59,9 +74,9 @@ impl FaultPlans {
     pub fn live(&self, number: u64) -> Option<ClassId>
         ensures { result ≡ live (plans_of self.now number) }
     {
-        match self.table.get(&number) {
-            Some(plan) => plan.live(),
-            None => None,
+        match search(number, &self.table, self.place) {
+            Ok(place) => self.table[place].1.live(),
+            Err(_) => None,
         }
     }
 
@@ -75,9 +90,15 @@ impl FaultPlans {
         if self.table.is_empty() {
             return None;
         }
-        match self.table.get_mut(&number) {
-            Some(plan) => plan.strike(),
-            None => None,
+        match search(number, &self.table, self.place) {
+            Ok(place) => {
+                self.place = place;
+                self.table[place].1.strike()
+            }
+            Err(place) => {
+                self.place = place;
+                None
+            }
         }
     }
 }

@@ -5,13 +5,14 @@
 //! - `item`, `view`: what is read and written, and what a collector sees.
 //! - `lending_reader`, `packing_processor`, `packed_writer`, `packed_results`: the same interfaces, with no copy and no
 //!   allocation for a record; `packed_artifacts`: the four of a partition that have them.
-//! - `faults`, `fault_plans`: when the calls for a record fail.
+//! - `faults`, `fault_plans`, `fault_places`: when the calls for a record fail, and how that is found.
 //! - `table_reader`, `prefix_processor`, `list_writer`, `count_collector`: ready artifacts.
 #![tactic(auto)]
 
 mod artifacts;
 mod artifacts_of;
 mod count_collector;
+mod fault_places;
 mod fault_plans;
 mod faults;
 mod interfaces;
