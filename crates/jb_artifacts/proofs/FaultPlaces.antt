@@ -1,6 +1,6 @@
 -- Where a record's plan stands in a list of plans that is in the order of the records' numbers, and what the list then tells of each record.
-use Rattle.std.proofs.Common.{◌≡◌, ℕ, zero, suc, ◌+◌, ◌-◌, ◌<◌, ◌≤◌, [], ◌∷◌, Bool, true, false, cond, length, get_or, set, refl, ap, sym, subst, ◌∙◌, Some, None, ⊎_elim, arith, Less, Greater}
-use Rattle.std.specs.Prelude.{slice_get, ◌==◌, if◌then◌else◌}
+use Rattle.std.proofs.Common.{◌≡◌, ℕ, zero, suc, ◌+◌, ◌-◌, ◌<◌, ◌≤◌, [], ◌∷◌, Bool, true, false, cond, length, get_or, set, refl, ap, sym, subst, ◌∙◌, Option, Some, None, ⊎_elim, arith, Less, Greater}
+use Rattle.std.specs.Prelude.{slice_get, unwrap_or, ◌==◌, if◌then◌else◌}
 use Rattle.std.specs.List.{insert}
 use Rattle.std.specs.List.Sorted.{IsStrictlySortedBy, IsNonDecreasingBy}
 use Rattle.std.specs.Cmp.{nat_cmp_is}
@@ -16,6 +16,8 @@ use Rattle.std.proofs.lemmas.Option.{get_or_from_slice_get, slice_get_read, slic
 use Rattle.std.proofs.lemmas.Map.Keys.{below_from_sorted, non_decreasing_from_sorted, sorted_from_all_adjacent, IsDistinct-from_sorted}
 use Rattle.std.proofs.lemmas.Map.Entries.{length-keys_of, lookup_at_gap, lookup_from_place, lookup_tail}
 use Rattle.jb_artifacts.specs.declared.faults.FaultPlan.{FaultPlan}
+use Rattle.jb_artifacts.specs.declared.faults.FaultPlan.TheVariants.{Sound}
+use Rattle.jb_artifacts.specs.Faults.{live, plans_of}
 use Rattle.jb_artifacts.specs.inside.FaultPlaces.{Entries, AreInOrder, IsPlaceOf, IsGapFor}
 use Rattle.jb_artifacts.proofs.FaultTables.{found_by}
 
@@ -75,6 +77,12 @@ none-at number entries place order gap = lookup_at_gap nat_cmp_total number entr
 pub found-at : (number : ℕ) (entries : Entries) (place : ℕ) (plan : FaultPlan) → AreInOrder entries → slice_get entries place ≡ Some (number, plan)
     → lookup (is_at (nat_cmp number)) entries ≡ Some plan
 found-at number entries place plan order is = lookup_from_place (eq_by_cmp_equiv nat_cmp_total) entries place number plan (IsDistinct-from_sorted nat_cmp (keys_of entries) order) is
+
+-- the class with which a call for the record fails, by what is told of it
+pub live-where : (number : ℕ) (inside entries : Entries) (found : Option FaultPlan) → inside ≡ entries → lookup (is_at (nat_cmp number)) inside ≡ found
+    → live (unwrap_or found Sound) ≡ live (plans_of entries number)
+live-where number inside entries found same is =
+    sym (ap (λ (plan : Option FaultPlan). live (unwrap_or plan Sound)) is) ∙ ap (λ (es : Entries). live (plans_of es number)) same
 
 -- an entry that was read is the one that was found
 pub read-is : (number : ℕ) (entries : Entries) (place : ℕ) (plan : FaultPlan) (entry : ℕ × FaultPlan) → slice_get entries place ≡ Some (number, plan)
