@@ -8,6 +8,7 @@ pub mod InRange
 pub mod Resumed
 pub mod TextTrees
 pub mod Trees
+pub mod NumberTexts
 pub mod Restarted
 pub mod RestartRanges
 pub mod RestartTrees

@@ -16,7 +16,7 @@ use Rattle.jb_documents.specs.ResumeFields.{Texts, outputs_at, held_at}
 use Rattle.jb_documents.specs.RestartDocument.{Refusal, of_saved, ◌>>=◌, fields, saves, named_in, resume_at}
 
 -- the step's name comes last
-abbrev end : Bool → List Texts → SavedRows → Result Resume Refusal
+abbrev pub end : Bool → List Texts → SavedRows → Result Resume Refusal
 end true outputs saved = Ok (record { outputs = outputs; saved = saved })
 end false outputs saved = Err (of_saved Step)
 

@@ -1,5 +1,6 @@
 -- Trees that borrow their text, as code sees them, beside the data that they are.
 use Rattle.std.proofs.Common.{◌≡◌, ℕ, ◌&&◌, suc, List, [], ◌∷◌, length, Bool, true, false, Option, Some, None, option_and_then, Vec, Bor, Ordering, Less, Equal, Greater, nat_cmp, is_eq, refl, sym, ap, ◌∙◌}
+use Rattle.std.proofs.Math.Bool.{and_assoc, and-true}
 use Rattle.std.proofs.lemmas.Map.Text.{is_eq-slice_cmp}
 use Rattle.std.proofs.lemmas.Slice.Eq.{bytes_eq-Decides}
 use Rattle.std.specs.Cmp.Lexicographic.{slice_cmp}
@@ -79,10 +80,6 @@ and_twice true false c e = absurd (cc)
 and_twice false true c e = absurd (cc)
 and_twice false false c e = refl
 
-and_over : (a b c : Bool) → a && (b && c) ≡ (a && b) && c
-and_over true b c = refl
-and_over false b c = refl
-
 names_put_at : (p : List ℕ → Bool) (o : Ordering) (k l : List ℕ) (d e : Data) (ms : Members) → slice_cmp nat_cmp k l ≡ o → list_all p (member_names (put k d ms)) ≡ p k && list_all p (member_names ms)
     → list_all p (member_names (match_ordering o (member k d (member l e ms)) (member l d ms) (member l e (put k d ms)))) ≡ p k && (p l && list_all p (member_names ms))
 names_put_at p Less k l d e ms is later = refl
@@ -101,13 +98,9 @@ names_found p (json.member k j ms) found =
     names_found p ms (put k (data_of j) found)
     ∙ ap (λ b. list_all p (keys ms) && b) (names_put p k (data_of j) found)
     ∙ and_in (list_all p (keys ms)) (p k) (list_all p (member_names found))
-    ∙ and_over (p k) (list_all p (keys ms)) (list_all p (member_names found))
-
-and_true : (b : Bool) → b && true ≡ b
-and_true true = refl
-and_true false = refl
+    ∙ sym (and_assoc (p k) (list_all p (keys ms)) (list_all p (member_names found)))
 
 pub all_names : (p : List ℕ → Bool) (ms : json.Members) → list_all p (member_names (members_data ms no_members)) ≡ list_all p (keys ms)
-all_names p ms = names_found p ms no_members ∙ and_true (list_all p (keys ms))
+all_names p ms = names_found p ms no_members ∙ and-true (list_all p (keys ms))
 
 pub ruleset tree_steps = (seen-Array, seen-Object, as_str-data_of, whole_number-data_of, items_len-all_seen, triple_of-not_three, all_names)

@@ -156,7 +156,7 @@ pub fn triple<'t, 'a>(
 }
 
 /// The number of bytes of all texts of the list, or the largest number, where there are more.
-pub fn text_bytes(items: &[Borrowed<'_>]) -> usize {
+pub(crate) fn text_bytes(items: &[Borrowed<'_>]) -> usize {
     let mut bytes: usize = 0;
     for item in items {
         if let Borrowed::String(text) = item {

@@ -24,16 +24,12 @@ memory_only : (bytes : List ℕ) (d : Data) (result : Result Value JobError) →
 memory_only bytes d (Ok v) is refused = tt
 memory_only bytes d (Err e) is refused = no_text bytes d e is refused
 
-pub returns-clause-value : goal.returns-clause-value
-returns-clause-value c =
+pub returns : goal.returns
+returns c =
     let text = c.in_ok-text.text.items in
-    let same : c.deref.result.now ≡ text = c.deref.ensures.value in
-    let is = printed text (value_view c.args.tree.now) c.requires c.in_ok-text.ensures.utf8 c.in_ok-text.ensures.text in
-    value_is c.deref.result.now (seen c.args.tree.now) c.read_tree.result (ap tree_of same ∙ is) c.read_tree.ensures.ok
-
-pub returns-clause-memory : goal.returns-clause-memory
-returns-clause-memory c =
-    let text = c.in_ok-text.text.items in
-    let same : c.deref.result.now ≡ text = c.deref.ensures.value in
-    let is = printed text (value_view c.args.tree.now) c.requires c.in_ok-text.ensures.utf8 c.in_ok-text.ensures.text in
-    memory_only c.deref.result.now (seen c.args.tree.now) c.read_tree.result (ap tree_of same ∙ is) c.read_tree.ensures.err
+    let tree : Data = seen c.args.tree.now in
+    let is : tree_of c.deref.result.now ≡ Some tree = ap tree_of c.deref.ensures.value ∙ printed text (value_view c.args.tree.now) c.requires c.in_ok-text.ensures.utf8 c.in_ok-text.ensures.text in
+    record {
+      value = value_is c.deref.result.now tree c.read_tree.result is c.read_tree.ensures.ok;
+      memory = memory_only c.deref.result.now tree c.read_tree.result is c.read_tree.ensures.err;
+    }
