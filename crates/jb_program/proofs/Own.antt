@@ -1,19 +1,23 @@
 -- What the program's own artifacts mean.
 use Rattle.jb_artifacts.specs.Meaning.{ArtifactsMeaning}
+use Rattle.jb_artifacts.specs.Writer.{Writer}
 use Rattle.jb_artifacts.specs.declared.packed_artifacts.PackedArtifacts.{PackedArtifacts}
-use Rattle.jb_artifacts.specs.declared.table_reader.TableReader.{TableReader}
 use Rattle.jb_artifacts.specs.declared.prefix_processor.PrefixProcessor.{PrefixProcessor}
 use Rattle.jb_artifacts.specs.declared.list_writer.ListWriter.{ListWriter}
 use Rattle.jb_artifacts.specs.declared.count_collector.CountCollector.{CountCollector}
-use Rattle.jb_artifacts.specs.contracts.table_reader.TableReaderItemReader.TheImpl as reader_of
 use Rattle.jb_artifacts.specs.contracts.prefix_processor.PrefixProcessorItemProcessor.TheImpl as processor_of
 use Rattle.jb_artifacts.specs.contracts.list_writer.ListWriterItemWriter.TheImpl as writer_of
 use Rattle.jb_artifacts.specs.contracts.count_collector.CountCollectorCollector.TheImpl as collector_of
+use Rattle.jb_program.specs.declared.run.shared_reader.SharedReader.{SharedReader}
+use Rattle.jb_program.specs.contracts.run.shared_reader.SharedReaderItemReader.TheImpl as reader_of
 
-abbrev pub own_work : PackedArtifacts TableReader PrefixProcessor ListWriter CountCollector → ArtifactsMeaning
+abbrev pub own_work : PackedArtifacts SharedReader PrefixProcessor ListWriter CountCollector → ArtifactsMeaning
 own_work own = record {
   reader = (reader_of.ghosts).reader own.reader;
   processor = (processor_of.ghosts).processor own.processor;
   writer = (writer_of.ghosts).writer own.writer;
   collector = (collector_of.ghosts).collected own.collector;
 }
+
+abbrev pub own_writer : ListWriter → Writer
+own_writer writer = (writer_of.ghosts).writer writer

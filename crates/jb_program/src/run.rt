@@ -5,7 +5,7 @@
 //! - `preparing`: what it begins with, by its partition plan.
 //! - `settings`: what the partitions of a step have in common.
 //! - `artifacts`: what each of them works with.
-//! - `fault_plans`, `held`: what a partition's artifacts are made from.
+//! - `shared_reader`, `fault_plans`, `held`: what a partition's artifacts are made from.
 //! - `told`: the report of a step that was run.
 //! - `laws`: what the crates below say of partitions.
 
@@ -17,6 +17,7 @@ mod laws;
 mod preparing;
 mod rounds;
 mod settings;
+mod shared_reader;
 mod step;
 mod told;
 

@@ -1,6 +1,7 @@
 //! What the partitions of a step work with.
 
-ghost use Rattle.std.specs.Prelude.{◌≡◌, ◌≤◌, ◌<◌, ◌-◌, ◌+◌, ◌++◌, All, drop, length, map, IfOk, OnOk};
+ghost use Rattle.std.specs.Prelude.{◌≡◌, ◌<◌, ◌+◌, ◌++◌, All, drop, length, map, IfOk, OnOk};
+ghost use Rattle.std.specs.Arc.{arc_value};
 ghost use Rattle.jb_artifacts.specs.Prefix.{prefixed};
 ghost use Rattle.jb_base.specs.declared.range.Range.{Range};
 ghost use Rattle.jb_plan.specs.Plans.{IsWithin};
@@ -12,37 +13,38 @@ ghost use Rattle.jb_program.specs.StepRun.{works_for};
 use crate::run::fault_plans::plans_for;
 use crate::run::held::held_list;
 use crate::run::settings::StepSettings;
+use crate::run::shared_reader::SharedReader;
 use jb_artifacts::{
     CountCollector, Item, ItemProcessor, ItemReader, ItemWriter, ListWriter, Meaning,
-    PackedArtifacts, PrefixProcessor, TableReader,
+    PackedArtifacts, PrefixProcessor,
 };
 use jb_base::{PackedList, Range, Text};
 use jb_documents::WriterTexts;
 use jb_rules::Row;
 use jb_step::Prepared;
 use std::alloc::{AllocError, Global};
+use std::sync::Arc;
 
 /// What a partition of the program works with.
-pub type OwnArtifacts = PackedArtifacts<TableReader, PrefixProcessor, ListWriter, CountCollector>;
+pub type OwnArtifacts = PackedArtifacts<SharedReader, PrefixProcessor, ListWriter, CountCollector>;
 
 /// A reader of the range's records.
 fn reader_for(
     alloc: Global,
     step: &StepSettings,
-    records: PackedList,
+    records: Arc<PackedList>,
     range: Range,
-) -> Result<TableReader, AllocError>
-    requires order { range.lo ≤ range.hi }
-    requires records { length records ≡ range.hi - range.lo }
-    ensures { IfOk result (λ r. ⟦<TableReader as ItemReader>⟧.reader r ≡ record {
+) -> Result<SharedReader, AllocError>
+    requires { IsWithin (length (arc_value records)) range }
+    ensures { IfOk result (λ r. ⟦<SharedReader as ItemReader>⟧.reader r ≡ record {
       first = range.lo;
-      records = records;
+      records = records_in (arc_value records) range;
       place = range.lo;
       faults = plans_in step.now.faults.read range;
     }) }
 {
     let faults = plans_for(alloc, &step.faults.read, range)?;
-    Ok(TableReader::new(alloc, range.lo, records, faults))
+    Ok(SharedReader::new(alloc, records, range, faults))
 }
 
 /// A copy of the text.
@@ -89,13 +91,12 @@ fn writer_for(
 fn artifacts_for(
     alloc: Global,
     step: &StepSettings,
-    records: PackedList,
+    records: Arc<PackedList>,
     held: PackedList,
     range: Range,
 ) -> Result<OwnArtifacts, AllocError>
-    requires order { range.lo ≤ range.hi }
-    requires records { length records ≡ range.hi - range.lo }
-    ensures { IfOk result (λ own. ⟦<OwnArtifacts as Meaning>⟧.meaning own ≡ workplace_of step.now records held range) }
+    requires { IsWithin (length (arc_value records)) range }
+    ensures { IfOk result (λ own. ⟦<OwnArtifacts as Meaning>⟧.meaning own ≡ workplace_of step.now (records_in (arc_value records) range) held range) }
 {
     Ok(PackedArtifacts {
         reader: reader_for(alloc, step, records, range)?,
@@ -105,39 +106,39 @@ fn artifacts_for(
     })
 }
 
-/// What the partition of this row works with, whose writer holds these texts: its reader has a copy of its range's records.
+/// What the partition of this row works with, whose writer holds these texts.
 fn artifacts_of_row(
     alloc: Global,
     step: &StepSettings,
-    records: &PackedList,
+    records: &Arc<PackedList>,
     held: PackedList,
     row: &Row,
 ) -> Result<OwnArtifacts, AllocError>
-    requires { IsWithin (length records.now) (range_of row.now) }
-    ensures { IfOk result (λ own. ⟦<OwnArtifacts as Meaning>⟧.meaning own ≡ workplace_of step.now (records_in records.now (range_of row.now)) held (range_of row.now)) }
+    requires { IsWithin (length (arc_value records.now)) (range_of row.now) }
+    ensures { IfOk result (λ own. ⟦<OwnArtifacts as Meaning>⟧.meaning own ≡ workplace_of step.now (records_in (arc_value records.now) (range_of row.now)) held (range_of row.now)) }
 {
     let range = Range {
         lo: row.lo,
         hi: row.hi,
     };
-    let own = records.part(alloc, range.lo as usize, range.hi as usize)?;
-    artifacts_for(alloc, step, own, held, range)
+    let records = Arc::try_clone(records)?;
+    artifacts_for(alloc, step, records, held, range)
 }
 
 /// Adds what the unfinished partition at this place of their list works with.
 fn add_artifacts(
     alloc: Global,
     step: &StepSettings,
-    records: &PackedList,
+    records: &Arc<PackedList>,
     outputs: &[WriterTexts],
     prepared: &Prepared,
     place: usize,
     all: &mut Vec<OwnArtifacts>,
 ) -> Result<(), AllocError>
-    requires within { All (IsWithin (length records.now)) (map range_of prepared.now.rows) }
+    requires within { All (IsWithin (length (arc_value records.now))) (map range_of prepared.now.rows) }
     requires place { place < length (needs prepared.now.rows) }
-    ensures { OnOk result (map ⟦<OwnArtifacts as Meaning>⟧.meaning all.new.items ++ map (work_for step.now records.now outputs.now) (drop (place + 1) (unfinished prepared.now.rows))
-        ≡ map ⟦<OwnArtifacts as Meaning>⟧.meaning all.old.items ++ map (work_for step.now records.now outputs.now) (drop place (unfinished prepared.now.rows))) }
+    ensures { OnOk result (map ⟦<OwnArtifacts as Meaning>⟧.meaning all.new.items ++ map (work_for step.now (arc_value records.now) outputs.now) (drop (place + 1) (unfinished prepared.now.rows))
+        ≡ map ⟦<OwnArtifacts as Meaning>⟧.meaning all.old.items ++ map (work_for step.now (arc_value records.now) outputs.now) (drop place (unfinished prepared.now.rows))) }
 {
     let partition = prepared.needs()[place];
     let Some(row) = prepared.row(partition) else {
@@ -148,8 +149,8 @@ fn add_artifacts(
     Ok(())
 }
 
-/// What the unfinished partitions work with, in their order. Each reader has a copy of its range's records, after which the
-/// list of all is let go, and each writer begins with a copy of the texts that it held.
+/// What the unfinished partitions work with, in their order. Their readers share the records, and each writer begins with a copy
+/// of the texts that it held.
 pub fn all_artifacts(
     alloc: Global,
     step: &StepSettings,
@@ -160,9 +161,10 @@ pub fn all_artifacts(
     requires { All (IsWithin (length records)) (map range_of prepared.now.rows) }
     ensures { IfOk result (λ all. map ⟦<OwnArtifacts as Meaning>⟧.meaning all.items ≡ works_for step.now records outputs.now prepared.now.rows) }
 {
+    let shared = Arc::new(alloc, records)?;
     let mut all = Vec::new(alloc);
     for place in 0..prepared.needs().len() {
-        add_artifacts(alloc, step, &records, outputs, prepared, place, &mut all)?;
+        add_artifacts(alloc, step, &shared, outputs, prepared, place, &mut all)?;
     }
     Ok(all)
 }

@@ -68,14 +68,15 @@ pub fn run_step<T: Threads + Wait + Sync>(
         analyzer,
         reducer,
     )?;
+    let status = end.status;
     write_step(
         alloc,
         step.id(),
-        &end,
+        end,
         outputs,
         analyzer.calls(),
         reducer.calls(),
         text,
     )?;
-    Ok(end.status)
+    Ok(status)
 }

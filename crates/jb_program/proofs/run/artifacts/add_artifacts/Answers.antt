@@ -1,4 +1,5 @@
 use Rattle.std.proofs.Common.{◌≡◌, ◌+◌, ◌∷◌, drop, length, map, get_or, slice_get, Some, ap, sym, ◌∙◌}
+use Rattle.std.specs.Arc.{arc_value}
 use Rattle.std.specs.Option.{option_copied}
 use Rattle.jb_step.specs.Setup.{needs, unfinished}
 use Rattle.jb_rules.specs.Rows.{range_of}
@@ -11,21 +12,21 @@ unreachable-requires c =
     let rows = c.args.prepared.now.rows in
     let p = get_or c.needs.result.now c.args.place 0 in
     let listed : slice_get (needs rows) c.args.place ≡ Some p = listed-at c.needs.result.now (needs rows) c.args.place 0 c.requires.place c.needs.ensures in
-    no-row rows (length c.args.records.now) c.args.place p c.requires.within listed (sym c.row.ensures ∙ ap option_copied c.in_default.is)
+    no-row rows (length (arc_value c.args.records.now)) c.args.place p c.requires.within listed (sym c.row.ensures ∙ ap option_copied c.in_default.is)
 
 pub artifacts_of_row-requires : goal.artifacts_of_row-requires
 artifacts_of_row-requires c =
     let rows = c.args.prepared.now.rows in
     let p = get_or c.needs.result.now c.args.place 0 in
     let listed : slice_get (needs rows) c.args.place ≡ Some p = listed-at c.needs.result.now (needs rows) c.args.place 0 c.requires.place c.needs.ensures in
-    (next-row rows (length c.args.records.now) c.args.place p c.in-Some.row.now c.requires.within listed (sym c.row.ensures ∙ ap option_copied c.in-Some.is)).stands.within
+    (next-row rows (length (arc_value c.args.records.now)) c.args.place p c.in-Some.row.now c.requires.within listed (sym c.row.ensures ∙ ap option_copied c.in-Some.is)).stands.within
 
 pub returns : goal.returns
 returns c =
     let rows = c.args.prepared.now.rows in
     let p = get_or c.needs.result.now c.args.place 0 in
     let row = c.in-Some.row.now in
-    let records = c.args.records.now in
+    let records = arc_value c.args.records.now in
     let outputs = c.args.outputs.now in
     let listed : slice_get (needs rows) c.args.place ≡ Some p = listed-at c.needs.result.now (needs rows) c.args.place 0 c.requires.place c.needs.ensures in
     let next = next-row rows (length records) c.args.place p row c.requires.within listed (sym c.row.ensures ∙ ap option_copied c.in-Some.is) in

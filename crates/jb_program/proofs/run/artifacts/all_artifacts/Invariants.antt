@@ -1,4 +1,5 @@
 use Rattle.std.proofs.Common.{◌≡◌, ◌++◌, drop, map}
+use Rattle.std.specs.Arc.{arc_value}
 use Rattle.jb_step.specs.Setup.{unfinished}
 use Rattle.jb_program.specs.PartitionRun.{work_for}
 use Rattle.jb_program.proofs.Own.{own_work}
@@ -7,5 +8,5 @@ use Rattle.jb_program.proofs.run.artifacts.all_artifacts.Given as goal
 -- those that were made and those to come
 abbrev pub invariant-loop-place : goal.invariant-loop-place
 invariant-loop-place l =
-    map own_work l.all.items ++ map (work_for l.step l.fn.records l.outputs) (drop l.place (unfinished l.prepared.rows))
-    ≡ map (work_for l.step l.fn.records l.outputs) (unfinished l.prepared.rows)
+    map own_work l.all.items ++ map (work_for l.step (arc_value l.shared) l.outputs) (drop l.place (unfinished l.prepared.rows))
+    ≡ map (work_for l.step (arc_value l.shared) l.outputs) (unfinished l.prepared.rows)

@@ -1,14 +1,14 @@
 use Rattle.std.proofs.Common.{◌++◌, flat_map, take, ap, sym, ◌∙◌, append_assoc}
 use Rattle.std.specs.List.{enumerate_from}
 use Rattle.std.proofs.lemmas.List.{take_all}
-use Rattle.jb_step.specs.Answers.{given_back}
-use Rattle.jb_program.proofs.Own.{own_work}
-use Rattle.jb_program.proofs.Told.{outputs_at, outputs-more}
+use Rattle.jb_program.specs.inside.Written.{lists_of, written_at}
+use Rattle.jb_program.proofs.Own.{own_writer}
+use Rattle.jb_program.proofs.Told.{outputs-more}
 use Rattle.jb_program.proofs.run.told.write_all_outputs.Goals as goal
 
 pub loop-place-preserved : goal.loop-place-preserved
 loop-place-preserved c =
-    let one = outputs_at c.args.outputs.now (given_back own_work c.args.left.now) in
+    let one = written_at c.args.outputs.now (lists_of own_writer c.args.writers.now) in
     let rows = c.args.rows.now in
     let k = c.loop-place.place in
     let row = c.in-Some.row.now in
@@ -19,5 +19,5 @@ loop-place-preserved c =
 
 pub returns : goal.returns
 returns c =
-    let one = outputs_at c.args.outputs.now (given_back own_work c.args.left.now) in
+    let one = written_at c.args.outputs.now (lists_of own_writer c.args.writers.now) in
     c.loop-place.invariant ∙ ap (λ rows. c.args.text.now ++ flat_map one (enumerate_from 0 rows)) (take_all c.loop-place.place c.args.rows.now c.loop-place-test.false)
