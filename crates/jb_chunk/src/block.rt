@@ -1,6 +1,6 @@
 //! One chunk tried to its end.
 
-ghost use Rattle.std.specs.Prelude.{ℕ, ◌≡◌, ◌≤◌, ◌<◌, ◌+◌, ◌-◌, length, IfOk, OnErr};
+ghost use Rattle.std.specs.Prelude.{ℕ, ◌≡◌, ◌≤◌, ◌<◌, ◌+◌, ◌-◌, [], length, IfOk, OnErr};
 ghost use Rattle.jb_artifacts.specs.Reader.{reader_end, opened};
 ghost use Rattle.jb_artifacts.specs.Writer.{Numbered};
 ghost use Rattle.jb_rules.specs.Rows.{row_block};
@@ -127,14 +127,42 @@ pub fn try_block<A: PartitionArtifacts>(
     ensures err { OnErr result (IsTorn row.old.at (row_block item_count row.old).hi (A.meaning artifacts.old) (A.meaning artifacts.new)) }
 {
     let block = row.block(item_count);
-    let mut results = A::Results::with_room(alloc, block.hi - block.lo)?;
-    match gather(artifacts, rules, row, item_count, &mut results) {
+    let mut results = artifacts.take_results(alloc, block.hi - block.lo)?;
+    let end = try_records(artifacts, rules, row, item_count, &mut results);
+    artifacts.keep_results(results);
+    end
+}
+
+/// The same, and the results, of which there are none yet, are put into this list.
+fn try_records<A: PartitionArtifacts>(
+    artifacts: &mut A,
+    rules: &Rules,
+    row: &mut Row,
+    item_count: u64,
+    results: &mut A::Results,
+) -> Result<ChunkEnd, AllocError>
+    requires sound { IsSoundRow row.old }
+    requires room { HasRepeats rules.now row.old }
+    requires some_left { row.old.at < row.old.hi }
+    requires item_counted { HasItemCount item_count }
+    requires place { (A.meaning artifacts.old).reader.place ≡ row.old.at }
+    requires from { (A.meaning artifacts.old).reader.first ≤ row.old.at }
+    requires to { row.old.hi ≤ reader_end (A.meaning artifacts.old).reader }
+    requires count { length (A.meaning artifacts.old).writer.written ≡ row.old.written }
+    requires none { A.Results.pairs results.old ≡ [] }
+    ensures ok { OfTask rules.now row.old item_count (A.meaning artifacts.old) (λ t.
+        IfOk result (λ end. (row.new ≡ (all_repeated t).row) × IsTried (all_repeated t) end (A.meaning artifacts.new))) }
+    ensures sound { IsSoundRow row.new }
+    ensures err { OnErr result (IsTorn row.old.at (row_block item_count row.old).hi (A.meaning artifacts.old) (A.meaning artifacts.new)) }
+{
+    let block = row.block(item_count);
+    match gather(artifacts, rules, row, item_count, results) {
         Ok(Gathered::Settled(_, class, choice)) => {
             artifacts.open_reader_at(row.at);
             Ok(end_by_choice(choice, class, Counts::ZERO))
         }
         Ok(Gathered::Whole(tally)) => finish_block(
-            artifacts, rules, row, block.hi, &tally, &results,
+            artifacts, rules, row, block.hi, &tally, results,
         ),
         Err(error) => Err(error),
     }

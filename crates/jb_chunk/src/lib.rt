@@ -2,7 +2,7 @@
 //!
 //! - `partition_task`: what a partition's task is to the crates above.
 //! - `task`: a row with its rules and artifacts, `partition_artifacts`, and a chunk's results, `chunk_results`.
-//! - `packed`: the calls of a chunk where records are lent and results packed.
+//! - `packed`: the calls of a chunk where records are lent and results packed; `boxed`: such artifacts in one box.
 //! - `laws`: what holds of a task's attempts, wherever they lead.
 //! - `outcome`: how an attempt ends.
 //! - `alone`: a task's attempts, one after another.
@@ -15,6 +15,7 @@
 
 mod alone;
 mod block;
+mod boxed;
 mod checkpoint;
 mod chunk_end;
 mod chunk_results;
@@ -30,6 +31,7 @@ mod tally;
 mod task;
 
 pub use alone::{Alone, AloneEnd, run_alone};
+pub use boxed::BoxedArtifacts;
 pub use chunk_results::{ChunkResults, ItemResults};
 pub use laws::{
     attempts_are_steps, repeats_need_a_class, runs_end_alike, runs_lead_to_an_end, tasks_go_on,

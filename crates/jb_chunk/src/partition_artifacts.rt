@@ -1,6 +1,6 @@
 //! What a partition's task works with, call by call.
 
-ghost use Rattle.std.specs.Prelude.{◌≡◌, ◌↔◌, ◌≤◌, ◌<◌, ◌++◌, List, ℕ, length, vec_len, vec_capacity, option_to_list, is_some, IsTrue, None, Some, Ok, Err, IfOk, IfErr, OnOk};
+ghost use Rattle.std.specs.Prelude.{◌≡◌, ◌↔◌, ◌≤◌, ◌<◌, ◌++◌, [], List, ℕ, length, vec_len, vec_capacity, option_to_list, is_some, IsTrue, None, Some, Ok, Err, IfOk, IfErr, OnOk};
 ghost use Rattle.jb_artifacts.specs.Answers.{IfFault, IfNoMemory};
 ghost use Rattle.jb_artifacts.specs.Meaning.{Fits};
 ghost use Rattle.jb_artifacts.specs.Processor.{process_fault, after_process};
@@ -15,10 +15,10 @@ use jb_artifacts::{
 };
 use jb_base::ArtifactError;
 use jb_rules::Row;
-use std::alloc::AllocError;
+use std::alloc::{AllocError, Global};
 
-/// A partition's reader, processor, writer and collector as one: in boxes, `Artifacts`, or of known types, `ArtifactsOf`; and
-/// those that lend their records, `PackedArtifacts`.
+/// A partition's reader, processor, writer and collector as one: in boxes, `Artifacts`, or of known types, `ArtifactsOf`; those
+/// that lend their records, `PackedArtifacts`; and such in one box, `BoxedArtifacts`.
 pub trait PartitionArtifacts: Meaning + Drop {
     /// What a read gives: the record's bytes, or nothing, where the reader keeps them and lends them.
     type Record: Drop;
@@ -105,6 +105,19 @@ pub trait PartitionArtifacts: Meaning + Drop {
     /// The collector's text for this view.
     fn collect(&self, view: &RowView) -> Result<Item, AllocError>
         ensures { IfOk result (λ text. text ≡ (Self.meaning self.now).collector view.now) };
+
+    /// No results, with room for so many where none were kept.
+    fn take_results(&mut self, alloc: Global, number: u64) -> Result<Self::Results, AllocError>
+        ensures none { IfOk result (λ results. Self.Results.pairs results ≡ []) }
+        ensures same { Self.meaning self.new ≡ Self.meaning self.old }
+    {
+        Self::Results::with_room(alloc, number)
+    }
+
+    /// Takes the results of a chunk that has ended, whose memory may be kept for the next.
+    fn keep_results(&mut self, _results: Self::Results)
+        ensures { Self.meaning self.new ≡ Self.meaning self.old }
+    {}
 }
 
 /// Puts the result that a processor answered for the record of this number behind the others, where there is one.

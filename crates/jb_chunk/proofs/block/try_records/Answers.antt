@@ -5,7 +5,7 @@ use Rattle.jb_chunk.specs.inside.Gathering.{yield_of}
 use Rattle.jb_chunk.specs.inside.TriedChunk.{task_at}
 use Rattle.jb_chunk.proofs.TriedChunk.{tally-records}
 use Rattle.jb_chunk.proofs.WriteRepeats.{stopped-tried, finished-tried, settled-within, whole-within, whole-tally, whole-torn}
-use Rattle.jb_chunk.proofs.block.try_block.Goals as goal
+use Rattle.jb_chunk.proofs.block.try_records.Goals as goal
 
 if_ok-map : {T E : Type 0} {P Q : T → Type 0} (r : Result T E) → ((v : T) → P v → Q v) → IfOk r P → IfOk r Q
 if_ok-map (Ok v) f p = f v p
