@@ -24,13 +24,16 @@ pub fn deliver<T: PartitionTask>(
     ensures { TakesCalls (analyzed analyzer.old) (heard_in (endings_of T.standing dones.now)) result (analyzed analyzer.new) }
 {
     for done in dones {
-        tell_done(done, analyzer)?;
+        deliver_one(done, analyzer)?;
     }
     Ok(())
 }
 
-// Of one attempt.
-fn tell_done<T: PartitionTask>(
+/// Tells the analyzer of one attempt, as `deliver` does of each.
+///
+/// # Errors
+/// Those of `deliver`.
+pub fn deliver_one<T: PartitionTask>(
     done: &Done<T>,
     analyzer: &mut dyn Analyzer,
 ) -> Result<(), ArtifactError>

@@ -19,7 +19,7 @@ mod list_analyzer;
 mod list_reducer;
 
 pub use calls::{AnalyzerCall, PartitionStatus, ReducerCall, Status};
-pub use delivery::deliver;
+pub use delivery::{deliver, deliver_one};
 pub use faultless::{FaultlessAnalyzer, FaultlessReducer};
 pub use interfaces::{Analyzer, Reducer};
 pub use laws::{calls_end_at_a_fault, partitions_are_heard_apart};

@@ -1,5 +1,6 @@
 pub mod Entering
 pub mod Rounds
+pub mod SingleWork
 pub mod Rising
 pub mod Gathering
 pub mod Mailing

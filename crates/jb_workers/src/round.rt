@@ -1,9 +1,10 @@
 //! A round of works.
 
-ghost use Rattle.std.specs.Prelude.{◌≡◌, ◌+◌, ◌≤◌, IfOk, IfErr, OnOk, length};
+ghost use Rattle.std.specs.Prelude.{◌≡◌, ◌+◌, ◌≤◌, ◌∷◌, [], IfOk, IfErr, OnOk, length};
 ghost use Rattle.jb_repo.specs.declared.events.Event.TheVariants.{Round};
 ghost use Rattle.jb_workers.specs.Lock.{IsAccepted};
-ghost use Rattle.jb_workers.specs.Works.{AllCanBegin, Rise};
+ghost use Rattle.jb_workers.specs.Turns.{IsDoneOf};
+ghost use Rattle.jb_workers.specs.Works.{AllCanBegin, CanBegin, Rise};
 ghost use Rattle.jb_workers.specs.Round.{AreDones, AreRoundOf, IsRoundError};
 
 mod error;
@@ -21,6 +22,7 @@ use crate::round::report::all_done;
 use crate::round::scoped::in_scope;
 use crate::round::threads::do_works;
 use crate::worker::lane_work::Work;
+use crate::worker::work;
 use jb_chunk::{Done, PartitionTask};
 use std::alloc::Global;
 use std::sync::Wait;
@@ -85,6 +87,30 @@ impl<L: Ledger> Desk<L> {
         let dones = all_done(alloc, reports)?;
         match self.close_round(rt) {
             Ok(()) => Ok(dones),
+            Err(refused) => Err(RoundError::Refused(refused)),
+        }
+    }
+    /// As `run_round_by`, of one work, which the caller's thread does: it takes no memory for lists.
+    pub fn run_one<T: PartitionTask, G: Gate, R: Wait>(
+        &self,
+        rt: &R,
+        alloc: Global,
+        gate: &G,
+        only: Work<T>,
+    ) -> Result<Done<T>, RoundError>
+        requires { CanBegin (T.standing only.task) }
+        ensures done { IfOk result (λ done. IsDoneOf T.standing only done) }
+        ensures closed { OnOk result (IsAccepted Round) }
+        ensures error { IfErr result (λ error. IsRoundError T.standing (only ∷ []) error) }
+    {
+        let Some(share) = self.take_share(rt) else {
+            return Err(RoundError::WorkerNotStarted);
+        };
+        let (done, share) = work(self, rt, alloc, gate, only, share);
+        self.give_back(rt, share);
+        let done = done?;
+        match self.close_round(rt) {
+            Ok(()) => Ok(done),
             Err(refused) => Err(RoundError::Refused(refused)),
         }
     }

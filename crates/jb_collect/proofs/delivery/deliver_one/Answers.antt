@@ -2,7 +2,7 @@ use Rattle.std.proofs.Common.{rules, ◌≡◌, Err, ap, refl}
 use Rattle.jb_rules.specs.declared.row.Row.{Row}
 use Rattle.jb_chunk.specs.Attempt.{AttemptEnd, ending_of}
 use Rattle.jb_collect.proofs.Delivering.{IsRead, attempt_told, attempt_stopped}
-use Rattle.jb_collect.proofs.delivery.tell_done.Goals as goal
+use Rattle.jb_collect.proofs.delivery.deliver_one.Goals as goal
 
 pub returns-in_err-tell_texts : goal.returns-in_err-tell_texts
 returns-in_err-tell_texts g c =
