@@ -20,6 +20,7 @@ mod Planning
 mod Pooling
 mod CallsInPart
 mod Restarting
+mod SingleSlot
 mod Splitting
 mod Starting
 mod Staying

@@ -23,3 +23,6 @@ head-of m n ms ns e = cc
 
 pub tail-of : (m n : ℕ) (ms ns : List ℕ) → m ∷ ms ≡ n ∷ ns → ms ≡ ns
 tail-of m n ms ns e = cc
+
+pub same-number : (m n : ℕ) → nat_eq m n ≡ nat_eq n m
+same-number m n = grind (arith, nat_tests)

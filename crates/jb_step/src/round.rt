@@ -16,8 +16,11 @@ ghost use Rattle.jb_step.specs.Alone.{AreReady};
 ghost use Rattle.jb_step.specs.inside.Telling.{IsHearing, moment};
 ghost use Rattle.jb_workers.specs.Works.{AllCanBegin, Rise as AreInOrder};
 
+mod single;
+
 use crate::error::RunError;
 use crate::ran::Ran;
+use crate::round::single::round_of_one;
 use crate::runner::RoundRunner;
 use crate::tell::tell_round;
 use jb_cert::{Slot, lanes_are_found};
@@ -43,6 +46,18 @@ pub(crate) fn slots_of(
     Ok(cursor.slots(alloc, round)?)
 }
 
+// Takes the task of the slot's partition out of its place, if there is one.
+pub(crate) fn take_task<T: PartitionTask>(places: &mut Vec<Option<T>>, slot: &Slot) -> Option<T>
+    ensures task { result ≡ slice_index_or places.old.items slot.now.partition None }
+    ensures places { places.new.items ≡ slice_set places.old.items slot.now.partition None }
+{
+    let index = slot.partition as usize;
+    if places.len() <= index {
+        return None;
+    }
+    places[index].take()
+}
+
 // Takes the task of the slot's partition out of its place, as a work.
 fn take_work<T: PartitionTask>(
     works: &mut Vec<Work<T>>,
@@ -52,12 +67,7 @@ fn take_work<T: PartitionTask>(
     ensures works { OnOk result (tasks_of works.new.items ≡ tasks_of works.old.items ++ cons_option (slice_index_or places.old.items slot.now.partition None) []) }
     ensures places { OnOk result (places.new.items ≡ slice_set places.old.items slot.now.partition None) }
 {
-    let index = slot.partition as usize;
-    if places.len() <= index {
-        return Ok(());
-    }
-    let place = places[index].take();
-    if let Some(task) = place {
+    if let Some(task) = take_task(places, slot) {
         let work = Work {
             lane: slot.lane,
             task,
@@ -83,7 +93,7 @@ fn take_works<T: PartitionTask>(
 }
 
 // Puts the task of a Done into the place of its partition.
-fn put_task<T: PartitionTask>(places: &mut Vec<Option<T>>, task: T)
+pub(crate) fn put_task<T: PartitionTask>(places: &mut Vec<Option<T>>, task: T)
     ensures { places.new.items ≡ slice_set places.old.items (T.standing task).partition (Some task) }
 {
     let index = task.partition() as usize;
@@ -101,7 +111,7 @@ fn put_back<T: PartitionTask>(places: &mut Vec<Option<T>>, dones: Vec<Done<T>>)
     }
 }
 
-fn is_committed<T: PartitionTask>(done: &Done<T>) -> bool
+pub(crate) fn is_committed<T: PartitionTask>(done: &Done<T>) -> bool
     ensures { result ≡ is_commit done.now.outcome }
 {
     match done.outcome {
@@ -144,7 +154,7 @@ fn chosen<T: PartitionTask>(
 }
 
 // The sum of two numbers of the history.
-fn sum(number: u64, more: u64) -> Result<u64, RunError>
+pub(crate) fn sum(number: u64, more: u64) -> Result<u64, RunError>
     ensures { IfOk result (λ sum. sum ≡ number + more) }
 {
     number.checked_add(more).ok_or(RunError::Desk)
@@ -179,6 +189,9 @@ pub(crate) fn one_round<
     ensures notes { OnOk result (ran.new.notes ≡ ran.old.notes) }
     ensures grew { Grew (analyzed analyzer.old) (analyzed analyzer.new) }
 {
+    if slots.len() == 1 {
+        return round_of_one(runner, alloc, ran, slots, analyzer);
+    }
     let works = chosen(alloc, &mut ran.held, slots)?;
     let dones = runner.run_round(alloc, pool, works)?;
     ran.fault = tell_round(dones.as_slice(), ran.fault, analyzer)?;

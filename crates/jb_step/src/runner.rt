@@ -3,7 +3,8 @@
 ghost use Rattle.std.specs.Prelude.{◌≡◌, true, IfOk};
 ghost use Rattle.jb_step.specs.inside.Round.{AreWhole, had_memory};
 ghost use Rattle.jb_workers.specs.Round.{AreDones};
-ghost use Rattle.jb_workers.specs.Works.{AllCanBegin, Rise};
+ghost use Rattle.jb_workers.specs.Turns.{IsDoneOf};
+ghost use Rattle.jb_workers.specs.Works.{AllCanBegin, CanBegin, Rise};
 
 use crate::error::RunError;
 use jb_cert::Certificate;
@@ -62,6 +63,23 @@ impl<'a, L: Ledger + Send + Sync + 'static, G: Gate + Sync, R: Threads + Wait + 
             return Err(RunError::Memory);
         }
         Ok(dones)
+    }
+
+    /// Attempts the next chunk of one work in the caller's thread, with memory, and closes the round.
+    pub(crate) fn run_one<T: PartitionTask>(
+        &self,
+        alloc: Global,
+        only: Work<T>,
+    ) -> Result<Done<T>, RunError>
+        requires { CanBegin (T.standing only.task) }
+        ensures done { IfOk result (λ done. IsDoneOf T.standing only done) }
+        ensures whole { IfOk result (λ done. had_memory done.outcome ≡ true) }
+    {
+        let done = self.desk.run_one(self.rt, alloc, self.gate, only)?;
+        if !is_whole(&done) {
+            return Err(RunError::Memory);
+        }
+        Ok(done)
     }
 
     /// Whether a stop was asked for.

@@ -13,7 +13,7 @@ use crate::error::RunError;
 use crate::prepared::Prepared;
 use jb_base::{ArtifactError, ClassId};
 use jb_chunk::{Done, PartitionTask};
-use jb_collect::{Analyzer, Status, calls_end_at_a_fault, deliver};
+use jb_collect::{Analyzer, Status, calls_end_at_a_fault, deliver, deliver_one};
 use jb_rules::Row;
 
 /// The fault that a callback answered, if it did.
@@ -40,6 +40,22 @@ pub(crate) fn tell_round<T: PartitionTask>(
         return Ok(fault);
     }
     let answer = deliver(dones, analyzer);
+    fault_of(answer)
+}
+
+/// Tells of one attempt, unless the analyzer answered a fault before.
+pub(crate) fn tell_one<T: PartitionTask>(
+    done: &Done<T>,
+    fault: Option<ClassId>,
+    analyzer: &mut dyn Analyzer,
+) -> Result<Option<ClassId>, RunError>
+    ensures heard { IfOk result (λ now. IsHearing fault (analyzed analyzer.old) (heard_in (endings_of T.standing (done.now ∷ []))) (moment (analyzed analyzer.new) now)) }
+    ensures grew { Grew (analyzed analyzer.old) (analyzed analyzer.new) }
+{
+    if fault.is_some() {
+        return Ok(fault);
+    }
+    let answer = deliver_one(done, analyzer);
     fault_of(answer)
 }
 
