@@ -1,5 +1,5 @@
 -- A list that is told member by member.
-use Rattle.std.proofs.Common.{◌≡◌, ◌<◌, ℕ, ◌+◌, List, [], ◌∷◌, ◌++◌, length, get_or, take, drop, None, Result, Ok, Err, ap, sym, ◌∙◌, subst, append-nil}
+use Rattle.std.proofs.Common.{◌≡◌, ◌<◌, ℕ, ◌+◌, List, [], ◌∷◌, ◌++◌, length, get_or, take, drop, None, Result, Ok, Err, ap, refl, sym, ◌∙◌, subst, append-nil}
 use Rattle.std.proofs.lemmas.List.{map-append, take_more, take-append-drop}
 use Rattle.std.proofs.lemmas.Grind.{flat_map-append}
 use Rattle.jb_base.specs.declared.artifact_error.ArtifactError.{ArtifactError}
@@ -44,6 +44,21 @@ stop_text before between after p texts i d text error result within is first tak
     subst (λ (r : Result (Unit {0}) ArtifactError). TakesCalls before (collected_calls p texts) r after) (sym told)
     (stop (collected_calls p) (texts_split p) before between after texts i d error within first
     (subst (λ (t : List ℕ). TakesCalls between (Collected p t ∷ []) (Err error) after) is (takes_one between after (Collected p text) (Err error) takes)))
+
+-- ---- texts that are handed over, one after another
+
+pub more_texts : (before between after : List (Taken AnalyzerCall)) (p : ℕ) (text : List ℕ) (rest : List (List ℕ)) (done : Unit {0}) (result : Result (Unit {0}) ArtifactError) → TakesCall before (Collected p text) (Ok done) between → TakesCalls between (collected_calls p rest) result after → TakesCalls before (collected_calls p (text ∷ rest)) result after
+more_texts before between after p text rest done result takes then_ =
+    takes_more before between after (Collected p text ∷ []) (collected_calls p rest) result (takes_one before between (Collected p text) (Ok done) takes) then_
+
+pub no_more_texts : (before after : List (Taken AnalyzerCall)) (p : ℕ) (left : List (List ℕ)) (text : List ℕ) (rest : List (List ℕ)) (error : ArtifactError) → left ≡ text ∷ rest → TakesCall before (Collected p text) (Err error) after → TakesCalls before (collected_calls p left) (Err error) after
+no_more_texts before after p left text rest error is takes =
+    subst (λ (texts : List (List ℕ)). TakesCalls before (collected_calls p texts) (Err error) after) (sym is)
+    (takes_no_more before after (Collected p text ∷ []) (collected_calls p rest) error (takes_one before after (Collected p text) (Err error) takes))
+
+pub no_text : (before : List (Taken AnalyzerCall)) (p : ℕ) (left : List (List ℕ)) → length left ≡ 0 → HasTaken before (collected_calls p left) None before
+no_text before p [] none = record { next = []; grown = sym (append-nil before); taken = refl }
+no_text before p (text ∷ rest) none = absurd cc
 
 -- ---- an end
 

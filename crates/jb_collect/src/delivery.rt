@@ -1,5 +1,6 @@
 //! What an analyzer is told of a round.
 
+ghost use Rattle.std.specs.Prelude.{◌++◌};
 ghost use Rattle.jb_chunk.specs.Attempt.{ending_of};
 ghost use Rattle.jb_collect.specs.Heard.{heard_of, heard_in, endings_of, collected_calls, ended_calls};
 ghost use Rattle.jb_collect.specs.Taken.{TakesCalls};
@@ -24,16 +25,44 @@ pub fn deliver<T: PartitionTask>(
     ensures { TakesCalls (analyzed analyzer.old) (heard_in (endings_of T.standing dones.now)) result (analyzed analyzer.new) }
 {
     for done in dones {
-        deliver_one(done, analyzer)?;
+        tell_done(done, analyzer)?;
     }
     Ok(())
 }
 
-/// Tells the analyzer of one attempt, as `deliver` does of each.
+/// Tells the analyzer of one attempt, as `deliver` does of each, and hands its texts over: none is copied.
 ///
 /// # Errors
 /// Those of `deliver`.
 pub fn deliver_one<T: PartitionTask>(
+    task: &T,
+    texts: Vec<Item>,
+    analyzer: &mut dyn Analyzer,
+) -> Result<(), ArtifactError>
+    ensures { let t = T.standing task.now in
+        TakesCalls (analyzed analyzer.old) (collected_calls t.partition texts.items ++ ended_calls t.partition t.row.state) result (analyzed analyzer.new) }
+{
+    let partition = task.partition();
+    hand_over(partition, texts, analyzer)?;
+    tell_end(partition, task.row().state, analyzer)
+}
+
+// A partition's texts, handed over.
+fn hand_over(
+    partition: u32,
+    texts: Vec<Item>,
+    analyzer: &mut dyn Analyzer,
+) -> Result<(), ArtifactError>
+    ensures { TakesCalls (analyzed analyzer.old) (collected_calls partition texts.items) result (analyzed analyzer.new) }
+{
+    for text in texts {
+        analyzer.take_collected(partition, text)?;
+    }
+    Ok(())
+}
+
+// Of one attempt.
+fn tell_done<T: PartitionTask>(
     done: &Done<T>,
     analyzer: &mut dyn Analyzer,
 ) -> Result<(), ArtifactError>

@@ -12,6 +12,7 @@ ghost use Rattle.jb_collect.specs.declared.calls.ReducerCall.TheVariants as redu
 ghost use Rattle.jb_collect.specs.Taken.{Taken, TakesCall, calls_of};
 
 use crate::calls::{AnalyzerCall, PartitionStatus, ReducerCall, Status};
+use jb_artifacts::Item;
 use jb_base::ArtifactError;
 
 /// A partition analyzer: it is told what the partitions collected and how they ended.
@@ -21,6 +22,13 @@ pub trait Analyzer {
     /// A text of this partition's collector.
     fn collected(&mut self, partition: u32, text: &[u8]) -> Result<(), ArtifactError>
         ensures { TakesCall (analyzed self.old) (analyzer.Collected partition text.now) result (analyzed self.new) };
+
+    /// The same call, by which the text is handed over: who keeps it needs no copy.
+    fn take_collected(&mut self, partition: u32, text: Item) -> Result<(), ArtifactError>
+        ensures { TakesCall (analyzed self.old) (analyzer.Collected partition text) result (analyzed self.new) }
+    {
+        self.collected(partition, text.as_slice())
+    }
 
     /// How this partition ended, or that a stop left it unfinished.
     fn status(&mut self, partition: u32, status: Status) -> Result<(), ArtifactError>

@@ -45,6 +45,10 @@ impl Analyzer for ListAnalyzer {
 
     fn collected(&mut self, partition: u32, text: &[u8]) -> Result<(), ArtifactError> {
         let text = Item::copy_of(self.alloc, text)?;
+        self.take_collected(partition, text)
+    }
+
+    fn take_collected(&mut self, partition: u32, text: Item) -> Result<(), ArtifactError> {
         self.list.take(AnalyzerCall::Collected(partition, text))
     }
 

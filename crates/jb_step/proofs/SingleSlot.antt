@@ -1,5 +1,5 @@
 -- A round of one slot: its task is taken out of its place, and put back.
-use Rattle.std.proofs.Common.{◌≡◌, ℕ, Bool, true, false, cond, ◌||◌, List, [], ◌∷◌, length, map, Option, Some, None, get_or, refl, ap, sym, ◌∙◌, arith}
+use Rattle.std.proofs.Common.{◌≡◌, ℕ, Bool, true, false, cond, ◌||◌, List, [], ◌∷◌, ◌++◌, length, map, Option, Some, None, get_or, refl, ap, sym, ◌∙◌, append-nil, arith}
 use Rattle.std.proofs.lemmas.Bool.{and_parts}
 use Rattle.std.specs.Prelude.{nat_eq, slice_index_or, slice_set}
 use Rattle.std.specs.List.{cons_option}
@@ -9,6 +9,7 @@ use Rattle.jb_cert.specs.Rising.{RiseFrom}
 use Rattle.jb_cert.specs.declared.plans.Slot.{Slot}
 use Rattle.jb_chunk.specs.Standing.{TaskState}
 use Rattle.jb_chunk.specs.declared.outcome.Done.{Done}
+use Rattle.jb_collect.specs.Heard.{collected_calls, ended_calls, endings_of, heard_in}
 use Rattle.jb_step.specs.Rounds.{CanRun, has_task}
 use Rattle.jb_step.specs.inside.Places.{held_in, ArePlaced, picked, emptied, filled}
 use Rattle.jb_step.specs.inside.Round.{tasks_of_set}
@@ -66,3 +67,7 @@ put-one standing (slot ∷ other ∷ slots) d os done one = absurd (omega (arith
 pub or-false : (b : Bool) → (b || false) ≡ b
 or-false true = refl
 or-false false = refl
+
+-- what is heard of one attempt
+pub heard-one : {T : Type 0} (standing : T → TaskState) (done : Done T) → collected_calls (standing done.task).partition done.values.items ++ ended_calls (standing done.task).partition (standing done.task).row.state ≡ heard_in (endings_of standing (done ∷ []))
+heard-one standing done = sym (append-nil _)

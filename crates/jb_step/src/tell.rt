@@ -1,9 +1,9 @@
 //! What the analyzer is told, and the fault that it answers.
 
-ghost use Rattle.std.specs.Prelude.{◌≡◌, ◌≤◌, IfOk, [], ◌∷◌, length, map};
+ghost use Rattle.std.specs.Prelude.{◌≡◌, ◌≤◌, ◌++◌, IfOk, [], ◌∷◌, length, map};
 ghost use Rattle.jb_base.specs.Limits.{max_partitions};
 ghost use Rattle.jb_collect.specs.declared.calls.AnalyzerCall.TheVariants as call;
-ghost use Rattle.jb_collect.specs.Heard.{endings_of, heard_first, heard_in, heard_last};
+ghost use Rattle.jb_collect.specs.Heard.{collected_calls, ended_calls, endings_of, heard_first, heard_in, heard_last};
 ghost use Rattle.jb_collect.specs.Taken.{HasTaken};
 ghost use Rattle.jb_step.specs.Callbacks.{Grew};
 ghost use Rattle.jb_step.specs.inside.Places.{held_in};
@@ -11,6 +11,7 @@ ghost use Rattle.jb_step.specs.inside.Telling.{IsAnswer, IsHearing, empties, mom
 
 use crate::error::RunError;
 use crate::prepared::Prepared;
+use jb_artifacts::Item;
 use jb_base::{ArtifactError, ClassId};
 use jb_chunk::{Done, PartitionTask};
 use jb_collect::{Analyzer, Status, calls_end_at_a_fault, deliver, deliver_one};
@@ -43,19 +44,21 @@ pub(crate) fn tell_round<T: PartitionTask>(
     fault_of(answer)
 }
 
-/// Tells of one attempt, unless the analyzer answered a fault before.
+/// Tells of one attempt that left this task, and hands its texts over, unless the analyzer answered a fault before.
 pub(crate) fn tell_one<T: PartitionTask>(
-    done: &Done<T>,
+    task: &T,
+    texts: Vec<Item>,
     fault: Option<ClassId>,
     analyzer: &mut dyn Analyzer,
 ) -> Result<Option<ClassId>, RunError>
-    ensures heard { IfOk result (λ now. IsHearing fault (analyzed analyzer.old) (heard_in (endings_of T.standing (done.now ∷ []))) (moment (analyzed analyzer.new) now)) }
+    ensures heard { let t = T.standing task.now in
+        IfOk result (λ now. IsHearing fault (analyzed analyzer.old) (collected_calls t.partition texts.items ++ ended_calls t.partition t.row.state) (moment (analyzed analyzer.new) now)) }
     ensures grew { Grew (analyzed analyzer.old) (analyzed analyzer.new) }
 {
     if fault.is_some() {
         return Ok(fault);
     }
-    let answer = deliver_one(done, analyzer);
+    let answer = deliver_one(task, texts, analyzer);
     fault_of(answer)
 }
 

@@ -18,7 +18,7 @@ use crate::round::{is_committed, put_task, sum, take_task};
 use crate::runner::RoundRunner;
 use crate::tell::tell_one;
 use jb_cert::Slot;
-use jb_chunk::PartitionTask;
+use jb_chunk::{Done, PartitionTask};
 use jb_collect::Analyzer;
 use jb_workers::{Gate, Work};
 use std::alloc::Global;
@@ -63,10 +63,11 @@ pub(crate) fn round_of_one<
         task,
     };
     let done = runner.run_one(alloc, work)?;
-    ran.fault = tell_one(&done, ran.fault, analyzer)?;
+    let broke = !is_committed(&done);
+    let Done { task, values, .. } = done;
+    ran.fault = tell_one(&task, values, ran.fault, analyzer)?;
     ran.rounds = sum(ran.rounds, 1)?;
     ran.attempts = sum(ran.attempts, 1)?;
-    let broke = !is_committed(&done);
-    put_task(&mut ran.held, done.task);
+    put_task(&mut ran.held, task);
     Ok(broke)
 }

@@ -7,10 +7,10 @@ use Rattle.jb_step.specs.Alone.{AreReady}
 use Rattle.jb_step.specs.inside.Places.{ArePlaced, emptied, filled, held_in}
 use Rattle.jb_step.specs.inside.Round.{AreDonesOf, tasks_of_set}
 use Rattle.jb_step.proofs.Placing.{in-turn, filled-table, filled-ready, filled-placed}
-use Rattle.jb_step.proofs.SingleSlot.{has-one, taken-one, put-one, or-false}
+use Rattle.jb_step.proofs.SingleSlot.{has-one, heard-one, taken-one, put-one, or-false}
 use Rattle.jb_step.proofs.Splitting.{attempts-are, taken-can, taken-done, breaks-are, heard-is}
 use Rattle.jb_step.proofs.round.single.round_of_one.Goals as goal
-use Rattle.jb_step.proofs.round.single.round_of_one.Goals.{After-drop-done-2}
+use Rattle.jb_step.proofs.round.single.round_of_one.Goals.{After-put_task}
 
 pub unreachable-requires : goal.unreachable-requires
 unreachable-requires g c =
@@ -24,13 +24,13 @@ run_one-requires-after_bounds g c κs within =
     taken-can standing (map slot_pair c.args.slots.now) (held_in c.args.ran.now.held.items) (work ∷ []) taken c.requires.ready c.requires.can_run.waiting 0 work (omega arith)
 
 -- The attempt is that of the one task that was taken out.
-done : (g : _) (c : After-drop-done-2 g) → AreDonesOf g.T.PartitionTask.standing (tasks_of_set g.T.PartitionTask.standing (map slot_pair c.args.slots.now) (held_in c.args.ran.now.held.items)) (c.in_ok-done.done ∷ [])
+done : (g : _) (c : After-put_task g) → AreDonesOf g.T.PartitionTask.standing (tasks_of_set g.T.PartitionTask.standing (map slot_pair c.args.slots.now) (held_in c.args.ran.now.held.items)) (c.in_ok-done.done ∷ [])
 done g c =
     let standing = g.T.PartitionTask.standing in
     let taken = taken-one standing c.args.slots.now _ c.args.ran.now.held.items c.in-Some.task c.requires.one c.requires.in_turn c.requires.placed (sym c.take_task.ensures.task ∙ c.in-Some.is) in
     subst (λ (us : List _). AreDonesOf standing us (c.in_ok-done.done ∷ [])) taken (c.in_ok-done.ensures.done.attempted, tt)
 
-put : (g : _) (c : After-drop-done-2 g) → c.put_task.new.places.items ≡ filled g.T.PartitionTask.standing (c.in_ok-done.done ∷ []) (emptied (map slot_pair c.args.slots.now) c.args.ran.now.held.items)
+put : (g : _) (c : After-put_task g) → c.put_task.new.places.items ≡ filled g.T.PartitionTask.standing (c.in_ok-done.done ∷ []) (emptied (map slot_pair c.args.slots.now) c.args.ran.now.held.items)
 put g c =
     let standing = g.T.PartitionTask.standing in
     c.put_task.ensures ∙ (rw c.take_task.ensures.places (put-one standing c.args.slots.now _ c.args.ran.now.held.items c.in_ok-done.done c.requires.one))
@@ -66,4 +66,4 @@ returns-clause-breaks g c =
 pub returns-clause-heard : goal.returns-clause-heard
 returns-clause-heard g c =
     let heard = heard-is g.T.PartitionTask.standing (map slot_pair c.args.slots.now) (held_in c.args.ran.now.held.items) (c.in_ok-done.done ∷ []) (done g c) (c.in_ok-done.ensures.whole, tt) in
-    rw (← heard) c.in_ok-ran.ensures.heard
+    rw (← heard, ← heard-one g.T.PartitionTask.standing c.in_ok-done.done) c.in_ok-ran.ensures.heard
