@@ -8,6 +8,7 @@ use Rattle.jb_rules.specs.declared.row.Row.{Row}
 use Rattle.jb_rules.specs.declared.row.RowState.TheVariants.{Waiting, Running, Finished}
 use Rattle.jb_cert.specs.declared.certificates.Certificate.{Certificate}
 use Rattle.jb_repo.specs.declared.events.Event.{Event}
+use Rattle.jb_repo.specs.Deltas.{counts_in}
 use Rattle.jb_repo.specs.declared.events.Event.TheVariants.{Plan, Begin, Commit, Roll, Fail, Drop, Round, Stop}
 use Rattle.jb_rules.specs.Sound.{IsSoundRow}
 use Rattle.jb_rules.specs.States.{is_running, has_ended}
@@ -363,7 +364,7 @@ module _ (j : Journal) (past : List Event) (old : Consistent j past) (p : ℕ) (
       record { sound = sound; unfinished = waiting-before-end _ sound h'; below_limit = λ i. absurd i; few_repeats = (let few = sound.counted.few_repeats in omega (arith, few)); commit = tt }
   can (Commit l d w a) ok part =
       let q = commit_passes (at_past j past) l d w a ok in
-      outcome_can (Commit l d w a) l q.2 part (commit_of_row (at_past j past) p r (owner l past) d w part opens q.1)
+      outcome_can (Commit l d w a) l q.2 part (commit_of_row (at_past j past) p r (owner l past) (counts_in d) w part opens q.1)
   can (Roll l k a) ok part = outcome_can (Roll l k a) l (roll_few (at_past j past) l k a ok) part tt
   can (Fail l k a) ok part = outcome_can (Fail l k a) l (fail_few (at_past j past) l k a ok) part tt
   can (Drop l) ok part = outcome_can (Drop l) l (omega arith) part tt

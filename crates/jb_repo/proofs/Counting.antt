@@ -2,6 +2,7 @@
 use Rattle.std.proofs.Common.{◌≡◌, ℕ, zero, suc, ◌+◌, Bool, cond, List, [], ◌∷◌, set, slice_get, Option, Some, None, refl, ap, arith}
 use Rattle.jb_rules.specs.declared.row.Row.{Row}
 use Rattle.jb_repo.specs.declared.events.Event.{Event}
+use Rattle.jb_repo.specs.Deltas.{counts_in}
 use Rattle.jb_repo.specs.declared.events.Event.TheVariants.{Plan, Begin, Commit, Roll, Fail, Drop, Round, Stop}
 use Rattle.jb_repo.specs.History.{own, partition_of, number, is_commit}
 use Rattle.jb_repo.specs.Rows.{replayed_row, rows_from, total_counts}
@@ -34,7 +35,7 @@ counted-set (row ∷ rows) (suc i) old new h = let t = counted-set rows i old ne
 counted-step : LawsBelow → (c : ℕ) (row : Row) (e : Event) → CanStep c row e → (step c row e).counts.commit ≡ row.counts.commit + one (is_commit e)
 counted-step laws c row (Plan n k) can = omega arith
 counted-step laws c row (Begin l p) can = omega arith
-counted-step laws c row (Commit l d w a) can = let k = (commit_facts laws c row d w can.commit).delta.commit in omega (arith, k)
+counted-step laws c row (Commit l d w a) can = let k = (commit_facts laws c row (counts_in d) w can.commit).delta.commit in omega (arith, k)
 counted-step laws c row (Roll l k a) can = omega arith
 counted-step laws c row (Fail l k a) can = omega arith
 counted-step laws c row (Drop l) can = omega arith

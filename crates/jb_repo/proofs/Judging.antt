@@ -2,7 +2,8 @@
 use Rattle.std.proofs.Common.{◌≡◌, ℕ, ◌+◌, ◌-◌, ◌<◌, ◌≤◌, ◌↔◌, Bool, true, false, not, ◌||◌, nat_le, nat_lt, [], ◌∷◌, length, Some, None, refl, sym, ◌∙◌, arith}
 use Rattle.std.proofs.lemmas.Bool.Decides.{nat_tests}
 use Rattle.std.proofs.lemmas.Bool.{or_parts, not-true, eq-eqb}
-use Rattle.jb_rules.specs.declared.counts.Counts.{Counts}
+use Rattle.jb_repo.specs.declared.deltas.Delta.{Delta}
+use Rattle.jb_repo.specs.Deltas.{counts_in}
 use Rattle.jb_rules.specs.declared.row.Row.{Row}
 use Rattle.jb_rules.specs.Rows.{row_block}
 use Rattle.jb_cert.specs.declared.certificates.Certificate.{Certificate}
@@ -142,32 +143,32 @@ running_lanes_may_end j law l p owned =
     λ again few. (let enough = not_more again few in rw (there, owned, enough) refl) in
     record { rolled = λ class again few. undone again few; failed = λ class again few. undone again few; dropped = accepted }
 
-module _ (laws : LawsBelow) (j : Journal) (law : IsReplayable j) (l p : ℕ) (row : Row) (owned : owner l j.past ≡ Some p) (is : row_of j p ≡ Some row) (d : Counts) (w a : ℕ) (few : a ≤ max_retry_limit) where
-  judged : refusal j (Commit l d w a) ≡ first_refusal ((false, LaneRange) ∷ (false, NotRunning) ∷ (not (is_commit_of j.item_count row d w), BadDelta) ∷ [])
+module _ (laws : LawsBelow) (j : Journal) (law : IsReplayable j) (l p : ℕ) (row : Row) (owned : owner l j.past ≡ Some p) (is : row_of j p ≡ Some row) (d : Delta) (w a : ℕ) (few : a ≤ max_retry_limit) where
+  judged : refusal j (Commit l d w a) ≡ first_refusal ((false, LaneRange) ∷ (false, NotRunning) ∷ (not (is_commit_of j.item_count row (counts_in d) w), BadDelta) ∷ [])
   judged =
       let enough = not_more a few in
       let there = lane_there j.threads l ((consistent j law.ready j.past law.accepted).lanes l p owned).lane in
-      rw (there, owned, is, enough, or_none (not (is_commit_of j.item_count row d w))) refl
+      rw (there, owned, is, enough, or_none (not (is_commit_of j.item_count row (counts_in d) w))) refl
 
-  commit_of_next : is_commit_of j.item_count row d w ≡ true → IsCommitOfNext j.item_count row d w
-  commit_of_next good = let k = commit_facts laws j.item_count row d w good in (k.delta, k.written)
+  commit_of_next : is_commit_of j.item_count row (counts_in d) w ≡ true → IsCommitOfNext j.item_count row (counts_in d) w
+  commit_of_next good = let k = commit_facts laws j.item_count row (counts_in d) w good in (k.delta, k.written)
 
-  good_commit : IsCommitOfNext j.item_count row d w → is_commit_of j.item_count row d w ≡ true
+  good_commit : IsCommitOfNext j.item_count row (counts_in d) w → is_commit_of j.item_count row (counts_in d) w ≡ true
   good_commit h =
-      let delta = (laws.deltas ((row_block j.item_count row).hi - row.at) d).1 h.0 in
+      let delta = (laws.deltas ((row_block j.item_count row).hi - row.at) (counts_in d)).1 h.0 in
       let number = eq-eqb w (row.written + d.write) h.1 in
       rw (delta, number) refl
 
-  accepted : (refusal j (Commit l d w a) ≡ None) ↔ IsCommitOfNext j.item_count row d w
+  accepted : (refusal j (Commit l d w a) ≡ None) ↔ IsCommitOfNext j.item_count row (counts_in d) w
   accepted = (
-    λ h. commit_of_next (last_of_three (is_commit_of j.item_count row d w) (sym judged ∙ h)),
+    λ h. commit_of_next (last_of_three (is_commit_of j.item_count row (counts_in d) w) (sym judged ∙ h)),
     λ h. let good = good_commit h in judged ∙ rw good refl,
   )
 
-  refused : (refusal j (Commit l d w a) ≡ Some BadDelta) ↔ (IsCommitOfNext j.item_count row d w → ⊥)
+  refused : (refusal j (Commit l d w a) ≡ Some BadDelta) ↔ (IsCommitOfNext j.item_count row (counts_in d) w → ⊥)
   refused = (
-    λ h k. let good = good_commit k in let bad = is_third (is_commit_of j.item_count row d w) (sym judged ∙ h) in cc,
-    λ h. let bad = uncertified (is_commit_of j.item_count row d w) (λ good. h (commit_of_next good)) in judged ∙ rw bad refl,
+    λ h k. let good = good_commit k in let bad = is_third (is_commit_of j.item_count row (counts_in d) w) (sym judged ∙ h) in cc,
+    λ h. let bad = uncertified (is_commit_of j.item_count row (counts_in d) w) (λ good. h (commit_of_next good)) in judged ∙ rw bad refl,
   )
 
 pub good_commits_are_accepted : LawsBelow → GoodCommitsAreAccepted

@@ -2,7 +2,8 @@
 use Rattle.std.proofs.Common.{◌≡◌, ℕ, suc, ◌+◌, ◌<◌, ◌≤◌, Bool, true, false, cond, not, ◌&&◌, ◌||◌, nat_eq, nat_lt, List, [], ◌∷◌, ◌++◌, map, slice_get, Option, Some, None, refl, sym, ◌∙◌, ap, subst, arith}
 use Rattle.std.proofs.lemmas.Bool.{ltb-true, and_parts, or_parts, ltb-false}
 use Rattle.std.specs.List.{list_all}
-use Rattle.jb_rules.specs.declared.counts.Counts.{Counts}
+use Rattle.jb_repo.specs.declared.deltas.Delta.{Delta}
+use Rattle.jb_repo.specs.Deltas.{counts_in}
 use Rattle.jb_rules.specs.declared.row.Row.{Row}
 use Rattle.jb_rules.specs.declared.row.RowState.{RowState}
 use Rattle.jb_rules.specs.declared.row.RowState.TheVariants.{Waiting, Running, Finished, Failed}
@@ -77,7 +78,7 @@ still r own = omega arith
 
 module _ (j : Journal) (p : ℕ) (r : Row) where
   -- one more of the partition's own events keeps them consecutive
-  joins : (e : Event) (own : List Event) → ((l : ℕ) (d : Counts) (w a : ℕ) → e ≡ Commit l d w a → (replayed_row j.item_count r own).at + (d.read + d.read_skip) ≡ (row_block j.item_count (replayed_row j.item_count r own)).hi)
+  joins : (e : Event) (own : List Event) → ((l : ℕ) (d : Delta) (w a : ℕ) → e ≡ Commit l d w a → (replayed_row j.item_count r own).at + (d.read + d.read_skip) ≡ (row_block j.item_count (replayed_row j.item_count r own)).hi)
       → AreConsecutive r.at (committed_blocks j.item_count r own) (at_after r own) → AreConsecutive r.at (committed_blocks j.item_count r (e ∷ own)) (at_after r (e ∷ own))
   joins (Plan n k) own good h = rw (still r own) h
   joins (Begin l q) own good h = rw (still r own) h
@@ -93,14 +94,14 @@ joined j p r own = AreConsecutive r.at (committed_blocks j.item_count r own) (at
 
 module _ (laws : LawsBelow) (j : Journal) (ready : IsOpenable j) (p : ℕ) (r : Row) (opens : slice_get j.opening p ≡ Some r) where
   -- an accepted Commit passes the partition's next block
-  passed : (past : List Event) → AcceptedPast j past → (l : ℕ) (d : Counts) (w a : ℕ) → refusal (at_past j past) (Commit l d w a) ≡ None → owner l past ≡ Some p
+  passed : (past : List Event) → AcceptedPast j past → (l : ℕ) (d : Delta) (w a : ℕ) → refusal (at_past j past) (Commit l d w a) ≡ None → owner l past ≡ Some p
       → (replayed_row j.item_count r (own p past)).at + (d.read + d.read_skip) ≡ (row_block j.item_count (replayed_row j.item_count r (own p past))).hi
   passed past ok l d w a passes owned =
       let sound = rows-sound laws j ready p r opens past ok in
       let runs = (consistent j ready past ok).states l p r owned opens in
-      let good = commit_of_row (at_past j past) p r (owner l past) d w owned opens (commit_passes (at_past j past) l d w a passes).1 in
-      passed-block laws j.item_count (replayed_row j.item_count r (own p past)) ready.some_items sound (running-before-end _ l sound runs) d w
-      (commit_facts laws j.item_count (replayed_row j.item_count r (own p past)) d w good)
+      let good = commit_of_row (at_past j past) p r (owner l past) (counts_in d) w owned opens (commit_passes (at_past j past) l d w a passes).1 in
+      passed-block laws j.item_count (replayed_row j.item_count r (own p past)) ready.some_items sound (running-before-end _ l sound runs) (counts_in d) w
+      (commit_facts laws j.item_count (replayed_row j.item_count r (own p past)) (counts_in d) w good)
 
   consecutive_at : (e : Event) (past : List Event) → refusal (at_past j past) e ≡ None → AcceptedPast j past → (mine : Bool) → is_some_of (partition_of e past) p ≡ mine → joined j p r (own p past) → joined j p r (cond mine (e ∷ own p past) (own p past))
   consecutive_at e past passes ok false is h = h

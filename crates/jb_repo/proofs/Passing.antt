@@ -2,7 +2,8 @@
 use Rattle.std.proofs.Common.{◌≡◌, ℕ, ◌+◌, ◌<◌, ◌≤◌, true, false, nat_lt, is_none, List, [], ◌∷◌, length, slice_get, Option, Some, None, refl, ◌∙◌, arith}
 use Rattle.std.proofs.lemmas.Bool.Decides.{nat_tests}
 use Rattle.std.proofs.lemmas.Bool.{or_parts, not-false, ltb-false, leb-false}
-use Rattle.jb_rules.specs.declared.counts.Counts.{Counts}
+use Rattle.jb_repo.specs.declared.deltas.Delta.{Delta}
+use Rattle.jb_repo.specs.Deltas.{counts_in}
 use Rattle.jb_rules.specs.declared.row.Row.{Row}
 use Rattle.jb_cert.specs.declared.certificates.Certificate.{Certificate}
 use Rattle.jb_base.specs.declared.class.ClassId.{ClassId}
@@ -88,7 +89,7 @@ pub record OutcomePasses (j : Journal) (l : ℕ) : Type 0 where
   pub partition : ℕ
   pub owned : owner l j.past ≡ Some partition
 
-pub commit_passes : (j : Journal) (l : ℕ) (d : Counts) (w a : ℕ) → refusal j (Commit l d w a) ≡ None → OutcomePasses j l × (is_good_commit j (owner l j.past) d w ≡ true) × (a ≤ max_retry_limit)
+pub commit_passes : (j : Journal) (l : ℕ) (d : Delta) (w a : ℕ) → refusal j (Commit l d w a) ≡ None → OutcomePasses j l × (is_good_commit j (owner l j.past) (counts_in d) w ≡ true) × (a ≤ max_retry_limit)
 commit_passes j l d w a h =
     let p = passes (conditions j (Commit l d w a)) h in
     let b = p.1 in

@@ -5,6 +5,7 @@ use Rattle.jb_rules.specs.declared.counts.Counts.{Counts}
 use Rattle.jb_rules.specs.declared.row.Row.{Row}
 use Rattle.jb_rules.specs.declared.row.RowState.{RowState}
 use Rattle.jb_repo.specs.declared.events.Event.{Event}
+use Rattle.jb_repo.specs.Deltas.{counts_in}
 use Rattle.jb_repo.specs.declared.events.Event.TheVariants.{Plan, Begin, Commit, Roll, Fail, Drop, Round, Stop}
 use Rattle.jb_rules.specs.Counts.{plus_counts, no_counts, rolled_counts}
 use Rattle.jb_repo.specs.History.{own, owner, names_lane, begun_by, partition_of, is_some_of}
@@ -15,7 +16,7 @@ use Rattle.jb_repo.specs.Laws.{next_row}
 -- the row after one more own event, whether or not the table accepts it: a Commit is taken at its word
 abbrev pub step : ℕ → Row → Event → Row
 step c row (Commit l d w a) =
-    record (committed_row (repeated_row row a) (row.at + (d.read + d.read_skip)) d) { written = w }
+    record (committed_row (repeated_row row a) (row.at + (d.read + d.read_skip)) (counts_in d)) { written = w }
 step c row e = next_row c row e
 
 -- COUNTS
@@ -53,7 +54,7 @@ module _ (c : ℕ) (r : Row) where
   replayed_row-step (Begin l p) own = row_eq _ _ _ _ _ _ _ _ _ _ _ _ _ _ _ _ (omega arith) refl (omega arith) refl (ap (plus_counts r.counts) (plus_counts-zero (gains own))) (omega arith) refl
   replayed_row-step (Commit l d w a) own =
       let e : r.at + (advances own + (d.read + d.read_skip)) ≡ r.at + advances own + (d.read + d.read_skip) = omega arith in
-      row_eq _ _ _ _ _ _ _ _ _ _ _ _ _ _ _ _ e refl (omega arith) refl (plus_counts_assoc r.counts (gains own) d) (omega arith) (rw e refl)
+      row_eq _ _ _ _ _ _ _ _ _ _ _ _ _ _ _ _ e refl (omega arith) refl (plus_counts_assoc r.counts (gains own) (counts_in d)) (omega arith) (rw e refl)
   replayed_row-step (Roll l k a) own = row_eq _ _ _ _ _ _ _ _ _ _ _ _ _ _ _ _ (omega arith) refl (omega arith) refl (plus_counts-rollback r.counts (gains own)) (omega arith) refl
   replayed_row-step (Fail l k a) own = row_eq _ _ _ _ _ _ _ _ _ _ _ _ _ _ _ _ (omega arith) refl (omega arith) refl (plus_counts-rollback r.counts (gains own)) (omega arith) refl
   replayed_row-step (Drop l) own = row_eq _ _ _ _ _ _ _ _ _ _ _ _ _ _ _ _ (omega arith) refl (omega arith) refl (ap (plus_counts r.counts) (plus_counts-zero (gains own))) (omega arith) refl

@@ -9,7 +9,9 @@ use Rattle.jb_rules.specs.Counts.{IsDelta}
 use Rattle.jb_rules.specs.Rows.{row_block, repeated_row, committed_row, rolled_row}
 use Rattle.jb_rules.specs.Sound.{IsSoundRow}
 use Rattle.jb_rules.specs.States.{has_ended}
+use Rattle.jb_repo.specs.declared.deltas.Delta.{Delta}
 use Rattle.jb_repo.specs.declared.events.Event.{Event}
+use Rattle.jb_repo.specs.Deltas.{counts_in}
 use Rattle.jb_repo.specs.declared.events.Event.TheVariants.{Plan, Begin, Commit, Roll, Fail, Drop, Round, Stop}
 use Rattle.jb_repo.specs.Table.{is_commit_of}
 use Rattle.jb_repo.specs.inside.Below.{LawsBelow}
@@ -56,19 +58,19 @@ module _ (laws : LawsBelow) (c : ℕ) (row : Row) (some : 1 ≤ c) (s : IsSoundR
       omega (arith, more, passed)
 
   -- and leaves the row that is committed
-  pub commit-is : (l : ℕ) (d : Counts) (w a : ℕ) → IsCommitOf c row d w → step c row (Commit l d w a) ≡ committed_row (repeated_row row a) (row_block c row).hi d
+  pub commit-is : (l : ℕ) (d : Delta) (w a : ℕ) → IsCommitOf c row (counts_in d) w → step c row (Commit l d w a) ≡ committed_row (repeated_row row a) (row_block c row).hi (counts_in d)
   commit-is l d w a k =
-      ap (λ (at : ℕ). record (committed_row (repeated_row row a) at d) { written = w }) (passed-block d w k)
-      ∙ ap (λ (n : ℕ). record (committed_row (repeated_row row a) (row_block c row).hi d) { written = n }) k.written
+      ap (λ (at : ℕ). record (committed_row (repeated_row row a) at (counts_in d)) { written = w }) (passed-block (counts_in d) w k)
+      ∙ ap (λ (n : ℕ). record (committed_row (repeated_row row a) (row_block c row).hi (counts_in d)) { written = n }) k.written
 
-  sound-commit : (l : ℕ) (d : Counts) (w a : ℕ) → row.in_place + a ≤ max_in_place → IsCommitOf c row d w → IsSoundRow (step c row (Commit l d w a))
+  sound-commit : (l : ℕ) (d : Delta) (w a : ℕ) → row.in_place + a ≤ max_in_place → IsCommitOf c row (counts_in d) w → IsSoundRow (step c row (Commit l d w a))
   sound-commit l d w a few k =
-      subst IsSoundRow (sym (commit-is l d w a k)) (laws.rows.committed (repeated_row row a) (row_block c row).hi d (laws.rows.repeated row a s few) block_some block_within k.delta)
+      subst IsSoundRow (sym (commit-is l d w a k)) (laws.rows.committed (repeated_row row a) (row_block c row).hi (counts_in d) (laws.rows.repeated row a s few) block_some block_within k.delta)
 
 pub sound-step : (laws : LawsBelow) (c : ℕ) (row : Row) → 1 ≤ c → (e : Event) → CanStep c row e → IsSoundRow (step c row e)
 sound-step laws c row some (Plan n k) can = can.sound
 sound-step laws c row some (Begin l p) can = laws.rows.begun row l can.sound can.unfinished
-sound-step laws c row some (Commit l d w a) can = sound-commit laws c row some can.sound can.unfinished l d w a can.few_repeats (commit_facts laws c row d w can.commit)
+sound-step laws c row some (Commit l d w a) can = sound-commit laws c row some can.sound can.unfinished l d w a can.few_repeats (commit_facts laws c row (counts_in d) w can.commit)
 sound-step laws c row some (Roll l k a) can =
     let repeated = laws.rows.repeated row a can.sound can.few_repeats in
     let rolled = laws.rows.rolled (repeated_row row a) (row_block c row).hi repeated (block_within laws c row some can.sound can.unfinished) (can.below_limit tt) in
@@ -83,7 +85,7 @@ pub next-is : (laws : LawsBelow) (c : ℕ) (row : Row) (e : Event) → 1 ≤ c �
 next-is laws c row (Plan n k) some can = refl
 next-is laws c row (Begin l p) some can = refl
 next-is laws c row (Commit l d w a) some can =
-    commit-is laws c row some can.sound can.unfinished l d w a (commit_facts laws c row d w can.commit)
+    commit-is laws c row some can.sound can.unfinished l d w a (commit_facts laws c row (counts_in d) w can.commit)
 next-is laws c row (Roll l k a) some can = refl
 next-is laws c row (Fail l k a) some can = refl
 next-is laws c row (Drop l) some can = refl

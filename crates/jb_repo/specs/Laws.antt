@@ -6,7 +6,9 @@ use Rattle.jb_rules.specs.declared.row.Row.{Row}
 use Rattle.jb_rules.specs.declared.row.RowState.TheVariants.{Waiting, Running}
 use Rattle.jb_base.specs.declared.class.ClassId.{ClassId}
 use Rattle.jb_cert.specs.declared.certificates.Certificate.{Certificate}
+use Rattle.jb_repo.specs.declared.deltas.Delta.{Delta}
 use Rattle.jb_repo.specs.declared.events.Event.{Event}
+use Rattle.jb_repo.specs.Deltas.{counts_in}
 use Rattle.jb_repo.specs.declared.events.Event.TheVariants.{Plan, Begin, Commit, Roll, Fail, Drop, Round, Stop}
 use Rattle.jb_base.specs.Limits.{max_retry_limit, max_events}
 use Rattle.jb_repo.specs.declared.refused.Refused.TheVariants.{BadDelta, BadPlan}
@@ -101,7 +103,7 @@ RowsAreSound = (j : Journal) → IsReplayable j → (p : ℕ) (row : Row) → ro
 -- what an event changes in the row of the partition that it is about
 abbrev pub next_row : ℕ → Row → Event → Row
 next_row item_count row (Begin lane partition) = begun_row row lane
-next_row item_count row (Commit lane delta written again) = committed_row (repeated_row row again) (row_block item_count row).hi delta
+next_row item_count row (Commit lane delta written again) = committed_row (repeated_row row again) (row_block item_count row).hi (counts_in delta)
 next_row item_count row (Roll lane class again) = dropped_row (rolled_row (repeated_row row again) (row_block item_count row).hi)
 next_row item_count row (Fail lane class again) = failed_row (repeated_row row again)
 next_row item_count row (Drop lane) = dropped_row row
@@ -150,8 +152,8 @@ pub record TakesFirstBlock (j : Journal) (lane : ℕ) (delta : Counts) : Type 0 
 
 abbrev pub CommitsTakeFirstBlocks : Type 0
 CommitsTakeFirstBlocks =
-    (j : Journal) → IsReplayable j → (later past : List Event) (lane : ℕ) (delta : Counts) (written again : ℕ)
-    → j.past ≡ later ++ Commit lane delta written again ∷ past → TakesFirstBlock (with_past j past) lane delta
+    (j : Journal) → IsReplayable j → (later past : List Event) (lane : ℕ) (delta : Delta) (written again : ℕ)
+    → j.past ≡ later ++ Commit lane delta written again ∷ past → TakesFirstBlock (with_past j past) lane (counts_in delta)
 
 -- COMMITS
 
@@ -164,14 +166,14 @@ IsCommitOfNext item_count row delta written =
 abbrev pub GoodCommitsAreAccepted : Type 0
 GoodCommitsAreAccepted =
     (j : Journal) → IsReplayable j → (lane p : ℕ) (row : Row) → owner lane j.past ≡ Some p → row_of j p ≡ Some row
-    → (delta : Counts) (written again : ℕ) → again ≤ max_retry_limit → (refusal j (Commit lane delta written again) ≡ None) ↔ IsCommitOfNext j.item_count row delta written
+    → (delta : Delta) (written again : ℕ) → again ≤ max_retry_limit → (refusal j (Commit lane delta written again) ≡ None) ↔ IsCommitOfNext j.item_count row (counts_in delta) written
 
 -- .. and is BadDelta exactly where it isn't
 abbrev pub BadCommitsAreRefused : Type 0
 BadCommitsAreRefused =
     (j : Journal) → IsReplayable j → (lane p : ℕ) (row : Row) → owner lane j.past ≡ Some p → row_of j p ≡ Some row
-    → (delta : Counts) (written again : ℕ) → again ≤ max_retry_limit
-    → (refusal j (Commit lane delta written again) ≡ Some BadDelta) ↔ (IsCommitOfNext j.item_count row delta written → ⊥)
+    → (delta : Delta) (written again : ℕ) → again ≤ max_retry_limit
+    → (refusal j (Commit lane delta written again) ≡ Some BadDelta) ↔ (IsCommitOfNext j.item_count row (counts_in delta) written → ⊥)
 
 -- the rows count as many commits as there are Commits, beside those that they were opened with
 abbrev pub CommitsAreCounted : Type 0

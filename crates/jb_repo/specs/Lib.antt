@@ -1,4 +1,5 @@
 pub mod History
+pub mod Deltas
 pub mod Rows
 pub mod Table
 pub mod Answers

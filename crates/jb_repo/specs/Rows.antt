@@ -6,6 +6,7 @@ use Rattle.jb_rules.specs.declared.row.Row.{Row}
 use Rattle.jb_rules.specs.declared.row.RowState.{RowState}
 use Rattle.jb_rules.specs.declared.row.RowState.TheVariants.{Waiting, Running, Failed}
 use Rattle.jb_repo.specs.declared.events.Event.{Event}
+use Rattle.jb_repo.specs.Deltas.{counts_in}
 use Rattle.jb_repo.specs.declared.events.Event.TheVariants.{Begin, Commit, Roll, Fail, Drop}
 use Rattle.jb_rules.specs.Counts.{plus_counts, no_counts}
 use Rattle.jb_plan.specs.Blocks.{next_block}
@@ -17,7 +18,7 @@ one_rollback = record no_counts { rollback = 1 }
 
 -- what an own event adds to the counts: a Commit its delta, a Roll or a Fail one rollback
 abbrev pub gain : Event → Counts
-gain (Commit lane delta written again) = delta
+gain (Commit lane delta written again) = counts_in delta
 gain (Roll lane class again) = one_rollback
 gain (Fail lane class again) = one_rollback
 gain _ = no_counts

@@ -5,6 +5,7 @@ use Rattle.jb_rules.specs.declared.row.Row.{Row}
 use Rattle.jb_cert.specs.declared.certificates.Certificate.{Certificate}
 use Rattle.jb_base.specs.declared.class.ClassId.{ClassId}
 use Rattle.jb_repo.specs.declared.events.Event.{Event}
+use Rattle.jb_repo.specs.Deltas.{counts_in}
 use Rattle.jb_repo.specs.declared.events.Event.TheVariants.{Plan, Begin, Commit, Roll, Fail, Drop, Round, Stop}
 use Rattle.jb_repo.specs.declared.refused.Refused.{Refused}
 use Rattle.jb_repo.specs.declared.refused.Refused.TheVariants.{Stopping, NoPartition, LaneRange, LaneBusy, NotIdle, NotRunning, BadDelta, StillRunning, PastPlan, BadPlan, Full}
@@ -113,7 +114,7 @@ conditions j (Begin lane partition) =
 conditions j (Commit lane delta written again) =
     (nat_le j.threads lane, LaneRange)
     ∷ (is_none (owner lane j.past), NotRunning)
-    ∷ (not (is_good_commit j (owner lane j.past) delta written) || nat_lt max_retry_limit again, BadDelta)
+    ∷ (not (is_good_commit j (owner lane j.past) (counts_in delta) written) || nat_lt max_retry_limit again, BadDelta)
     ∷ []
 conditions j (Roll lane class again) = undone_conditions j lane again
 conditions j (Fail lane class again) = undone_conditions j lane again

@@ -7,6 +7,7 @@ use Rattle.jb_rules.specs.declared.row.RowState.TheVariants.{Waiting, Finished, 
 use Rattle.jb_cert.specs.declared.certificates.Certificate.TheVariants.{Nothing, Longest, FullLoad}
 use Rattle.jb_base.specs.declared.class.ClassId.{ClassId}
 use Rattle.jb_repo.specs.declared.events.Event.{Event}
+use Rattle.jb_repo.specs.Deltas.{delta_of}
 use Rattle.jb_repo.specs.declared.events.Event.TheVariants.{Plan, Begin, Commit, Roll, Fail, Drop, Round, Stop}
 use Rattle.jb_repo.specs.declared.refused.Refused.{Refused}
 use Rattle.jb_repo.specs.declared.refused.Refused.TheVariants.{Stopping, NoPartition, LaneRange, LaneBusy, NotIdle, NotRunning, BadDelta, StillRunning, PastPlan, BadPlan}
@@ -33,10 +34,10 @@ begins =
 
 -- both commits, in either order
 abbrev pub commits : (first second : ℕ) → List Event
-commits first second = Commit first two_records 1 0 ∷ Commit first two_records 2 0 ∷ Commit second two_records 2 0 ∷ []
+commits first second = Commit first (delta_of two_records) 1 0 ∷ Commit first (delta_of two_records) 2 0 ∷ Commit second (delta_of two_records) 2 0 ∷ []
 
 abbrev pub ends : List Event
-ends = Commit 0 two_records 2 0 ∷ Round ∷ Round ∷ Stop ∷ Plan 0 Nothing ∷ []
+ends = Commit 0 (delta_of two_records) 2 0 ∷ Round ∷ Round ∷ Stop ∷ Plan 0 Nothing ∷ []
 
 abbrev pub walk : (first second : ℕ) → List Event
 walk first second = begins ++ commits first second ++ ends
@@ -61,7 +62,7 @@ rollback class =
 
 -- a chunk that is given up: the plan is closed after its round, and the row waits where it was
 abbrev pub given_up : List Event
-given_up = Plan 1 (Longest 0) ∷ Begin 0 0 ∷ Begin 1 1 ∷ Commit 0 two_records 2 0 ∷ Drop 1 ∷ Round ∷ []
+given_up = Plan 1 (Longest 0) ∷ Begin 0 0 ∷ Begin 1 1 ∷ Commit 0 (delta_of two_records) 2 0 ∷ Drop 1 ∷ Round ∷ []
 
 -- partition 0 is rolled back, and partition 1 fails
 abbrev pub one_failed : (rolled failed : ClassId) → List Event
@@ -76,7 +77,7 @@ two_rounds = opened_journal (fresh 0 4 ∷ fresh 4 8 ∷ []) 2 2
 -- the other chunk of the first round is ended by `ends`; then the next round
 abbrev pub ended_at_first : List Event → List Event
 ended_at_first ends =
-    Plan 2 FullLoad ∷ Begin 0 0 ∷ Begin 1 1 ∷ Commit 1 two_records 2 0 ∷ (ends ++ Round ∷ Begin 1 1 ∷ Round ∷ [])
+    Plan 2 FullLoad ∷ Begin 0 0 ∷ Begin 1 1 ∷ Commit 1 (delta_of two_records) 2 0 ∷ (ends ++ Round ∷ Begin 1 1 ∷ Round ∷ [])
 
 -- two partitions of three records each, two threads, chunks of one item: three rounds
 abbrev pub three_rounds : Journal
@@ -89,8 +90,8 @@ one_record_written = record no_counts { read = 1; write = 1; commit = 1 }
 -- the other chunk of the second round is ended by `ends`; then the third round
 abbrev pub ended_at_second : List Event → List Event
 ended_at_second ends =
-    Plan 3 (Longest 1) ∷ Begin 0 0 ∷ Begin 1 1 ∷ Commit 0 one_record_written 1 0 ∷ Commit 1 one_record_written 1 0 ∷ Round
-    ∷ Begin 0 1 ∷ Begin 1 0 ∷ Commit 0 one_record_written 2 0 ∷ (ends ++ Round ∷ Begin 0 1 ∷ Round ∷ [])
+    Plan 3 (Longest 1) ∷ Begin 0 0 ∷ Begin 1 1 ∷ Commit 0 (delta_of one_record_written) 1 0 ∷ Commit 1 (delta_of one_record_written) 1 0 ∷ Round
+    ∷ Begin 0 1 ∷ Begin 1 0 ∷ Commit 0 (delta_of one_record_written) 2 0 ∷ (ends ++ Round ∷ Begin 0 1 ∷ Round ∷ [])
 
 -- so many events are accepted, and then no chunk is begun and no round ends
 abbrev pub no_further : ℕ → List (Option Refused)
@@ -113,8 +114,8 @@ write_skipped written filtered = record no_counts { read = 2; write = written; c
 -- a skipped write call had results, writes none of them, and leaves the number of results
 abbrev pub skipped_writes : List Event
 skipped_writes =
-    Plan 1 (Longest 0) ∷ Begin 0 0 ∷ Commit 0 (write_skipped 1 0) 1 0 ∷ Commit 0 (write_skipped 0 2) 0 0 ∷ Commit 0 (write_skipped 0 0) 2 0
-    ∷ Commit 0 (write_skipped 0 1) 0 0 ∷ []
+    Plan 1 (Longest 0) ∷ Begin 0 0 ∷ Commit 0 (delta_of (write_skipped 1 0)) 1 0 ∷ Commit 0 (delta_of (write_skipped 0 2)) 0 0 ∷ Commit 0 (delta_of (write_skipped 0 0)) 2 0
+    ∷ Commit 0 (delta_of (write_skipped 0 1)) 0 0 ∷ []
 
 -- OTHER ENDS
 
@@ -150,10 +151,10 @@ pub record EndedPlans : Type 0 where
   pub rolled : (class : ClassId) → table_answers two_rounds (ended_at_first (Roll 0 class 0 ∷ [])) ≡ no_further 6
   pub failed : (class : ClassId) → table_answers two_rounds (ended_at_first (Fail 0 class 0 ∷ [])) ≡ no_further 6
   pub dropped : table_answers two_rounds (ended_at_first (Drop 0 ∷ [])) ≡ no_further 6
-  pub stopped : table_answers two_rounds (ended_at_first (Commit 0 two_records 2 0 ∷ Stop ∷ [])) ≡ stopping 7
-  pub committed : table_answers two_rounds (ended_at_first (Commit 0 two_records 2 0 ∷ [])) ≡ further 7
+  pub stopped : table_answers two_rounds (ended_at_first (Commit 0 (delta_of two_records) 2 0 ∷ Stop ∷ [])) ≡ stopping 7
+  pub committed : table_answers two_rounds (ended_at_first (Commit 0 (delta_of two_records) 2 0 ∷ [])) ≡ further 7
   pub later_rolled : (class : ClassId) → table_answers three_rounds (ended_at_second (Roll 1 class 0 ∷ [])) ≡ no_further 11
   pub later_failed : (class : ClassId) → table_answers three_rounds (ended_at_second (Fail 1 class 0 ∷ [])) ≡ no_further 11
   pub later_dropped : table_answers three_rounds (ended_at_second (Drop 1 ∷ [])) ≡ no_further 11
-  pub later_stopped : table_answers three_rounds (ended_at_second (Stop ∷ Commit 1 one_record_written 2 0 ∷ [])) ≡ stopping 12
-  pub later_committed : table_answers three_rounds (ended_at_second (Commit 1 one_record_written 2 0 ∷ [])) ≡ further 12
+  pub later_stopped : table_answers three_rounds (ended_at_second (Stop ∷ Commit 1 (delta_of one_record_written) 2 0 ∷ [])) ≡ stopping 12
+  pub later_committed : table_answers three_rounds (ended_at_second (Commit 1 (delta_of one_record_written) 2 0 ∷ [])) ≡ further 12

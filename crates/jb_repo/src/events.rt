@@ -5,9 +5,11 @@ ghost use Rattle.jb_repo.specs.History.{lane_of, begun_by};
 ghost use Rattle.jb_repo.specs.Answers.{places_of};
 ghost use Rattle.jb_repo.specs.Rows.{gain};
 
+use crate::deltas::Delta;
 use jb_base::ClassId;
 use jb_cert::Certificate;
 use jb_rules::Counts;
+use std::mem::size_of;
 
 /// An event of a step. Owners and partitions are numbered from 0; a lane stands for a thread of the step.
 #[derive(Clone, Copy, Debug, PartialEq, Eq)]
@@ -18,11 +20,11 @@ pub enum Event {
     Begin(u32, u32),
     /// The lane's chunk is committed: what it adds to the counts, how many results the writer holds then, and how often a
     /// call of it was repeated in place.
-    Commit(u32, Counts, u64, u64),
+    Commit(u32, Delta, u32, u32),
     /// The lane's chunk is rolled back to be retried, by a fault of this class, after so many repeats in place.
-    Roll(u32, ClassId, u64),
+    Roll(u32, ClassId, u32),
     /// The lane's partition has failed, by a fault of this class, after so many repeats in place.
-    Fail(u32, ClassId, u64),
+    Fail(u32, ClassId, u32),
     /// The lane gives its chunk up, and nothing was done.
     Drop(u32),
     /// A round is over.
@@ -30,6 +32,9 @@ pub enum Event {
     /// No plan is opened and no chunk begun from now on.
     Stop,
 }
+
+/// A history of a million chunks has some two million events, so each is to be small.
+const _: () = prove!(size_of::<Event>() <= 48);
 
 impl Event {
     /// The lane that the event names.
@@ -75,7 +80,7 @@ impl Event {
         ensures { result ≡ gain self.now }
     {
         match *self {
-            Event::Commit(_, delta, _, _) => delta,
+            Event::Commit(_, delta, _, _) => delta.counts(),
             Event::Roll(_, _, _) | Event::Fail(_, _, _) => Counts {
                 rollback: 1,
                 ..Counts::ZERO

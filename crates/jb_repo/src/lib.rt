@@ -3,13 +3,14 @@
 //! A repository is the replay of the history that it accepted: the rows are what the list of accepted events says of
 //! them. An event is accepted, or it is refused by the first reason of a fixed order and changes nothing.
 //!
-//! - `events`: what may happen, and `refused`: why an event is refused.
+//! - `events`: what may happen, with `deltas`: what a commit adds; and `refused`: why an event is refused.
 //! - `repository`: the repository itself; `snapshot`: what it shows of itself; `opening`: what it may be opened with.
 //! - `laws`: what holds of every list of events.
 //! - `run`: the answers to a whole list of events.
 //! - `projection`: what the history says now, kept beside it: `owners`, `marks`, `plan_progress`, `failures`, and the rows by `table` and `steps`.
 #![tactic(auto)]
 
+mod deltas;
 mod events;
 mod failures;
 mod laws;
@@ -25,6 +26,7 @@ mod snapshot;
 mod steps;
 mod table;
 
+pub use deltas::Delta;
 pub use events::Event;
 pub use laws::{
     commits_are_consecutive, commits_are_counted, commits_are_judged, commits_take_first_blocks,

@@ -34,14 +34,14 @@ pub fn stepped(row: Row, event: Event, item_count: u64) -> Row
     match event {
         Event::Begin(lane, _) => row.begun(lane),
         Event::Commit(_, delta, _, again) => {
-            row.repeated(again)
-                .committed(row.block(item_count).hi, &delta)
+            row.repeated(u64::from(again))
+                .committed(row.block(item_count).hi, &delta.counts())
         }
         Event::Roll(_, _, again) => row
-            .repeated(again)
+            .repeated(u64::from(again))
             .rolled(row.block(item_count).hi)
             .dropped(),
-        Event::Fail(_, _, again) => row.repeated(again).failed(),
+        Event::Fail(_, _, again) => row.repeated(u64::from(again)).failed(),
         Event::Drop(_) => row.dropped(),
         Event::Plan(_, _) | Event::Round | Event::Stop => row,
     }

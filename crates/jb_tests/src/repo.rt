@@ -3,6 +3,7 @@
 ghost use Rattle.std.specs.Prelude.{◌≡◌, ◌∷◌, [], Some, None};
 ghost use Rattle.jb_rules.specs.Counts.{no_counts};
 ghost use Rattle.jb_base.specs.declared.class.ClassId.{ClassId};
+ghost use Rattle.jb_repo.specs.Deltas.{delta_of};
 ghost use Rattle.jb_repo.specs.Rows.{total_counts};
 ghost use Rattle.jb_repo.specs.Table.{rows_of};
 ghost use Rattle.jb_repo.specs.Worked.{table_answers, journal_after};
@@ -37,8 +38,8 @@ fn worked_lists()
 /// The same of repeats in place: as many as an attempt makes, and one more; and a row with room for those of one more chunk, and one
 /// that has too many before.
 fn worked_repeats()
-    ensures few { (class : ClassId) → table_answers two_partitions (Event.Plan 1 (Certificate.Longest 0) ∷ Event.Begin 0 0 ∷ Event.Begin 1 1 ∷ Event.Commit 0 two_records 2 100000 ∷ Event.Roll 1 class 100000 ∷ []) ≡ None ∷ None ∷ None ∷ None ∷ None ∷ [] }
-    ensures many { (class : ClassId) → table_answers two_partitions (Event.Plan 1 (Certificate.Longest 0) ∷ Event.Begin 0 0 ∷ Event.Commit 0 two_records 2 100001 ∷ Event.Roll 0 class 100001 ∷ Event.Fail 0 class 100001 ∷ []) ≡ None ∷ None ∷ Some Refused.BadDelta ∷ Some Refused.BadDelta ∷ Some Refused.BadDelta ∷ [] }
+    ensures few { (class : ClassId) → table_answers two_partitions (Event.Plan 1 (Certificate.Longest 0) ∷ Event.Begin 0 0 ∷ Event.Begin 1 1 ∷ Event.Commit 0 (delta_of two_records) 2 100000 ∷ Event.Roll 1 class 100000 ∷ []) ≡ None ∷ None ∷ None ∷ None ∷ None ∷ [] }
+    ensures many { (class : ClassId) → table_answers two_partitions (Event.Plan 1 (Certificate.Longest 0) ∷ Event.Begin 0 0 ∷ Event.Commit 0 (delta_of two_records) 2 100001 ∷ Event.Roll 0 class 100001 ∷ Event.Fail 0 class 100001 ∷ []) ≡ None ∷ None ∷ Some Refused.BadDelta ∷ Some Refused.BadDelta ∷ Some Refused.BadDelta ∷ [] }
     ensures room { let repeated = record one_record { opening = record (fresh 0 1) { retries = 999999900000; in_place = 999999900000 } ∷ [] } in
         table_answers repeated (Event.Plan 1 (Certificate.Longest 0) ∷ Event.Begin 0 0 ∷ []) ≡ None ∷ None ∷ [] }
     ensures no_room { let repeated = record one_record { opening = record (fresh 0 1) { retries = 999999900001; in_place = 999999900001 } ∷ [] } in
@@ -46,15 +47,22 @@ fn worked_repeats()
     ensures counted { (class : ClassId) → rows_of (journal_after one_record (Event.Plan 1 (Certificate.Longest 0) ∷ Event.Begin 0 0 ∷ Event.Roll 0 class 3 ∷ [])) ≡ record (fresh 0 1) { redo = 1; retries = 4; counts = record no_counts { rollback = 1 }; in_place = 3 } ∷ [] }
 {}
 
-const TWO_RECORDS: Counts = Counts {
-    read: 2,
-    write: 2,
+/// What a chunk of one written record adds.
+const ONE_RECORD: Delta = Delta {
+    read: 1,
+    write: 1,
     commit: 1,
     rollback: 0,
     read_skip: 0,
     process_skip: 0,
     filter: 0,
     write_skip: 0,
+};
+
+const TWO_RECORDS: Delta = Delta {
+    read: 2,
+    write: 2,
+    ..ONE_RECORD
 };
 
 /// Fresh rows of these ranges.
@@ -161,6 +169,15 @@ fn is_after_the_walk(shown: &Snapshot) -> bool {
     shown.totals == FOUR_RECORDS && shown.events == 7 && shown.plans == 1 && shown.stopping
 }
 
+/// Whether there is a delta of the counts, which adds just them; where there is none, whether one of them has more than 32 bits.
+fn is_kept(counts: &Counts, fits: bool) -> bool {
+    if Delta::fits(counts) {
+        fits && Delta::new(counts).counts() == *counts
+    } else {
+        !fits
+    }
+}
+
 /// Whether the repository shows these rows.
 fn has_rows(repo: &Repo, rows: &[Row]) -> Result<bool, AllocError> {
     let shown = repo.snapshot()?;
@@ -175,11 +192,30 @@ fn both_orders(rt: HostRuntime) -> Result<(), AllocError> {
     assert!(rt; one.history() != other.history() && one.totals() == FOUR_RECORDS);
     let shown = one.snapshot()?;
     assert!(rt; is_after_the_walk(&shown) && has_rows(&other, &shown.rows)?);
+    let filter = 1 << 32;
+    assert!(rt;
+        is_kept(
+            &Counts {
+                filter: filter - 1,
+                ..FOUR_RECORDS
+            },
+            true
+        )
+    );
+    assert!(rt;
+        is_kept(
+            &Counts {
+                filter,
+                ..FOUR_RECORDS
+            },
+            false
+        )
+    );
     Ok(())
 }
 
 /// The most repeats in place that an attempt makes.
-const MOST_REPEATS: u64 = 100_000;
+const MOST_REPEATS: u32 = 100_000;
 
 /// Events on two partitions, with each refusal of each event. One repeat in place too many is looked at last.
 fn refusals() -> [Answered; 36] {
@@ -299,14 +335,6 @@ fn a_rollback_ends_the_plan(rt: HostRuntime) -> Result<(), AllocError> {
     Ok(())
 }
 
-/// What a chunk of one written record adds.
-const ONE_RECORD: Counts = Counts {
-    read: 1,
-    write: 1,
-    commit: 1,
-    ..Counts::ZERO
-};
-
 /// The first of two rounds, in which lane 1 has committed its chunk.
 fn in_the_first_round() -> [Answered; 4] {
     [
@@ -388,21 +416,20 @@ fn plans_ended_with_rounds_left(rt: HostRuntime) -> Result<(), AllocError> {
 /// A chunk whose write call was skipped has a result, none of them written.
 fn skipped_writes() -> [Answered; 6] {
     let bad = Some(Refused::BadDelta);
-    let skipped = Counts {
-        read: 2,
-        commit: 1,
-        write_skip: 1,
-        ..Counts::ZERO
-    };
-    let one_written = Counts {
+    let one_written = Delta {
         write: 1,
-        ..skipped
+        write_skip: 1,
+        ..TWO_RECORDS
     };
-    let all_filtered = Counts {
+    let skipped = Delta {
+        write: 0,
+        ..one_written
+    };
+    let all_filtered = Delta {
         filter: 2,
         ..skipped
     };
-    let one_filtered = Counts {
+    let one_filtered = Delta {
         filter: 1,
         ..skipped
     };
@@ -624,7 +651,7 @@ fn memory_refused_before_each_end(rt: HostRuntime) {
 /// Whether the repository shows six events that wrote two records, the second time if it found no memory before.
 fn shows_two_records(repo: &Repo) -> bool {
     match repo.snapshot() {
-        Ok(shown) => shown.events == 6 && shown.totals == TWO_RECORDS,
+        Ok(shown) => shown.events == 6 && shown.totals == TWO_RECORDS.counts(),
         Err(_) => repo.snapshot().is_ok(),
     }
 }

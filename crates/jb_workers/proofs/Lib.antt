@@ -1,4 +1,5 @@
 pub mod Entering
+pub mod Fitting
 pub mod Rounds
 pub mod SingleWork
 pub mod Rising

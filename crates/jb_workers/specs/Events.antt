@@ -2,6 +2,7 @@
 use Rattle.std.specs.Prelude.{ℕ, if◌then◌else◌, List}
 use Rattle.jb_chunk.specs.declared.outcome.Outcome.{Outcome}
 use Rattle.jb_chunk.specs.declared.outcome.Outcome.TheVariants.{Committed, Rolled, Failed, NoMemory}
+use Rattle.jb_repo.specs.Deltas.{delta_of}
 use Rattle.jb_repo.specs.declared.events.Event.{Event}
 use Rattle.jb_repo.specs.declared.events.Event.TheVariants.{Commit, Roll, Fail, Drop}
 use Rattle.jb_repo.specs.History.{is_commit, number}
@@ -9,7 +10,7 @@ use Rattle.jb_repo.specs.History.{is_commit, number}
 -- the event by which a lane's attempt enters the history; `written` is the row's number of results after the attempt, `again`
 -- how often it repeated a call in place
 abbrev pub event_of : (lane : ℕ) → Outcome → (written again : ℕ) → Event
-event_of lane (Committed delta) written again = Commit lane delta written again
+event_of lane (Committed counts) written again = Commit lane (delta_of counts) written again
 event_of lane (Rolled class) written again = Roll lane class again
 event_of lane (Failed class) written again = Fail lane class again
 event_of lane NoMemory written again = Drop lane

@@ -8,7 +8,7 @@
 //! - `pool`: workers that are kept between rounds.
 //! - `round`: a round of works, each done in a thread of its own but one; `round::order` puts the works in order,
 //!   `round::threads` does them by a pool, `round::scoped` makes one for the round, and `round::report` gathers what came of them.
-//! - `laws`: what an attempt's event makes of a row.
+//! - `laws`: what an attempt's event makes of a row, and that its numbers fit in one.
 #![tactic(auto)]
 
 mod desk;

@@ -10,6 +10,7 @@ pub(crate) mod lane_work;
 
 use crate::desk::Desk;
 use crate::gate::Gate;
+use crate::laws::attempts_fit;
 use crate::round::RoundError;
 use crate::worker::entry::event_of;
 use crate::worker::lane_work::Work;
@@ -54,6 +55,7 @@ pub fn work<L: Ledger, T: PartitionTask, G: Gate, R: Wait>(
         return (Err(RoundError::Refused(Refused::Full)), share);
     }
     let done = task.attempt(alloc);
+    attempts_fit();
     let event = event_of(lane, done.outcome, done.task.row().written, done.again);
     let ended = desk.end(rt, lane, event, &mut share);
     gate.leave(lane, round);

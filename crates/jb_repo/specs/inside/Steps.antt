@@ -4,6 +4,7 @@ use Rattle.jb_rules.specs.declared.row.Row.{Row}
 use Rattle.jb_base.specs.Limits.{max_rollbacks, max_in_place}
 use Rattle.jb_rules.specs.Sound.{IsSoundRow}
 use Rattle.jb_repo.specs.declared.events.Event.{Event}
+use Rattle.jb_repo.specs.Deltas.{counts_in}
 use Rattle.jb_repo.specs.declared.events.Event.TheVariants.{Commit, Roll, Fail, Drop}
 use Rattle.jb_repo.specs.Rows.{repeats_in}
 use Rattle.jb_repo.specs.Table.{is_commit_of}
@@ -19,7 +20,7 @@ IsOutcome _ = ⊥
 
 -- where the event is a Commit, it is one of the row's next block
 abbrev pub IsCommit : ℕ → Row → Event → Type 0
-IsCommit item_count row (Commit lane delta written again) = is_commit_of item_count row delta written ≡ true
+IsCommit item_count row (Commit lane delta written again) = is_commit_of item_count row (counts_in delta) written ≡ true
 IsCommit item_count row _ = Unit {0}
 
 -- the row is sound and has a next block, and where the event is an outcome the row isn't at its limit of rollbacks, nor

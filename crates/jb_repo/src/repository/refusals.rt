@@ -3,13 +3,13 @@
 ghost use Rattle.std.specs.Prelude.{◌≡◌, ◌<◌, ◌≤◌, length};
 ghost use Rattle.jb_repo.specs.Table.{refusal, first_refusal, outcome_conditions, undone_conditions};
 
+use crate::deltas::Delta;
 use crate::events::Event;
 use crate::refused::Refused;
 use crate::repository::Repo;
 use crate::table::{is_at_limit, is_ended};
 use jb_base::MAX_RETRY_LIMIT;
 use jb_cert::Certificate;
-use jb_rules::Counts;
 
 impl Repo {
     fn plan_refusal(&self, rounds: u64, certificate: Certificate) -> Option<Refused>
@@ -51,14 +51,16 @@ impl Repo {
         }
     }
 
-    fn commit_refusal(&self, lane: u32, delta: Counts, written: u64, again: u64) -> Option<Refused>
+    fn commit_refusal(&self, lane: u32, delta: Delta, written: u32, again: u32) -> Option<Refused>
         ensures { result ≡ refusal self.now (Event.Commit lane delta written again) }
     {
         if lane >= self.threads {
             Some(Refused::LaneRange)
         } else if self.owner(lane).is_none() {
             Some(Refused::NotRunning)
-        } else if !self.is_good_commit(lane, delta, written) || again > MAX_RETRY_LIMIT {
+        } else if !self.is_good_commit(lane, delta.counts(), u64::from(written))
+            || u64::from(again) > MAX_RETRY_LIMIT
+        {
             Some(Refused::BadDelta)
         } else {
             None
@@ -66,14 +68,14 @@ impl Repo {
     }
 
     /// A chunk that was rolled back, or failed, after so many repeats.
-    fn undone_refusal(&self, lane: u32, again: u64) -> Option<Refused>
+    fn undone_refusal(&self, lane: u32, again: u32) -> Option<Refused>
         ensures { result ≡ first_refusal (undone_conditions self.now lane again) }
     {
         if lane >= self.threads {
             Some(Refused::LaneRange)
         } else if self.owner(lane).is_none() {
             Some(Refused::NotRunning)
-        } else if again > MAX_RETRY_LIMIT {
+        } else if u64::from(again) > MAX_RETRY_LIMIT {
             Some(Refused::BadDelta)
         } else {
             None

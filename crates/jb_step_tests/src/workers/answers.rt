@@ -18,7 +18,7 @@ use jb_artifacts::{
 use jb_base::{ArtifactError, ClassId, MAX_PARTS, MAX_ROLLBACKS, Rules};
 use jb_cert::Certificate;
 use jb_chunk::{Done, Outcome, PartitionTask, Task};
-use jb_repo::{Event, Refused, Snapshot};
+use jb_repo::{Delta, Event, Refused, Snapshot};
 use jb_rules::{Counts, Row, RowState};
 use jb_workers::{Desk, Gate, RoundError, Work, work};
 use std::alloc::{AllocError, Global};
@@ -35,6 +35,18 @@ const TWO_WRITTEN: Counts = Counts {
     write: 2,
     commit: 1,
     ..Counts::ZERO
+};
+
+/// The same as a history keeps it.
+const TWO_KEPT: Delta = Delta {
+    read: 2,
+    write: 2,
+    commit: 1,
+    rollback: 0,
+    read_skip: 0,
+    process_skip: 0,
+    filter: 0,
+    write_skip: 0,
 };
 
 /// The task of partition 0.
@@ -68,7 +80,7 @@ type History = [Option<Event>; 6];
 const PLAN: Event = Event::Plan(1, Certificate::FullLoad);
 
 /// The end of partition 0 on lane 0 where both its letters are written.
-const WRITTEN: Event = Event::Commit(0, TWO_WRITTEN, 2, 0);
+const WRITTEN: Event = Event::Commit(0, TWO_KEPT, 2, 0);
 
 /// A round of both partitions, of which the first ends so.
 fn both(end: Event) -> History {
@@ -77,7 +89,7 @@ fn both(end: Event) -> History {
         Some(Event::Begin(0, 0)),
         Some(Event::Begin(1, 1)),
         Some(end),
-        Some(Event::Commit(1, TWO_WRITTEN, 2, 0)),
+        Some(Event::Commit(1, TWO_KEPT, 2, 0)),
         Some(Event::Round),
     ]
 }
@@ -203,7 +215,7 @@ fn cases() -> [Case; 12] {
             lane: 2,
             answer: Err(RoundError::Refused(Refused::LaneRange)),
             calls: 2,
-            history: one(1, 1, Event::Commit(1, TWO_WRITTEN, 2, 0), None),
+            history: one(1, 1, Event::Commit(1, TWO_KEPT, 2, 0), None),
             ..sound
         },
         Case {
