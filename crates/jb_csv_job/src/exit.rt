@@ -1,11 +1,17 @@
 //! The exit status.
 
+ghost use Rattle.std.specs.Prelude.{◌≡◌, IfOk, OnErr};
+ghost use Rattle.std.specs.Process.{exit_status};
+
 use crate::failure::{Failure, FailureText};
 use crate::job::CsvJob;
 use std::process::ExitCode;
 
 /// The exit status of a job's answer: 0 for COMPLETED, 1 for FAILED, and 3 where there is none, which a line on standard error says why.
-pub fn exit_code<T: Eprint>(rt: &T, job: &CsvJob, answer: Result<u8, Failure>) -> ExitCode {
+pub fn exit_code<T: Eprint>(rt: &T, job: &CsvJob, answer: Result<u8, Failure>) -> ExitCode
+    ensures answered { IfOk answer (λ status. exit_status result ≡ status) }
+    ensures refused { OnErr answer (exit_status result ≡ 3) }
+{
     match answer {
         Ok(status) => ExitCode::from(status),
         Err(failure) => {

@@ -1,12 +1,17 @@
 //! The words of the command line, and the file that they name.
 
-ghost use Rattle.std.specs.Prelude.{◌≤◌};
+ghost use Rattle.std.specs.Prelude.{◌≤◌, IfOk};
 ghost use Rattle.jb_base.specs.Limits.{max_threads};
+ghost use Rattle.jb_store.specs.Checkpoints.{Has, ShowsList};
+ghost use Rattle.jb_store.specs.Connections.{IsJustOpened};
+ghost use Rattle.sqlite.specs.Files.{HoldsDatabase, file_state};
+ghost use Rattle.sqlite.specs.State.{HasCleanDisk};
+ghost use Rattle.sqlite_wal.specs.Files.{image_at};
 
 use crate::failure::Failure;
 use jb_base::MAX_THREADS;
 use jb_store::connect;
-use sqlite::{Connection, FileFrom, FileStore, Wary};
+use sqlite::{Connection, FileFrom, FileStore, Start, Wary};
 use std::env;
 
 /// What the command line asks: `THREADS FILE`.
@@ -32,7 +37,10 @@ fn words_of(rt: &HostRuntime) -> Result<Asked, Failure> {
 
 /// The words of the command line, and a connection to the file that they name. It is made where there is none, with its log beside it; a
 /// second process that opens it is refused.
-pub fn opened(rt: &HostRuntime) -> Result<(Asked, Connection<FileStore<FileFrom<Wary>>>), Failure> {
+pub fn opened(rt: &HostRuntime) -> Result<(Asked, Connection<FileStore<FileFrom<Wary>>>), Failure>
+    ensures opened { IfOk result (λ r. HasCleanDisk (file_state r.1) → IsJustOpened (file_state r.1)) }
+    ensures found { IfOk result (λ r. HasCleanDisk (file_state r.1) → (db : _) (all : _) → HoldsDatabase (image_at ⟦<Wary as Start>⟧) db → Has db all → ShowsList (file_state r.1).now all) }
+{
     let asked = words_of(rt)?;
     let conn = connect(rt, asked.file.as_str(), Wary)?;
     Ok((asked, conn))

@@ -1,6 +1,6 @@
 //! The run of a job over CSV.
 
-ghost use Rattle.std.specs.Prelude.{◌≡◌, ◌≤◌, ℕ, List, IfOk, OnOk};
+ghost use Rattle.std.specs.Prelude.{◌≡◌, ◌≤◌, ◌⊎◌, ℕ, List, IfOk};
 ghost use Rattle.sqlite.specs.Held.{state};
 ghost use Rattle.sqlite.specs.State.{HasCleanDisk};
 ghost use Rattle.jb_base.specs.Limits.{max_threads_asked};
@@ -64,10 +64,13 @@ pub fn run_csv_job<
         → IsJobSoFar (F.function function) (job_form job.now) (R.remaining reader.old) all
         → IfOk result (λ status. status ≡ 0 → IsDone (F.function function) (R.remaining reader.old) (W.contents writer.old) (W.contents writer.new)) }
 
-    // With any status they are those of each partition's records before its checkpoint.
+    // With any status they are those of each partition's records before its checkpoint, and the status is that of the rows.
     ensures so_far { HasCleanDisk (state S.Store conn.new) → IsJustOpened (state S.Store conn.old) → (all : List Kept) → ShowsList (state S.Store conn.old).now all
         → IsJobSoFar (F.function function) (job_form job.now) (R.remaining reader.old) all
-        → OnOk result (IsDoneSoFar (F.function function) (R.remaining reader.old) (W.contents writer.old) (W.contents writer.new)) }
+        → IfOk result (IsDoneSoFar (F.function function) (R.remaining reader.old) (W.contents writer.old) (W.contents writer.new)) }
+
+    // It is 0 or 1.
+    ensures status { IfOk result (λ status. (status ≡ 0) ⊎ (status ≡ 1)) }
 
     // At any moment a crash leaves such checkpoints again.
     ensures crash { HasCleanDisk (state S.Store conn.new) → IsJustOpened (state S.Store conn.old) → (all : List Kept) → ShowsList (state S.Store conn.old).now all

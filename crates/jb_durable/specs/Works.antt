@@ -1,5 +1,5 @@
 -- Work that goes on from its checkpoints.
-use Rattle.std.specs.Prelude.{◌≡◌, ◌↔◌, ℕ, List, [], ◌∷◌, ◌++◌, length, Option, Some, None}
+use Rattle.std.specs.Prelude.{◌≡◌, ◌↔◌, ◌≤◌, ◌-◌, ◌^◌, ℕ, List, [], ◌∷◌, ◌++◌, length, Option, Some, None}
 use Rattle.sqlite.specs.State.{State}
 use Rattle.jb_store.specs.declared.checkpoint.Checkpoint.{Checkpoint}
 use Rattle.jb_store.specs.Checkpoints.{Kept, kept}
@@ -20,3 +20,9 @@ pub record StandsAt (so_far stands : List Kept → Type 0) (s : State) (count : 
   pub run : so_far all
   pub place : stands all
   pub number : count ≡ length all
+
+-- a run so far has each number that a checkpoint may have
+pub record HasEachNumber (so_far : List Kept → Type 0) : Type 0 where
+  pub all : List Kept
+  pub run : so_far all
+  pub full : 2 ^ 32 - 1 ≤ length all

@@ -1,10 +1,11 @@
 //! Stretch after stretch, each kept before the next begins.
 
-ghost use Rattle.std.specs.Prelude.{◌≡◌, ◌≤◌, List, IfOk, IsTrue, false};
+ghost use Rattle.std.specs.Prelude.{◌≡◌, ◌≤◌, ◌+◌, ◌-◌, ◌^◌, List, length, IfErr, IfOk, IsTrue, false, true};
 ghost use Rattle.jb_store.specs.Checkpoints.{Has, Kept, ShowsList};
 ghost use Rattle.jb_store.specs.Connections.{IsJustOpened, Keeps};
 ghost use Rattle.jb_durable.specs.Files.{IsOfARun};
-ghost use Rattle.jb_durable.specs.Works.{IsSame, StandsAt};
+ghost use Rattle.jb_durable.specs.Works.{HasEachNumber, IsSame, StandsAt};
+ghost use Rattle.jb_durable.specs.declared.run.RunError.TheVariants.{TooMany};
 ghost use Rattle.sqlite.specs.Held.{state};
 ghost use Rattle.sqlite.specs.State.{HasCleanDisk};
 ghost use Rattle.sqlite_trees.specs.View.{doubt};
@@ -38,6 +39,8 @@ fn advance<R: Threads + Wait + Sync, W: Work, S: Alter>(
     ensures kept { HasCleanDisk (state S.Store conn.new) → (all : List Kept) → StandsAt (W.Work.is_so_far work.old) (W.Work.stands_at work.old) (state S.Store conn.old) count.old all
         → IfOk result (λ more. (now : List Kept) × StandsAt (W.Work.is_so_far work.old) (W.Work.stands_at work.new) (state S.Store conn.new) count.new now
         × (more ≡ false → W.Work.is_whole work.old now)) }
+    ensures counted { IfOk result (λ more. more ≡ true → count.new ≡ count.old + 1) }
+    ensures many { IfErr result (λ e. e ≡ TooMany → count.old ≡ 2 ^ 32 - 1) }
     ensures so_far { IsSame (W.Work.is_so_far work.old) (W.Work.is_so_far work.new) }
     ensures whole { IsSame (W.Work.is_whole work.old) (W.Work.is_whole work.new) }
     ensures clean { doubt (state S.Store conn.old).is_clean ≤ doubt (state S.Store conn.new).is_clean }
@@ -71,7 +74,9 @@ pub fn run_durably<R: Threads + Wait + Sync, W: Work, S: Alter>(
     ensures shown { IsJustOpened (state S.Store conn.old) → (all : List Kept) → Has (state S.Store conn.old).now.trees all → ShowsList (state S.Store conn.old).now all }
     ensures done { HasCleanDisk (state S.Store conn.new) → IsJustOpened (state S.Store conn.old) → (all : List Kept) → ShowsList (state S.Store conn.old).now all → W.Work.is_so_far work.old all
         → IfOk result (λ is_done. (now : List Kept) × Keeps (state S.Store conn.new) now × W.Work.is_so_far work.old now × W.Work.stands_at work.new now
-        × (IsTrue is_done → W.Work.is_whole work.old now)) }
+        × (IsTrue is_done → W.Work.is_whole work.old now) × (is_done ≡ false → length now ≡ length all + stretches)) }
+    ensures many { HasCleanDisk (state S.Store conn.new) → IsJustOpened (state S.Store conn.old) → (all : List Kept) → ShowsList (state S.Store conn.old).now all → W.Work.is_so_far work.old all
+        → IfErr result (λ e. e ≡ TooMany → HasEachNumber (W.Work.is_so_far work.old)) }
     ensures so_far { IsSame (W.Work.is_so_far work.old) (W.Work.is_so_far work.new) }
     ensures whole { IsSame (W.Work.is_whole work.old) (W.Work.is_whole work.new) }
     ensures clean { doubt (state S.Store conn.old).is_clean ≤ doubt (state S.Store conn.new).is_clean }

@@ -62,7 +62,7 @@ begun_behind f records id s stands anew = record {
 -- ---- a run that is taken up
 
 -- a list's last member is one
-one_last : (xs ys : List Kept) (x y : Kept) → xs ++ x ∷ [] ≡ ys ++ y ∷ [] → x ≡ y
+pub one_last : (xs ys : List Kept) (x y : Kept) → xs ++ x ∷ [] ≡ ys ++ y ∷ [] → x ≡ y
 one_last [] [] x y e = cc
 one_last [] (b ∷ []) x y e = let none : ⊥ = cc in absurd none
 one_last [] (b ∷ (c ∷ ys)) x y e = let none : ⊥ = cc in absurd none
@@ -234,7 +234,7 @@ stretches_in f step records first later done x all is so = go (subst (λ (d : Li
     go (own, inr stretches) = (own, stretches)
 
 -- a first checkpoint alone isn't a whole run's
-no_members : (before : List Kept) (last : Kept) → [] ≡ before ++ last ∷ [] → ⊥
+pub no_members : (before : List Kept) (last : Kept) → [] ≡ before ++ last ∷ [] → ⊥
 no_members [] last is = cc
 no_members (x ∷ before) last is = cc
 

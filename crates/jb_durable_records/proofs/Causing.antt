@@ -1,5 +1,7 @@
 -- Why a run has no end.
-use Rattle.std.proofs.Common.{ℕ, ◌≡◌, ◌≢◌, ◌⊎◌, inl, inr, List, [], ◌∷◌, ◌++◌, length, Result, Ok, Err, None, Some, IfErr, refl, sym, ap, subst, ◌∙◌}
+use Rattle.std.proofs.Common.{ℕ, ◌≡◌, ◌≢◌, ◌⊎◌, ◌≤◌, inl, inr, IsTrue, List, [], ◌∷◌, ◌++◌, length, Result, Ok, Err, None, Some, IfErr, refl, sym, ap, subst, ◌∙◌, arith}
+use Rattle.sqlite_disk.specs.Disk.{MoreFaults}
+use Rattle.sqlite.specs.State.{State}
 use Rattle.jb_job.specs.Reading.{tree_of}
 use Rattle.jb_base.specs.Causes.{IsCause}
 use Rattle.jb_saved.specs.Reading.{answer_of, cause_of}
@@ -17,10 +19,11 @@ use Rattle.jb_durable_records.specs.declared.coding.CodingError.{CodingError}
 use Rattle.jb_durable_records.specs.declared.coding.CodingError.TheVariants as coding
 use Rattle.jb_durable_records.specs.declared.error.DurableError.{DurableError}
 use Rattle.jb_durable_records.specs.declared.error.DurableError.TheVariants.{Damaged, Memory, OtherJob, OtherRecords, Step, Store, TooLong, TooMany}
-use Rattle.jb_durable_records.specs.Checkpoints.{AreCoded, IsOf, grown_by, no_results}
+use Rattle.jb_durable_records.specs.Checkpoints.{AreCoded, IsOf, IsRunSoFar, grown_by, no_results}
 use Rattle.jb_durable_records.specs.Coding.{IsCodable}
-use Rattle.jb_durable_records.proofs.Behind.{ok_once}
-use Rattle.jb_durable_records.specs.Refusals.{AreDamaged, IsCauseAfter, IsCauseOfNoEnd, IsGoneCause, IsTakenCause, named}
+use Rattle.jb_durable_records.proofs.Behind.{no_members, ok_once, one_last}
+use Rattle.jb_durable_records.proofs.Filing.{by_length, since}
+use Rattle.jb_durable_records.specs.Refusals.{AreDamaged, HasALongOne, IsCauseAfter, IsCauseOfNoEnd, IsDamaged, IsGoneCause, IsStretchCause, IsTakenCause, IsUntaken, OtherRun, named}
 
 -- a coding's refusals by their names
 pub damaged_named : (e : CodingError) (P Q : Type 0) → (P → Q) → (e ≡ coding.Memory) ⊎ (e ≡ coding.Damaged) × P → (named e ≡ Memory) ⊎ (named e ≡ Damaged) × Q
@@ -107,27 +110,77 @@ module _ (f : Function) (step : RecordsStep) (records : List (List ℕ)) where
   first_kept all first e is why =
       subst (λ (l : List Kept). IsTakenCause f step records l e) (sym is) (subst (λ (x : DurableError). IsTakenCause f step records (first ∷ []) x) (sym why.1) (inl (refl, why.2)))
 
-  -- ---- all of them
+  -- a refusal for what the checkpoints are
+  pub untaken_for : (old new : State) (all : List Kept) (e : DurableError) → IsTakenCause f step records all e → IsUntaken f step records old new all e
+  untaken_for old new all (Store e) c = absurd c
+  untaken_for old new all OtherJob c = c
+  untaken_for old new all OtherRecords c = c
+  untaken_for old new all Damaged c = c
+  untaken_for old new all TooLong c = c
+  untaken_for old new all (Step why) c = c
+  untaken_for old new all TooMany c = absurd c
+  untaken_for old new all Memory c = tt
 
-  pub taken_ends : (all : List Kept) (e : DurableError) → IsTakenCause f step records all e → IsCauseOfNoEnd f step records all e
-  taken_ends all (Store e) c = absurd c
-  taken_ends all OtherJob c = c
-  taken_ends all OtherRecords c = c
-  taken_ends all Damaged c = c
-  taken_ends all TooLong c = inl c
-  taken_ends all (Step why) c = inl c
-  taken_ends all TooMany c = absurd c
-  taken_ends all Memory c = tt
+  -- ---- of a run so far
 
-  pub gone_ends : (all : List Kept) (e : DurableError) → IsGoneCause f records e → IsCauseOfNoEnd f step records all e
-  gone_ends all (Store e) c = tt
-  gone_ends all OtherJob c = absurd c
-  gone_ends all OtherRecords c = absurd c
-  gone_ends all Damaged c = absurd c
-  gone_ends all TooLong c = inr c
-  gone_ends all (Step why) c = inr c
-  gone_ends all TooMany c = tt
-  gone_ends all Memory c = tt
+  -- its first checkpoint is of this run
+  not_others : (all : List Kept) → IsRunSoFar f step records all → OtherRun step records all → ⊥
+  not_others [] so other = elim other [ inl job ↦ job | inr records ↦ records ]
+  not_others (first ∷ later) so other = elim other [ inl job ↦ job so.0.form | inr over ↦ over.1 so.0.digest ]
+
+  -- and its later ones have results
+  not_damaged : (all : List Kept) → IsRunSoFar f step records all → IsDamaged all → ⊥
+  not_damaged [] so damaged = damaged
+  not_damaged (first ∷ later) (of, inl none) damaged = no_members damaged.before damaged.last (sym none ∙ damaged.last_is)
+  not_damaged (first ∷ later) (of, inr all) damaged =
+      let last : all.last ≡ damaged.last = one_last all.before damaged.before all.last damaged.last (sym all.last_is ∙ damaged.last_is) in
+      let held : all.held ≡ damaged.held = ok_once all.held damaged.held (sym all.read ∙ ap (λ (k : Kept). answer_of (tree_of k.saved)) last ∙ damaged.read) in
+      damaged.others all.news (subst (λ (h : SavedRows). AreCoded (length h.rows) later all.news) held all.coded)
+
+  pub taken_ends : (old new : State) (all : List Kept) → IsRunSoFar f step records all → (e : DurableError) → IsUntaken f step records old new all e → IsCauseOfNoEnd f step records old new all e
+  taken_ends old new all so (Store e) c = by_length (HasALongOne f step records) old new e c
+  taken_ends old new all so OtherJob c = not_others all so (inl c)
+  taken_ends old new all so OtherRecords c = not_others all so (inr c)
+  taken_ends old new all so Damaged c = not_damaged all so c
+  taken_ends old new all so TooLong c = inl c
+  taken_ends old new all so (Step why) c = inl c
+  taken_ends old new all so TooMany c = record { all = all; so_far = so; full = omega (arith, c) }
+  taken_ends old new all so Memory c = tt
+
+  pub gone_ends : (old mid new : State) → old.faults ≤ mid.faults → mid.faults ≤ new.faults → (IsTrue old.is_open → IsTrue mid.is_open ⊎ MoreFaults old.faults mid.faults)
+      → (all : List Kept) (e : DurableError) → IsGoneCause f step records mid new e → IsCauseOfNoEnd f step records old new all e
+  gone_ends old mid new before after shut all (Store e) c = since old mid new before after shut (HasALongOne f step records) e c
+  gone_ends old mid new before after shut all OtherJob c = absurd c
+  gone_ends old mid new before after shut all OtherRecords c = absurd c
+  gone_ends old mid new before after shut all Damaged c = absurd c
+  gone_ends old mid new before after shut all TooLong c = inr c
+  gone_ends old mid new before after shut all (Step why) c = inr c
+  gone_ends old mid new before after shut all TooMany c = c
+  gone_ends old mid new before after shut all Memory c = tt
+
+  -- ---- of a run that was taken up
+
+  pub gone_since : (old mid new : State) → old.faults ≤ mid.faults → mid.faults ≤ new.faults → (IsTrue old.is_open → IsTrue mid.is_open ⊎ MoreFaults old.faults mid.faults)
+      → (e : DurableError) → IsGoneCause f step records mid new e → IsGoneCause f step records old new e
+  gone_since old mid new before after shut (Store e) c = since old mid new before after shut (HasALongOne f step records) e c
+  gone_since old mid new before after shut OtherJob c = c
+  gone_since old mid new before after shut OtherRecords c = c
+  gone_since old mid new before after shut Damaged c = c
+  gone_since old mid new before after shut TooLong c = c
+  gone_since old mid new before after shut (Step why) c = c
+  gone_since old mid new before after shut TooMany c = c
+  gone_since old mid new before after shut Memory c = tt
+
+  -- a stretch has no checkpoint
+  pub stretch_gone : (old new : State) (e : DurableError) → IsStretchCause f records e → IsGoneCause f step records old new e
+  stretch_gone old new (Store e) c = absurd c
+  stretch_gone old new OtherJob c = c
+  stretch_gone old new OtherRecords c = c
+  stretch_gone old new Damaged c = c
+  stretch_gone old new TooLong c = c
+  stretch_gone old new (Step why) c = c
+  stretch_gone old new TooMany c = absurd c
+  stretch_gone old new Memory c = tt
 
 pub err_to : {T E : Type 0} (r : Result T E) (P Q : E → Type 0) → ((e : E) → P e → Q e) → IfErr r P → IfErr r Q
 err_to (Ok x) P Q to p = tt

@@ -6,5 +6,6 @@ pub mod Feeding
 pub mod Growing
 pub mod Telling
 pub mod Behind
+pub mod Filing
 pub mod Resting
 pub mod Causing

@@ -1,5 +1,5 @@
 -- From one checkpoint that is kept to the next.
-use Rattle.std.proofs.Common.{ℕ, ◌≡◌, ◌+◌, List, [], ◌∷◌, ◌++◌, length, drop, Option, None, Some, IfSome, sym, ap, subst, ◌∙◌, length-append, inl}
+use Rattle.std.proofs.Common.{ℕ, ◌≡◌, ◌+◌, List, [], ◌∷◌, ◌++◌, length, drop, Option, None, Some, IfSome, Result, Ok, Err, IfOk, OnOk, sym, ap, subst, ◌∙◌, length-append, inl}
 use Rattle.jb_rules.specs.declared.row.Row.{Row}
 use Rattle.sqlite.specs.State.{State}
 use Rattle.sqlite_trees.specs.Tree.{Trees}
@@ -12,6 +12,7 @@ use Rattle.jb_store.specs.Connections.{Keeps}
 use Rattle.jb_durable.specs.Files.{IsOfARun}
 use Rattle.jb_durable_records.specs.Checkpoints.{HaveAllResults, IsRunSoFar, IsWholeRun, WholeRunsHaveAll, grown_by, no_results}
 use Rattle.jb_durable_records.specs.Work.{IsAtRest, StandsAt}
+use Rattle.jb_durable_records.proofs.Behind.{stands_as}
 use Rattle.jb_durable_records.specs.declared.place.Stage.{Stage}
 use Rattle.jb_durable_records.specs.declared.place.Stage.TheVariants.{Blank, Begun, Underway}
 
@@ -50,10 +51,14 @@ module _ (f : Function) (step : RecordsStep) (records : List (List ℕ)) where
   pub whole_results : SharesJoin → (stage : Stage) (run : RunState) (rows : List Row) (all : List Kept) → StandsAt f step records stage run rows all → AreWhole run.setup.rows → joined run.shares ≡ all_results f records
   whole_results join stage run rows all at whole = join f records run.setup.rows run.shares (stands_over stage run rows all at).so_far whole
 
-  pub shares_so_far : (stage : Stage) (run : RunState) (rows : List Row) (all : List Kept) → StandsAt f step records stage run rows all → (shares : List (List (List ℕ))) → shares ≡ run.shares
-      → (over : List Row) × IsSoFar f records over shares
-  shares_so_far stage run rows all at shares is =
-      (run.setup.rows, subst (λ (x : List (List (List ℕ))). IsSoFar f records run.setup.rows x) (sym is) (stands_over stage run rows all at).so_far)
+  -- behind some stretch's checkpoint its rows and the results are those of a run so far
+  pub rows_so_far : (stage : Stage) (run : RunState) (rows : List Row) (all : List Kept) → StandsAt f step records stage run rows all → stage ≡ Underway → IsSoFar f records rows run.shares
+  rows_so_far stage run rows all at underway = (stands_as f step records stage Underway run rows all underway at).after.so_far
+
+-- what an end tells
+pub ended_so : {T E : Type 0} (r : Result T E) (P : Type 0) (A B C : T → Type 0) → ((x : T) → P → A x → B x → C x) → OnOk r P → IfOk r A → IfOk r B → IfOk r C
+ended_so (Ok x) P A B C to p a b = to x p a b
+ended_so (Err e) P A B C to p a b = tt
 
 -- ---- a whole run
 

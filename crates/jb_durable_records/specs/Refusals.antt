@@ -1,5 +1,7 @@
 -- Why a run isn't taken up, and why it has no end.
-use Rattle.std.specs.Prelude.{ℕ, ◌≡◌, ◌≢◌, ◌⊎◌, List, [], ◌∷◌, ◌++◌, length, None, Some, Ok, ⊤}
+use Rattle.std.specs.Prelude.{ℕ, ◌≡◌, ◌≢◌, ◌⊎◌, ◌≤◌, ◌<◌, ◌-◌, ◌^◌, false, List, [], ◌∷◌, ◌++◌, length, None, Some, Ok, ⊤}
+use Rattle.sqlite_disk.specs.Disk.{MoreFaults}
+use Rattle.sqlite.specs.State.{State}
 use Rattle.jb_job.specs.Reading.{tree_of}
 use Rattle.jb_rules.specs.declared.row.Row.{Row}
 use Rattle.jb_saved.specs.Reading.{answer_of}
@@ -11,12 +13,14 @@ use Rattle.jb_records.specs.Causes.{AreOtherShares, IsCauseOf}
 use Rattle.jb_records.specs.Function.{Function}
 use Rattle.jb_records.specs.Shares.{IsSoFar}
 use Rattle.jb_records.specs.Stretches.{IsBrokenOff, grown}
-use Rattle.jb_store.specs.Checkpoints.{Kept}
+use Rattle.jb_store.specs.Checkpoints.{IsTooLong, Kept}
+use Rattle.jb_store.specs.declared.error.StoreError.{StoreError}
+use Rattle.jb_store.specs.declared.error.StoreError.TheVariants as store
 use Rattle.jb_durable_records.specs.declared.coding.CodingError.{CodingError}
 use Rattle.jb_durable_records.specs.declared.coding.CodingError.TheVariants as coding
 use Rattle.jb_durable_records.specs.declared.error.DurableError.{DurableError}
 use Rattle.jb_durable_records.specs.declared.error.DurableError.TheVariants.{Damaged, Memory, OtherJob, OtherRecords, Step, Store, TooLong, TooMany}
-use Rattle.jb_durable_records.specs.Checkpoints.{AreCoded, form_of, grown_by, no_results}
+use Rattle.jb_durable_records.specs.Checkpoints.{AreCoded, IsRunSoFar, form_of, grown_by, no_results}
 use Rattle.jb_durable_records.specs.Coding.{AreCodable, IsCodable}
 use Rattle.jb_durable_records.specs.Form.{digest_of, form_text}
 
@@ -43,6 +47,10 @@ OtherRun step records all = IsOtherJob step records all ⊎ IsOverOthers step re
 -- a refusal that isn't one of another run's checkpoints
 abbrev pub IsOfOwn : DurableError → Type 0
 IsOfOwn e = (e ≢ OtherJob) × (e ≢ OtherRecords)
+
+-- nor of checkpoints that are damaged
+abbrev pub IsOfAStretch : DurableError → Type 0
+IsOfAStretch e = IsOfOwn e × (e ≢ Damaged)
 
 -- ---- the checkpoints
 
@@ -112,21 +120,59 @@ IsStretchCause f records (Step why) = IsBrokenOff why
 IsStretchCause f records Memory = ⊤
 IsStretchCause f records _ = ⊥
 
--- why a run that was taken up has no end: a stretch has no checkpoint, the file doesn't take one, or there are too many
-abbrev pub IsGoneCause : Function → (records : List (List ℕ)) → DurableError → Type 0
-IsGoneCause f records (Store e) = ⊤
-IsGoneCause f records TooMany = ⊤
-IsGoneCause f records e = IsStretchCause f records e
+-- ---- the file
+
+-- Why the file doesn't list its checkpoints, or doesn't take one more: a call of the disk has failed since, the connection was shut
+-- before, or the checkpoint is too long. The refusals of a file of another kind don't come where it shows its checkpoints.
+abbrev pub IsFileCause : State → State → (is_too_long : Type 0) → StoreError → Type 0
+IsFileCause old new is_too_long store.Foreign = ⊥
+IsFileCause old new is_too_long store.Version = ⊥
+IsFileCause old new is_too_long store.Gap = ⊥
+IsFileCause old new is_too_long store.Busy = ⊥
+IsFileCause old new is_too_long store.CannotOpen = ⊥
+IsFileCause old new is_too_long store.Damaged = MoreFaults old.faults new.faults
+IsFileCause old new is_too_long store.Full = MoreFaults old.faults new.faults
+IsFileCause old new is_too_long store.Disk = MoreFaults old.faults new.faults
+IsFileCause old new is_too_long store.Shut = (old.is_open ≡ false) ⊎ MoreFaults old.faults new.faults
+IsFileCause old new is_too_long store.TooLong = is_too_long
+IsFileCause old new is_too_long store.Taken = ⊥
+IsFileCause old new is_too_long store.Memory = ⊤
+IsFileCause old new is_too_long (store.Sql e) = ⊤
+
+-- a checkpoint of a run so far is longer than a row of the table may be
+pub record HasALongOne (f : Function) (step : RecordsStep) (records : List (List ℕ)) : Type 0 where
+  pub before : List Kept
+  pub next : Kept
+  pub so_far : IsRunSoFar f step records (before ++ next ∷ [])
+  pub long : IsTooLong next
+
+-- a run so far has each number that a checkpoint may have
+pub record HasEachNumber (f : Function) (step : RecordsStep) (records : List (List ℕ)) : Type 0 where
+  pub all : List Kept
+  pub so_far : IsRunSoFar f step records all
+  pub full : 2 ^ 32 - 1 ≤ length all
 
 -- ---- all of them
 
+-- why a run isn't taken up: the file doesn't list its checkpoints, or has more than numbers for them, or it is refused for what they are
+abbrev pub IsUntaken : Function → RecordsStep → (records : List (List ℕ)) → (old new : State) → List Kept → DurableError → Type 0
+IsUntaken f step records old new all (Store e) = IsFileCause old new ⊥ e
+IsUntaken f step records old new all TooMany = 2 ^ 32 - 1 < length all
+IsUntaken f step records old new all e = IsTakenCause f step records all e
+
+-- why a run that was taken up has no end: a stretch has no checkpoint, the file doesn't take it, or there is no number for it
+abbrev pub IsGoneCause : Function → RecordsStep → (records : List (List ℕ)) → (old new : State) → DurableError → Type 0
+IsGoneCause f step records old new (Store e) = IsFileCause old new (HasALongOne f step records) e
+IsGoneCause f step records old new TooMany = HasEachNumber f step records
+IsGoneCause f step records old new e = IsStretchCause f records e
+
 -- WHY A RUN SO FAR HAS NO END
-abbrev pub IsCauseOfNoEnd : Function → RecordsStep → (records : List (List ℕ)) → List Kept → DurableError → Type 0
-IsCauseOfNoEnd f step records all (Store e) = ⊤
-IsCauseOfNoEnd f step records all OtherJob = IsOtherJob step records all
-IsCauseOfNoEnd f step records all OtherRecords = IsOverOthers step records all
-IsCauseOfNoEnd f step records all Damaged = IsDamaged all
-IsCauseOfNoEnd f step records all TooLong = (IsCodable records → ⊥) ⊎ HaveNoCoding f records
-IsCauseOfNoEnd f step records all (Step why) = IsUnbegun f step records all why ⊎ IsBrokenOff why
-IsCauseOfNoEnd f step records all TooMany = ⊤
-IsCauseOfNoEnd f step records all Memory = ⊤
+abbrev pub IsCauseOfNoEnd : Function → RecordsStep → (records : List (List ℕ)) → (old new : State) → List Kept → DurableError → Type 0
+IsCauseOfNoEnd f step records old new all (Store e) = IsFileCause old new (HasALongOne f step records) e
+IsCauseOfNoEnd f step records old new all OtherJob = ⊥
+IsCauseOfNoEnd f step records old new all OtherRecords = ⊥
+IsCauseOfNoEnd f step records old new all Damaged = ⊥
+IsCauseOfNoEnd f step records old new all TooLong = (IsCodable records → ⊥) ⊎ HaveNoCoding f records
+IsCauseOfNoEnd f step records old new all (Step why) = IsUnbegun f step records all why ⊎ IsBrokenOff why
+IsCauseOfNoEnd f step records old new all TooMany = HasEachNumber f step records
+IsCauseOfNoEnd f step records old new all Memory = ⊤

@@ -58,9 +58,10 @@ StandsAt f step records Underway s rows all = IsUnderway f step records s rows a
 
 -- ---- what its rows tell
 
--- where a partition failed they tell FAILED, and where nothing is left to be run each partition is finished
-pub record IsTold (has_failed : Bool) (s : RunState) (rows : List Row) : Type 0 where
+-- where a partition failed they tell FAILED, and that is kept; where nothing is left to be run each partition is finished
+pub record IsTold (has_failed : Bool) (stage : Stage) (s : RunState) (rows : List Row) : Type 0 where
   pub failed : IsTrue has_failed → status_of rows false ≡ Failed
+  pub kept : IsTrue has_failed → stage ≡ Underway
   pub whole : AreWhole s.setup.rows → AreWhole rows
 
 -- nothing is left to be run, and that is kept

@@ -8,7 +8,7 @@ ghost use Rattle.jb_records.specs.Stretches.{StandsOver};
 ghost use Rattle.jb_store.specs.Checkpoints.{Kept, kept};
 ghost use Rattle.jb_durable.specs.Works.{GoesOn};
 ghost use Rattle.jb_durable_records.specs.Checkpoints.{IsRunSoFar, IsWholeRun};
-ghost use Rattle.jb_durable_records.specs.Refusals.{IsOfOwn, IsStretchCause};
+ghost use Rattle.jb_durable_records.specs.Refusals.{IsOfAStretch, IsStretchCause};
 ghost use Rattle.jb_durable_records.specs.Work.{GoesOnBehind, IsDone, IsTold, StandsAt};
 ghost use Rattle.jb_durable_records.specs.declared.place.Stage.TheVariants.{Underway};
 
@@ -54,8 +54,8 @@ fn stretched<F: RecordFunction + Drop + 'static, R: Threads + Wait + Sync>(
 ) -> Result<(Place<F>, Checkpoint), DurableError>
     ensures behind { IfOk result (λ r. GoesOnBehind (⟦<RecordsRun<F> as Standing>⟧.standing run) (⟦<RecordsRun<F> as Standing>⟧.standing r.0.run) r.0.rows.items (kept r.1)) }
     ensures stage { IfOk result (λ r. r.0.stage ≡ Underway) }
-    ensures told { IfOk result (λ r. IsTold r.0.has_failed (⟦<RecordsRun<F> as Standing>⟧.standing r.0.run) r.0.rows.items) }
-    ensures own { IfErr result IsOfOwn }
+    ensures told { IfOk result (λ r. IsTold r.0.has_failed r.0.stage (⟦<RecordsRun<F> as Standing>⟧.standing r.0.run) r.0.rows.items) }
+    ensures own { IfErr result IsOfAStretch }
     ensures why { (f : Function) (records : List (List ℕ)) → StandsOver f records (⟦<RecordsRun<F> as Standing>⟧.standing run) → IfErr result (IsStretchCause f records) }
 {
     let (run, stretch) = run.go_on(rt, alloc, Some(rounds))?;
@@ -88,11 +88,12 @@ impl<F: RecordFunction + Drop + 'static> Place<F> {
             → StandsAt f step records self.stage (⟦<RecordsRun<F> as Standing>⟧.standing self.run) self.rows.items all
             → IfOk result (λ r. GoesOn (IsRunSoFar f step records) (IsWholeRun f step records)
             (StandsAt f step records r.0.stage (⟦<RecordsRun<F> as Standing>⟧.standing r.0.run) r.0.rows.items) all r.1) }
-        ensures own { IfErr result IsOfOwn }
+        ensures own { IfErr result IsOfAStretch }
         ensures why { (f : Function) (step : StepOfRecords) (records : List (List ℕ)) (all : List Kept)
             → StandsAt f step records self.stage (⟦<RecordsRun<F> as Standing>⟧.standing self.run) self.rows.items all → IfErr result (IsStretchCause f records) }
         ensures whole { IfOk result (λ r. r.1 ≡ None → AreWhole (⟦<RecordsRun<F> as Standing>⟧.standing r.0.run).setup.rows) }
-        ensures told { IsTold self.has_failed (⟦<RecordsRun<F> as Standing>⟧.standing self.run) self.rows.items → IfOk result (λ r. IsTold r.0.has_failed (⟦<RecordsRun<F> as Standing>⟧.standing r.0.run) r.0.rows.items) }
+        ensures settled { IfOk result (λ r. r.1 ≡ None → r.0.stage ≡ Underway) }
+        ensures told { IsTold self.has_failed self.stage (⟦<RecordsRun<F> as Standing>⟧.standing self.run) self.rows.items → IfOk result (λ r. IsTold r.0.has_failed r.0.stage (⟦<RecordsRun<F> as Standing>⟧.standing r.0.run) r.0.rows.items) }
         ensures again { IsDone self.has_failed self.stage (⟦<RecordsRun<F> as Standing>⟧.standing self.run) → MatchResult result (λ r. r.1 ≡ None) (λ e. ⊥) }
     {
         let Place {

@@ -1,12 +1,12 @@
 //! Stretch after stretch, each kept before the next begins.
 
-ghost use Rattle.std.specs.Prelude.{◌≡◌, ◌≢◌, ◌≤◌, ◌⊎◌, ◌+◌, ℕ, List, IfErr, IfOk, IsTrue, MatchResult, OnOk, false};
+ghost use Rattle.std.specs.Prelude.{◌≡◌, ◌≢◌, ◌≤◌, ◌⊎◌, ◌+◌, ℕ, List, IfErr, IfOk, IsTrue, MatchResult, OnOk, false, true};
 ghost use Rattle.std.specs.Arc.{arc_value};
 ghost use Rattle.sqlite.specs.Held.{state};
 ghost use Rattle.sqlite.specs.State.{HasCleanDisk};
+ghost use Rattle.sqlite_disk.specs.Disk.{MoreFaults};
 ghost use Rattle.sqlite_trees.specs.View.{doubt};
 ghost use Rattle.jb_collect.specs.declared.calls.Status.TheVariants.{Completed, Failed};
-ghost use Rattle.jb_rules.specs.declared.row.Row.{Row as RowRecord};
 ghost use Rattle.jb_step.specs.Statuses.{status_of};
 ghost use Rattle.jb_records.specs.declared.step.RecordsStep.{RecordsStep as StepOfRecords};
 ghost use Rattle.jb_records.specs.Function.{Function, all_results};
@@ -15,10 +15,11 @@ ghost use Rattle.jb_store.specs.Checkpoints.{Has, Kept, ShowsList};
 ghost use Rattle.jb_store.specs.Connections.{IsJustOpened, Keeps};
 ghost use Rattle.jb_durable.specs.Files.{IsOfARun};
 ghost use Rattle.jb_durable_records.specs.Checkpoints.{IsRunSoFar, IsWholeRun};
-ghost use Rattle.jb_durable_records.specs.Refusals.{IsCauseOfNoEnd, IsGoneCause, IsOfOwn, IsOtherJob, IsOverOthers, OtherRun};
+ghost use Rattle.jb_durable_records.specs.Refusals.{IsCauseOfNoEnd, IsDamaged, IsGoneCause, IsOfAStretch, IsOtherJob, IsOverOthers, IsUntaken, OtherRun};
 ghost use Rattle.jb_durable_records.specs.Work.{IsAtRest, IsDone, IsTold};
-ghost use Rattle.jb_durable_records.specs.declared.error.DurableError.TheVariants.{OtherJob, OtherRecords, TooMany};
-ghost use Rattle.jb_durable_records.specs.declared.run.Pause.TheVariants.{Failed as Failing, Whole};
+ghost use Rattle.jb_durable_records.specs.declared.error.DurableError.TheVariants.{Damaged, OtherJob, OtherRecords, TooMany};
+ghost use Rattle.jb_durable_records.specs.declared.run.Pause.TheVariants.{Failed as Failing, Stretches, Whole};
+ghost use Rattle.jb_durable_records.specs.declared.place.Stage.TheVariants.{Underway};
 
 use crate::error::DurableError;
 use crate::onlooker::{Onlooker, progress_of};
@@ -80,7 +81,7 @@ pub(crate) fn taken_from<F: RecordFunction + Drop, S: Alter>(
     ensures rests { HasCleanDisk (state S.Store conn.new) → IsJustOpened (state S.Store conn.old) → (all : List Kept) → ShowsList (state S.Store conn.old).now all
         → IsRunSoFar (F.function (arc_value function.now)) step.now records.now all → IfOk result (λ r. IsAtRest (F.function (arc_value function.now)) step.now records.now
         (state S.Store conn.new) r.0.stage (⟦<RecordsRun<F> as Standing>⟧.standing r.0.run) r.0.rows.items r.1 all) }
-    ensures told { IfOk result (λ r. IsTold r.0.has_failed (⟦<RecordsRun<F> as Standing>⟧.standing r.0.run) r.0.rows.items) }
+    ensures told { IfOk result (λ r. IsTold r.0.has_failed r.0.stage (⟦<RecordsRun<F> as Standing>⟧.standing r.0.run) r.0.rows.items) }
     ensures done { HasCleanDisk (state S.Store conn.new) → IsJustOpened (state S.Store conn.old) → (all : List Kept) → ShowsList (state S.Store conn.old).now all
         → IsWholeRun (F.function (arc_value function.now)) step.now records.now all → IfOk result (λ r. IsDone r.0.has_failed r.0.stage (⟦<RecordsRun<F> as Standing>⟧.standing r.0.run)) }
     ensures left { HasCleanDisk (state S.Store conn.new) → IsJustOpened (state S.Store conn.old) → (all : List Kept) → ShowsList (state S.Store conn.old).now all → (db : _) → (state S.Store conn.new).may_leave db → Has db all }
@@ -91,7 +92,12 @@ pub(crate) fn taken_from<F: RecordFunction + Drop, S: Alter>(
     ensures other_records { HasCleanDisk (state S.Store conn.new) → IsJustOpened (state S.Store conn.old) → (all : List Kept) → ShowsList (state S.Store conn.old).now all
         → IfErr result (λ e. e ≡ OtherRecords → IsOverOthers step.now records.now all × Keeps (state S.Store conn.new) all) }
     ensures cause { HasCleanDisk (state S.Store conn.new) → IsJustOpened (state S.Store conn.old) → (all : List Kept) → ShowsList (state S.Store conn.old).now all
-        → IfErr result (IsCauseOfNoEnd (F.function (arc_value function.now)) step.now records.now all) }
+        → IfErr result (IsUntaken (F.function (arc_value function.now)) step.now records.now (state S.Store conn.old) (state S.Store conn.new) all) }
+    ensures damaged { HasCleanDisk (state S.Store conn.new) → IsJustOpened (state S.Store conn.old) → (all : List Kept) → ShowsList (state S.Store conn.old).now all
+        → IfErr result (λ e. e ≡ Damaged → IsDamaged all × Keeps (state S.Store conn.new) all) }
+    ensures counts { (state S.Store conn.old).faults ≤ (state S.Store conn.new).faults }
+    ensures shut { HasCleanDisk (state S.Store conn.new) → IsTrue (state S.Store conn.old).is_open
+        → IsTrue (state S.Store conn.new).is_open ⊎ MoreFaults (state S.Store conn.old).faults (state S.Store conn.new).faults }
     ensures clean { doubt (state S.Store conn.old).is_clean ≤ doubt (state S.Store conn.new).is_clean }
     ensures crash { HasCleanDisk (state S.Store conn.new) → IsJustOpened (state S.Store conn.old) → (so_far : List Kept) → ShowsList (state S.Store conn.old).now so_far
         → IsRunSoFar (F.function (arc_value function.now)) step.now records.now so_far
@@ -118,11 +124,17 @@ fn advance<F: RecordFunction + Drop + 'static, R: Threads + Wait + Sync, S: Alte
         → IsAtRest f step records (state S.Store conn.old) place.stage (⟦<RecordsRun<F> as Standing>⟧.standing place.run) place.rows.items count.old all
         → IfOk result (λ r. (now : List Kept) × IsAtRest f step records (state S.Store conn.new) r.0.stage (⟦<RecordsRun<F> as Standing>⟧.standing r.0.run) r.0.rows.items count.new now
         × (r.1 ≡ false → IsWholeRun f step records now)) }
-    ensures own { IfErr result IsOfOwn }
+    ensures own { IfErr result IsOfAStretch }
     ensures cause { HasCleanDisk (state S.Store conn.new) → (f : Function) (step : StepOfRecords) (records : List (List ℕ)) (all : List Kept)
-        → IsAtRest f step records (state S.Store conn.old) place.stage (⟦<RecordsRun<F> as Standing>⟧.standing place.run) place.rows.items count.old all → IfErr result (IsGoneCause f records) }
+        → IsAtRest f step records (state S.Store conn.old) place.stage (⟦<RecordsRun<F> as Standing>⟧.standing place.run) place.rows.items count.old all
+        → IfErr result (IsGoneCause f step records (state S.Store conn.old) (state S.Store conn.new)) }
+    ensures counted { IfOk result (λ r. r.1 ≡ true → count.new ≡ count.old + 1) }
+    ensures settled { IfOk result (λ r. r.1 ≡ false → r.0.stage ≡ Underway) }
+    ensures counts { (state S.Store conn.old).faults ≤ (state S.Store conn.new).faults }
+    ensures shut { HasCleanDisk (state S.Store conn.new) → IsTrue (state S.Store conn.old).is_open
+        → IsTrue (state S.Store conn.new).is_open ⊎ MoreFaults (state S.Store conn.old).faults (state S.Store conn.new).faults }
     ensures whole { IfOk result (λ r. r.1 ≡ false → AreWhole (⟦<RecordsRun<F> as Standing>⟧.standing r.0.run).setup.rows) }
-    ensures told { IsTold place.has_failed (⟦<RecordsRun<F> as Standing>⟧.standing place.run) place.rows.items → IfOk result (λ r. IsTold r.0.has_failed (⟦<RecordsRun<F> as Standing>⟧.standing r.0.run) r.0.rows.items) }
+    ensures told { IsTold place.has_failed place.stage (⟦<RecordsRun<F> as Standing>⟧.standing place.run) place.rows.items → IfOk result (λ r. IsTold r.0.has_failed r.0.stage (⟦<RecordsRun<F> as Standing>⟧.standing r.0.run) r.0.rows.items) }
     ensures again { IsDone place.has_failed place.stage (⟦<RecordsRun<F> as Standing>⟧.standing place.run) → MatchResult result (λ r. r.1 ≡ false) (λ e. ⊥) × (conn.new ≡ conn.old) }
     ensures clean { doubt (state S.Store conn.old).is_clean ≤ doubt (state S.Store conn.new).is_clean }
     ensures crash { HasCleanDisk (state S.Store conn.new) → (f : Function) (step : StepOfRecords) (records : List (List ℕ)) (all : List Kept)
@@ -169,12 +181,15 @@ pub(crate) fn run<
     ensures kept { HasCleanDisk (state S.Store conn.new) → (f : Function) (step : StepOfRecords) (over : List (List ℕ)) (all : List Kept)
         → IsAtRest f step over (state S.Store conn.old) place.stage (⟦<RecordsRun<F> as Standing>⟧.standing place.run) place.rows.items count all
         → IfOk result (λ r. (now : List Kept) × (number : ℕ) × IsAtRest f step over (state S.Store conn.new) r.0.stage (⟦<RecordsRun<F> as Standing>⟧.standing r.0.run) r.0.rows.items number now
-        × (r.1 ≡ Whole → IsWholeRun f step over now)) }
-    ensures own { IfErr result IsOfOwn }
+        × (r.1 ≡ Whole → IsWholeRun f step over now) × (r.1 ≡ Stretches → number ≡ count + stretches)) }
+    ensures own { IfErr result IsOfAStretch }
     ensures cause { HasCleanDisk (state S.Store conn.new) → (f : Function) (step : StepOfRecords) (over : List (List ℕ)) (all : List Kept)
-        → IsAtRest f step over (state S.Store conn.old) place.stage (⟦<RecordsRun<F> as Standing>⟧.standing place.run) place.rows.items count all → IfErr result (IsGoneCause f over) }
+        → IsAtRest f step over (state S.Store conn.old) place.stage (⟦<RecordsRun<F> as Standing>⟧.standing place.run) place.rows.items count all
+        → IfErr result (IsGoneCause f step over (state S.Store conn.old) (state S.Store conn.new)) }
+    ensures counts { (state S.Store conn.old).faults ≤ (state S.Store conn.new).faults }
+    ensures settled { IfOk result (λ r. r.1 ≡ Whole → r.0.stage ≡ Underway) }
     ensures whole { IfOk result (λ r. r.1 ≡ Whole → AreWhole (⟦<RecordsRun<F> as Standing>⟧.standing r.0.run).setup.rows) }
-    ensures told { IsTold place.has_failed (⟦<RecordsRun<F> as Standing>⟧.standing place.run) place.rows.items → IfOk result (λ r. IsTold r.0.has_failed (⟦<RecordsRun<F> as Standing>⟧.standing r.0.run) r.0.rows.items) }
+    ensures told { IsTold place.has_failed place.stage (⟦<RecordsRun<F> as Standing>⟧.standing place.run) place.rows.items → IfOk result (λ r. IsTold r.0.has_failed r.0.stage (⟦<RecordsRun<F> as Standing>⟧.standing r.0.run) r.0.rows.items) }
     ensures failed { IfOk result (λ r. r.1 ≡ Failing → IsTrue r.0.has_failed) }
     ensures again { IsDone place.has_failed place.stage (⟦<RecordsRun<F> as Standing>⟧.standing place.run) → 1 ≤ stretches → MatchResult result (λ r. r.1 ≡ Whole) (λ e. ⊥) × (conn.new ≡ conn.old) }
     ensures clean { doubt (state S.Store conn.old).is_clean ≤ doubt (state S.Store conn.new).is_clean }
@@ -206,13 +221,15 @@ fn ended<F: RecordFunction + Drop>(
     pause: Pause,
 ) -> Result<DurableEnd, DurableError>
     ensures results { IfOk result (λ end. end.results.items ≡ (⟦<RecordsRun<F> as Standing>⟧.standing place.run).shares) }
+    ensures rows { IfOk result (λ end. end.rows.items ≡ place.rows.items) }
+    ensures settled { (pause ≡ Whole → place.stage ≡ Underway) → (pause ≡ Failing → place.stage ≡ Underway) → OnOk result (place.stage ≡ Underway) }
     ensures whole { IfOk result (λ end. end.status ≡ Completed → pause ≡ Whole) }
     ensures status { IfOk result (λ end. (end.status ≡ Completed) ⊎ (end.status ≡ Failed)) }
-    ensures told { IsTold place.has_failed (⟦<RecordsRun<F> as Standing>⟧.standing place.run) place.rows.items → (pause ≡ Whole → AreWhole (⟦<RecordsRun<F> as Standing>⟧.standing place.run).setup.rows) → (pause ≡ Failing → IsTrue place.has_failed)
+    ensures told { IsTold place.has_failed place.stage (⟦<RecordsRun<F> as Standing>⟧.standing place.run) place.rows.items → (pause ≡ Whole → AreWhole (⟦<RecordsRun<F> as Standing>⟧.standing place.run).setup.rows) → (pause ≡ Failing → IsTrue place.has_failed)
         → IfOk result (λ end. end.status ≡ status_of end.rows.items false) }
     ensures again { pause ≡ Whole → MatchResult result (λ end. end.status ≡ Completed) (λ e. ⊥) }
-    ensures own { IfErr result IsOfOwn }
-    ensures cause { IfErr result (λ e. e ≡ TooMany) }
+    ensures own { IfErr result IsOfAStretch }
+    ensures cause { IfErr result (λ e. (e ≡ TooMany) × (pause ≡ Stretches)) }
 {
     let status = match pause {
         Pause::Whole => Status::Completed,
@@ -258,7 +275,7 @@ pub fn run_records_durably<
         → IsRunSoFar (F.function function) step.now records.now all
         → IfOk result (λ end. end.status ≡ Completed → (now : List Kept) × Keeps (state S.Store conn.new) now × IsWholeRun (F.function function) step.now records.now now) }
     ensures so_far { HasCleanDisk (state S.Store conn.new) → IsJustOpened (state S.Store conn.old) → (all : List Kept) → ShowsList (state S.Store conn.old).now all
-        → IsRunSoFar (F.function function) step.now records.now all → IfOk result (λ end. (rows : List RowRecord) × IsSoFar (F.function function) records.now rows end.results.items) }
+        → IsRunSoFar (F.function function) step.now records.now all → IfOk result (λ end. IsSoFar (F.function function) records.now end.rows.items end.results.items) }
     ensures status { IfOk result (λ end. (end.status ≡ Completed) ⊎ (end.status ≡ Failed)) }
     ensures told { IfOk result (λ end. end.status ≡ status_of end.rows.items false) }
     ensures again { HasCleanDisk (state S.Store conn.new) → IsJustOpened (state S.Store conn.old) → (all : List Kept) → ShowsList (state S.Store conn.old).now all
@@ -273,7 +290,9 @@ pub fn run_records_durably<
     ensures other_records { HasCleanDisk (state S.Store conn.new) → IsJustOpened (state S.Store conn.old) → (all : List Kept) → ShowsList (state S.Store conn.old).now all
         → IfErr result (λ e. e ≡ OtherRecords → IsOverOthers step.now records.now all × Keeps (state S.Store conn.new) all) }
     ensures cause { HasCleanDisk (state S.Store conn.new) → IsJustOpened (state S.Store conn.old) → (all : List Kept) → ShowsList (state S.Store conn.old).now all
-        → IsRunSoFar (F.function function) step.now records.now all → IfErr result (IsCauseOfNoEnd (F.function function) step.now records.now all) }
+        → IsRunSoFar (F.function function) step.now records.now all → IfErr result (IsCauseOfNoEnd (F.function function) step.now records.now (state S.Store conn.old) (state S.Store conn.new) all) }
+    ensures damaged { HasCleanDisk (state S.Store conn.new) → IsJustOpened (state S.Store conn.old) → (all : List Kept) → ShowsList (state S.Store conn.old).now all
+        → IfErr result (λ e. e ≡ Damaged → IsDamaged all × Keeps (state S.Store conn.new) all) }
     ensures clean { doubt (state S.Store conn.old).is_clean ≤ doubt (state S.Store conn.new).is_clean }
     ensures crash { HasCleanDisk (state S.Store conn.new) → IsJustOpened (state S.Store conn.old) → (all : List Kept) → ShowsList (state S.Store conn.old).now all
         → IsRunSoFar (F.function function) step.now records.now all

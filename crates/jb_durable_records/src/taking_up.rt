@@ -113,7 +113,7 @@ fn begun<F: RecordFunction + Drop>(
 ) -> Result<Place<F>, DurableError>
     ensures behind { IfOk result (λ place. IsBehind (F.function (arc_value function.now)) records.now [] (⟦<RecordsRun<F> as Standing>⟧.standing place.run)) }
     ensures stage { IfOk result (λ place. place.stage ≡ stage) }
-    ensures told { IfOk result (λ place. IsTold place.has_failed (⟦<RecordsRun<F> as Standing>⟧.standing place.run) place.rows.items) }
+    ensures told { IfOk result (λ place. IsTold place.has_failed place.stage (⟦<RecordsRun<F> as Standing>⟧.standing place.run) place.rows.items) }
     ensures why { IfErr result IsOfOwn }
     ensures cause { IfErr result (λ e. (why : RecordsStepFault) × (e ≡ Step why) × IsCauseOf (F.function (arc_value function.now)) step.now records.now None why) }
 {
@@ -139,7 +139,7 @@ fn behind<F: RecordFunction + Drop>(
     ensures underway { (first : Kept) → IsOf step.now records.now first → AreStretches (F.function (arc_value function.now)) records.now (map kept later.now)
         → IfOk result (λ place. IsUnderway (F.function (arc_value function.now)) step.now records.now (⟦<RecordsRun<F> as Standing>⟧.standing place.run) place.rows.items (first ∷ map kept later.now)) }
     ensures stage { IfOk result (λ place. place.stage ≡ Underway) }
-    ensures told { IfOk result (λ place. IsTold place.has_failed (⟦<RecordsRun<F> as Standing>⟧.standing place.run) place.rows.items) }
+    ensures told { IfOk result (λ place. IsTold place.has_failed place.stage (⟦<RecordsRun<F> as Standing>⟧.standing place.run) place.rows.items) }
     ensures done { (first : Kept) → IsWholeRun (F.function (arc_value function.now)) step.now records.now (first ∷ map kept later.now) → IfOk result (λ place. IsDone place.has_failed place.stage (⟦<RecordsRun<F> as Standing>⟧.standing place.run)) }
     ensures why { IfErr result IsOfOwn }
     ensures cause { (first : Kept) → IfErr result (IsTakenCause (F.function (arc_value function.now)) step.now records.now (first ∷ map kept later.now)) }
@@ -176,7 +176,7 @@ pub(crate) fn taken_up<F: RecordFunction + Drop>(
 ) -> Result<Place<F>, DurableError>
     ensures stands { IsRunSoFar (F.function (arc_value function.now)) step.now records.now (map kept done.now)
         → IfOk result (λ place. StandsAt (F.function (arc_value function.now)) step.now records.now place.stage (⟦<RecordsRun<F> as Standing>⟧.standing place.run) place.rows.items (map kept done.now)) }
-    ensures told { IfOk result (λ place. IsTold place.has_failed (⟦<RecordsRun<F> as Standing>⟧.standing place.run) place.rows.items) }
+    ensures told { IfOk result (λ place. IsTold place.has_failed place.stage (⟦<RecordsRun<F> as Standing>⟧.standing place.run) place.rows.items) }
     ensures done { IsWholeRun (F.function (arc_value function.now)) step.now records.now (map kept done.now) → IfOk result (λ place. IsDone place.has_failed place.stage (⟦<RecordsRun<F> as Standing>⟧.standing place.run)) }
     ensures own { OnOk result (OtherRun step.now records.now (map kept done.now) → ⊥) }
     ensures other_job { IfErr result (λ e. e ≡ OtherJob → IsOtherJob step.now records.now (map kept done.now)) }

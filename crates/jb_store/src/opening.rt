@@ -73,6 +73,8 @@ pub fn begin<S: Alter>(
     ensures gap { HasCleanDisk (state S.Store conn.new) → IsJustOpened (state S.Store conn.old) → result ≡ Err Gap
         → ((state S.Store conn.old).now.schema ≡ checkpoint_schema) × ((all : _) → ¬ AreIn (state S.Store conn.old).now.trees all) }
     ensures cause { HasCleanDisk (state S.Store conn.new) → IsJustOpened (state S.Store conn.old) → IfErr result (IsOpenCause (state S.Store conn.old) (state S.Store conn.new)) }
+    ensures own { HasCleanDisk (state S.Store conn.new) → IsJustOpened (state S.Store conn.old) → (all : _) → ShowsList (state S.Store conn.old).now all
+        → IfErr result (λ e. ¬ IsOfTheList e) }
     ensures counts { (state S.Store conn.old).faults ≤ (state S.Store conn.new).faults }
     ensures shut { HasCleanDisk (state S.Store conn.new) → IsTrue (state S.Store conn.old).is_open
         → IsTrue (state S.Store conn.new).is_open ⊎ MoreFaults (state S.Store conn.old).faults (state S.Store conn.new).faults }

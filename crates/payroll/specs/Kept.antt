@@ -20,6 +20,6 @@ abbrev pub IsPayrollSoFar : (text : Option (List ℕ)) → (all : List Kept) →
 IsPayrollSoFar text all = IsJobSoFar payroll payroll_form text all
 
 -- So far as the step is, what was written is the pay slips of each partition's time sheets before its checkpoint, one partition behind
--- the other.
-abbrev pub IsPaidSoFar : (text old new : Option (List ℕ)) → Type 0
-IsPaidSoFar text old new = IsDoneSoFar payroll text old new
+-- the other, and the exit status is of the status of their rows.
+abbrev pub IsPaidSoFar : (text old new : Option (List ℕ)) → (status : ℕ) → Type 0
+IsPaidSoFar text old new status = IsDoneSoFar payroll text old new status

@@ -1,4 +1,4 @@
-use Rattle.std.proofs.Common.{◌≡◌, ◌∙◌, refl, subst, sym}
+use Rattle.std.proofs.Common.{◌≡◌, ◌∙◌, ap, inl, inr, refl, subst, sym}
 use Rattle.std.specs.Io.KnownBytes.{Appends}
 use Rattle.std.specs.List.{concat}
 use Rattle.jb_collect.specs.declared.calls.Status.{Status}
@@ -32,12 +32,19 @@ returns-clause-so_far g c clean opened all shows so =
     let own = own-run (g.F.RecordFunction.function c.args.function) (job_form c.args.job.now) (g.R.Read.remaining c.args.reader.now) records c.in_ok-step.step c.in_ok-records.ensures c.in_ok-step.ensures all so in
     let far = c.in_ok-end.ensures.so_far clean opened all shows own in record {
       records = records;
-      rows = far.0;
+      rows = c.in_ok-end.end.rows.items;
       shares = c.in_ok-end.end.results.items;
       read = c.in_ok-records.ensures;
-      so_far = far.1;
+      so_far = far;
       written = subst (λ results. Appends (g.W.Write.contents c.args.writer.now) (g.W.Write.contents c.write_results.new.writer) (concat results)) c.in_ok-results.ensures c.in_ok-write_results.ensures;
+      told = c.status_of.ensures ∙ ap exit_status c.in_ok-end.ensures.told;
     }
+
+pub returns-clause-status : goal.returns-clause-status
+returns-clause-status g c = elim c.in_ok-end.ensures.status [
+  | inl completed ↦ inl (c.status_of.ensures ∙ ap exit_status completed)
+  | inr failed ↦ inr (c.status_of.ensures ∙ ap exit_status failed)
+]
 
 pub returns-clause-crash : goal.returns-clause-crash
 returns-clause-crash g c clean opened all shows so db may =

@@ -1,4 +1,4 @@
-use Rattle.std.proofs.Common.{List, ◌≤◌}
+use Rattle.std.proofs.Common.{List, length, ◌≡◌, ◌≤◌, ◌+◌}
 use Rattle.sqlite.specs.Held.{state}
 use Rattle.sqlite.specs.State.{HasCleanDisk}
 use Rattle.sqlite_trees.specs.View.{doubt}
@@ -13,5 +13,5 @@ invariant-stretches g l = record {
   so_far : IsSame (g.W.Work.is_so_far l.fn.work) (g.W.Work.is_so_far l.work);
   whole : IsSame (g.W.Work.is_whole l.fn.work) (g.W.Work.is_whole l.work);
   stands : HasCleanDisk (state g.S.Store l.conn) → IsJustOpened (state g.S.Store l.fn.conn) → (all : List Kept) → ShowsList (state g.S.Store l.fn.conn).now all → g.W.Work.is_so_far l.fn.work all
-      → (now : List Kept) × StandsAt (g.W.Work.is_so_far l.fn.work) (g.W.Work.stands_at l.work) (state g.S.Store l.conn) l.count now;
+      → (now : List Kept) × StandsAt (g.W.Work.is_so_far l.fn.work) (g.W.Work.stands_at l.work) (state g.S.Store l.conn) l.count now × (l.count ≡ length all + l.counter);
 }

@@ -14,5 +14,6 @@ returns-clause-behind g c f records later so =
 pub returns-clause-told : goal.returns-clause-told
 returns-clause-told g c = record {
   failed = search (rules, c.in_ok-run.ensures.status);
+  kept = λ _. refl;
   whole = λ whole. whole_before c.in_ok-run.stretch.snapshot.rows.items (subst AreWhole c.in_ok-run.ensures.made.rows whole);
 }

@@ -1,4 +1,5 @@
-use Rattle.std.proofs.Common.{List, ℕ, ◌≡◌, ◌≤◌}
+use Rattle.std.proofs.Common.{List, ℕ, ◌≡◌, ◌≤◌, ◌⊎◌, ◌+◌, IsTrue}
+use Rattle.sqlite_disk.specs.Disk.{MoreFaults}
 use Rattle.sqlite.specs.Held.{state}
 use Rattle.sqlite.specs.State.{HasCleanDisk}
 use Rattle.sqlite_trees.specs.View.{doubt}
@@ -18,7 +19,12 @@ invariant-stretches g l =
       rests : HasCleanDisk (state g.S.Store l.conn) → (f : Function) (step : RecordsStep) (over : List (List ℕ)) (all : List Kept)
           → IsAtRest f step over (state g.S.Store l.fn.conn) l.fn.place.stage (standing l.fn.place.run) l.fn.place.rows.items l.fn.count all
           → (now : List Kept) × IsAtRest f step over (state g.S.Store l.conn) l.place.stage (standing l.place.run) l.place.rows.items l.count now;
-      told : IsTold l.fn.place.has_failed (standing l.fn.place.run) l.fn.place.rows.items → IsTold l.place.has_failed (standing l.place.run) l.place.rows.items;
+      counts : (state g.S.Store l.fn.conn).faults ≤ (state g.S.Store l.conn).faults;
+      shut : HasCleanDisk (state g.S.Store l.conn) → IsTrue (state g.S.Store l.fn.conn).is_open
+          → IsTrue (state g.S.Store l.conn).is_open ⊎ MoreFaults (state g.S.Store l.fn.conn).faults (state g.S.Store l.conn).faults;
+      number : l.count ≡ l.fn.count + l.counter;
+      told : IsTold l.fn.place.has_failed l.fn.place.stage (standing l.fn.place.run) l.fn.place.rows.items
+          → IsTold l.place.has_failed l.place.stage (standing l.place.run) l.place.rows.items;
       again : IsDone l.fn.place.has_failed l.fn.place.stage (standing l.fn.place.run)
           → (l.counter ≡ 0) × IsDone l.place.has_failed l.place.stage (standing l.place.run) × (l.conn ≡ l.fn.conn);
     }

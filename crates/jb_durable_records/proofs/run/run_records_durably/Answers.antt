@@ -1,4 +1,4 @@
-use Rattle.std.proofs.Common.{◌≡◌, List, sym, subst, ap, ◌∙◌, arith, lit≤}
+use Rattle.std.proofs.Common.{ℕ, ◌≡◌, Err, List, sym, subst, ap, ◌∙◌, arith, lit≤, rules}
 use Rattle.jb_store.specs.Connections.{Keeps}
 use Rattle.std.specs.Arc.{arc_value}
 use Rattle.std.proofs.lemmas.Result.{IfOk-weaker}
@@ -11,9 +11,9 @@ use Rattle.jb_durable.specs.Files.{IsOfARun}
 use Rattle.jb_durable_records.specs.Checkpoints.{IsRunSoFar, IsWholeRun}
 use Rattle.jb_durable_records.specs.declared.error.DurableError.{DurableError}
 use Rattle.jb_durable_records.specs.Refusals.{IsCauseOfNoEnd}
-use Rattle.jb_durable_records.proofs.Causing.{err_to}
+use Rattle.jb_durable_records.proofs.Causing.{err_to, gone_ends, taken_ends}
 use Rattle.jb_durable_records.proofs.Behind.{both_ok, match_ok, on_ok, told_again, whole_so_far}
-use Rattle.jb_durable_records.proofs.Resting.{shares_so_far, whole_results}
+use Rattle.jb_durable_records.proofs.Resting.{ended_so, rows_so_far, whole_results}
 use Rattle.jb_durable_records.proofs.run.run_records_durably.Goals as goal
 
 pub returns-clause-all : goal.returns-clause-all
@@ -53,8 +53,14 @@ returns-clause-so_far g c clean opened all shows so =
     let early : HasCleanDisk (state g.S.Store c.taken_from.new.conn) = omega (arith, clean, c.run.ensures.clean) in
     let rest = c.in_ok-place.ensures.rests early opened all shows (subst (λ x. IsRunSoFar (F x) step records all) (sym e) so) in
     let after = c.in_ok-place-2.ensures.kept clean (F own) step records all rest in
-    IfOk-weaker c.ended.result _ _
-    (λ end results. subst (λ x. (rows : List Row) × IsSoFar (F x) records rows end.results.items) e (shares_so_far (F own) step records _ _ _ after.0 after.2.place end.results.items results)) c.ended.ensures.results
+    let place = c.in_ok-place-2.place in
+    let told = c.in_ok-place-2.ensures.told c.in_ok-place.ensures.told in
+    let settled = c.ended.ensures.settled c.in_ok-place-2.ensures.settled (λ failing. told.kept (c.in_ok-place-2.ensures.failed failing)) in
+    ended_so c.ended.result _ _ _ _
+    (λ end underway results rows. subst (λ x. IsSoFar (F x) records end.rows.items end.results.items) e
+    (subst (λ (r : List Row). IsSoFar (F own) records r end.results.items) (sym rows)
+    (subst (λ (x : List (List (List ℕ))). IsSoFar (F own) records place.rows.items x) (sym results) (rows_so_far (F own) step records _ _ _ after.0 after.2.place underway))))
+    settled c.ended.ensures.results c.ended.ensures.rows
 
 pub returns-clause-own : goal.returns-clause-own
 returns-clause-own g c clean opened all shows =
@@ -122,5 +128,46 @@ returns-clause-untouched g c clean opened all shows whole db may =
 
 pub returns-clause-cause : goal.returns-clause-cause
 returns-clause-cause g c clean opened all shows so =
-    let f = g.F.RecordFunction.function c.args.function in
-    err_to c.ended.result _ _ (λ e many. subst (λ (x : DurableError). IsCauseOfNoEnd f c.args.step.now c.args.records.now all x) (sym many) tt) c.ended.ensures.cause
+    let F = g.F.RecordFunction.function in
+    let own = arc_value c.in_ok-function.function in
+    let step = c.args.step.now in
+    let records = c.args.records.now in
+    let old = state g.S.Store c.args.conn.now in
+    let new = state g.S.Store c.run.new.conn in
+    let e : own ≡ c.args.function = c.in_ok-function.ensures.ok in
+    let early : HasCleanDisk (state g.S.Store c.taken_from.new.conn) = omega (arith, clean, c.run.ensures.clean) in
+    let rest = c.in_ok-place.ensures.rests early opened all shows (subst (λ x. IsRunSoFar (F x) step records all) (sym e) so) in
+    let after = c.in_ok-place-2.ensures.kept clean (F own) step records all rest in
+    err_to c.ended.result _ _
+    (λ why many. subst (λ (x : DurableError). IsCauseOfNoEnd (F c.args.function) step records old new all x) (sym many.0)
+    (record { all = after.0; so_far = subst (λ x. IsRunSoFar (F x) step records after.0) e after.2.so_far; full = omega (arith, after.2.number, after.4 many.1) })) c.ended.ensures.cause
+
+pub returns-in_err-place-clause-cause : goal.returns-in_err-place-clause-cause
+returns-in_err-place-clause-cause g c clean opened all shows so =
+    let F = g.F.RecordFunction.function in
+    let step = c.args.step.now in
+    let records = c.args.records.now in
+    let old = state g.S.Store c.args.conn.now in
+    let new = state g.S.Store c.taken_from.new.conn in
+    let e : arc_value c.in_ok-function.function ≡ c.args.function = c.in_ok-function.ensures.ok in
+    let why = c.in_err-place.field-0.0 in
+    let told : c.from_residual-in_err-place.result ≡ Err why = search rules in
+    rw told (subst (λ x. IsCauseOfNoEnd (F x) step records old new all why) e
+    (taken_ends (F (arc_value c.in_ok-function.function)) step records old new all (subst (λ x. IsRunSoFar (F x) step records all) (sym e) so) why (c.in_err-place.ensures.cause clean opened all shows)))
+
+pub returns-in_err-place-2-clause-cause : goal.returns-in_err-place-2-clause-cause
+returns-in_err-place-2-clause-cause g c clean opened all shows so =
+    let F = g.F.RecordFunction.function in
+    let own = arc_value c.in_ok-function.function in
+    let step = c.args.step.now in
+    let records = c.args.records.now in
+    let e : own ≡ c.args.function = c.in_ok-function.ensures.ok in
+    let early : HasCleanDisk (state g.S.Store c.taken_from.new.conn) = omega (arith, clean, c.run.ensures.clean) in
+    let rest = c.in_ok-place.ensures.rests early opened all shows (subst (λ x. IsRunSoFar (F x) step records all) (sym e) so) in
+    let old = state g.S.Store c.args.conn.now in
+    let mid = state g.S.Store c.taken_from.new.conn in
+    let new = state g.S.Store c.run.new.conn in
+    let why = c.in_err-place-2.field-0.0 in
+    let told : c.from_residual-in_err-place-2.result ≡ Err why = search rules in
+    rw told (subst (λ x. IsCauseOfNoEnd (F x) step records old new all why) e
+    (gone_ends (F own) step records old mid new c.taken_from.ensures.counts c.run.ensures.counts (c.taken_from.ensures.shut early) all why (c.in_err-place-2.ensures.cause clean (F own) step records all rest)))

@@ -43,6 +43,7 @@ returns-clause-told g c =
     let read : answer_of (tree_of (string_bytes last.saved)) ≡ Ok held = ap (λ (b : List ℕ). answer_of (tree_of b)) (sym c.as_bytes.ensures.value) ∙ c.in_ok-held.ensures in
     record {
       failed = λ never. absurd (true≢false (sym never));
+      kept = λ never. absurd (true≢false (sym never));
       whole = told_behind _ _ c.args.step.now.id c.in_ok-results.results.items held c.in_ok-rows.rows.items
           (behind_text c.args.step.now.id _ _ c.in_ok-results.results.items _ c.as_bytes-2.ensures.value c.in_ok-run.ensures.behind) read (c.in_ok-rows.ensures.items ∙ c.rows.ensures.rows);
     }

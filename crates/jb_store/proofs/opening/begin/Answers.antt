@@ -175,3 +175,20 @@ returns-clause-shut g c clean was = elim (c.make.ensures.shut (early g c clean) 
   | inl still ↦ elim (c.list.ensures.shut clean still) [ inl now ↦ inl now | inr more ↦ inr (omega (arith, more, c.make.ensures.counts)) ]
   | inr more ↦ inr (omega (arith, more, c.list.ensures.counts))
 ]
+
+pub returns-in-Some-clause-own : goal.returns-in-Some-clause-own
+returns-in-Some-clause-own g c clean opened all shows =
+    let fits : (c.schema.result.now ≡ no_schema) ⊎ (c.schema.result.now ≡ checkpoint_schema) =
+    subst (λ x. (x ≡ no_schema) ⊎ (x ≡ checkpoint_schema)) (sym c.schema.ensures.value) (elim shows [ inl holds ↦ inr holds.schema | inr blank ↦ inl blank.0 ]) in
+    let none = c.refusal_of.ensures.fits.1 fits in
+    let some = c.in-Some.is in
+    absurd cc
+
+pub returns-clause-own : goal.returns-clause-own
+returns-clause-own g c clean opened all shows = all_errors _ _ c.list.result c.list.ensures.named (λ e is named its. elim its [
+  | inl foreign ↦ named.0 foreign
+  | inr (inl version) ↦ named.1 version
+  | inr (inr gap) ↦
+      let gapped = returns-clause-gap g c clean opened (is ∙ ap (λ x. Err x) gap) in
+      elim shows [ inl holds ↦ gapped.1 all holds.rows | inr blank ↦ apart (sym gapped.0 ∙ blank.0) ]
+])
