@@ -1,2 +1,7 @@
+pub mod Left
 pub mod Opens
+pub mod Pages
+pub mod Somes
 pub mod Stages
+pub mod Tables
+pub mod Whole

@@ -1,250 +1,219 @@
--- From one open of the files to the next.
-use Rattle.std.proofs.Common.{◌≡◌, ◌⊎◌, ◌≤◌, ◌<◌, ◌%◌, inl, inr, ℕ, List, [], length, take, slice_index, Option, Some, None, option_map, true, false, IsTrue, refl, sym, ap, subst, subst₂, ◌∙◌, arith, take_all, eqb}
+-- What an open finds, and what it leaves where it was cut.
+use Rattle.std.proofs.Common.{◌≡◌, ◌⊎◌, ◌∙◌, ℕ, Bool, true, false, List, [], IsTrue, inl, inr, refl, sym, ap, subst, subst₂, true≢false}
 use Rattle.std.proofs.Math.Logic.{∥∥₁_map, ∥∥₁_elim}
-use Rattle.std.proofs.Math.Path.{fun_ext}
-use Rattle.std.proofs.lemmas.Bool.{cases_Bool, cases_eq, eqb-true}
-use Rattle.sqlite_disk.specs.declared.Disk.{Ghosts}
-use Rattle.sqlite_wal.specs.PageSize.{IsPageSize}
-use Rattle.sqlite_wal.specs.Recovery as raw
-use Rattle.sqlite_wal.specs.Recovery.{Image, Pages, IsIgnored}
-use Rattle.sqlite_pool.specs.Stored.{stored_size, reserved, is_summed, is_among, sealed, resealed, Recovers, Adopts, StandsAs}
-use Rattle.sqlite_pool.proofs.ResealLemmas.{adopts_of}
-use Rattle.sqlite_pool.proofs.ProbeLemmas.{size_by_log, size_by_file, reserved_word}
-use Rattle.sqlite_pool.proofs.StateLemmas.{size_is_allowed}
-use Rattle.sqlite_trees.specs.Tree.{Trees}
-use Rattle.sqlite_store.specs.declared.store.FileStore.{FileStore}
-use Rattle.sqlite_store.specs.FileStore.{state, view, schema_in, reading, recovers}
-use Rattle.sqlite_store.specs.Listing.{IsOurs}
-use Rattle.sqlite.specs.Held.{AreDatabases}
-use Rattle.sqlite.specs.Files.{HoldsDatabase, NamesSize, SaysSums}
-use Rattle.std.proofs.Common.{codes, ◌∷◌, ◌++◌, unwrap_or, get_or-take}
-use Rattle.std.proofs.lemmas.List.{length-take}
-use Rattle.sqlite_wal.proofs.AppendLemmas.{some_value}
-use Rattle.sqlite_wal.proofs.CreateLemmas.{begun_is_not_blank}
-use Rattle.sqlite_wal.proofs.LogLemmas.{SeenMayStay}
-use Rattle.sqlite_pool.specs.File.{header_in, IsSoundFile}
-use Rattle.sqlite_pool.specs.Header.{first_page}
-use Rattle.sqlite_pool.specs.Stored.{used_size}
-use Rattle.sqlite_pool.specs.StoredLaws.{trimmed_some}
-use Rattle.sqlite_pool.proofs.ProbeLemmas.{first_byte}
-use Rattle.sqlite_disk.specs.declared.Files.{Files}
 use Rattle.sqlite_catalog.specs.Listing.{IsSound}
-use Rattle.sqlite_store.specs.declared.store.open.Unopened.{Unopened}
+use Rattle.sqlite_disk.specs.declared.Disk.{Ghosts}
+use Rattle.sqlite_disk.specs.declared.Files.{Files}
+use Rattle.sqlite_pool.proofs.StateLemmas.{size_is_allowed}
+use Rattle.sqlite_pool.specs.File.{IsSoundFile}
+use Rattle.sqlite_pool.specs.Stored.{Adopts, StandsAs, is_summed, stored_size, trimmed}
+use Rattle.sqlite_store.proofs.AlikeLemmas.{same_file}
+use Rattle.sqlite_store.specs.FileStore.{reading, recovers, schema_in, state}
+use Rattle.sqlite_store.specs.Listed.{catalog_rows}
+use Rattle.sqlite_store.specs.Listing.{IsOurs, file_trees, listed_from}
 use Rattle.sqlite_store.specs.Unopened.{state_of}
-use Rattle.sqlite.specs.declared.file.Leftover.TheVariants as left
-use Rattle.sqlite.specs.Held.{Held}
-use Rattle.sqlite.specs.Files.{IsNothing, Finds, LeavesFiles, image_of, file_state}
+use Rattle.sqlite_store.specs.declared.catalog.Wanted.{Wanted}
+use Rattle.sqlite_store.specs.declared.store.FileStore.{FileStore}
+use Rattle.sqlite_trees.specs.Objects.{catalog_tree}
+use Rattle.sqlite_trees.specs.Tree.{Trees}
+use Rattle.sqlite_wal.proofs.LogLemmas.{SeenMayStay}
+use Rattle.sqlite_wal.specs.Recovery.{Image, Pages}
 use Rattle.sqlite.proofs.FileLemmas.{is_something}
 use Rattle.sqlite.proofs.ListingLemmas.{empty_is_sound}
-use Rattle.jb_store.specs.Form.{no_schema}
-use Rattle.jb_store.specs.Checkpoints.{Kept, Has}
-use Rattle.jb_durable.specs.Files.{HoldsWhole, IsOfARun, HoldsRun, HoldsRunOrNone, CanGoOn, Leaves}
+use Rattle.sqlite.specs.Files.{AreFoundIn, HoldsDatabase, IsNothing, LeavesFiles, NamesSize, SaysSums, image_of}
+use Rattle.sqlite.specs.Schema.{Schema}
+use Rattle.sqlite.specs.declared.file.Leftover.{Leftover}
+use Rattle.sqlite.specs.declared.file.Leftover.TheVariants as left
+use Rattle.jb_store.specs.Checkpoints.{Has, Kept}
+use Rattle.jb_store.specs.Form.{checkpoint_schema, no_schema}
+use Rattle.jb_durable.specs.Files.{CanGoOn, IsResumable, HoldsPages, HoldsRun, HoldsRunOrNone, HoldsWhole, IsOfARun, Leaves, LeavesImage, MayGoOn, has_store}
+use Rattle.jb_durable.proofs.Pages.{pages_once, something, stands_pages}
+use Rattle.jb_durable.proofs.Tables.{IsChecked, one_list}
+use Rattle.jb_durable.proofs.Whole.{database_pages, stands_whole, whole_is_database, whole_pages}
 
-abbrev adopted : (size : ℕ) (image : Image) (pages : Pages) → Recovers size image pages → Adopts size image pages
-adopted size image pages found =
-    let frames = adopts_of size image pages found in
-    record { stored = found.stored; found = found.found; whole = found.whole; numbers = frames.numbers; frames = frames.frames; sealed = λ n bytes is _. found.sealed n bytes is; shows = found.shows }
+-- the same file, of whose numbers nothing is said
+loose_file : (size : ℕ) (is_numbered : Bool) (wanted : List Wanted) (pages : Pages) → IsOurs size is_numbered wanted pages → IsOurs size false wanted pages
+loose_file size is_numbered wanted pages ours = record { file = ours.file; numbered = λ no. absurd (true≢false (sym no)) }
 
-abbrev pub whole_is_database : (image : Image) (db : Trees) → HoldsWhole image db → HoldsDatabase image db
-whole_is_database image db held = (
-  held.0,
-  held.1,
-  record {
-    pages = held.2.pages;
-    wanted = held.2.wanted;
-    schema = held.2.schema;
-    found = adopted held.0 image held.2.pages held.2.found;
-    ours = held.2.ours;
-    reads = held.2.reads;
-    sound = held.2.sound;
-  },
-)
+with_numbers : (is_numbered : Bool) (image : Image) (db : Trees) → HoldsPages true image db → HoldsPages is_numbered image db
+with_numbers true image db held = held
+with_numbers false image db held =
+    let it = held.2 in
+    (held.0, held.1, record { stored = it.stored; found = it.found; whole = it.whole; wanted = it.wanted; ours = loose_file held.0 true it.wanted (trimmed held.0 it.stored) it.ours; reads = it.reads }, held.3)
 
-large_of : (size : ℕ) → IsPageSize (stored_size size) → 504 ≤ size
-large_of size valid = let few : reserved size ≤ 8 = grind arith in omega (arith, valid.0)
+holds_something : (is_numbered : Bool) (image : Image) (db : Trees) → HoldsPages is_numbered image db → ¬ IsNothing image
+holds_something is_numbered image db held = something held.0 image held.2.stored held.2.found held.2.whole held.2.ours.file.sound
 
--- the size that the files name is that of their database
-same_stored : (image : Image) (db : Trees) (held : HoldsDatabase image db) (size : ℕ) → NamesSize image size → stored_size held.0 ≡ size
-same_stored image db held size names =
-    let found = held.2.found in
-    let pages = held.2.pages in
-    elim (cases_eq (stored_size held.0) size) [
-      | inl same ↦ same
-      | inr other ↦
-          let read = λ (seen : ¬ IsIgnored image.log). other (sym (size_by_log held.0 image pages found seen) ∙ sym (names.0 seen)) in
-          absurd (read (λ ignored. other (sym (size_by_file held.0 image pages found (large_of held.0 held.1) held.2.ours.file.sound ignored) ∙ sym (names.1 ignored))))
-    ]
+adopts_something : (size : ℕ) (image : Image) (pages : Pages) (wanted : List Wanted) → Adopts size image pages → IsOurs size true wanted pages → ¬ IsNothing image
+adopts_something size image pages wanted taken ours = something size image taken.stored taken.found taken.whole (subst (IsSoundFile size) (sym taken.shows) ours.file.sound)
 
-again_same : (size : ℕ) (among : Rattle.std.proofs.Common.Bool) (page : Option (List ℕ)) → ((bytes : List ℕ) → page ≡ Some bytes → bytes ≡ sealed (take size bytes))
-    → (Rattle.std.proofs.Common.if◌then◌else◌ among (option_map (λ bytes. sealed (take size bytes)) page) page) ≡ page
-again_same size true None is = refl
-again_same size true (Some bytes) is = ap Some (sym (is bytes refl))
-again_same size false page is = refl
+stands_on : (is_numbered : Bool) (old new : Image) (db : Trees) → HoldsPages is_numbered old db → (size : ℕ) → NamesSize old (stored_size size)
+    → (IsTrue (is_summed size) → SaysSums (stored_size size) old) → StandsAs size old new → HoldsPages is_numbered new db
+stands_on is_numbered old new db held size names says stands =
+    let it = held.2 in
+    let now = stands_pages held.0 old it.stored it.found it.whole it.ours.file.sound size new names says stands in (
+      held.0,
+      held.1,
+      record {
+        stored = now.0;
+        found = now.1;
+        whole = now.2;
+        wanted = it.wanted;
+        ours = subst (IsOurs held.0 is_numbered it.wanted) (sym now.3) it.ours;
+        reads = it.reads ∙ ap (file_trees held.0 it.wanted) (sym now.3);
+      },
+      held.3,
+    )
 
--- where each page has its sum, none gets another
-unchanged : (size : ℕ) (numbers : List ℕ) (stored : Pages) → ((n : ℕ) (bytes : List ℕ) → stored n ≡ Some bytes → bytes ≡ sealed (take size bytes)) → resealed size numbers stored ≡ stored
-unfolding resealed
-unchanged size numbers stored is = fun_ext λ n. again_same size (is_among numbers n) (stored n) (is n)
-
--- pages with no sum in them are as they are under any size of theirs that has none
-plain_sealed : (size : ℕ) (bytes : List ℕ) → (is_summed size ≡ true → ⊥) → length bytes ≡ stored_size size → bytes ≡ sealed (take size bytes)
-unfolding sealed
-plain_sealed size bytes plain len =
-    elim (cases_Bool (eqb (size % 16) 8)) [
-      | inl eight ↦ absurd (plain (rw eight))
-      | inr other ↦
-          let all : stored_size size ≡ size = rw other (omega arith) in
-          rw (take_all size bytes (omega (arith, len, all)), len, all, other)
-    ]
-
--- Files that stand as these hold the same database.
-module _ (old new : Image) (db : Trees) (held : HoldsWhole old db) (size : ℕ) (names : NamesSize old (stored_size size)) (says : IsTrue (is_summed size) → SaysSums (stored_size size) old) (stands : StandsAs size old new) where
-  abbrev base : HoldsDatabase old db
-  base = whole_is_database old db held
-
-  same_size : stored_size held.0 ≡ stored_size size
-  same_size = same_stored old db base (stored_size size) names
-
+-- An open has found a sound file in files that hold these pages.
+module _ (image : Image) (db : Trees) (is_numbered : Bool) (held : HoldsPages is_numbered image db) (size : ℕ) (pages : Pages) (wanted : List Wanted) (taken : Adopts size image pages)
+    (exact : IsOurs size true wanted pages) where
   abbrev stored : Pages
-  stored = held.2.found.stored
+  stored = held.2.stored
 
-  found : raw.Recovers (stored_size size) old stored
-  found = subst (λ n. raw.Recovers n old stored) same_size held.2.found.found
+  once : (size ≡ held.0) × (trimmed size taken.stored ≡ trimmed held.0 stored)
+  once = pages_once held.0 size image stored taken.stored held.2.found held.2.whole held.2.ours.file.sound taken.found taken.whole (subst (IsSoundFile size) (sym taken.shows) exact.file.sound)
 
-  -- the header of a database with no sums says so
-  says_not : is_summed size ≡ true → (held.0 ≡ size → ⊥) → ⊥
-  says_not summed other =
-      let word = reserved_word held.0 old held.2.pages base.2.found (large_of held.0 held.1) held.2.ours.file.sound in
-      let said = says summed stored word.0 found word.1 (word.2 ∙ same_size) in
-      let eight : reserved size ≡ 8 = eqb-true _ _ summed in
-      elim (cases_Bool (eqb (held.0 % 16) 8)) [
-        | inl with_sums ↦ other (let r : reserved held.0 ≡ 8 = rw with_sums in omega (arith, same_size, eight))
-        | inr plain ↦ let r : reserved held.0 ≡ 0 = rw plain in omega (arith, word.3, said)
-      ]
+  same : pages ≡ trimmed held.0 stored
+  same = sym taken.shows ∙ once.1
 
-  whole_pages : (n : ℕ) (bytes : List ℕ) → stored n ≡ Some bytes → bytes ≡ sealed (take size bytes)
-  whole_pages n bytes is =
-      elim (cases_eq held.0 size) [
-        | inl same ↦ subst (λ s. bytes ≡ sealed (take s bytes)) same (held.2.found.sealed n bytes is)
-        | inr other ↦ plain_sealed size bytes (λ summed. says_not summed other) (held.2.found.whole.sized n bytes is ∙ same_size)
-      ]
+  -- it reads as theirs
+  here : IsOurs held.0 true wanted (trimmed held.0 stored)
+  here = subst₂ (λ s p. IsOurs s true wanted p) once.0 same exact
 
-  found_now : raw.Recovers (stored_size size) new stored
-  found_now = elim stands.0 [
-    | inl alike ↦ alike stored found
-    | inr summed ↦ elim (summed.2 stored found) [ inl now ↦ now | inr now ↦ subst (raw.Recovers (stored_size size) new) (unchanged size summed.0 stored whole_pages) now ]
+  as_database : IsOurs held.0 true held.2.wanted (trimmed held.0 stored) → HoldsDatabase image db
+  as_database ours = (
+    held.0,
+    held.1,
+    record {
+      pages = trimmed held.0 stored;
+      wanted = held.2.wanted;
+      schema = held.3.0;
+      found = subst₂ (λ s p. Adopts s image p) once.0 same taken;
+      ours = ours;
+      reads = held.2.reads;
+      sound = held.3.1;
+    },
+  )
+
+  -- where both are checkpoints or nothing, the tables have their numbers
+  named : (all : List Kept) → Has db all → (schema : Schema) → IsSound schema (file_trees size wanted pages) → (schema ≡ no_schema) ⊎ (schema ≡ checkpoint_schema)
+      → IsOurs held.0 true held.2.wanted (trimmed held.0 stored)
+  named all has schema sound is =
+      let listed : db catalog_tree ≡ listed_from 0 held.2.wanted = ap (λ d. d catalog_tree) held.2.reads ∙ catalog_rows held.0 held.2.wanted _ in
+      let theirs : file_trees size wanted pages catalog_tree ≡ listed_from 0 wanted = catalog_rows size wanted _ in
+      let ours : IsChecked (listed_from 0 held.2.wanted) = elim has [
+        | inl stands ↦ inl (subst (λ rows. Rattle.sqlite_catalog.specs.Listing.Lists rows checkpoint_schema) listed stands.sound.lists)
+        | inr none ↦ inr (subst (λ rows. Rattle.sqlite_catalog.specs.Listing.Lists rows no_schema) listed none.0.lists)
+      ] in
+      let found : IsChecked (listed_from 0 wanted) = elim is [
+        | inl none ↦ inr (subst₂ Rattle.sqlite_catalog.specs.Listing.Lists theirs none sound.lists)
+        | inr checked ↦ inl (subst₂ Rattle.sqlite_catalog.specs.Listing.Lists theirs checked sound.lists)
+      ] in
+      let one = one_list held.0 (trimmed held.0 stored) held.2.wanted wanted held.2.ours.file here ours found in
+      (same_file held.0 wanted held.2.wanted (trimmed held.0 stored) (sym one) here).0
+
+-- a database of an open that tells what it found in files from which a run may go on
+pub found_run : (so_far : List Kept → Type 0) (image : Image) (trees : Trees) → MayGoOn so_far image → AreFoundIn image trees → ((db : Trees) → HoldsDatabase image db → trees ≡ db)
+    → (schema : Schema) → IsSound schema trees → (schema ≡ no_schema) ⊎ (schema ≡ checkpoint_schema) → ∥ IsOfARun so_far trees ∥₁
+found_run so_far image trees may reads holds schema sound is = ∥∥₁_elim may squash₁ (λ from. elim from [
+  | inl h ↦ elim reads [
+    | inl there ↦ ∥∥₁_map there.4 (λ exact.
+        let at = subst (IsSound schema) there.5 sound in
+        let held = as_database image h.0 false h.1 there.0 there.1 there.2 there.3 exact (named image h.0 false h.1 there.0 there.1 there.2 there.3 exact h.2.0 h.2.1 schema at is) in
+        let run : IsOfARun so_far trees = (h.2.0, subst (λ t. Has t h.2.0) (sym (holds h.0 held)) h.2.1, h.2.2) in run)
+    | inr nothing ↦ absurd (holds_something false image h.0 h.1 nothing.0)
   ]
-
-  pub stands_whole : HoldsWhole new db
-  stands_whole =
-      let now : raw.Recovers (stored_size held.0) new stored = subst (λ n. raw.Recovers n new stored) (sym same_size) found_now in (
-        held.0,
-        held.1,
-        record {
-          pages = held.2.pages;
-          wanted = held.2.wanted;
-          schema = held.2.schema;
-          found = record { stored = stored; found = now; whole = held.2.found.whole; sealed = held.2.found.sealed; shows = held.2.found.shows; present = now.present };
-          ours = held.2.ours;
-          reads = held.2.reads;
-          sound = held.2.sound;
-        },
-      )
-
--- each image that a crash may leave of an open store holds a whole database that the store allows
-pub leaves_whole : {D : Type 0} {g : Ghosts D} (it : FileStore D g) → IsTrue (view it).is_numbered → AreDatabases (recovers it)
-    → (left : Image) → (state it).may_leave left → ∥ ((db : Trees) × recovers it db × HoldsWhole left db) ∥₁
-leaves_whole it numbered sound left may = ∥∥₁_elim it.safe squash₁ (λ all.
-    let found = all left may in
-    let db = reading it found.0 in
-    let allowed : recovers it db = (left, found.0, may, ∣ found.1 ∣₁, refl) in
-    let schema = sound db allowed in
-    ∥∥₁_elim (size_is_allowed it.pool) squash₁ (λ size. ∥∥₁_map found.2 (λ ours. let r : (x : Trees) × recovers it x × HoldsWhole left x = (
-      db,
-      allowed,
-      (
-        (state it).page_size,
-        size,
-        record {
-          pages = found.0;
-          wanted = schema_in it found.0;
-          schema = schema.0;
-          found = found.1;
-          reads = refl;
-          sound = schema.1;
-          ours = subst (λ b. IsOurs (state it).page_size b (schema_in it found.0) found.0) numbered ours;
-        },
-      ),
-    ) in r)))
-
--- files in which an open finds a sound file hold something
-pub found_is_something : (size : ℕ) (image : Image) (pages : Pages) → Adopts size image pages → IsSoundFile size pages → ¬ IsNothing image
-found_is_something size image pages found sound nothing =
-    let (first, is) = some_value (found.stored 1) found.whole.first in
-    let len = found.whole.sized 1 first is in
-    let used : pages 1 ≡ Some (take size first) = ap (λ (p : Pages). p 1) (sym found.shows) ∙ trimmed_some size _ 1 first is in
-    let head : header_in pages ≡ take 100 (take size first) = ap (λ (o : Option (List ℕ)). take 100 (unwrap_or o [])) used in
-    let magic : take 16 (take 100 (take size first)) ≡ codes "SQLite format 3" ++ 0 ∷ [] = ap (take 16) (sym head) ∙ sound.header.0.magic in
-    let long : length (take 16 (take 100 (take size first))) ≡ 16 = ap length magic in
-    let some : 16 ≤ length (take size first) = omega (arith, long, length-take 16 (take 100 (take size first)), length-take 100 (take size first)) in
-    let both : (16 ≤ size) × (16 ≤ length first) = (omega (arith, some, length-take size first), omega (arith, some, length-take size first)) in
-    let byte : slice_index first 0 ≡ 83 =
-    sym (get_or-take size first 0 0 (omega (arith, both.0))) ∙ sym (get_or-take 100 (take size first) 0 0 (omega arith)) ∙ sym (get_or-take 16 (take 100 (take size first)) 0 0 (omega arith))
-    ∙ ap (λ (b : List ℕ). slice_index b 0) magic in
-    let never = λ (other : ℕ) (some : 0 < other). let gate = first_byte other some in
-    begun_is_not_blank (sealed (first_page other)) first (stored_size size) image found.stored found.found is len (omega (arith, both.1, len)) (byte ∙ sym gate) (λ none. let zero = sym gate ∙ none in omega (arith, zero)) in
-    elim nothing [ inl plain ↦ never (used_size 4096 false) (omega arith) plain | inr summed ↦ never (used_size 4096 true) (omega arith) summed ]
-
-run_there : (so_far : List Kept → Type 0) (image : Image) → HoldsRun so_far image → ¬ IsNothing image
-run_there so_far image run nothing = ∥∥₁_elim run (λ x y. absurd x) (λ h. is_something image h.0 (whole_is_database image h.0 h.1) nothing)
-
-module _ {D : Type 0} {g : Ghosts D} (so_far : List Kept → Type 0) where
-  -- what an open finds are the checkpoints of a run so far
-  pub opened_has : (files : Files D) (c : Held (FileStore D g)) → Finds files c → CanGoOn so_far (image_of g files) → ∥ IsOfARun so_far (file_state c).committed.trees ∥₁
-  opened_has files c finds (inl (inl run)) =
-      ∥∥₁_map run (λ h. let r : IsOfARun so_far (file_state c).committed.trees = (h.2.0, subst (λ t. Has t h.2.0) (sym (finds.holds h.0 (whole_is_database _ h.0 h.1))) h.2.1, h.2.2) in r)
-  opened_has files c finds (inl (inr none)) = elim finds.reads [
-    | inl there ↦ ∥∥₁_elim there.4 squash₁ (λ ours. absurd (found_is_something there.0 _ there.1 there.3 ours.file.sound none.0))
-    | inr nothing ↦ let r : IsOfARun so_far (file_state c).committed.trees = ([], inr (empty_is_sound _ nothing.1.1, refl), none.1) in ∣ r ∣₁
+  | inr none ↦ elim reads [
+    | inl there ↦ ∥∥₁_map there.4 (λ exact. absurd (adopts_something there.0 image there.1 there.2 there.3 exact none.0))
+    | inr nothing ↦ let run : IsOfARun so_far trees = ([], inr (empty_is_sound trees nothing.1.1, refl), none.1) in ∣ run ∣₁
   ]
-  opened_has files c finds (inr empty) =
-      ∥∥₁_map empty.1 (λ e. let r : IsOfARun so_far (file_state c).committed.trees = ([], inr (subst (λ t. IsSound no_schema t) (sym (finds.holds e.0 e.1)) (empty_is_sound e.0 e.2.1), refl), empty.0) in r)
+])
 
-  module _ (stays : SeenMayStay g) (files : Files D) (now : Unopened D g) (cut : LeavesFiles files (left.Unopened now)) (image : Image) (may : (state_of now).may_leave image) where
-    -- an open that was cut leaves the run that was there
-    pub cut_run : Leaves g (HoldsRun so_far) files → HoldsRun so_far image
-    cut_run leaves =
-        let run = leaves (image_of g files) (stays files.log, stays files.db) in
-        elim cut [
-          | inl fresh ↦ absurd (run_there so_far _ run fresh.0)
-          | inr there ↦ elim (there.4 image may).same [
-            | inl was ↦ leaves image was
-            | inr stands ↦ ∥∥₁_map run (λ h. let r : (db : Trees) × HoldsWhole image db × IsOfARun so_far db = (h.0, stands_whole _ image h.0 h.1 (state_of now).page_size there.1 there.3 stands, h.2) in r)
-          ]
+abbrev pub Resumes : Bool → (List Kept → Type 0) → Image → Type 0
+Resumes is_numbered so_far image = ((db : Trees) × HoldsPages is_numbered image db × IsOfARun so_far db) ⊎ (IsNothing image × so_far [])
+
+pub run_goes_on : (so_far : List Kept → Type 0) (image : Image) → HoldsRun so_far image → CanGoOn so_far image
+run_goes_on so_far image run = ∥∥₁_map run (λ h. let r : Resumes true so_far image = inl (h.0, whole_pages image h.0 h.1, h.2) in r)
+
+pub none_goes_on : (so_far : List Kept → Type 0) (image : Image) → HoldsRunOrNone so_far image → CanGoOn so_far image
+none_goes_on so_far image (inl run) = run_goes_on so_far image run
+none_goes_on so_far image (inr none) = ∣ inr none ∣₁
+
+pub may_go_on : (so_far : List Kept → Type 0) (image : Image) → CanGoOn so_far image → MayGoOn so_far image
+may_go_on so_far image can = ∥∥₁_map can (λ from. let r : Resumes false so_far image = elim from [ inl h ↦ inl (h.0, with_numbers false image h.0 h.1, h.2) | inr none ↦ inr none ] in r)
+
+module _ {D : Type 0} {g : Ghosts D} (so_far : List Kept → Type 0) (stays : SeenMayStay g) (files : Files D) where
+  -- an open that was cut leaves the run that was there
+  pub cut_run : (rest : Leftover D g) → has_store rest ≡ false → LeavesFiles files rest → (image : Image) → LeavesImage rest image → Leaves g (HoldsRun so_far) files → HoldsRun so_far image
+  cut_run (left.Files now) bare cut image may leaves = leaves image (cut image may)
+  cut_run (left.Store it) bare cut image may leaves = absurd (true≢false bare)
+  cut_run (left.Unopened now) bare cut image may leaves = ∥∥₁_elim (leaves (image_of g files) (stays files.log, stays files.db)) squash₁ (λ h. elim cut [
+    | inl fresh ↦ absurd (is_something (image_of g files) h.0 (whole_is_database (image_of g files) h.0 h.1) fresh.0)
+    | inr there ↦ elim (there.4 image may).same [
+      | inl was ↦ leaves image was
+      | inr stands ↦ let r : (db : Trees) × HoldsWhole image db × IsOfARun so_far db = (h.0, stands_whole (image_of g files) image h.0 h.1 (state_of now).page_size there.1 there.3 stands, h.2) in ∣ r ∣₁
+    ]
+  ])
+
+  -- and files from which a run goes on
+  pub cut_goes_on : (is_numbered : Bool) (rest : Leftover D g) → has_store rest ≡ false → LeavesFiles files rest → (image : Image) → LeavesImage rest image
+      → Leaves g (IsResumable is_numbered so_far) files → IsResumable is_numbered so_far image
+  cut_goes_on is_numbered (left.Files now) bare cut image may leaves = leaves image (cut image may)
+  cut_goes_on is_numbered (left.Store it) bare cut image may leaves = absurd (true≢false bare)
+  cut_goes_on is_numbered (left.Unopened now) bare cut image may leaves = ∥∥₁_elim (leaves (image_of g files) (stays files.log, stays files.db)) squash₁ (λ from. elim cut [
+    | inl fresh ↦ elim from [
+      | inl h ↦ absurd (holds_something is_numbered (image_of g files) h.0 h.1 fresh.0)
+      | inr none ↦ elim (fresh.1 image may) [
+        | inl was ↦ leaves image was
+        | inr begun ↦ elim begun [
+          | inl still ↦ ∣ inr (still, none.1) ∣₁
+          | inr empty ↦ ∥∥₁_map empty (λ e. let r : Resumes is_numbered so_far image =
+              inl (e.0, with_numbers is_numbered image e.0 (database_pages image e.0 e.1), ([], inr (empty_is_sound e.0 e.2.1, refl), none.1)) in r)
         ]
+      ]
+    ]
+    | inr there ↦ elim from [
+      | inr none ↦ absurd (there.0 none.0)
+      | inl h ↦ elim (there.4 image may).same [
+        | inl was ↦ leaves image was
+        | inr stands ↦ let r : Resumes is_numbered so_far image = inl (h.0, stands_on is_numbered (image_of g files) image h.0 h.1 (state_of now).page_size there.1 there.3 stands, h.2) in ∣ r ∣₁
+      ]
+    ]
+  ])
 
-    -- a first open that was cut leaves what the next one takes up
-    pub cut_first : Leaves g (HoldsRunOrNone so_far) files → CanGoOn so_far image
-    cut_first leaves =
-        elim (leaves (image_of g files) (stays files.log, stays files.db)) [
-          | inl run ↦ elim cut [
-            | inl fresh ↦ absurd (run_there so_far _ run fresh.0)
-            | inr there ↦ elim (there.4 image may).same [
-              | inl was ↦ inl (leaves image was)
-              | inr stands ↦ inl (inl (∥∥₁_map run (λ h. let r : (db : Trees) × HoldsWhole image db × IsOfARun so_far db = (h.0, stands_whole _ image h.0 h.1 (state_of now).page_size there.1 there.3 stands, h.2) in r)))
-            ]
-          ]
-          | inr none ↦ elim cut [
-            | inl fresh ↦ elim (fresh.1 image may) [
-              | inl was ↦ inl (leaves image was)
-              | inr begun ↦ elim begun [ inl still ↦ inl (inr (still, none.1)) | inr empty ↦ inr (none.1, empty) ]
-            ]
-            | inr there ↦ absurd (there.0 none.0)
-          ]
+  -- an open that was cut behind its recovery leaves them, but for the numbers
+  pub cut_loose : (now : FileStore D g) → LeavesFiles files (left.Store now) → (image : Image) → (state now).may_leave image → Leaves g (CanGoOn so_far) files → MayGoOn so_far image
+  cut_loose now cut image may leaves = ∥∥₁_elim now.safe squash₁ (λ all.
+      let found = all image may in
+      let read = reading now found.0 in
+      let allowed : recovers now read = (image, found.0, may, ∣ found.1 ∣₁, refl) in
+      let told = cut read allowed in
+      let size = (state now).page_size in
+      let wanted = schema_in now found.0 in
+      ∥∥₁_elim (size_is_allowed now.pool) squash₁ (λ valid. ∥∥₁_elim found.2 squash₁ (λ ours.
+      let loose = subst (IsOurs size false wanted) (sym found.1.shows) (loose_file size now.is_numbered wanted found.0 ours) in
+      let shows : read ≡ file_trees size wanted (trimmed size found.1.stored) = ap (file_trees size wanted) (sym found.1.shows) in
+      let holds = λ (db : Trees) (is : db ≡ read) (schema : Schema) (sound : IsSound schema db).
+      let h : HoldsPages false image db =
+      (size, valid, record { stored = found.1.stored; found = found.1.found; whole = found.1.whole; wanted = wanted; ours = loose; reads = is ∙ shows }, (schema, sound)) in h in
+      ∥∥₁_elim (leaves (image_of g files) (stays files.log, stays files.db)) squash₁ (λ from. elim from [
+        | inl h ↦ elim told.0 [
+          | inl there ↦ ∥∥₁_map there.4 (λ exact.
+              let is = told.1 h.0 (as_database (image_of g files) h.0 true h.1 there.0 there.1 there.2 there.3 exact h.1.2.ours) in
+              let r : Resumes false so_far image = inl (h.0, holds h.0 (sym is) h.1.3.0 h.1.3.1, h.2) in r)
+          | inr nothing ↦ absurd (holds_something true (image_of g files) h.0 h.1 nothing.0)
         ]
+        | inr none ↦ elim told.0 [
+          | inl there ↦ ∥∥₁_map there.4 (λ exact. absurd (adopts_something there.0 (image_of g files) there.1 there.2 there.3 exact none.0))
+          | inr nothing ↦
+              let empty = empty_is_sound read nothing.1.1 in
+              let r : Resumes false so_far image = inl (read, holds read refl no_schema empty, ([], inr (empty, refl), none.1)) in ∣ r ∣₁
+        ]
+      ]))))
 
-  -- a machine that stops while the connection is open leaves a run
-  pub stop_leaves : (store : FileStore D g) → IsTrue (view store).is_numbered → AreDatabases (recovers store) → ((db : Trees) → recovers store db → IsOfARun so_far db)
-      → (image : Image) → (state store).may_leave image → HoldsRun so_far image
-  stop_leaves store numbered sound each image may =
-      ∥∥₁_map (leaves_whole store numbered sound image may) (λ x. let r : (db : Trees) × HoldsWhole image db × IsOfARun so_far db = (x.0, x.2, each x.0 x.1) in r)
+  -- at least that, wherever it was cut
+  pub cut_may_go_on : (rest : Leftover D g) → LeavesFiles files rest → (image : Image) → LeavesImage rest image → Leaves g (CanGoOn so_far) files → MayGoOn so_far image
+  cut_may_go_on (left.Files now) cut image may leaves = may_go_on so_far image (cut_goes_on true (left.Files now) refl cut image may leaves)
+  cut_may_go_on (left.Unopened now) cut image may leaves = may_go_on so_far image (cut_goes_on true (left.Unopened now) refl cut image may leaves)
+  cut_may_go_on (left.Store it) cut image may leaves = cut_loose it cut image may leaves

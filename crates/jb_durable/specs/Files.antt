@@ -3,14 +3,20 @@ use Rattle.std.specs.Prelude.{◌≡◌, ◌⊎◌, ℕ, Bool, false, true, List
 use Rattle.sqlite_disk.specs.declared.Disk.{Ghosts}
 use Rattle.sqlite_disk.specs.declared.Files.{Files}
 use Rattle.sqlite_trees.specs.Tree.{Trees}
+use Rattle.sqlite.specs.Schema.{Schema}
+use Rattle.sqlite_catalog.specs.Listing.{IsSound}
 use Rattle.sqlite_wal.specs.Files.{outcomes}
 use Rattle.sqlite_wal.specs.PageSize.{IsPageSize}
-use Rattle.sqlite_wal.specs.Recovery.{Image}
-use Rattle.sqlite_pool.specs.Stored.{stored_size}
+use Rattle.sqlite_wal.specs.Recovery as log
+use Rattle.sqlite_wal.specs.Recovery.{AreWhole, Image, Pages}
+use Rattle.sqlite_pool.specs.Stored.{stored_size, trimmed}
+use Rattle.sqlite_store.specs.FileStore.{state}
+use Rattle.sqlite_store.specs.Listing.{IsOurs, file_trees}
 use Rattle.sqlite_store.specs.Unopened.{state_of}
+use Rattle.sqlite_store.specs.declared.catalog.Wanted.{Wanted}
 use Rattle.sqlite.specs.declared.file.Leftover.{Leftover}
 use Rattle.sqlite.specs.declared.file.Leftover.TheVariants as left
-use Rattle.sqlite.specs.Files.{HoldsDatabase, IsEmpty, IsNothing}
+use Rattle.sqlite.specs.Files.{IsNothing}
 use Rattle.sqlite.specs.Opening.{HoldsAt}
 use Rattle.jb_store.specs.Checkpoints.{Kept, Has}
 
@@ -30,17 +36,35 @@ HoldsRun so_far image = ∥ ((db : Trees) × HoldsWhole image db × IsOfARun so_
 abbrev pub HoldsRunOrNone : (so_far : List Kept → Type 0) → Image → Type 0
 HoldsRunOrNone so_far image = HoldsRun so_far image ⊎ (IsNothing image × so_far [])
 
--- or an empty one, as a first open may leave it
+-- The pages to which the files recover are a sound file that reads as these trees. Sums of pages may be missing; and that each table has in
+-- the file the number under which the trees have it is said where `is_numbered`.
+pub record ReadsAs (is_numbered : Bool) (size : ℕ) (image : Image) (db : Trees) : Type 0 where
+  pub stored : Pages
+  pub found : log.Recovers (stored_size size) image stored
+  pub whole : AreWhole (stored_size size) stored
+  pub wanted : List Wanted
+  pub ours : IsOurs size is_numbered wanted (trimmed size stored)
+  pub reads : db ≡ file_trees size wanted (trimmed size stored)
+
+-- the same, and the trees are a database
+abbrev pub HoldsPages : (is_numbered : Bool) → Image → Trees → Type 0
+HoldsPages is_numbered image db = (size : ℕ) × IsPageSize (stored_size size) × ReadsAs is_numbered size image db × ((schema : Schema) × IsSound schema db)
+
+-- a run goes on from the files: their pages are those of a run so far, or there is no database yet and a run begins with no checkpoint
+abbrev pub IsResumable : (is_numbered : Bool) (so_far : List Kept → Type 0) → Image → Type 0
+IsResumable is_numbered so_far image = ∥ (((db : Trees) × HoldsPages is_numbered image db × IsOfARun so_far db) ⊎ (IsNothing image × so_far [])) ∥₁
+
+-- WHAT OPENS LEAVE THAT WERE CUT: files from which a run goes on
 abbrev pub CanGoOn : (so_far : List Kept → Type 0) → Image → Type 0
-CanGoOn so_far image = HoldsRunOrNone so_far image ⊎ (so_far [] × ∥ ((db : Trees) × HoldsDatabase image db × IsEmpty db) ∥₁)
+CanGoOn = IsResumable true
+
+-- the same, where an open was cut of which the kit doesn't say that it left the tables their numbers
+abbrev pub MayGoOn : (so_far : List Kept → Type 0) → Image → Type 0
+MayGoOn = IsResumable false
 
 -- whatever a crash leaves of the files, at this moment
 abbrev pub Leaves : {D : Type 0} → Ghosts D → (Image → Type 0) → Files D → Type 0
 Leaves g Holds files = (image : Image) → outcomes g files.log files.db image → Holds image
-
--- the disks give back what was written to them
-abbrev pub IsHonest : {D : Type 0} → Ghosts D → Type 0
-IsHonest {D} g = (disk : D) → IsTrue (g.is_clean disk)
 
 -- a store stands over the files that are left
 abbrev pub has_store : {D : Type 0} {g : Ghosts D} → Leftover D g → Bool
@@ -48,14 +72,8 @@ has_store (left.Files files) = false
 has_store (left.Unopened files) = false
 has_store (left.Store it) = true
 
--- what a crash may leave where an open was cut, before a store stood over the files
+-- what a crash may leave where an open was cut
 abbrev pub LeavesImage : {D : Type 0} {g : Ghosts D} → Leftover D g → Image → Type 0
 LeavesImage {D} {g} (left.Files files) image = outcomes g files.log files.db image
 LeavesImage (left.Unopened files) image = (state_of files).may_leave image
-LeavesImage (left.Store it) image = ⊥
-
--- WHAT LIVES LEAVE: a run, once one of them had the files open; before, what was there, or what a first open leaves that is cut
-pub record StandAfter {D : Type 0} (g : Ghosts D) (so_far : List Kept → Type 0) (has_run was_cut : Bool) (files : Files D) : Type 0 where
-  pub run : IsTrue has_run → Leaves g (HoldsRun so_far) files
-  pub fresh : has_run ≡ false → was_cut ≡ false → Leaves g (HoldsRunOrNone so_far) files
-  pub all : Leaves g (CanGoOn so_far) files
+LeavesImage (left.Store it) image = (state it).may_leave image

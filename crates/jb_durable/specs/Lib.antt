@@ -1,2 +1,4 @@
 pub mod Works
 pub mod Files
+pub mod Watching
+pub mod Watched

@@ -1,70 +1,59 @@
 //! A life of a process that ends in a crash.
 
-ghost use Rattle.std.specs.Prelude.{◌≡◌, IfSome, IsTrue};
-ghost use Rattle.jb_durable.specs.Files.{CanGoOn, HoldsRun, HoldsRunOrNone, HoldsWhole, Leaves, LeavesImage, has_store};
+ghost use Rattle.std.specs.Prelude.{◌≡◌, ◌↔◌, Bool, false, true, not, ◌&&◌, List, IfSome, IsTrue};
+ghost use Rattle.jb_store.specs.Checkpoints.{Kept};
+ghost use Rattle.jb_durable.specs.Files.{CanGoOn, HoldsRun, Leaves, MayGoOn};
+ghost use Rattle.jb_durable.specs.Watching.{AreGiven};
 ghost use Rattle.jb_durable.specs.Works.{IsSame};
-ghost use Rattle.sqlite.specs.Files.{IsCleanLeft, file_state};
-ghost use Rattle.sqlite.specs.State.{HasCleanDisk};
-ghost use Rattle.sqlite_trees.specs.Tree.{Trees};
-ghost use Rattle.sqlite_wal.specs.Files.{outcomes};
 ghost use Rattle.sqlite_wal.specs.Reads.{AreClean};
-ghost use Rattle.sqlite_wal.specs.Recovery.{Image};
 
+use crate::cut::open_watched;
 use crate::run::run_durably;
+use crate::stop::{Life, stop_watched};
+use crate::watched::Given;
 use crate::work::Work;
-use sqlite::{Connection, FileStore, Leftover, Options};
+use sqlite::Options;
 use sqlite_disk::{Crash, Disk, Files};
 use std::alloc::Global;
+use std::marker::Brand;
 use std::sync::Wait;
 use std::thread::Threads;
 
-/// What a life leaves.
-#[derive(Drop)]
-pub struct Life<D: Disk> {
-    pub files: Files<D>,
-    /// The files were opened, and the work was taken up; else the open failed or was cut.
-    pub has_run: bool,
-}
-
-/// The machine stops, and starts again.
-fn crash<D: Crash>(mut files: Files<D>) -> Files<D>
-    ensures usable { IsTrue (D.Disk.is_usable result.log) × IsTrue (D.Disk.is_usable result.db) }
-    ensures clean { AreClean D.Disk result.log result.db → AreClean D.Disk files.log files.db }
-    ensures left { (image : Image) → outcomes D.Disk result.log result.db image → outcomes D.Disk files.log files.db image }
+/// A life over disks that know what they were as it began.
+fn watched_life<R: Threads + Wait + Sync, W: Work, D: Crash + Drop, G: Given>(
+    rt: &R,
+    alloc: Global,
+    files: Files<D>,
+    options: Options,
+    work: &mut W,
+    stretches: u32,
+) -> Option<Life<D>>
+    requires log { IsTrue (D.Disk.is_usable files.log) }
+    requires db { IsTrue (D.Disk.is_usable files.db) }
+    requires given { AreGiven D.Disk G.Given.was_clean G.Given.could_leave files }
+    requires run { IsSame G.Given.is_so_far (W.Work.is_so_far work.old) }
+    ensures usable { IfSome result (λ life. IsTrue (D.Disk.is_usable life.files.log) × IsTrue (D.Disk.is_usable life.files.db)) }
+    ensures so_far { IsSame (W.Work.is_so_far work.old) (W.Work.is_so_far work.new) }
+    ensures whole { IsSame (W.Work.is_whole work.old) (W.Work.is_whole work.new) }
+    ensures clean { IfSome result (λ life. AreClean D.Disk life.files.log life.files.db → AreClean D.Disk files.log files.db) }
+    ensures ran { IfSome result (λ life. IsTrue life.has_run → AreClean D.Disk life.files.log life.files.db
+        → Leaves D.Disk (MayGoOn G.Given.is_so_far) files → Leaves D.Disk (HoldsRun G.Given.is_so_far) life.files) }
+    ensures cut { IfSome result (λ life. life.is_loose ≡ false → AreClean D.Disk life.files.log life.files.db
+        → Leaves D.Disk (HoldsRun G.Given.is_so_far) files → Leaves D.Disk (HoldsRun G.Given.is_so_far) life.files) }
+    ensures first { IfSome result (λ life. life.is_loose ≡ false → AreClean D.Disk life.files.log life.files.db
+        → Leaves D.Disk (CanGoOn G.Given.is_so_far) files → Leaves D.Disk (CanGoOn G.Given.is_so_far) life.files) }
+    ensures again { IfSome result (λ life. life.is_loose ≡ false → AreClean D.Disk life.files.log life.files.db
+        → Leaves D.Disk (MayGoOn G.Given.is_so_far) files → Leaves D.Disk (MayGoOn G.Given.is_so_far) life.files) }
+    ensures loose { IfSome result (λ life. AreClean D.Disk life.files.log life.files.db
+        → Leaves D.Disk (CanGoOn G.Given.is_so_far) files → Leaves D.Disk (MayGoOn G.Given.is_so_far) life.files) }
 {
-    files.log.crash();
-    files.db.crash();
-    files
-}
-
-/// It stops while the connection is open.
-pub fn stop<D: Crash + Drop>(conn: Connection<FileStore<D>>) -> Files<D>
-    ensures usable { IsTrue (D.Disk.is_usable result.log) × IsTrue (D.Disk.is_usable result.db) }
-    ensures clean { AreClean D.Disk result.log result.db → HasCleanDisk (file_state conn) }
-    ensures left { AreClean D.Disk result.log result.db → (image : Image) → outcomes D.Disk result.log result.db image
-        → ∥ ((db : Trees) × HoldsWhole image db × (file_state conn).may_leave db) ∥₁ }
-{
-    crash(conn.into_store().close())
-}
-
-/// A store stands over the files.
-fn has_store<D: Disk>(left: &Leftover<D>) -> bool
-    ensures { result ≡ has_store left.now }
-{
-    matches!(left, Leftover::Store(_))
-}
-
-/// It stops in an open, or behind one that failed. None where a store stood over the files: what such a one leaves isn't known to
-/// be for the next open.
-pub fn stop_cut<D: Crash + Drop>(left: Leftover<D>) -> Option<Files<D>>
-    ensures usable { IfSome result (λ files. IsTrue (D.Disk.is_usable files.log) × IsTrue (D.Disk.is_usable files.db)) }
-    ensures clean { IfSome result (λ files. AreClean D.Disk files.log files.db → IsCleanLeft left) }
-    ensures left { IfSome result (λ files. AreClean D.Disk files.log files.db → (image : Image) → outcomes D.Disk files.log files.db image → LeavesImage left image) }
-{
-    if has_store(&left) {
-        return None;
+    match open_watched::<D, G>(alloc, files, options) {
+        Ok(mut conn) => {
+            let _ = run_durably(rt, alloc, &mut conn, work, stretches);
+            stop_watched(conn)
+        }
+        Err(life) => life,
     }
-    Some(crash(left.into_files()))
 }
 
 /// The files are opened, the work is taken up and goes on for so many stretches, and the machine stops somewhere on the way, in the
@@ -82,29 +71,17 @@ pub fn live_and_crash<R: Threads + Wait + Sync, W: Work, D: Crash + Drop>(
     ensures usable { IfSome result (λ life. IsTrue (D.Disk.is_usable life.files.log) × IsTrue (D.Disk.is_usable life.files.db)) }
     ensures so_far { IsSame (W.Work.is_so_far work.old) (W.Work.is_so_far work.new) }
     ensures whole { IsSame (W.Work.is_whole work.old) (W.Work.is_whole work.new) }
-    ensures clean { IfSome result (λ life. IsTrue life.has_run → AreClean D.Disk life.files.log life.files.db → AreClean D.Disk files.log files.db) }
+    ensures clean { IfSome result (λ life. AreClean D.Disk life.files.log life.files.db → AreClean D.Disk files.log files.db) }
     ensures ran { IfSome result (λ life. IsTrue life.has_run → AreClean D.Disk life.files.log life.files.db
-        → Leaves D.Disk (CanGoOn (W.Work.is_so_far work.old)) files → Leaves D.Disk (HoldsRun (W.Work.is_so_far work.old)) life.files) }
-    ensures cut { IfSome result (λ life. AreClean D.Disk life.files.log life.files.db
+        → Leaves D.Disk (MayGoOn (W.Work.is_so_far work.old)) files → Leaves D.Disk (HoldsRun (W.Work.is_so_far work.old)) life.files) }
+    ensures cut { IfSome result (λ life. life.is_loose ≡ false → AreClean D.Disk life.files.log life.files.db
         → Leaves D.Disk (HoldsRun (W.Work.is_so_far work.old)) files → Leaves D.Disk (HoldsRun (W.Work.is_so_far work.old)) life.files) }
-    ensures first { IfSome result (λ life. AreClean D.Disk life.files.log life.files.db
-        → Leaves D.Disk (HoldsRunOrNone (W.Work.is_so_far work.old)) files → Leaves D.Disk (CanGoOn (W.Work.is_so_far work.old)) life.files) }
+    ensures first { IfSome result (λ life. life.is_loose ≡ false → AreClean D.Disk life.files.log life.files.db
+        → Leaves D.Disk (CanGoOn (W.Work.is_so_far work.old)) files → Leaves D.Disk (CanGoOn (W.Work.is_so_far work.old)) life.files) }
+    ensures again { IfSome result (λ life. life.is_loose ≡ false → AreClean D.Disk life.files.log life.files.db
+        → Leaves D.Disk (MayGoOn (W.Work.is_so_far work.old)) files → Leaves D.Disk (MayGoOn (W.Work.is_so_far work.old)) life.files) }
+    ensures loose { IfSome result (λ life. AreClean D.Disk life.files.log life.files.db
+        → Leaves D.Disk (CanGoOn (W.Work.is_so_far work.old)) files → Leaves D.Disk (MayGoOn (W.Work.is_so_far work.old)) life.files) }
 {
-    match Connection::open_files(alloc, files, options) {
-        Ok(mut conn) => {
-            let _ = run_durably(rt, alloc, &mut conn, work, stretches);
-            let files = stop(conn);
-            Some(Life {
-                files,
-                has_run: true,
-            })
-        }
-        Err((_, left)) => {
-            let files = stop_cut(left)?;
-            Some(Life {
-                files,
-                has_run: false,
-            })
-        }
-    }
+    watched_life::<R, W, D, Brand>(rt, alloc, files, options, work, stretches)
 }

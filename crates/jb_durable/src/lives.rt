@@ -1,15 +1,16 @@
 //! Lives of a process, each ended by a crash, and the last one.
 
-ghost use Rattle.std.specs.Prelude.{◌≡◌, ◌&&◌, ◌||◌, not, IfSome, IsTrue, List};
+ghost use Rattle.std.specs.Prelude.{IfSome, IsTrue, List};
 ghost use Rattle.jb_store.specs.Checkpoints.{Kept};
 ghost use Rattle.jb_store.specs.Connections.{Keeps};
-ghost use Rattle.jb_durable.specs.Files.{HoldsRunOrNone, IsHonest, Leaves};
+ghost use Rattle.jb_durable.specs.Files.{HoldsRunOrNone, Leaves};
 ghost use Rattle.sqlite.specs.Files.{file_state};
 ghost use Rattle.sqlite.specs.State.{HasCleanDisk};
 
 use crate::life::live_and_crash;
 use crate::run::run_durably;
 use crate::work::Work;
+use jb_store::takes;
 use sqlite::{Connection, FileStore, Options};
 use sqlite_disk::{Crash, Disk, Files};
 use std::alloc::Global;
@@ -26,24 +27,11 @@ pub struct LastLife<D: Disk> {
     pub was_cut: bool,
 }
 
-fn either(first: bool, second: bool) -> bool
-    ensures { result ≡ (first || second) }
-{
-    first || second
-}
-
-/// A second open was cut before any life had the files open.
-fn is_cut_again(has_run: bool, was_cut: bool, runs: bool) -> bool
-    ensures { result ≡ (was_cut && (not has_run && not runs)) }
-{
-    was_cut && !has_run && !runs
-}
-
 /// So many lives that end in a crash, each after so many stretches or somewhere on the way, and one that doesn't; from no file on, or
 /// from one that holds a run so far. Where the work is then done, the connection keeps the checkpoints of a whole run.
 ///
-/// None where the last open or the last run fails, where an open was cut behind its recovery, and where two were cut before any life
-/// had the files open.
+/// None where the last open or the last run fails, where an open finds a database that isn't one of checkpoints, and where two opens had
+/// written and were cut behind their recovery, with no life between them that had the files open.
 pub fn work_through_crashes<R: Threads + Wait + Sync, W: Work, D: Crash + Drop>(
     rt: &R,
     alloc: Global,
@@ -55,25 +43,25 @@ pub fn work_through_crashes<R: Threads + Wait + Sync, W: Work, D: Crash + Drop>(
 ) -> Option<LastLife<D>>
     requires log { IsTrue (D.Disk.is_usable files.log) }
     requires db { IsTrue (D.Disk.is_usable files.db) }
-    ensures whole { IfSome result (λ last. (IsTrue last.was_cut → IsHonest D.Disk) → HasCleanDisk (file_state last.conn) → Leaves D.Disk (HoldsRunOrNone (W.Work.is_so_far work.old)) files
+    ensures whole { IfSome result (λ last. HasCleanDisk (file_state last.conn) → Leaves D.Disk (HoldsRunOrNone (W.Work.is_so_far work.old)) files
         → IsTrue last.is_done → ∥ ((all : List Kept) × Keeps (file_state last.conn) all × W.Work.is_whole work.old all × W.Work.stands_at work.new all) ∥₁) }
 {
     let mut left = files;
-    let mut has_run = false;
+    let mut is_sure = true;
     let mut was_cut = false;
     'lives: for count in lives {
         let life = live_and_crash(rt, alloc, left, options, work, *count)?;
-        if is_cut_again(has_run, was_cut, life.has_run) {
-            return None;
-        }
-        has_run = either(has_run, life.has_run);
-        was_cut = either(was_cut, !life.has_run);
+        is_sure = life.sure_after(is_sure)?;
+        was_cut |= !life.has_run;
         left = life.files;
     }
     let mut conn = match Connection::open_files(alloc, left, options) {
         Ok(conn) => conn,
         Err(_) => return None,
     };
+    if !takes(&conn) {
+        return None;
+    }
     match run_durably(rt, alloc, &mut conn, work, stretches) {
         Ok(is_done) => Some(LastLife {
             conn,

@@ -1,6 +1,6 @@
 //! Lives of a process that runs a step over records, each ended by a crash, and the last one.
 
-ghost use Rattle.std.specs.Prelude.{◌≡◌, ◌≤◌, ◌&&◌, ◌||◌, not, List, drop, IfOk, IfSome, IsTrue};
+ghost use Rattle.std.specs.Prelude.{◌≡◌, ◌≤◌, false, List, drop, IfOk, IfSome, IsTrue};
 ghost use Rattle.std.specs.Arc.{arc_value};
 ghost use Rattle.sqlite.specs.Files.{file_state};
 ghost use Rattle.sqlite.specs.Held.{state};
@@ -9,7 +9,9 @@ ghost use Rattle.sqlite_trees.specs.View.{doubt};
 ghost use Rattle.sqlite_wal.specs.Reads.{AreClean};
 ghost use Rattle.jb_store.specs.Checkpoints.{Has, Kept, ShowsList};
 ghost use Rattle.jb_store.specs.Connections.{IsJustOpened, Keeps};
-ghost use Rattle.jb_durable.specs.Files.{CanGoOn, HoldsRun, HoldsRunOrNone, IsHonest, IsOfARun, Leaves};
+ghost use Rattle.jb_durable.specs.Files.{CanGoOn, HoldsRun, HoldsRunOrNone, IsOfARun, Leaves, MayGoOn};
+ghost use Rattle.jb_durable.specs.Watching.{AreGiven};
+ghost use Rattle.jb_durable.specs.Works.{IsSame};
 ghost use Rattle.jb_durable_records.specs.Checkpoints.{HaveAllResults, IsRunSoFar, IsWholeRun};
 ghost use Rattle.jb_durable_records.specs.declared.run.Pause.TheVariants.{Whole};
 
@@ -19,11 +21,13 @@ use crate::onlooker::Onlooker;
 use crate::pace::Pace;
 use crate::run::{Pause, run, taken_from};
 use jb_base::PackedList;
-use jb_durable::{LastLife, Life, stop, stop_cut};
+use jb_durable::{Given, LastLife, Life, open_watched, stop_watched};
 use jb_records::{RecordFunction, RecordsStep};
+use jb_store::takes;
 use sqlite::{Alter, Connection, Options};
 use sqlite_disk::{Crash, Files};
 use std::alloc::Global;
+use std::marker::Brand;
 use std::sync::{Arc, Wait};
 use std::thread::Threads;
 
@@ -74,6 +78,54 @@ fn lived<
     Ok(is_whole(pause))
 }
 
+/// A life over disks that know what they were as it began.
+fn watched_life<
+    F: RecordFunction + Drop + 'static,
+    P: Pace,
+    O: Onlooker,
+    R: Threads + Wait + Sync,
+    D: Crash + Drop,
+    G: Given,
+>(
+    rt: &R,
+    alloc: Global,
+    files: Files<D>,
+    options: Options,
+    step: &RecordsStep,
+    function: &Arc<F, Global>,
+    records: &PackedList,
+    stretches: u32,
+    pace: &mut P,
+    onlooker: &mut O,
+) -> Option<Life<D>>
+    requires log { IsTrue (D.Disk.is_usable files.log) }
+    requires db { IsTrue (D.Disk.is_usable files.db) }
+    requires given { AreGiven D.Disk G.Given.was_clean G.Given.could_leave files }
+    requires run { IsSame G.Given.is_so_far (IsRunSoFar (F.function (arc_value function.now)) step.now records.now) }
+    ensures usable { IfSome result (λ life. IsTrue (D.Disk.is_usable life.files.log) × IsTrue (D.Disk.is_usable life.files.db)) }
+    ensures clean { IfSome result (λ life. AreClean D.Disk life.files.log life.files.db → AreClean D.Disk files.log files.db) }
+    ensures ran { IfSome result (λ life. IsTrue life.has_run → AreClean D.Disk life.files.log life.files.db
+        → Leaves D.Disk (MayGoOn G.Given.is_so_far) files → Leaves D.Disk (HoldsRun G.Given.is_so_far) life.files) }
+    ensures cut { IfSome result (λ life. life.is_loose ≡ false → AreClean D.Disk life.files.log life.files.db
+        → Leaves D.Disk (HoldsRun G.Given.is_so_far) files → Leaves D.Disk (HoldsRun G.Given.is_so_far) life.files) }
+    ensures first { IfSome result (λ life. life.is_loose ≡ false → AreClean D.Disk life.files.log life.files.db
+        → Leaves D.Disk (CanGoOn G.Given.is_so_far) files → Leaves D.Disk (CanGoOn G.Given.is_so_far) life.files) }
+    ensures again { IfSome result (λ life. life.is_loose ≡ false → AreClean D.Disk life.files.log life.files.db
+        → Leaves D.Disk (MayGoOn G.Given.is_so_far) files → Leaves D.Disk (MayGoOn G.Given.is_so_far) life.files) }
+    ensures loose { IfSome result (λ life. AreClean D.Disk life.files.log life.files.db
+        → Leaves D.Disk (CanGoOn G.Given.is_so_far) files → Leaves D.Disk (MayGoOn G.Given.is_so_far) life.files) }
+{
+    match open_watched::<D, G>(alloc, files, options) {
+        Ok(mut conn) => {
+            let _ = lived(
+                rt, alloc, &mut conn, step, function, records, stretches, pace, onlooker,
+            );
+            stop_watched(conn)
+        }
+        Err(life) => life,
+    }
+}
+
 /// One life: the files are opened, the run is taken up and goes on for so many checkpoints, and the machine stops somewhere on the way.
 fn live_and_crash<
     F: RecordFunction + Drop + 'static,
@@ -96,49 +148,21 @@ fn live_and_crash<
     requires log { IsTrue (D.Disk.is_usable files.log) }
     requires db { IsTrue (D.Disk.is_usable files.db) }
     ensures usable { IfSome result (λ life. IsTrue (D.Disk.is_usable life.files.log) × IsTrue (D.Disk.is_usable life.files.db)) }
-    ensures clean { IfSome result (λ life. IsTrue life.has_run → AreClean D.Disk life.files.log life.files.db → AreClean D.Disk files.log files.db) }
+    ensures clean { IfSome result (λ life. AreClean D.Disk life.files.log life.files.db → AreClean D.Disk files.log files.db) }
     ensures ran { IfSome result (λ life. IsTrue life.has_run → AreClean D.Disk life.files.log life.files.db
-        → Leaves D.Disk (CanGoOn (IsRunSoFar (F.function (arc_value function.now)) step.now records.now)) files
-        → Leaves D.Disk (HoldsRun (IsRunSoFar (F.function (arc_value function.now)) step.now records.now)) life.files) }
-    ensures cut { IfSome result (λ life. AreClean D.Disk life.files.log life.files.db
-        → Leaves D.Disk (HoldsRun (IsRunSoFar (F.function (arc_value function.now)) step.now records.now)) files
-        → Leaves D.Disk (HoldsRun (IsRunSoFar (F.function (arc_value function.now)) step.now records.now)) life.files) }
-    ensures first { IfSome result (λ life. AreClean D.Disk life.files.log life.files.db
-        → Leaves D.Disk (HoldsRunOrNone (IsRunSoFar (F.function (arc_value function.now)) step.now records.now)) files
-        → Leaves D.Disk (CanGoOn (IsRunSoFar (F.function (arc_value function.now)) step.now records.now)) life.files) }
+        → Leaves D.Disk (MayGoOn (IsRunSoFar (F.function (arc_value function.now)) step.now records.now)) files → Leaves D.Disk (HoldsRun (IsRunSoFar (F.function (arc_value function.now)) step.now records.now)) life.files) }
+    ensures cut { IfSome result (λ life. life.is_loose ≡ false → AreClean D.Disk life.files.log life.files.db
+        → Leaves D.Disk (HoldsRun (IsRunSoFar (F.function (arc_value function.now)) step.now records.now)) files → Leaves D.Disk (HoldsRun (IsRunSoFar (F.function (arc_value function.now)) step.now records.now)) life.files) }
+    ensures first { IfSome result (λ life. life.is_loose ≡ false → AreClean D.Disk life.files.log life.files.db
+        → Leaves D.Disk (CanGoOn (IsRunSoFar (F.function (arc_value function.now)) step.now records.now)) files → Leaves D.Disk (CanGoOn (IsRunSoFar (F.function (arc_value function.now)) step.now records.now)) life.files) }
+    ensures again { IfSome result (λ life. life.is_loose ≡ false → AreClean D.Disk life.files.log life.files.db
+        → Leaves D.Disk (MayGoOn (IsRunSoFar (F.function (arc_value function.now)) step.now records.now)) files → Leaves D.Disk (MayGoOn (IsRunSoFar (F.function (arc_value function.now)) step.now records.now)) life.files) }
+    ensures loose { IfSome result (λ life. AreClean D.Disk life.files.log life.files.db
+        → Leaves D.Disk (CanGoOn (IsRunSoFar (F.function (arc_value function.now)) step.now records.now)) files → Leaves D.Disk (MayGoOn (IsRunSoFar (F.function (arc_value function.now)) step.now records.now)) life.files) }
 {
-    match Connection::open_files(alloc, files, options) {
-        Ok(mut conn) => {
-            let _ = lived(
-                rt, alloc, &mut conn, step, function, records, stretches, pace, onlooker,
-            );
-            let files = stop(conn);
-            Some(Life {
-                files,
-                has_run: true,
-            })
-        }
-        Err((_, left)) => {
-            let files = stop_cut(left)?;
-            Some(Life {
-                files,
-                has_run: false,
-            })
-        }
-    }
-}
-
-fn either(first: bool, second: bool) -> bool
-    ensures { result ≡ (first || second) }
-{
-    first || second
-}
-
-/// A second open was cut before any life had the files open.
-fn is_cut_again(has_run: bool, was_cut: bool, runs: bool) -> bool
-    ensures { result ≡ (was_cut && (not has_run && not runs)) }
-{
-    was_cut && !has_run && !runs
+    watched_life::<F, P, O, R, D, Brand>(
+        rt, alloc, files, options, step, function, records, stretches, pace, onlooker,
+    )
 }
 
 /// So many lives that end in a crash, and one that doesn't.
@@ -163,28 +187,28 @@ fn through_crashes<
 ) -> Option<LastLife<D>>
     requires log { IsTrue (D.Disk.is_usable files.log) }
     requires db { IsTrue (D.Disk.is_usable files.db) }
-    ensures whole { IfSome result (λ last. (IsTrue last.was_cut → IsHonest D.Disk) → HasCleanDisk (file_state last.conn)
+    ensures whole { IfSome result (λ last. HasCleanDisk (file_state last.conn)
         → Leaves D.Disk (HoldsRunOrNone (IsRunSoFar (F.function (arc_value function.now)) step.now records.now)) files
         → IsTrue last.is_done → ∥ ((all : List Kept) × Keeps (file_state last.conn) all × IsWholeRun (F.function (arc_value function.now)) step.now records.now all) ∥₁) }
 {
     let mut left = files;
-    let mut has_run = false;
+    let mut is_sure = true;
     let mut was_cut = false;
     'lives: for count in lives {
         let life = live_and_crash(
             rt, alloc, left, options, step, function, records, *count, pace, onlooker,
         )?;
-        if is_cut_again(has_run, was_cut, life.has_run) {
-            return None;
-        }
-        has_run = either(has_run, life.has_run);
-        was_cut = either(was_cut, !life.has_run);
+        is_sure = life.sure_after(is_sure)?;
+        was_cut |= !life.has_run;
         left = life.files;
     }
     let mut conn = match Connection::open_files(alloc, left, options) {
         Ok(conn) => conn,
         Err(_) => return None,
     };
+    if !takes(&conn) {
+        return None;
+    }
     match lived(
         rt, alloc, &mut conn, step, function, records, stretches, pace, onlooker,
     ) {
@@ -201,8 +225,9 @@ fn through_crashes<
 /// from one that holds a run so far of this step over these records. Where the run is then whole, the connection keeps its checkpoints, and
 /// they have the results of all records.
 ///
-/// None where the function can't be shared for want of memory, where the last open or the last run fails, where an open was cut behind its
-/// recovery, and where two were cut before any life had the files open.
+/// None where the function can't be shared for want of memory, where the last open or the last run fails, where an open finds a database
+/// that isn't one of checkpoints, and where two opens had written and were cut behind their recovery, with no life between them that had the
+/// files open.
 pub fn records_through_crashes<
     F: RecordFunction + Drop + 'static,
     P: Pace + Drop,
@@ -224,7 +249,7 @@ pub fn records_through_crashes<
 ) -> Option<LastLife<D>>
     requires log { IsTrue (D.Disk.is_usable files.log) }
     requires db { IsTrue (D.Disk.is_usable files.db) }
-    ensures whole { IfSome result (λ last. (IsTrue last.was_cut → IsHonest D.Disk) → HasCleanDisk (file_state last.conn)
+    ensures whole { IfSome result (λ last. HasCleanDisk (file_state last.conn)
         → Leaves D.Disk (HoldsRunOrNone (IsRunSoFar (F.function function) step.now records.now)) files
         → IsTrue last.is_done → ∥ ((all : List Kept) × Keeps (file_state last.conn) all × IsWholeRun (F.function function) step.now records.now all
         × HaveAllResults (F.function function) records.now (drop 1 all)) ∥₁) }

@@ -20,5 +20,5 @@ pub use crash::{Found, append_over_crash};
 pub use error::StoreError;
 pub use files::{connect, open, open_files};
 pub use listing::list;
-pub use opening::{begin, opened_leaves_its_list};
+pub use opening::{begin, opened_leaves_its_list, takes};
 pub use statements::append;

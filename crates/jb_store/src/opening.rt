@@ -93,6 +93,13 @@ pub fn begin<S: Alter>(
     list(alloc, conn)
 }
 
+/// Nothing is defined in the database, or a table of checkpoints is: `begin` refuses it neither as another program's nor as another version's.
+pub fn takes<S: Alter>(conn: &Connection<S>) -> bool
+    ensures { IsTrue result ↔ (((state S.Store conn.now).now.schema ≡ no_schema) ⊎ ((state S.Store conn.now).now.schema ≡ checkpoint_schema)) }
+{
+    refusal_of(conn.schema()).is_none()
+}
+
 /// What a crash leaves of a connection that was just opened: the list that it shows. Nothing is done here: the clause is the law.
 pub fn opened_leaves_its_list<S: Alter>(conn: &Connection<S>)
     ensures { IsJustOpened (state S.Store conn.now) → (all : _) → ShowsList (state S.Store conn.now).now all

@@ -1,7 +1,8 @@
 use Rattle.std.proofs.Common.{IsTrue}
 use Rattle.sqlite_wal.specs.Reads.{AreClean}
-use Rattle.jb_durable.specs.Files.{HoldsRunOrNone, IsHonest, Leaves, StandAfter}
+use Rattle.jb_durable.specs.Files.{HoldsRunOrNone, Leaves}
 use Rattle.jb_durable.specs.Works.{IsSame}
+use Rattle.jb_durable.proofs.Stages.{StandAfter}
 use Rattle.jb_durable.proofs.lives.work_through_crashes.Given as goal
 
 abbrev pub invariant-lives : goal.invariant-lives
@@ -10,6 +11,5 @@ invariant-lives g l = record {
   db : IsTrue (g.D.Disk.is_usable l.left.db);
   so_far : IsSame (g.W.Work.is_so_far l.fn.work) (g.W.Work.is_so_far l.work);
   whole : IsSame (g.W.Work.is_whole l.fn.work) (g.W.Work.is_whole l.work);
-  stands : (IsTrue l.was_cut → IsHonest g.D.Disk) → AreClean g.D.Disk l.left.log l.left.db → Leaves g.D.Disk (HoldsRunOrNone (g.W.Work.is_so_far l.fn.work)) l.fn.files
-      → StandAfter g.D.Disk (g.W.Work.is_so_far l.fn.work) l.has_run l.was_cut l.left;
+  stands : AreClean g.D.Disk l.left.log l.left.db → Leaves g.D.Disk (HoldsRunOrNone (g.W.Work.is_so_far l.fn.work)) l.fn.files → StandAfter g.D.Disk (g.W.Work.is_so_far l.fn.work) l.is_sure l.left;
 }

@@ -16,9 +16,9 @@ returns g c =
     let records = c.args.records.now in
     let e : arc_value c.in-Ok.function ≡ c.args.function = c.in-Ok.ensures.ok in
     record {
-      whole = some_weaker c.through_crashes.result _ _ (λ last lived honest clean begun done.
+      whole = some_weaker c.through_crashes.result _ _ (λ last lived clean begun done.
           let from = subst (λ x. Leaves g.D.Disk (HoldsRunOrNone (IsRunSoFar (F x) step records)) c.args.files) (sym e) begun in
-          ∥∥₁_map (lived honest clean from done) (λ r.
+          ∥∥₁_map (lived clean from done) (λ r.
           let run = subst (λ x. IsWholeRun (F x) step records r.0) e r.2 in
           let w : (all : List Kept) × Keeps (file_state last.conn) all × IsWholeRun (F c.args.function) step records all × HaveAllResults (F c.args.function) records (drop 1 all) =
           (r.0, r.1, run, whole_has_all c.checkpoints_have_results.ensures.all (F c.args.function) step records r.0 run) in w)) c.through_crashes.ensures.whole;

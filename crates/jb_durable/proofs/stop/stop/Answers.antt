@@ -9,8 +9,8 @@ use Rattle.sqlite_trees.proofs.Doubt.{no_doubt}
 use Rattle.sqlite_store.specs.FileStore.{view}
 use Rattle.sqlite.specs.Files.{file_state}
 use Rattle.jb_durable.specs.Files.{HoldsWhole}
-use Rattle.jb_durable.proofs.Opens.{leaves_whole}
-use Rattle.jb_durable.proofs.life.stop.Goals as goal
+use Rattle.jb_durable.proofs.Whole.{leaves_whole}
+use Rattle.jb_durable.proofs.stop.stop.Goals as goal
 
 -- nothing false was read by the end, and so at each earlier moment
 sure_of : (g : _) (c : goal.After-crash g) → AreClean g.D.Disk c.crash.result.log c.crash.result.db → AreClean g.D.Disk (Rattle.sqlite_store.specs.FileStore.files c.into_store.result).0 (Rattle.sqlite_store.specs.FileStore.files c.into_store.result).1

@@ -1,0 +1,68 @@
+//! An open that may be cut.
+
+ghost use Rattle.std.specs.Prelude.{◌≡◌, Bool, false, true, List, IfOk, IfErr, IfSome, IsTrue};
+ghost use Rattle.jb_store.specs.Connections.{IsJustOpened};
+ghost use Rattle.jb_durable.specs.Files.{CanGoOn, HoldsRun, IsOfARun, Leaves, LeavesImage, MayGoOn, has_store};
+ghost use Rattle.jb_durable.specs.Watching.{AreGiven};
+ghost use Rattle.sqlite.specs.Files.{IsCleanLeft, file_state};
+ghost use Rattle.sqlite.specs.State.{HasCleanDisk};
+ghost use Rattle.sqlite_wal.specs.Files.{outcomes};
+ghost use Rattle.sqlite_wal.specs.Reads.{AreClean};
+ghost use Rattle.sqlite_wal.specs.Recovery.{Image};
+
+use crate::stop::{Life, has_store, stop_cut, unwatch, watch};
+use crate::watched::{Given, Watched};
+use jb_store::takes;
+use sqlite::{Connection, FileStore, Leftover, Options};
+use sqlite_disk::{Crash, Files};
+use std::alloc::Global;
+
+/// The machine stops in an open, or behind one that failed.
+fn cut_short<D: Crash + Drop, G: Given>(left: Leftover<Watched<D, G>>) -> Option<Life<D>>
+    ensures cut { IfSome result (λ life. life.has_run ≡ false) }
+    ensures usable { IfSome result (λ life. IsTrue (D.Disk.is_usable life.files.log) × IsTrue (D.Disk.is_usable life.files.db)) }
+    ensures clean { IfSome result (λ life. AreClean D.Disk life.files.log life.files.db → (is_log : Bool) → IsTrue (G.Given.was_clean is_log)) }
+    ensures rest { IfSome result (λ life. AreClean D.Disk life.files.log life.files.db → IsCleanLeft left) }
+    ensures left { IfSome result (λ life. AreClean D.Disk life.files.log life.files.db → (image : Image) → outcomes D.Disk life.files.log life.files.db image → LeavesImage left image) }
+    ensures same { IfSome result (λ life. life.is_loose ≡ false → IsTrue (has_store left) → (image : Image) → outcomes D.Disk life.files.log life.files.db image
+        → ∥ G.Given.could_leave true image.log × G.Given.could_leave false image.db ∥₁) }
+{
+    let is_behind = has_store(&left);
+    let (files, has_written) = unwatch(stop_cut(left))?;
+    Some(Life {
+        files,
+        has_run: false,
+        is_loose: is_behind & has_written,
+    })
+}
+
+/// Opens a log and its database file to a list of checkpoints, or to a database in which nothing is defined yet. An error comes with what
+/// the machine leaves that stopped in the open; none where the files hold something else.
+pub fn open_watched<D: Crash + Drop, G: Given>(
+    alloc: Global,
+    files: Files<D>,
+    options: Options,
+) -> Result<Connection<FileStore<Watched<D, G>>>, Option<Life<D>>>
+    requires log { IsTrue (D.Disk.is_usable files.log) }
+    requires db { IsTrue (D.Disk.is_usable files.db) }
+    requires given { AreGiven D.Disk G.Given.was_clean G.Given.could_leave files }
+    ensures opened { IfOk result (λ conn. HasCleanDisk (file_state conn) → IsJustOpened (file_state conn)) }
+    ensures found { IfOk result (λ conn. HasCleanDisk (file_state conn) → Leaves D.Disk (MayGoOn G.Given.is_so_far) files
+        → ∥ IsOfARun G.Given.is_so_far (file_state conn).now.trees ∥₁) }
+    ensures not_run { IfErr result (λ rest. IfSome rest (λ life. life.has_run ≡ false)) }
+    ensures usable { IfErr result (λ rest. IfSome rest (λ life. IsTrue (D.Disk.is_usable life.files.log) × IsTrue (D.Disk.is_usable life.files.db))) }
+    ensures clean { IfErr result (λ rest. IfSome rest (λ life. AreClean D.Disk life.files.log life.files.db → AreClean D.Disk files.log files.db)) }
+    ensures cut { IfErr result (λ rest. IfSome rest (λ life. life.is_loose ≡ false → AreClean D.Disk life.files.log life.files.db
+        → Leaves D.Disk (HoldsRun G.Given.is_so_far) files → Leaves D.Disk (HoldsRun G.Given.is_so_far) life.files)) }
+    ensures first { IfErr result (λ rest. IfSome rest (λ life. life.is_loose ≡ false → AreClean D.Disk life.files.log life.files.db
+        → Leaves D.Disk (CanGoOn G.Given.is_so_far) files → Leaves D.Disk (CanGoOn G.Given.is_so_far) life.files)) }
+    ensures again { IfErr result (λ rest. IfSome rest (λ life. life.is_loose ≡ false → AreClean D.Disk life.files.log life.files.db
+        → Leaves D.Disk (MayGoOn G.Given.is_so_far) files → Leaves D.Disk (MayGoOn G.Given.is_so_far) life.files)) }
+    ensures loose { IfErr result (λ rest. IfSome rest (λ life. AreClean D.Disk life.files.log life.files.db
+        → Leaves D.Disk (CanGoOn G.Given.is_so_far) files → Leaves D.Disk (MayGoOn G.Given.is_so_far) life.files)) }
+{
+    match Connection::open_files(alloc, watch::<D, G>(files), options) {
+        Ok(conn) => { if takes(&conn) { Ok(conn) } else { Err(None) } }
+        Err((_, left)) => Err(cut_short(left)),
+    }
+}
