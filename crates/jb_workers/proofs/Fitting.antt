@@ -1,6 +1,6 @@
 -- What comes of an attempt has a place in an event.
-use Rattle.std.proofs.Common.{◌≡◌, ℕ, ◌+◌, ◌-◌, ◌<◌, ◌≤◌, ◌^◌, ◌⊎◌, inl, inr, [], refl, sym, arith}
-use Rattle.jb_base.specs.Limits.{max_records, max_retry_limit}
+use Rattle.std.proofs.Common.{◌≡◌, ℕ, ◌+◌, ◌-◌, ◌≤◌, inl, inr, [], refl, arith}
+use Rattle.jb_base.specs.Limits.{max_records}
 use Rattle.jb_rules.specs.declared.counts.Counts.{Counts}
 use Rattle.jb_rules.specs.declared.row.Row.{Row}
 use Rattle.jb_rules.specs.Counts.{IsDelta}
@@ -9,10 +9,10 @@ use Rattle.jb_chunk.specs.declared.outcome.Outcome.{Outcome}
 use Rattle.jb_chunk.specs.declared.outcome.Outcome.TheVariants.{Committed, Rolled, Failed, NoMemory}
 use Rattle.jb_chunk.specs.Attempt.{AttemptEnd, IsAttempt, block_of}
 use Rattle.jb_chunk.specs.Laws.{CommitsHaveDeltas, TasksStandAtCheckpoints}
-use Rattle.jb_chunk.specs.Standing.{TaskState, IsReady}
+use Rattle.jb_chunk.specs.Standing.{TaskState}
 use Rattle.jb_repo.specs.Deltas.{FitDelta}
 use Rattle.jb_workers.specs.Works.{CanBegin}
-use Rattle.jb_workers.specs.inside.Fitting.{HasFittingDelta, FitEvent, AttemptsFit}
+use Rattle.jb_workers.specs.inside.Fitting.{HasFittingDelta, AttemptsFit}
 
 -- no number of a delta is above that of the records, or above 1
 few-results : (d : Counts) (records : ℕ) → IsDelta records d → records ≤ max_records → (d.write ≤ max_records) × (d.process_skip + d.filter ≤ max_records) × (d.write_skip ≤ 1)
