@@ -44,11 +44,12 @@ impl<A: Drop> BoxedArtifacts<A> {
         Ok(BoxedArtifacts { held })
     }
 
-    /// The artifacts.
-    pub fn artifacts(&self) -> &A
-        ensures { result.now ≡ self.now }
+    /// The artifacts, out of their box. The memory of results is let go.
+    pub fn into_artifacts(self) -> A
+        ensures { result ≡ self }
     {
-        &self.held.artifacts
+        let Held { artifacts, .. } = Box::into_inner(self.held);
+        artifacts
     }
 }
 

@@ -19,6 +19,7 @@ use jb_artifacts::{
     PackedArtifacts, PrefixProcessor,
 };
 use jb_base::{PackedList, Range, Text};
+use jb_chunk::BoxedArtifacts;
 use jb_documents::WriterTexts;
 use jb_rules::Row;
 use jb_step::Prepared;
@@ -26,7 +27,9 @@ use std::alloc::{AllocError, Global};
 use std::sync::Arc;
 
 /// What a partition of the program works with.
-pub type OwnArtifacts = PackedArtifacts<SharedReader, PrefixProcessor, ListWriter, CountCollector>;
+pub type OwnArtifacts = BoxedArtifacts<
+    PackedArtifacts<SharedReader, PrefixProcessor, ListWriter, CountCollector>,
+>;
 
 /// A reader of the range's records.
 fn reader_for(
@@ -98,12 +101,14 @@ fn artifacts_for(
     requires { IsWithin (length (arc_value records)) range }
     ensures { IfOk result (λ own. ⟦<OwnArtifacts as Meaning>⟧.meaning own ≡ workplace_of step.now (records_in (arc_value records) range) held range) }
 {
-    Ok(PackedArtifacts {
+    let artifacts = PackedArtifacts {
         reader: reader_for(alloc, step, records, range)?,
         processor: processor_for(alloc, step, range)?,
         writer: writer_for(alloc, step, held, range)?,
         collector: CountCollector::new(alloc),
-    })
+    };
+    let boxed = BoxedArtifacts::new(alloc, artifacts)?;
+    Ok(boxed)
 }
 
 /// What the partition of this row works with, whose writer holds these texts.

@@ -23,7 +23,7 @@ fn writer_of(left: (u32, OwnArtifacts)) -> (u32, ListWriter)
     ensures { lists_of ⟦<ListWriter as ItemWriter>⟧.writer (result ∷ []) ≡ lists_left (given_back ⟦<OwnArtifacts as Meaning>⟧.meaning (left ∷ [])) }
 {
     let (partition, own) = left;
-    (partition, own.writer)
+    (partition, own.into_artifacts().writer)
 }
 
 /// The writers of the artifacts that came back. With the last of their readers the records are let go.
