@@ -129,7 +129,10 @@ pub fn try_block<A: PartitionArtifacts>(
     let block = row.block(item_count);
     let mut results = artifacts.take_results(alloc, block.hi - block.lo)?;
     let end = try_records(artifacts, rules, row, item_count, &mut results);
-    artifacts.keep_results(results);
+    // After the partition's last chunk nothing is kept: a finished partition holds its outputs alone.
+    if block.hi < row.hi {
+        artifacts.keep_results(results);
+    }
     end
 }
 
