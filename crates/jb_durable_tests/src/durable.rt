@@ -138,6 +138,30 @@ fn failing<R: Threads + Wait + Sync>(
     }
 }
 
+/// The same two lives by the function that has the theorem: it answers, wherever the first one ends.
+fn assert_answered<R: Threads + Wait + Sync + Abort>(
+    rt: &R,
+    alloc: Global,
+    kept: u32,
+    calls: [u64; 2],
+) {
+    let files = failing(rt, alloc, kept, calls);
+    assert!(rt; files.may_be_used());
+    let mut work = count_from(kept);
+    let lives = [STRETCHES + 1];
+    let last = work_through_crashes(
+        rt,
+        alloc,
+        files,
+        Options::new(5),
+        &mut work,
+        &lives,
+        STRETCHES + 1,
+    );
+    let is_done = matches!(&last, Some(LastLife { is_done: true, .. }));
+    assert!(rt; is_done && !work.has_lost, "{kept} {calls:?}");
+}
+
 /// A life whose files fail from so many calls on, and one whose files don't: true where the first was whole.
 fn is_whole_at_once<R: Threads + Wait + Sync + Abort>(
     rt: &R,
@@ -151,6 +175,7 @@ fn is_whole_at_once<R: Threads + Wait + Sync + Abort>(
     let (files, last) = lived(rt, alloc, files, &mut work, STRETCHES + 1);
     assert!(rt; last && !work.has_lost, "{kept} {calls:?}");
     assert_eq!(rt; held(alloc, files)?.as_str(), WHOLE, "{kept} {calls:?}");
+    assert_answered(rt, alloc, kept, calls);
     Ok(first)
 }
 
