@@ -16,7 +16,7 @@ use std::alloc::Global;
 
 /// A partition's row, with the rules of its step and what it works with. Its meaning is where it stands.
 ///
-/// The crates above are generic over this trait. `Task`, with its boxed artifacts, is its implementation.
+/// The crates above are generic over this trait. `Task` is its implementation, over whatever artifacts a partition has.
 pub trait PartitionTask: Send + Drop {
     /// What the task works with.
     type Artifacts: Meaning + Send + Drop;

@@ -23,8 +23,6 @@ pub struct LastLife<D: Disk> {
     pub conn: Connection<FileStore<D>>,
     /// The work is done.
     pub is_done: bool,
-    /// Some life before was cut in its open.
-    pub was_cut: bool,
 }
 
 /// So many lives that end in a crash, each after so many stretches or somewhere on the way, and one that doesn't; from no file on, or
@@ -48,11 +46,9 @@ pub fn work_through_crashes<R: Threads + Wait + Sync, W: Work, D: Crash + Drop>(
 {
     let mut left = files;
     let mut is_sure = true;
-    let mut was_cut = false;
     'lives: for count in lives {
         let life = live_and_crash(rt, alloc, left, options, work, *count)?;
         is_sure = life.sure_after(is_sure)?;
-        was_cut |= !life.has_run;
         left = life.files;
     }
     let mut conn = match Connection::open_files(alloc, left, options) {
@@ -63,11 +59,7 @@ pub fn work_through_crashes<R: Threads + Wait + Sync, W: Work, D: Crash + Drop>(
         return None;
     }
     match run_durably(rt, alloc, &mut conn, work, stretches) {
-        Ok(is_done) => Some(LastLife {
-            conn,
-            is_done,
-            was_cut,
-        }),
+        Ok(is_done) => Some(LastLife { conn, is_done }),
         Err(_) => None,
     }
 }

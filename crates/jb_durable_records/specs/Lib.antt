@@ -3,3 +3,4 @@ pub mod Form
 pub mod Checkpoints
 pub mod Work
 pub mod Refusals
+pub mod Pacing

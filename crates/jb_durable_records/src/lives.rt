@@ -193,13 +193,11 @@ fn through_crashes<
 {
     let mut left = files;
     let mut is_sure = true;
-    let mut was_cut = false;
     'lives: for count in lives {
         let life = live_and_crash(
             rt, alloc, left, options, step, function, records, *count, pace, onlooker,
         )?;
         is_sure = life.sure_after(is_sure)?;
-        was_cut |= !life.has_run;
         left = life.files;
     }
     let mut conn = match Connection::open_files(alloc, left, options) {
@@ -212,11 +210,7 @@ fn through_crashes<
     match lived(
         rt, alloc, &mut conn, step, function, records, stretches, pace, onlooker,
     ) {
-        Ok(is_done) => Some(LastLife {
-            conn,
-            is_done,
-            was_cut,
-        }),
+        Ok(is_done) => Some(LastLife { conn, is_done }),
         Err(_) => None,
     }
 }

@@ -1,6 +1,6 @@
 //! How long a stretch is.
 
-ghost use Rattle.std.specs.Prelude.{◌≤◌};
+ghost use Rattle.std.specs.Prelude.{◌≡◌, ◌≤◌};
 
 use std::time::{Clock, Duration, Instant};
 
@@ -51,7 +51,12 @@ fn next_rounds(rounds: u64, took: Duration) -> u64
 }
 
 impl<C: Clock> ASecond<C> {
-    pub fn new(clock: C) -> ASecond<C> {
+    ghost use Rattle.jb_durable_records.specs.Pacing.{rounds_of};
+
+    /// Its first stretch is one round.
+    pub fn new(clock: C) -> ASecond<C>
+        ensures { rounds_of result ≡ 1 }
+    {
         ASecond {
             clock,
             rounds: 1,

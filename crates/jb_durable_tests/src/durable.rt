@@ -205,17 +205,10 @@ fn assert_lives<R: Threads + Wait + Sync + Abort>(rt: &R, alloc: Global) -> Resu
     assert!(rt; files.may_be_used());
     let mut work = count_from(0);
     let last = work_through_crashes(rt, alloc, files, Options::new(5), &mut work, &[0, 1, 1], 2);
-    let Some(
-        LastLife {
-            mut conn,
-            is_done,
-            was_cut,
-        },
-    ) = last
-    else {
+    let Some(LastLife { mut conn, is_done }) = last else {
         return Err(Fail::from("an open"));
     };
-    assert!(rt; is_done && !was_cut);
+    assert!(rt; is_done);
     let all = list(alloc, &mut conn);
     let _ = conn.into_store().close();
     assert_eq!(rt; text_of(alloc, &all?)?.as_str(), WHOLE);
