@@ -1,3 +1,4 @@
+pub mod Ascii
 pub mod Causes
 pub mod Classes
 pub mod Packed

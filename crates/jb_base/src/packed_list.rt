@@ -1,6 +1,8 @@
 //! Byte strings in one buffer.
 
 ghost use Rattle.std.specs.Prelude.{◌≡◌, ◌≤◌, ◌<◌, ◌==◌, ◌++◌, ◌∷◌, [], length, take, IfOk, OnOk, OnErr, slice_get, slice_index, slice_index_or, slice_range, option_copied, ◌+◌, ◌^◌, All, map, vec_len, vec_capacity};
+ghost use Rattle.std.specs.Bool.{MatchBool};
+ghost use Rattle.std.specs.Str.{IsAscii};
 ghost use Rattle.jb_base.specs.Packed.{start_of};
 
 use std::alloc::{AllocError, Global};
@@ -59,6 +61,14 @@ impl PackedList {
         ensures { result ≡ (length self.now == 0) }
     {
         self.ends.is_empty()
+    }
+
+    /// Whether each byte of each string is below 128. One look at the buffer, however many strings there are.
+    #[tactic(auto, using(crate::proofs::Ascii::of_strings))]
+    pub fn is_ascii(&self) -> bool
+        ensures cases { MatchBool result (All IsAscii self.now) (¬ (All IsAscii self.now)) }
+    {
+        self.bytes.is_ascii()
     }
 
     /// The string of this index, the first being 0.
