@@ -6,7 +6,5 @@ use Rattle.std.proofs.lemmas.Str.{IsUtf8-from_ascii, utf8_lossy-IsUtf8}
 
 pub ruleset lossy = (utf8_lossy-IsUtf8, utf8_lossy-IsUtf8)
 
-utf8_lossy-ascii : (bs : List ℕ) → IsAscii bs → utf8_lossy bs ≡ bs
+pub utf8_lossy-ascii : (bs : List ℕ) → IsAscii bs → utf8_lossy bs ≡ bs
 utf8_lossy-ascii bs ascii = utf8_lossy-IsUtf8 bs (IsUtf8-from_ascii bs ascii)
-
-pub ruleset ascii = (utf8_lossy-ascii, IsUtf8-from_ascii)

@@ -24,7 +24,6 @@ pub fn write_text(alloc: Global, out: &mut Writer, bytes: &[u8]) -> Result<(), A
     }
 }
 
-#[tactic(auto, using(crate::proofs::Utf8::ascii))]
 /// Writes bytes that are ASCII as a text, as `write_text` does, which would test them.
 pub fn write_ascii(out: &mut Writer, bytes: &[u8]) -> Result<(), AllocError>
     requires { IsAscii bytes.now }
