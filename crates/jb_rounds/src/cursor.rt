@@ -1,5 +1,6 @@
 //! Rounds on demand: what any lane runs in any round, with no plan in memory.
-ghost use Rattle.std.specs.Prelude.{◌≡◌, ◌<◌, ◌≤◌, ℕ, length, ◌==◌, slice_index, IfOk, IfSome, IsSome, position};
+ghost use Rattle.std.specs.Prelude.{◌≡◌, ◌≢◌, ◌<◌, ◌≤◌, ◌∷◌, [], ℕ, length, ◌==◌, slice_index, IfOk, IfSome, IsSome, position};
+ghost use Rattle.std.specs.Option.{IfNone};
 ghost use Rattle.jb_cert.specs.Load.{IsWithinLimits, Load, mcnaughton};
 ghost use Rattle.jb_cert.specs.Lawful.{IsLeastNumber};
 ghost use Rattle.jb_cert.specs.Certificates.{Holds, bound_certificate};
@@ -129,6 +130,23 @@ impl RoundCursor {
             u64::from(lane) * self.rounds + round,
             near,
         )
+    }
+
+    /// The slot of a round that has no other; None where a round has several, and past the last one. The partition `near`
+    /// and the one behind it are looked at before the search, as by `slot_near`. On one thread each round has one slot.
+    pub fn only_slot(&self, round: u64, near: u32) -> Option<Slot>
+        ensures only { IfSome result (λ slot. slots_of_round self.now.counts self.now.threads round ≡ slot ∷ []) }
+        ensures others { IfNone result (length (slots_of_round self.now.counts self.now.threads round) ≢ 1) }
+    {
+        if self.busy_lanes(round) != 1 {
+            return None;
+        }
+        let (partition, chunk) = self.slot_near(round, 0, near)?;
+        Some(Slot {
+            lane: 0,
+            partition,
+            chunk,
+        })
     }
 
     /// The slots of a round, by rising lane; none past the last round. The only error is want of memory.
