@@ -177,14 +177,11 @@ fn make_room(history: &mut Vec<Event>, asked: usize) -> Result<(), AllocError>
     Ok(())
 }
 
-/// Puts the event at the end of the history, which has room for it. (`insert` says that the room stays, `push` doesn't.)
+/// Puts the event at the end of the history, which has room for it.
 fn put_last(history: &mut Vec<Event>, event: Event)
     requires { vec_len history.old < vec_capacity history.old }
     ensures items { history.new.items ≡ history.old.items ++ event ∷ [] }
     ensures room { vec_capacity history.new ≡ vec_capacity history.old }
 {
-    match history.insert(history.len(), event) {
-        Ok(()) => {}
-        Err(_) => unreachable!(),
-    }
+    history.push_reserved(event);
 }
