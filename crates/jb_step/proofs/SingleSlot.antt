@@ -1,7 +1,7 @@
 -- A round of one slot: its task is taken out of its place, and put back.
-use Rattle.std.proofs.Common.{◌≡◌, ℕ, Bool, true, false, cond, ◌||◌, List, [], ◌∷◌, ◌++◌, length, map, Option, Some, None, get_or, refl, ap, sym, ◌∙◌, append-nil, arith}
+use Rattle.std.proofs.Common.{◌≡◌, Bool, true, false, cond, ◌||◌, List, [], ◌∷◌, ◌++◌, map, Option, Some, None, refl, ap, sym, ◌∙◌, append-nil, arith}
 use Rattle.std.proofs.lemmas.Bool.{and_parts}
-use Rattle.std.specs.Prelude.{nat_eq, slice_index_or, slice_set}
+use Rattle.std.specs.Prelude.{nat_eq, slice_index_or}
 use Rattle.std.specs.List.{cons_option}
 use Rattle.jb_cert.specs.Lawful.{Pair}
 use Rattle.jb_cert.specs.Plans.{slot_pair}
@@ -11,15 +11,19 @@ use Rattle.jb_chunk.specs.Standing.{TaskState}
 use Rattle.jb_chunk.specs.declared.outcome.Done.{Done}
 use Rattle.jb_collect.specs.Heard.{collected_calls, ended_calls, endings_of, heard_in}
 use Rattle.jb_step.specs.Rounds.{CanRun, has_task}
-use Rattle.jb_step.specs.inside.Places.{held_in, ArePlaced, picked, emptied, filled}
+use Rattle.jb_step.specs.inside.Places.{held_in, ArePlaced}
 use Rattle.jb_step.specs.inside.Round.{tasks_of_set}
-use Rattle.jb_step.proofs.Placing.{in-turn, picked-taken}
+use Rattle.jb_step.proofs.Placing.{picked-taken}
 use Rattle.jb_step.proofs.Numbers.{same-number}
 
 none-more : {X : Type 0} (here there rest : Bool) (x : X) (xs : List X) → here ≡ there → cond (here || false) (x ∷ xs) xs ≡ [] → (xs ≡ [] → rest ≡ true → ⊥) → (there || rest) ≡ true → ⊥
 none-more true there rest x xs same e k h = absurd cc
 none-more false true rest x xs same e k h = absurd cc
 none-more false false rest x xs same e k h = k e h
+
+-- one slot alone rises
+pub one-rises : (slot : Slot) → RiseFrom 0 (map (λ (pair : Pair). pair.0) (slot_pair slot ∷ []))
+one-rises slot = (omega arith, tt)
 
 module _ {T : Type 0} (standing : T → TaskState) (slot : Slot) where
   -- no task of the slot's partition
@@ -29,40 +33,21 @@ module _ {T : Type 0} (standing : T → TaskState) (slot : Slot) where
       none-more (nat_eq (slot_pair slot).0 (standing t).partition) (nat_eq (standing t).partition (slot_pair slot).0) (has_task (map standing ts) (slot_pair slot).0) t (tasks_of_set standing (slot_pair slot ∷ []) ts)
       (same-number (slot_pair slot).0 (standing t).partition) e (none-has ts) h
 
-  picked-one : (os : List (Option T)) → RiseFrom 0 (map (λ (one : Slot). one.partition) (slot ∷ [])) → ArePlaced standing 0 os
+  picked-one : (os : List (Option T)) → ArePlaced standing 0 os
       → cons_option (slice_index_or os slot.partition None) [] ≡ tasks_of_set standing (slot_pair slot ∷ []) (held_in os)
-  picked-one os rise placed = picked-taken standing (slot_pair slot ∷ []) os (in-turn (slot ∷ []) rise) placed
+  picked-one os placed = picked-taken standing (slot_pair slot ∷ []) os (one-rises slot) placed
 
-  one-has : (os : List (Option T)) → RiseFrom 0 (map (λ (one : Slot). one.partition) (slot ∷ [])) → ArePlaced standing 0 os → CanRun (slot_pair slot ∷ []) (map standing (held_in os))
+  -- the place of the one slot has a task, where the round can be run
+  pub has-one : (os : List (Option T)) → ArePlaced standing 0 os → CanRun (slot_pair slot ∷ []) (map standing (held_in os))
       → slice_index_or os slot.partition None ≡ None → ⊥
-  one-has os rise placed can none =
-      none-has (held_in os) (sym (picked-one os rise placed) ∙ ap (λ o. cons_option o []) none)
+  has-one os placed can none =
+      none-has (held_in os) (sym (picked-one os placed) ∙ ap (λ o. cons_option o []) none)
       (and_parts (has_task (map standing (held_in os)) (slot_pair slot).0) true can.tasks).0
 
-  one-taken : (os : List (Option T)) (task : T) → RiseFrom 0 (map (λ (one : Slot). one.partition) (slot ∷ [])) → ArePlaced standing 0 os
+  -- which is the round's only one
+  pub taken-one : (os : List (Option T)) (task : T) → ArePlaced standing 0 os
       → slice_index_or os slot.partition None ≡ Some task → task ∷ [] ≡ tasks_of_set standing (slot_pair slot ∷ []) (held_in os)
-  one-taken os task rise placed is = sym (ap (λ o. cons_option o []) is) ∙ picked-one os rise placed
-
--- the place of the one slot has a task, where the round can be run
-pub has-one : {T : Type 0} (standing : T → TaskState) (slots : List Slot) (d : Slot) (os : List (Option T)) → length slots ≡ 1 → RiseFrom 0 (map (λ (one : Slot). one.partition) slots) → ArePlaced standing 0 os
-    → CanRun (map slot_pair slots) (map standing (held_in os)) → slice_index_or os (slice_index_or slots 0 d).partition None ≡ None → ⊥
-has-one standing [] d os one rise placed can none = absurd cc
-has-one standing (slot ∷ []) d os one rise placed can none = one-has standing slot os rise placed can none
-has-one standing (slot ∷ other ∷ slots) d os one rise placed can none = absurd (omega (arith, one))
-
--- which is the round's only one
-pub taken-one : {T : Type 0} (standing : T → TaskState) (slots : List Slot) (d : Slot) (os : List (Option T)) (task : T) → length slots ≡ 1 → RiseFrom 0 (map (λ (one : Slot). one.partition) slots) → ArePlaced standing 0 os
-    → slice_index_or os (slice_index_or slots 0 d).partition None ≡ Some task → task ∷ [] ≡ tasks_of_set standing (map slot_pair slots) (held_in os)
-taken-one standing [] d os task one rise placed is = absurd cc
-taken-one standing (slot ∷ []) d os task one rise placed is = one-taken standing slot os task rise placed is
-taken-one standing (slot ∷ other ∷ slots) d os task one rise placed is = absurd (omega (arith, one))
-
--- and is put back
-pub put-one : {T : Type 0} (standing : T → TaskState) (slots : List Slot) (d : Slot) (os : List (Option T)) (done : Done T) → length slots ≡ 1
-    → slice_set (slice_set os (slice_index_or slots 0 d).partition None) (standing done.task).partition (Some done.task) ≡ filled standing (done ∷ []) (emptied (map slot_pair slots) os)
-put-one standing [] d os done one = absurd cc
-put-one standing (slot ∷ []) d os done one = refl
-put-one standing (slot ∷ other ∷ slots) d os done one = absurd (omega (arith, one))
+  taken-one os task placed is = sym (ap (λ o. cons_option o []) is) ∙ picked-one os placed
 
 pub or-false : (b : Bool) → (b || false) ≡ b
 or-false true = refl

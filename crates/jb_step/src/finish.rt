@@ -39,7 +39,7 @@ fn first_other<T: PartitionTask>(rows: &[Row], held: &[Option<T>], shown: &[Row]
         let Some(one) = shown.get(index) else {
             return Some(partition);
         };
-        if row_of(held, partition, *row) != *one {
+        if *row_of(held, partition, row) != *one {
             return Some(partition);
         }
     }

@@ -29,14 +29,18 @@ pub(crate) struct Open {
     pub ran: u64,
 }
 
-// The row of a partition now.
-pub(crate) fn row_of<T: PartitionTask>(held: &[Option<T>], partition: u32, row: Row) -> Row
+/// The row of a partition now: its task's, or `row` where none is held.
+pub(crate) fn row_of<'a, T: PartitionTask>(
+    held: &'a [Option<T>],
+    partition: u32,
+    row: &'a Row,
+) -> &'a Row
     requires { ArePlaced T.standing 0 held.now }
-    ensures { result ≡ row_now (map T.standing (held_in held.now)) partition row }
+    ensures { result.now ≡ row_now (map T.standing (held_in held.now)) partition row.now }
 {
     match held.get(partition as usize) {
         Some(place) => match place {
-            Some(task) => *task.row(),
+            Some(task) => task.row(),
             None => row,
         },
         None => row,
@@ -53,11 +57,11 @@ fn counts_of<T: PartitionTask>(
     requires placed { ArePlaced T.standing 0 held.now }
     ensures { IfOk result (λ counts. counts.items ≡ counts_now prepared.now (map T.standing (held_in held.now))) }
 {
-    let mut counts = Vec::new(alloc);
     let rows = prepared.begun_rows();
+    let mut counts = Vec::with_capacity(alloc, rows.len())?;
     let item_count = prepared.item_count();
     for (partition, row) in rows.iter().enumerate() {
-        let now = row_of(held, partition as u32, *row);
+        let now = row_of(held, partition as u32, row);
         counts.push(now.remaining(item_count))?;
     }
     Ok(counts)

@@ -9,7 +9,7 @@ ghost use Rattle.jb_step.specs.Callbacks.{Grew};
 ghost use Rattle.jb_step.specs.Rounds.{CanRun, after_round, breaks, is_commit};
 ghost use Rattle.jb_collect.specs.Heard.{endings_of};
 ghost use Rattle.jb_step.specs.inside.Adding.{heard_in_round};
-ghost use Rattle.jb_step.specs.inside.Head.{one_round_more, table_of};
+ghost use Rattle.jb_step.specs.inside.Head.{one_round_more, set_of_round, table_of};
 ghost use Rattle.jb_step.specs.inside.Places.{ArePlaced, emptied, filled, held_in, picked};
 ghost use Rattle.jb_step.specs.inside.Round.{breaks_in, partitions_of, tasks_of, tasks_of_set};
 ghost use Rattle.jb_step.specs.Alone.{AreReady};
@@ -19,6 +19,7 @@ ghost use Rattle.jb_workers.specs.Works.{AllCanBegin, Rise as AreInOrder};
 mod single;
 
 use crate::error::RunError;
+use crate::plan::Open;
 use crate::ran::Ran;
 use crate::round::single::round_of_one;
 use crate::runner::RoundRunner;
@@ -33,12 +34,8 @@ use std::sync::Wait;
 use std::sync::ledger::Ledger;
 use std::thread::Threads;
 
-/// The slots of a round, by rising lane and so by rising partition.
-pub(crate) fn slots_of(
-    alloc: Global,
-    cursor: &RoundCursor,
-    round: u64,
-) -> Result<Vec<Slot>, RunError>
+// The slots of a round, by rising lane and so by rising partition.
+fn slots_of(alloc: Global, cursor: &RoundCursor, round: u64) -> Result<Vec<Slot>, RunError>
     ensures slots { IfOk result (λ slots. slots.items ≡ slots_of_round cursor.now.counts cursor.now.threads round) }
     ensures rise { IfOk result (λ slots. Rise (map (λ slot. slot.partition) slots.items)) }
 {
@@ -160,9 +157,9 @@ pub(crate) fn sum(number: u64, more: u64) -> Result<u64, RunError>
     number.checked_add(more).ok_or(RunError::Desk)
 }
 
-/// One round: an attempt for each task of the slots' partitions, and for no other; and the analyzer is told. Answers whether
-/// some partition was rolled back or failed.
-pub(crate) fn one_round<
+// One round: an attempt for each task of the slots' partitions, and for no other; and the analyzer is told. Answers whether
+// some partition was rolled back or failed.
+fn one_round<
     T: PartitionTask + Send + 'static,
     L: Ledger + Send + Sync + 'static,
     G: Gate + Sync,
@@ -189,9 +186,6 @@ pub(crate) fn one_round<
     ensures notes { OnOk result (ran.new.notes ≡ ran.old.notes) }
     ensures grew { Grew (analyzed analyzer.old) (analyzed analyzer.new) }
 {
-    if slots.len() == 1 {
-        return round_of_one(runner, alloc, ran, slots, analyzer);
-    }
     let works = chosen(alloc, &mut ran.held, slots)?;
     let dones = runner.run_round(alloc, pool, works)?;
     ran.fault = tell_round(dones.as_slice(), ran.fault, analyzer)?;
@@ -200,4 +194,38 @@ pub(crate) fn one_round<
     let broke = some_breaks(dones.as_slice());
     put_back(&mut ran.held, dones);
     Ok(broke)
+}
+
+/// The plan's next round, as `one_round`: where it has one slot alone, that one takes no memory for lists.
+pub(crate) fn next_round<
+    T: PartitionTask + Send + 'static,
+    L: Ledger + Send + Sync + 'static,
+    G: Gate + Sync,
+    R: Threads + Wait + Sync,
+>(
+    runner: &RoundRunner<L, G, R>,
+    pool: &mut Pool<T, L>,
+    alloc: Global,
+    ran: &mut Ran<T>,
+    plan: &Open,
+    analyzer: &mut dyn Analyzer,
+) -> Result<bool, RunError>
+    requires placed { ArePlaced T.standing 0 ran.old.held.items }
+    requires rise { Rise (partitions_of (table_of T.standing ran.old)) }
+    requires ready { AreReady (table_of T.standing ran.old) }
+    requires can_run { CanRun (set_of_round plan.now.cursor plan.now.ran) (table_of T.standing ran.old) }
+    ensures table { OnOk result (table_of T.standing ran.new ≡ after_round (set_of_round plan.now.cursor plan.now.ran) (table_of T.standing ran.old)) }
+    ensures placed { OnOk result (ArePlaced T.standing 0 ran.new.held.items) }
+    ensures ready { OnOk result (AreReady (table_of T.standing ran.new)) }
+    ensures counted { OnOk result ((ran.new.rounds, ran.new.attempts) ≡ one_round_more (ran.old.rounds, ran.old.attempts) (set_of_round plan.now.cursor plan.now.ran) (table_of T.standing ran.old)) }
+    ensures breaks { IfOk result (λ broke. broke ≡ breaks (set_of_round plan.now.cursor plan.now.ran) (table_of T.standing ran.old)) }
+    ensures heard { OnOk result (IsHearing ran.old.fault (analyzed analyzer.old) (heard_in_round (set_of_round plan.now.cursor plan.now.ran) (table_of T.standing ran.old)) (moment (analyzed analyzer.new) ran.new.fault)) }
+    ensures notes { OnOk result (ran.new.notes ≡ ran.old.notes) }
+    ensures grew { Grew (analyzed analyzer.old) (analyzed analyzer.new) }
+{
+    if let Some(slot) = plan.cursor.only_slot(plan.ran, ran.near) {
+        return round_of_one(runner, alloc, ran, slot, analyzer);
+    }
+    let slots = slots_of(alloc, &plan.cursor, plan.ran)?;
+    one_round(runner, pool, alloc, ran, slots.as_slice(), analyzer)
 }

@@ -12,7 +12,7 @@ use crate::laws::laws_below;
 use crate::plan::{Open, closed, next_plan, take_note};
 use crate::prepared::Prepared;
 use crate::ran::Ran;
-use crate::round::{one_round, slots_of};
+use crate::round::next_round;
 use crate::runner::RoundRunner;
 use crate::tell::tell_first;
 use jb_cert::PlanNote;
@@ -120,6 +120,7 @@ pub(crate) fn run_rounds<
         fault,
         rounds: 0,
         attempts: 0,
+        near: 0,
         stopped: false,
     };
     let mut plan: Option<Open> = None;
@@ -131,8 +132,7 @@ pub(crate) fn run_rounds<
             return Ok(ran);
         }
         let next = next_plan(runner, alloc, prepared, ran.held.as_slice(), plan)?;
-        let slots = slots_of(alloc, &next.cursor, next.ran)?;
-        let broke = one_round(runner, pool, alloc, &mut ran, slots.as_slice(), analyzer)?;
+        let broke = next_round(runner, pool, alloc, &mut ran, &next, analyzer)?;
         plan = closed(next, broke, &mut ran.notes)?;
     }
     unreachable!()

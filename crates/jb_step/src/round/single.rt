@@ -1,14 +1,12 @@
 //! A round of one slot.
 
-ghost use Rattle.std.specs.Prelude.{◌≡◌, IfOk, OnOk, length, map};
+ghost use Rattle.std.specs.Prelude.{◌≡◌, ◌∷◌, [], IfOk, OnOk};
 ghost use Rattle.jb_cert.specs.Plans.{slot_pair};
-ghost use Rattle.jb_cert.specs.Rising.{Rise};
 ghost use Rattle.jb_step.specs.Callbacks.{Grew};
 ghost use Rattle.jb_step.specs.Rounds.{CanRun, after_round, breaks};
 ghost use Rattle.jb_step.specs.inside.Adding.{heard_in_round};
 ghost use Rattle.jb_step.specs.inside.Head.{one_round_more, table_of};
 ghost use Rattle.jb_step.specs.inside.Places.{ArePlaced};
-ghost use Rattle.jb_step.specs.inside.Round.{partitions_of};
 ghost use Rattle.jb_step.specs.Alone.{AreReady};
 ghost use Rattle.jb_step.specs.inside.Telling.{IsHearing, moment};
 
@@ -36,26 +34,22 @@ pub(crate) fn round_of_one<
     runner: &RoundRunner<L, G, R>,
     alloc: Global,
     ran: &mut Ran<T>,
-    slots: &[Slot],
+    slot: Slot,
     analyzer: &mut dyn Analyzer,
 ) -> Result<bool, RunError>
-    requires one { length slots.now ≡ 1 }
     requires placed { ArePlaced T.standing 0 ran.old.held.items }
-    requires in_turn { Rise (map (λ slot. slot.partition) slots.now) }
-    requires rise { Rise (partitions_of (table_of T.standing ran.old)) }
     requires ready { AreReady (table_of T.standing ran.old) }
-    requires can_run { CanRun (map slot_pair slots.now) (table_of T.standing ran.old) }
-    ensures table { OnOk result (table_of T.standing ran.new ≡ after_round (map slot_pair slots.now) (table_of T.standing ran.old)) }
+    requires can_run { CanRun (slot_pair slot ∷ []) (table_of T.standing ran.old) }
+    ensures table { OnOk result (table_of T.standing ran.new ≡ after_round (slot_pair slot ∷ []) (table_of T.standing ran.old)) }
     ensures placed { OnOk result (ArePlaced T.standing 0 ran.new.held.items) }
     ensures ready { OnOk result (AreReady (table_of T.standing ran.new)) }
-    ensures counted { OnOk result ((ran.new.rounds, ran.new.attempts) ≡ one_round_more (ran.old.rounds, ran.old.attempts) (map slot_pair slots.now) (table_of T.standing ran.old)) }
-    ensures breaks { IfOk result (λ broke. broke ≡ breaks (map slot_pair slots.now) (table_of T.standing ran.old)) }
-    ensures heard { OnOk result (IsHearing ran.old.fault (analyzed analyzer.old) (heard_in_round (map slot_pair slots.now) (table_of T.standing ran.old)) (moment (analyzed analyzer.new) ran.new.fault)) }
+    ensures counted { OnOk result ((ran.new.rounds, ran.new.attempts) ≡ one_round_more (ran.old.rounds, ran.old.attempts) (slot_pair slot ∷ []) (table_of T.standing ran.old)) }
+    ensures breaks { IfOk result (λ broke. broke ≡ breaks (slot_pair slot ∷ []) (table_of T.standing ran.old)) }
+    ensures heard { OnOk result (IsHearing ran.old.fault (analyzed analyzer.old) (heard_in_round (slot_pair slot ∷ []) (table_of T.standing ran.old)) (moment (analyzed analyzer.new) ran.new.fault)) }
     ensures notes { OnOk result (ran.new.notes ≡ ran.old.notes) }
     ensures grew { Grew (analyzed analyzer.old) (analyzed analyzer.new) }
 {
-    let slot = &slots[0];
-    let Some(task) = take_task(&mut ran.held, slot) else {
+    let Some(task) = take_task(&mut ran.held, &slot) else {
         unreachable!();
     };
     let work = Work {
@@ -68,6 +62,7 @@ pub(crate) fn round_of_one<
     ran.fault = tell_one(&task, values, ran.fault, analyzer)?;
     ran.rounds = sum(ran.rounds, 1)?;
     ran.attempts = sum(ran.attempts, 1)?;
+    ran.near = slot.partition;
     put_task(&mut ran.held, task);
     Ok(broke)
 }

@@ -1,9 +1,7 @@
-use Rattle.std.proofs.Common.{◌≡◌, map, rules, List, not, sym, ap, ◌∙◌, subst}
+use Rattle.std.proofs.Common.{◌≡◌, rules, List, not, refl, sym, ap, ◌∙◌}
 use Rattle.std.proofs.lemmas.Bool.{not-false}
 use Rattle.jb_cert.specs.Lawful.{Pair}
-use Rattle.jb_cert.specs.Plans.{slot_pair}
 use Rattle.jb_chunk.specs.Standing.{TaskState}
-use Rattle.jb_step.specs.Rounds.{CanRun}
 use Rattle.jb_step.specs.Alone.{have_ended}
 use Rattle.jb_step.specs.inside.Head.{set_of_round, IsNextPlan, IsFinished, beginning, table_of}
 use Rattle.jb_step.specs.inside.Telling.{moment}
@@ -22,16 +20,15 @@ loop-init g c = (
 
 pub loop-preserved : goal.loop-preserved
 loop-preserved g c =
-    let set : List Pair = map slot_pair c.as_slice-in-loop-2.result.now in
+    let set : List Pair = set_of_round c.in_ok-next.next.cursor c.in_ok-next.next.ran in
     let table : List TaskState = table_of g.T.PartitionTask.standing c.loop.ran in
-    let next : IsNextPlan c.args.prepared.now table c.loop.plan c.in_ok-next.next = rw (← c.as_slice-in-loop.ensures.value) c.in_ok-next.ensures in
-    let sets : set ≡ set_of_round c.in_ok-next.next.cursor c.in_ok-next.next.ran = ap (map slot_pair) (c.as_slice-in-loop-2.ensures.value ∙ c.in_ok-slots.ensures.slots) in (
+    let next : IsNextPlan c.args.prepared.now table c.loop.plan c.in_ok-next.next = rw (← c.as_slice-in-loop.ensures.value) c.in_ok-next.ensures in (
       turns c.laws_below.ensures _ _ _ c.loop.plan c.in_ok-next.next c.in_ok-plan.plan c.loop.invariant.0
           (record {
             set = set;
             broke = c.in_ok-broke.broke;
             next_is = next;
-            set_is = sets;
+            set_is = refl;
             table_is = c.in_ok-broke.ensures.table;
             ready = c.in_ok-broke.ensures.ready;
             broke_is = c.in_ok-broke.ensures.breaks;
@@ -44,18 +41,17 @@ loop-preserved g c =
       grew-more _ _ _ c.loop.invariant.3 c.in_ok-broke.ensures.grew,
     )
 
-pub one_round-requires-clause-rise : goal.one_round-requires-clause-rise
-one_round-requires-clause-rise g c κs bounds = head-rises _ _ c.loop.plan c.loop.invariant.0
+pub next_round-requires-clause-rise : goal.next_round-requires-clause-rise
+next_round-requires-clause-rise g c κs bounds = head-rises _ _ c.loop.plan c.loop.invariant.0
 
-pub one_round-requires-clause-ready : goal.one_round-requires-clause-ready
-one_round-requires-clause-ready g c κs bounds = head-ready _ _ c.loop.plan c.loop.invariant.0
+pub next_round-requires-clause-ready : goal.next_round-requires-clause-ready
+next_round-requires-clause-ready g c κs bounds = head-ready _ _ c.loop.plan c.loop.invariant.0
 
-pub one_round-requires-clause-can_run : goal.one_round-requires-clause-can_run
-one_round-requires-clause-can_run g c κs bounds =
+pub next_round-requires-clause-can_run : goal.next_round-requires-clause-can_run
+next_round-requires-clause-can_run g c κs bounds =
     let table : List TaskState = table_of g.T.PartitionTask.standing c.loop.ran in
     let next : IsNextPlan c.args.prepared.now table c.loop.plan c.in_ok-next.next = rw (← c.as_slice-in-loop.ensures.value) c.in_ok-next.ensures in
-    let sets : map slot_pair c.as_slice-in-loop-2.result.now ≡ set_of_round c.in_ok-next.next.cursor c.in_ok-next.next.ran = ap (map slot_pair) (c.as_slice-in-loop-2.ensures.value ∙ c.in_ok-slots.ensures.slots) in
-    subst (λ (xs : List Pair). CanRun xs table) (sym sets) (can-run c.laws_below.ensures _ _ c.loop.plan c.in_ok-next.next c.loop.invariant.0 next)
+    can-run c.laws_below.ensures _ _ c.loop.plan c.in_ok-next.next c.loop.invariant.0 next
 
 pub closed-requires : goal.closed-requires
 closed-requires g c =
@@ -76,11 +72,8 @@ next_plan-requires-clause-table g c κs bounds = rw c.as_slice-in-loop.ensures.v
 pub is_over-over-requires-clause-unended : goal.is_over-over-requires-clause-unended
 is_over-over-requires-clause-unended g c κs bounds = λ some. rw c.as_slice.ensures.value (unended c.laws_below.ensures _ _ c.loop.plan c.loop.invariant.0 some)
 
-pub one_round-requires-clause-placed : goal.one_round-requires-clause-placed
-one_round-requires-clause-placed g c κs bounds = c.loop.invariant.2
-
-pub one_round-requires-clause-in_turn : goal.one_round-requires-clause-in_turn
-one_round-requires-clause-in_turn g c κs bounds = rw c.as_slice-in-loop-2.ensures.value c.in_ok-slots.ensures.rise
+pub next_round-requires-clause-placed : goal.next_round-requires-clause-placed
+next_round-requires-clause-placed g c κs bounds = c.loop.invariant.2
 
 pub next_plan-requires-clause-placed : goal.next_plan-requires-clause-placed
 next_plan-requires-clause-placed g c κs bounds = rw c.as_slice-in-loop.ensures.value c.loop.invariant.2
