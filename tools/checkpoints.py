@@ -11,6 +11,7 @@ import stat
 import struct
 import tempfile
 
+import limits
 import reports
 from rules import plans, rows
 
@@ -19,7 +20,7 @@ LOG_HEAD = 32  # bytes; they change whenever the log begins anew
 MAGIC, PAGE = b"SQLite format 3\0", 4_096  # a database's first bytes, of which the very first is written last; and its first page
 COPIES = 100  # tries, until the file was the same before and behind one
 COLUMNS = [("number", "INTEGER", 0, None, 1, 0), ("saved", "TEXT", 1, None, 0, 0), ("results", "BLOB", 1, None, 0, 0)]
-FORM_NUMBERS = {"records": (0, 10_000_000), "partitions": (1, 4_096), "item-count": (1, 1_000_000)}
+FORM_NUMBERS = {"records": (0, limits.RECORDS), "partitions": (1, limits.PARTITIONS_ASKED), "item-count": (1, limits.ITEM_COUNT)}
 FORM_KEYS = {"form", "step", *FORM_NUMBERS, "rules"}
 CLASS_LISTS = ("skippable", "retryable", "no-rollback")
 DIGEST = 32  # bytes
@@ -178,7 +179,7 @@ def count_of(base, path):
 
 
 def are_classes(value):
-    return isinstance(value, list) and all(reports.is_number(each) and each < 64 for each in value)
+    return isinstance(value, list) and all(reports.is_number(each) and each < limits.CLASSES for each in value)
 
 
 def are_rules(rules):
