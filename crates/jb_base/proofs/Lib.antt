@@ -3,3 +3,4 @@ pub mod Causes
 pub mod Classes
 pub mod Packed
 pub mod Pairwise
+pub mod Parts

@@ -59,7 +59,7 @@ range-behind bytes more from end =
     ap (λ k. take k (drop (length bytes + from) (bytes ++ more))) long ∙ ap (take (end - from)) there
 
 -- strings of a buffer that stands behind another
-behind : (from : ℕ) (ends bytes more : List ℕ)
+pub behind : (from : ℕ) (ends bytes more : List ℕ)
     → strings_from (length bytes + from) (map (λ end. length bytes + end) ends) (bytes ++ more) ≡ strings_from from ends more
 behind from [] bytes more = refl
 behind from (end ∷ ends) bytes more =
@@ -95,7 +95,7 @@ ends_cut from [] last (suc count) ok = refl
 ends_cut from (end ∷ ends) last zero ok = refl
 ends_cut from (end ∷ ends) last (suc count) ok = (ok.0, ends_cut end ends last count ok.1)
 
-front-alone : (from : ℕ) (ends bytes : List ℕ) (count : ℕ) → strings_from from (take count ends) bytes ≡ take count (strings_from from ends bytes)
+pub front-alone : (from : ℕ) (ends bytes : List ℕ) (count : ℕ) → strings_from from (take count ends) bytes ≡ take count (strings_from from ends bytes)
 front-alone from [] bytes zero = refl
 front-alone from [] bytes (suc count) = refl
 front-alone from (end ∷ ends) bytes zero = refl

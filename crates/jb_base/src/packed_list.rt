@@ -1,6 +1,6 @@
 //! Byte strings in one buffer.
 
-ghost use Rattle.std.specs.Prelude.{◌≡◌, ◌≤◌, ◌<◌, ◌==◌, ◌++◌, ◌∷◌, [], length, take, IfOk, OnOk, OnErr, slice_get, slice_index, slice_index_or, slice_range, option_copied, ◌+◌, ◌^◌, All, map, vec_len, vec_capacity};
+ghost use Rattle.std.specs.Prelude.{◌≡◌, ◌≤◌, ◌<◌, ◌==◌, ◌++◌, ◌∷◌, [], length, take, IfOk, OnOk, OnErr, slice_get, slice_index, slice_index_or, slice_range, option_copied, ◌+◌, ◌-◌, ◌^◌, All, map, vec_len, vec_capacity};
 ghost use Rattle.std.specs.Bool.{MatchBool};
 ghost use Rattle.std.specs.Str.{IsAscii};
 ghost use Rattle.jb_base.specs.Packed.{start_of};
@@ -145,12 +145,11 @@ impl PackedList {
         requires to { to ≤ length self.now }
         ensures { IfOk result (λ part. part ≡ slice_range self.now from to) }
     {
-        let bytes = start_of(&self.ends, to) - start_of(&self.ends, from);
-        let mut part = PackedList::with_room(alloc, to - from, bytes)?;
-        for index in from..to {
-            part.push(self.at(index))?;
-        }
-        Ok(part)
+        let base = start_of(&self.ends, from);
+        let end = start_of(&self.ends, to);
+        let bytes = Vec::from_slice(alloc, range(&self.bytes, base, end))?;
+        let ends = lowered(alloc, ends_between(&self.ends, from, to), base)?;
+        Ok(PackedList { bytes, ends })
     }
 }
 
@@ -177,6 +176,27 @@ fn range(bytes: &[u8], start: usize, end: usize) -> &[u8]
     ensures { result.now ≡ slice_range bytes.now start end }
 {
     &bytes[start..end]
+}
+
+/// The ends of the strings from `from` to `to - 1`.
+fn ends_between(ends: &[usize], from: usize, to: usize) -> &[usize]
+    requires order { from ≤ to }
+    requires to { to ≤ length ends.now }
+    ensures { result.now ≡ slice_range ends.now from to }
+{
+    &ends[from..to]
+}
+
+/// The ends in a buffer that begins at the byte `base`.
+fn lowered(alloc: Global, ends: &[usize], base: usize) -> Result<Vec<usize>, AllocError>
+    requires { All (λ end. base ≤ end) ends.now }
+    ensures { IfOk result (λ lowered. lowered.items ≡ map (λ end. end - base) ends.now) }
+{
+    let mut lowered = Vec::with_capacity(alloc, ends.len())?;
+    for end in ends {
+        lowered.push_reserved(end - base);
+    }
+    Ok(lowered)
 }
 
 /// Appends both, or, without memory, nothing.

@@ -53,6 +53,15 @@ impl<A: Drop> BoxedArtifacts<A> {
     }
 }
 
+impl<A> BoxedArtifacts<A> {
+    /// The artifacts, lent.
+    pub fn artifacts(&self) -> &A
+        ensures { result.now ≡ self.now }
+    {
+        &self.held.artifacts
+    }
+}
+
 impl<A: Meaning> Meaning for BoxedArtifacts<A> {
     ghost meaning = { λ boxed. A.meaning boxed };
 }

@@ -3,7 +3,7 @@
 ghost use Rattle.std.specs.Prelude.{◌≡◌, ℕ, List, Option, IfOk};
 ghost use Rattle.jb_artifacts.specs.Faults.{plans_of};
 
-use jb_artifacts::{FaultPlans, Item, ItemProcessor};
+use jb_artifacts::{FaultPlans, Item, ItemProcessor, PackedResults, PackingProcessor};
 use jb_base::ArtifactError;
 use std::alloc::AllocError;
 
@@ -32,5 +32,25 @@ impl<A: Answer> ItemProcessor for AnswerProcessor<A> {
         }
         let answer = self.function.answer_of(number, item)?;
         Ok(answer)
+    }
+}
+
+impl<A: Answer> PackingProcessor for AnswerProcessor<A> {
+    fn pack_item(
+        &mut self,
+        number: u64,
+        item: &[u8],
+        results: &mut PackedResults,
+    ) -> Result<bool, ArtifactError> {
+        if let Some(class) = self.faults.strike(number) {
+            return Err(ArtifactError::Fault(class));
+        }
+        match self.function.answer_of(number, item)? {
+            Some(result) => {
+                results.push(number, result.as_slice())?;
+                Ok(true)
+            }
+            None => Ok(false),
+        }
     }
 }

@@ -1,12 +1,13 @@
 //! A processor that notes the faults of another.
 
-ghost use Rattle.std.specs.Prelude.{◌≡◌, None, Some, IfOk};
+ghost use Rattle.std.specs.Prelude.{◌≡◌, ◌++◌, None, Some, IfOk, is_some, option_to_list};
 ghost use Rattle.jb_artifacts.specs.Answers.{IfFault, IfNoMemory};
 ghost use Rattle.jb_artifacts.specs.Processor.{process_fault, after_process};
+ghost use Rattle.jb_artifacts.specs.Writer.{numbered};
 ghost use Rattle.jb_ready.specs.Notes.{NotesCall};
 
 use crate::notes::{Note, Notes};
-use jb_artifacts::{Item, ItemProcessor};
+use jb_artifacts::{Item, ItemProcessor, PackedResults, PackingProcessor};
 use jb_base::ArtifactError;
 
 /// A processor that answers as `inner` does, and notes each fault that it passes on.
@@ -28,6 +29,31 @@ impl<P: ItemProcessor> ItemProcessor for NotingProcessor<P> {
         ensures noted { NotesCall result number self.old.notes self.new.notes }
     {
         let answer = self.inner.process_item(number, item);
+        self.notes.note_call(number, &answer);
+        answer
+    }
+}
+
+impl<P: PackingProcessor> PackingProcessor for NotingProcessor<P> {
+    fn pack_item(
+        &mut self,
+        number: u64,
+        item: &[u8],
+        results: &mut PackedResults,
+    ) -> Result<bool, ArtifactError>
+        ensures answered { let p = P.ItemProcessor.processor self.old.inner in
+            let answer = p.answer number item.now in
+            IfOk result (λ found. (process_fault p number ≡ None) × (found ≡ is_some answer)
+            × (P.ItemProcessor.processor self.new.inner ≡ after_process p number)
+            × (results.new ≡ results.old ++ option_to_list (numbered number answer))) }
+        ensures faulted { let p = P.ItemProcessor.processor self.old.inner in
+            IfFault result (λ class. (process_fault p number ≡ Some class) × (P.ItemProcessor.processor self.new.inner ≡ after_process p number)
+            × (results.new ≡ results.old)) }
+        ensures no_memory { IfNoMemory result ((P.ItemProcessor.processor self.new.inner ≡ P.ItemProcessor.processor self.old.inner)
+            × (results.new ≡ results.old)) }
+        ensures noted { NotesCall result number self.old.notes self.new.notes }
+    {
+        let answer = self.inner.pack_item(number, item, results);
         self.notes.note_call(number, &answer);
         answer
     }

@@ -36,7 +36,8 @@ fn later_of(read: Option<&Note>, tried: Option<&Note>) -> Option<Note> {
 fn noted_of<F: RecordFunction>(works: &[(u32, Works<F>)], partition: u32) -> Option<Note> {
     for one in works {
         if one.0 == partition {
-            let (reads, tries) = (&one.1.reader.notes, &one.1.processor.notes);
+            let artifacts = one.1.artifacts();
+            let (reads, tries) = (&artifacts.reader.notes, &artifacts.processor.notes);
             if reads.lost() > 0 || tries.lost() > 0 {
                 return None;
             }

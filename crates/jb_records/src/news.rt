@@ -61,7 +61,7 @@ fn push_news<F: RecordFunction + Drop>(
     };
     match works.split_first() {
         Some((one, others)) if u64::from(one.0) == partition => {
-            news.push(written_from(alloc, &one.1.writer, *count)?)?;
+            news.push(written_from(alloc, &one.1.artifacts().writer, *count)?)?;
             push_news(alloc, partition + 1, told, others, news)
         }
         _ => {

@@ -67,7 +67,7 @@ fn put_all<F: RecordFunction + Drop>(works: &mut Vec<(u32, Works<F>)>, shares: &
     if let Some((partition, last)) = works.pop() {
         let index = partition as usize;
         if index < shares.len() {
-            shares[index] = last.writer.into_written();
+            shares[index] = last.into_artifacts().writer.into_written();
         }
         put_all(works, shares);
     }

@@ -15,21 +15,24 @@ use crate::error::RecordsStepError;
 use crate::function::RecordFunction;
 use crate::shared::Shared;
 use jb_artifacts::{
-    ArtifactsOf, CountCollector, FaultList, FaultPlan, FaultPlans, ListWriter, Meaning,
+    CountCollector, FaultList, FaultPlan, FaultPlans, ListWriter, Meaning, PackedArtifacts,
 };
 use jb_base::{ClassId, PackedList, Rules};
+use jb_chunk::BoxedArtifacts;
 use jb_ready::{AnswerProcessor, CheckedReader, Notes, NotingProcessor, NotingReader};
 use jb_rules::Row;
 use jb_step::Prepared;
 use std::alloc::{AllocError, Global};
 use std::sync::Arc;
 
-/// What a partition works with. The faults that it meets are noted.
-pub type Works<F> = ArtifactsOf<
-    NotingReader<CheckedReader<Shared<F>>>,
-    NotingProcessor<AnswerProcessor<Shared<F>>>,
-    ListWriter,
-    CountCollector,
+/// What a partition works with: its records are lent, and the results of a chunk packed. The faults that it meets are noted.
+pub type Works<F> = BoxedArtifacts<
+    PackedArtifacts<
+        NotingReader<CheckedReader<Shared<F>>>,
+        NotingProcessor<AnswerProcessor<Shared<F>>>,
+        ListWriter,
+        CountCollector,
+    >,
 >;
 
 /// Whether none of these classes may be skipped.
@@ -111,7 +114,7 @@ fn works_of<F: RecordFunction + Drop>(
         Ok(reader) => reader,
         Err(_) => unreachable!(),
     };
-    Ok(ArtifactsOf {
+    let artifacts = PackedArtifacts {
         reader: NotingReader {
             inner: reader,
             notes: Notes::new(alloc),
@@ -125,7 +128,9 @@ fn works_of<F: RecordFunction + Drop>(
         },
         writer: ListWriter::new(copy_of(alloc, results)?, FaultPlans::new(alloc)),
         collector: CountCollector::new(alloc),
-    })
+    };
+    let works = BoxedArtifacts::new(alloc, artifacts)?;
+    Ok(works)
 }
 
 /// What these partitions work with, each with its share of the earlier results.

@@ -5,6 +5,7 @@ ghost use Rattle.std.specs.Prelude.{◌==◌, ◌++◌, Some, None, if◌then◌
 use crate::artifacts::{failing_once, fault, fault_of, holds, records};
 use jb_artifacts::{
     FaultPlans, Item, ItemProcessor, ItemReader, ItemWriter, LendingReader, ListWriter,
+    PackedResults, PackingProcessor,
 };
 use jb_base::{ClassId, PackedList};
 use jb_ready::{
@@ -201,7 +202,15 @@ fn notes_a_process_call(alloc: Global) -> Result<bool, AllocError> {
     };
     let failed = fault_of(processor.process_item(1, b"b")) == Some(fault());
     let answered = holds(&processor.process_item(1, b"b"), b"bb");
-    Ok(failed && answered && processor.notes.kept() == [note_of(1)].as_slice())
+    let packed = packs(alloc, &mut processor);
+    Ok(failed && answered && packed && processor.notes.kept() == [note_of(1)].as_slice())
+}
+
+/// Whether a function's processor packs its answer.
+fn packs(alloc: Global, processor: &mut NotingProcessor<AnswerProcessor<Twice>>) -> bool {
+    let mut results = PackedResults::new(alloc);
+    let found = processor.pack_item(2, b"c", &mut results) == Ok(true);
+    found && results.len() == 1 && results.number(0) == 2 && results.text(0) == b"cc"
 }
 
 /// Whether a write call that fails is noted with its numbers.

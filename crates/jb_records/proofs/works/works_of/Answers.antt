@@ -15,7 +15,7 @@ returns-clause-work g c =
     let reader = c.in-Ok.ensures.ok in
     let checks = c.in_ok-of.ensures in
     let answers = c.in_ok-of-2.ensures in
-    record {
+    rw c.in_ok-works.ensures (record {
       work = record {
         first_is = ap (λ (r : Reader). r.first) reader;
         records_are = ap (λ (r : Reader). r.records) reader ∙ own;
@@ -25,7 +25,7 @@ returns-clause-work g c =
         writes = λ k. ap (λ (w : Writer). w.faults k) c.new-5.ensures ∙ ap (λ (plans : FaultTable). plans k) c.new-4.ensures;
       };
       first_tries = λ k. c.in_ok-tries.ensures.tries k ∙ (λ i. tries_plan (g.F.RecordFunction.function (c.deref.ensures i)) c.args.row.now.lo (own i) k);
-    }
+    })
 
 pub returns-in_err-tries-clause-why : goal.returns-in_err-tries-clause-why
 returns-in_err-tries-clause-why g c =
