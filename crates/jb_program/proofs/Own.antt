@@ -1,6 +1,5 @@
 -- What the program's own artifacts mean.
 use Rattle.jb_artifacts.specs.Meaning.{ArtifactsMeaning}
-use Rattle.jb_artifacts.specs.Writer.{Writer}
 use Rattle.jb_artifacts.specs.declared.packed_artifacts.PackedArtifacts.{PackedArtifacts}
 use Rattle.jb_artifacts.specs.declared.prefix_processor.PrefixProcessor.{PrefixProcessor}
 use Rattle.jb_artifacts.specs.declared.list_writer.ListWriter.{ListWriter}
@@ -18,6 +17,3 @@ own_work own = record {
   writer = (writer_of.ghosts).writer own.writer;
   collector = (collector_of.ghosts).collected own.collector;
 }
-
-abbrev pub own_writer : ListWriter → Writer
-own_writer writer = (writer_of.ghosts).writer writer

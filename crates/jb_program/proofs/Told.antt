@@ -1,13 +1,16 @@
 -- The report of a step's partitions, put together.
-use Rattle.std.proofs.Common.{◌≡◌, ℕ, zero, suc, ◌+◌, ◌<◌, ◌==◌, Bool, true, false, List, [], ◌∷◌, ◌++◌, map, flat_map, find, get_or, take, length, add-one, append-nil, arith, Option, Some, None, option_map, cond, refl, ap, sym, ◌∙◌, append_assoc}
-use Rattle.std.specs.List.{enumerate_from}
+use Rattle.std.proofs.Common.{◌≡◌, ◌≢◌, ℕ, zero, suc, ◌+◌, ◌<◌, ◌==◌, Bool, true, false, ltb, slice_get, subst, List, [], ◌∷◌, ◌++◌, map, flat_map, find, get_or, take, length, add-one, append-nil, arith, Option, Some, None, option_map, cond, refl, ap, sym, ◌∙◌, append_assoc}
+use Rattle.std.specs.List.{enumerate_from, position_or_len, remove}
 use Rattle.std.specs.Str.Lossy.{utf8_lossy}
 use Rattle.json.specs.Token.{Token}
 use Rattle.jb_rules.specs.declared.row.Row.{Row}
 use Rattle.std.proofs.Math.Path.{fun_ext}
-use Rattle.std.proofs.lemmas.List.{map-append}
+use Rattle.std.proofs.lemmas.Bool.Decides.{nat_tests}
+use Rattle.std.proofs.lemmas.List.Folds.{find_at}
+use Rattle.std.proofs.lemmas.List.Sums.{passes_at_first}
+use Rattle.std.proofs.lemmas.Option.{slice_get-get_or, slice_get_past}
 use Rattle.jb_artifacts.specs.Meaning.{ArtifactsMeaning}
-use Rattle.jb_artifacts.specs.Writer.{Texts, Writer}
+use Rattle.jb_artifacts.specs.Writer.{Texts}
 use Rattle.jb_collect.specs.declared.calls.AnalyzerCall.{AnalyzerCall}
 use Rattle.jb_collect.specs.declared.calls.ReducerCall.{ReducerCall}
 use Rattle.jb_collect.specs.declared.calls.Status.{Status}
@@ -17,19 +20,78 @@ use Rattle.jb_cert.specs.declared.notes.PlanNote.{PlanNote}
 use Rattle.jb_texts.specs.Report.{PartitionReport, texts_tree}
 use Rattle.jb_texts.specs.ReportTokens.{outputs_tokens, step_head, step_tail, step_tokens}
 use Rattle.jb_program.specs.StepRun.{committed_of, outputs_in, partitions_left}
-use Rattle.jb_program.specs.inside.Written.{lists_left, lists_of, outputs_by, written_at}
+use Rattle.jb_program.specs.inside.Written.{lists_left, outputs_by, written_at}
 
 -- ---- the writers that came back
 
--- one writer more
-pub one-writer : {A B : Type 0} (own : A → Writer) (meaning : B → ArtifactsMeaning) (old new : List (ℕ × A)) (writer : ℕ × A) (left : ℕ × B) (items rest : List (ℕ × B)) (whole : List (ℕ × Texts))
-    → new ≡ old ++ writer ∷ [] → items ≡ left ∷ rest → lists_of own (writer ∷ []) ≡ lists_left (given_back meaning (left ∷ []))
-    → lists_of own old ++ lists_left (given_back meaning items) ≡ whole → lists_of own new ++ lists_left (given_back meaning rest) ≡ whole
-one-writer own meaning old new writer left items rest whole is next same so_far =
+-- one list more
+pub one-list : {B : Type 0} (meaning : B → ArtifactsMeaning) (old new : List (ℕ × Texts)) (list : ℕ × Texts) (left : ℕ × B) (items rest : List (ℕ × B)) (whole : List (ℕ × Texts))
+    → new ≡ old ++ list ∷ [] → items ≡ left ∷ rest → list ∷ [] ≡ lists_left (given_back meaning (left ∷ []))
+    → old ++ lists_left (given_back meaning items) ≡ whole → new ++ lists_left (given_back meaning rest) ≡ whole
+one-list meaning old new list left items rest whole is next same so_far =
     let later = lists_left (given_back meaning rest) in
-    ap (λ ws. lists_of own ws ++ later) is ∙ ap (λ ls. ls ++ later) (map-append (λ one. (one.0, (own one.1).written)) old (writer ∷ []))
-    ∙ append_assoc (lists_of own old) (lists_of own (writer ∷ [])) later ∙ ap (λ ls. lists_of own old ++ (ls ++ later)) same
-    ∙ ap (λ is. lists_of own old ++ lists_left (given_back meaning is)) (sym next) ∙ so_far
+    ap (λ ls. ls ++ later) is ∙ append_assoc old (list ∷ []) later ∙ ap (λ ls. old ++ (ls ++ later)) same
+    ∙ ap (λ is. old ++ lists_left (given_back meaning is)) (sym next) ∙ so_far
+
+-- ---- the list of a partition, taken out of the others
+
+is-placed : (b : Bool) (k place : ℕ) → ◌≡◌ {A = Option ℕ} (Some place) (cond b (Some k) None) → (place ≡ k) × (b ≡ true)
+is-placed true k place is = (cc, refl)
+is-placed false k place is = absurd cc
+
+is-missed : (b : Bool) (k : ℕ) → ◌≡◌ {A = Option ℕ} None (cond b (Some k) None) → b ≡ false
+is-missed true k is = absurd cc
+is-missed false k is = refl
+
+kept-by : (b : Bool) (x : ℕ × Texts) (one other : Option (ℕ × Texts)) → one ≡ other → cond b (Some x) one ≡ cond b (Some x) other
+kept-by b x one other is = ap (cond b (Some x)) is
+
+passed-by : (b : Bool) (x : ℕ × Texts) (found : Option (ℕ × Texts)) → b ≡ false → found ≡ cond b (Some x) found
+passed-by true x found is = absurd cc
+passed-by false x found is = refl
+
+-- where a list is taken out, those of other partitions are found as before
+others-kept : (lists : List (ℕ × Texts)) (k q : ℕ) (d : ℕ × Texts) → k < length lists → ((get_or lists k d).0 == q) ≡ false → find (λ one. one.0 == q) (remove lists k) ≡ find (λ one. one.0 == q) lists
+others-kept [] k q d within other = absurd (omega (arith, within))
+others-kept (x ∷ lists) zero q d within other = passed-by (x.0 == q) x (find (λ one. one.0 == q) lists) other
+others-kept (x ∷ lists) (suc k) q d within other = kept-by (x.0 == q) x _ _ (others-kept lists k q d (omega (arith, within)) other)
+
+-- the first list of a partition, by its place
+module _ (lists : List (ℕ × Texts)) (p place : ℕ) (d : ℕ × Texts)
+    (is : ◌≡◌ {A = Option ℕ} (Some place) (cond (ltb (position_or_len (λ one. one.0 == p) lists) (length lists)) (Some (position_or_len (λ one. one.0 == p) lists)) None)) where
+  abbrev place-of : ℕ
+  place-of = position_or_len (λ one. one.0 == p) lists
+
+  same-place : place ≡ place-of
+  same-place = (is-placed (ltb place-of (length lists)) place-of place is).0
+
+  pub place-within : place < length lists
+  place-within = let below = (is-placed (ltb place-of (length lists)) place-of place is).1 in grind (arith, nat_tests, same-place, below)
+
+  pub found-at : find (λ one. one.0 == p) lists ≡ Some (get_or lists place d)
+  found-at = find_at (λ one. one.0 == p) lists ∙ ap (slice_get lists) (sym same-place) ∙ slice_get-get_or lists place d place-within
+
+  of-this : (get_or lists place d).0 ≡ p
+  of-this =
+      let within : place-of < length lists = subst (λ n. n < length lists) same-place place-within in
+      let passes : ((get_or lists place-of d).0 == p) ≡ true = passes_at_first (λ one. one.0 == p) lists d within in
+      let here : (get_or lists place-of d).0 ≡ p = grind (arith, nat_tests, passes) in
+      ap (λ n. (get_or lists n d).0) same-place ∙ here
+
+  pub others-found : (q : ℕ) → q ≢ p → find (λ one. one.0 == q) (remove lists place) ≡ find (λ one. one.0 == q) lists
+  others-found q other = others-kept lists place q d place-within (not-other ((get_or lists place d).0 == q) refl)
+    where
+      not-other : (b : Bool) → ((get_or lists place d).0 == q) ≡ b → ((get_or lists place d).0 == q) ≡ false
+      not-other true same = let equal : (get_or lists place d).0 ≡ q = grind (arith, nat_tests, same) in absurd (other (sym equal ∙ of-this))
+      not-other false same = same
+
+-- and where there is none
+pub found-none : (lists : List (ℕ × Texts)) (p : ℕ) → ◌≡◌ {A = Option ℕ} None (cond (ltb (position_or_len (λ one. one.0 == p) lists) (length lists)) (Some (position_or_len (λ one. one.0 == p) lists)) None)
+    → find (λ one. one.0 == p) lists ≡ None
+found-none lists p is =
+    let first = position_or_len (λ one. one.0 == p) lists in
+    let past = is-missed (ltb first (length lists)) first is in
+    find_at (λ one. one.0 == p) lists ∙ slice_get_past lists first (grind (arith, nat_tests, past))
 
 -- what is of the same partition
 abbrev paired : {A B : Type 0} → (A → B) → ℕ × A → ℕ × B
@@ -47,17 +109,6 @@ find-mapped : {A B : Type 0} (held : A → B) (all : List (ℕ × A)) (p : ℕ)
 find-mapped held [] p = refl
 find-mapped held (a ∷ all) p =
     found-by (a.0 == p) a held (find (λ one. one.0 == p) all) (find (λ one. one.0 == p) (map (paired held) all)) (find-mapped held all p)
-
--- a partition's outputs, where its writer is found and where it isn't
-pub outputs-found : {A : Type 0} (own : A → Writer) (writers : List (ℕ × A)) (p : ℕ) (a : ℕ × A) (before : Texts) → find (λ one. one.0 == p) writers ≡ Some a
-    → map utf8_lossy (own a.1).written ≡ outputs_by before (find (λ one. one.0 == p) (lists_of own writers))
-outputs-found own writers p a before found =
-    sym (ap (λ one. outputs_by before (option_map (paired (λ w. (own w).written)) one)) found) ∙ ap (outputs_by before) (find-mapped (λ w. (own w).written) writers p)
-
-pub outputs-missing : {A : Type 0} (own : A → Writer) (writers : List (ℕ × A)) (p : ℕ) (before : Texts) → find (λ one. one.0 == p) writers ≡ None
-    → map utf8_lossy before ≡ outputs_by before (find (λ one. one.0 == p) (lists_of own writers))
-outputs-missing own writers p before missing =
-    sym (ap (λ one. outputs_by before (option_map (paired (λ w. (own w).written)) one)) missing) ∙ ap (outputs_by before) (find-mapped (λ w. (own w).written) writers p)
 
 by-writer : (before : Texts) (found : Option (ℕ × ArtifactsMeaning)) → outputs_by before (option_map (paired (λ (work : ArtifactsMeaning). work.writer.written)) found) ≡ outputs_in before found
 by-writer before None = refl

@@ -7,7 +7,6 @@ ghost use Rattle.jb_texts.specs.PlanText.{text_of_load};
 ghost use Rattle.jb_texts.specs.Report.{report_text};
 ghost use Rattle.jb_texts.specs.Worked.{nothing, one_long, one_long_text, seven_records, seven_records_text, three_equal, three_equal_text};
 
-use jb_artifacts::{FaultPlans, ListWriter};
 use jb_base::{PackedList, Range};
 use jb_cert::{Certificate, PlanNote};
 use jb_collect::{AnalyzerCall, ReducerCall, Status};
@@ -50,8 +49,7 @@ fn report_of(alloc: Global) -> Result<ReportText, AllocError> {
     let row = Row::fresh(Range { lo: 0, hi: 0 });
     let mut steps = StepsText::new(alloc)?;
     steps.begin_step(alloc, 1, &[AnalyzerCall::Status(0, Status::Completed)])?;
-    let writer = ListWriter::new(PackedList::new(alloc), FaultPlans::new(alloc));
-    steps.add_outputs(alloc, &writer)?;
+    steps.add_outputs(alloc, PackedList::new(alloc))?;
     steps.end_step(
         alloc,
         &[row],

@@ -1,9 +1,10 @@
 -- Texts of which a writer took the front.
-use Rattle.std.proofs.Common.{◌≡◌, ℕ, zero, suc, ◌+◌, ◌-◌, zero-add, List, [], ◌∷◌, ◌++◌, Option, length, take, drop, ap, sym, ◌∙◌, append_assoc, length-drop, arith, Result, Ok, Err, OnErr}
-use Rattle.std.proofs.KnownBytes.{Appends-kept, Appends-trans}
+use Rattle.std.proofs.Common.{◌≡◌, ℕ, zero, suc, ◌+◌, ◌-◌, zero-add, List, [], ◌∷◌, ◌++◌, Option, length, take, drop, ap, sym, subst, ◌∙◌, append_assoc, append-nil, length-drop, arith, Result, Ok, Err, OnErr}
+use Rattle.std.proofs.KnownBytes.{Appends-kept, Appends-nil, Appends-trans}
 use Rattle.std.proofs.lemmas.List.{take_all}
 use Rattle.std.specs.Io.KnownBytes.{Appends, Keeps}
 use Rattle.jb_texts.specs.Front.{AppendsFront}
+use Rattle.jb_texts.specs.inside.Parts.{PassesOn}
 
 -- some of the text was written, and then the front of what follows it
 pub front-after : (a b c : Option (List ℕ)) (before xs rest text : List ℕ) → Appends a b before → AppendsFront b c xs → before ++ xs ++ rest ≡ text → AppendsFront a c text
@@ -54,3 +55,44 @@ all-from w xs = take_all (length xs - w) (drop w xs) (omega (arith, length-drop 
 pub on-err : {T E P : Type 0} (r : Result T E) → P → OnErr r P
 on-err (Ok x) p = tt
 on-err (Err e) p = p
+
+-- ---- a block of which the first bytes are passed on
+
+-- so far none
+pub passes-none : (a : Option (List ℕ)) (block text : List ℕ) → text ≡ [] → PassesOn a a block text block
+passes-none a block text none = ([], Appends-nil a, ap (λ zs. block ++ zs) none ∙ append-nil block)
+
+-- first one text, and then the next
+pub passes-then : (a b c : Option (List ℕ)) (block text between next left : List ℕ) → PassesOn a b block text between → PassesOn b c between next left → PassesOn a c block (text ++ next) left
+passes-then a b c block text between next left first second = (
+  first.0 ++ second.0,
+  Appends-trans a b c first.0 second.0 first.1 second.1,
+  sym (append_assoc block text next) ∙ ap (λ zs. zs ++ next) first.2 ∙ append_assoc first.0 between next ∙ ap (λ zs. first.0 ++ zs) second.2 ∙ sym (append_assoc first.0 second.0 left),
+)
+
+-- a text was put behind the block, of which the first bytes were passed on
+pub passes-put : (a b : Option (List ℕ)) (block text longer left : List ℕ) → longer ≡ block ++ text → (passed : List ℕ) × Appends a b passed × (longer ≡ passed ++ left) → PassesOn a b block text left
+passes-put a b block text longer left put passed = (passed.0, passed.1, sym put ∙ passed.2)
+
+-- and then the front of what is left and of the next text
+pub front-passed : (a b c : Option (List ℕ)) (block text left next rest all : List ℕ) → PassesOn a b block text left → AppendsFront b c (left ++ next) → text ++ (next ++ rest) ≡ all → AppendsFront a c (block ++ all)
+front-passed a b c block text left next rest all first front is =
+    front-after a b c first.0 (left ++ next) rest (block ++ all) first.1 front
+    (append_assoc first.0 (left ++ next) rest ∙ ap (λ zs. first.0 ++ zs) (append_assoc left next rest) ∙ sym (append_assoc first.0 left (next ++ rest))
+    ∙ ap (λ zs. zs ++ (next ++ rest)) (sym first.2) ∙ append_assoc block text (next ++ rest) ∙ ap (λ zs. block ++ zs) is)
+
+-- and then nothing more
+pub front-stopped : (a b : Option (List ℕ)) (block text left rest all : List ℕ) → PassesOn a b block text left → text ++ rest ≡ all → AppendsFront a b (block ++ all)
+front-stopped a b block text left rest all first is =
+    (first.0, left ++ rest, first.1, ap (λ zs. block ++ zs) (sym is) ∙ sym (append_assoc block text rest) ∙ ap (λ zs. zs ++ rest) first.2 ∙ append_assoc first.0 left rest)
+
+-- and then all that is left, or the front of it
+pub whole-passed : (a b c : Option (List ℕ)) (block text left : List ℕ) → PassesOn a b block text left → Appends b c left → Appends a c (block ++ text)
+whole-passed a b c block text left first written = subst (λ zs. Appends a c zs) (sym first.2) (Appends-trans a b c first.0 left first.1 written)
+
+pub front-left : (a b c : Option (List ℕ)) (block text left : List ℕ) → PassesOn a b block text left → AppendsFront b c left → AppendsFront a c (block ++ text)
+front-left a b c block text left first front = front-after a b c first.0 left [] (block ++ text) first.1 front (append-nil (first.0 ++ left) ∙ sym first.2)
+
+-- the front of a text is the front of a longer one
+pub front-longer : (a b : Option (List ℕ)) (text rest all : List ℕ) → AppendsFront a b text → text ++ rest ≡ all → AppendsFront a b all
+front-longer a b text rest all front is = (front.0, front.1 ++ rest, front.2, sym is ∙ ap (λ zs. zs ++ rest) front.3 ∙ append_assoc front.0 front.1 rest)

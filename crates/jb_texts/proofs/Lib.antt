@@ -3,6 +3,7 @@ pub mod Fronts
 pub mod Heard
 pub mod Joined
 pub mod Lanes
+pub mod Parts
 pub mod Tokens
 pub mod Utf8
 pub mod Writing

@@ -1,31 +1,16 @@
 -- The tokens of a report's parts, put together.
-use Rattle.std.proofs.Common.{◌≡◌, ℕ, List, [], ◌∷◌, ◌++◌, map, flat_map, take, length, ◌≤◌, arith, codes, refl, ap, sym, ◌∙◌, append_assoc}
-use Rattle.std.proofs.lemmas.List.{take_all}
-use Rattle.std.proofs.lemmas.List.Concat.{flat_map_single}
-use Rattle.std.proofs.lemmas.Simd.{map-map}
-use Rattle.std.specs.Str.Lossy.{utf8_lossy}
-use Rattle.serde_json.specs.Data.{Data}
+use Rattle.std.proofs.Common.{◌≡◌, ℕ, List, [], ◌∷◌, ◌++◌, map, flat_map, length, codes, refl, ap, sym, ◌∙◌, append_assoc}
 use Rattle.serde_json.specs.Written.{compact_text}
 use Rattle.serde_json.proofs.Texts.{print-outline}
 use Rattle.json.specs.Token.{Token, begin_object, end_object, begin_array, end_array, key, string}
 use Rattle.json.specs.Print.{print, print_from, escape_byte}
 use Rattle.jb_collect.specs.declared.calls.Status.{Status}
 use Rattle.jb_saved.specs.SavedTree.{saved_tree, tokens_of}
-use Rattle.jb_saved.proofs.Written.{list-tokens, list-written}
+use Rattle.jb_saved.proofs.Written.{list-tokens}
 use Rattle.jb_texts.specs.Statuses.{status_name}
 use Rattle.jb_texts.specs.Report.{StepReport, heard_tree, plans_tree, reducer_tree, texts_tree, step_tree, steps_tree, report_text}
 use Rattle.jb_texts.specs.ReportTokens.{outputs_tokens, step_tokens, steps_tokens}
 use Rattle.jb_texts.specs.inside.Head.{head_text}
-
--- a list whose members were written one after another, of results that stand for texts
-pub texts-written : (written : List (List ℕ)) (count place : ℕ) (old begun passed new : List Token) → begun ≡ old ++ begin_array ∷ []
-    → passed ≡ begun ++ map (λ bytes. string (utf8_lossy bytes)) (take place written) → count ≡ length written → count ≤ place → new ≡ passed ++ end_array ∷ []
-    → new ≡ old ++ tokens_of (texts_tree (map utf8_lossy written))
-texts-written written count place old begun passed new begins passes counted all ends =
-    let texts = map utf8_lossy written in
-    let same : map (λ bytes. string (utf8_lossy bytes)) (take place written) ≡ flat_map (λ text. string text ∷ []) texts =
-    ap (map (λ bytes. string (utf8_lossy bytes))) (take_all place written (omega (arith, counted, all))) ∙ sym (map-map string utf8_lossy written) ∙ sym (flat_map_single string texts) in
-    list-written Data.string texts old begun passed new begins (passes ∙ ap (λ ts. begun ++ ts) same) ends
 
 -- ---- a step
 

@@ -1,4 +1,5 @@
 pub mod Head
 pub mod Heard
 pub mod Idle
+pub mod Parts
 pub mod Tail

@@ -6,4 +6,4 @@
 mod lanes;
 mod lines;
 
-pub use lines::{BLOCK_ROOM, write_plan};
+pub use lines::write_plan;

@@ -1,10 +1,12 @@
 //! The report of a run, as one JSON text.
 //!
-//! It is written while the job runs: a result goes from the writer of its partition straight into the text.
+//! It is put together while the job runs, but for the results: these stay as the writers held them, and are written at the end, between the
+//! parts of the text.
 //!
 //! - `text`: bytes as a text.
 //! - `heard`: what the analyzer heard.
-//! - `outputs`: the results of a partition.
+//! - `parts`: a part of the text, and results behind it.
+//! - `outputs`: the results of a partition, written in blocks.
 //! - `plans`: the plans of a step's rounds.
 //! - `reducer`: the calls of a step's reducer.
 //! - `steps`: the reports of the steps, one after another.
@@ -13,6 +15,7 @@
 mod finished;
 mod heard;
 mod outputs;
+mod parts;
 mod plans;
 mod reducer;
 mod steps;

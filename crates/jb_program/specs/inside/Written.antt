@@ -4,14 +4,10 @@ use Rattle.std.specs.Str.Lossy.{utf8_lossy}
 use Rattle.json.specs.Token.{Token}
 use Rattle.jb_rules.specs.declared.row.Row.{Row}
 use Rattle.jb_artifacts.specs.Meaning.{ArtifactsMeaning}
-use Rattle.jb_artifacts.specs.Writer.{Texts, Writer}
+use Rattle.jb_artifacts.specs.Writer.{Texts}
 use Rattle.jb_saved.specs.SavedTree.{tokens_of}
 use Rattle.jb_texts.specs.Report.{texts_tree}
 use Rattle.jb_program.specs.StepRun.{committed_of}
-
--- of writers that mean this
-abbrev pub lists_of : {A : Type 0} → (A → Writer) → List (ℕ × A) → List (ℕ × Texts)
-lists_of meaning writers = map (λ one. (one.0, (meaning one.1).written)) writers
 
 -- of all artifacts that came back
 abbrev pub lists_left : List (ℕ × ArtifactsMeaning) → List (ℕ × Texts)

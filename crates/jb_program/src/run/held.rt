@@ -4,7 +4,6 @@ ghost use Rattle.std.specs.Prelude.{◌≡◌, take, IfOk};
 ghost use Rattle.jb_program.specs.PartitionRun.{held_by};
 ghost use Rattle.jb_program.specs.StepRun.{gone_on_from, outputs_of, saved_of};
 
-use jb_artifacts::{FaultPlans, ItemWriter, ListWriter};
 use jb_base::PackedList;
 use jb_documents::{Outputs, Resume, WriterTexts};
 use jb_saved::Saved;
@@ -44,16 +43,16 @@ pub fn held_list(
     }
 }
 
-/// A writer that holds what this partition committed: the first texts that it held, of this number.
+/// What this partition committed: the first texts that its writer held, of this number.
 pub fn committed_by(
     alloc: Global,
     outputs: &[WriterTexts],
     partition: u32,
     written: u64,
-) -> Result<ListWriter, AllocError>
-    ensures { IfOk result (λ w. (⟦<ListWriter as ItemWriter>⟧.writer w).written ≡ take written (held_by outputs.now partition)) }
+) -> Result<PackedList, AllocError>
+    ensures { IfOk result (λ list. list ≡ take written (held_by outputs.now partition)) }
 {
     let mut list = held_list(alloc, outputs, partition)?;
     list.truncate(written as usize);
-    Ok(ListWriter::new(list, FaultPlans::new(alloc)))
+    Ok(list)
 }

@@ -44,5 +44,5 @@ pub fn restart<T: Threads + Wait + Sync, R: Read, W: Write>(
     let bytes = read_all(alloc, reader)?;
     let document = read_restart(alloc, bytes)?;
     let (status, report) = restart_job(rt, alloc, document, round_limit)?;
-    write_report(status, &report, writer)
+    write_report(status, report, writer)
 }

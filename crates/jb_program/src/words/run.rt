@@ -24,11 +24,11 @@ use std::thread::Threads;
 /// Writes the report whole, and gives the exit status. Where the writer fails, it holds the front of the report.
 pub fn write_report<W: Write>(
     status: Status,
-    report: &ReportText,
+    report: ReportText,
     writer: &mut W,
 ) -> Result<u8, Failure>
-    ensures ok { IfOk result (λ code. (code ≡ status_code status) × Appends (W.contents writer.old) (W.contents writer.new) report.now) }
-    ensures err { IfErr result (λ e. (e ≡ Failure.Stream) × AppendsFront (W.contents writer.old) (W.contents writer.new) report.now) }
+    ensures ok { IfOk result (λ code. (code ≡ status_code status) × Appends (W.contents writer.old) (W.contents writer.new) report) }
+    ensures err { IfErr result (λ e. (e ≡ Failure.Stream) × AppendsFront (W.contents writer.old) (W.contents writer.new) report) }
 {
     report.write_to(writer)?;
     Ok(status_code(status))
@@ -58,5 +58,5 @@ pub fn run<T: Threads + Wait + Sync, R: Read, W: Write>(
     let bytes = read_all(alloc, reader)?;
     let document = read_document(alloc, bytes)?;
     let (status, report) = run_job(rt, alloc, document, round_limit)?;
-    write_report(status, &report, writer)
+    write_report(status, report, writer)
 }

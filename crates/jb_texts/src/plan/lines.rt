@@ -8,18 +8,13 @@ ghost use Rattle.jb_texts.specs.Front.{AppendsFront};
 ghost use Rattle.jb_texts.specs.PlanText.{lines_of, round_line, text_of_load};
 
 use super::lanes::{LANE_ROOM, MAX_LANES, write_idle, write_lanes};
-use crate::whole::{write_bytes, write_whole};
+use crate::block::pass_on;
+use crate::whole::write_whole;
 use itoa::write_digits;
 use jb_cert::lanes_are_found;
 use jb_rounds::RoundCursor;
 use std::io;
 use std::io::Write;
-
-/// The memory of a block. The longest line has less than 1,024 bytes, so a block never grows past it.
-pub const BLOCK_ROOM: usize = 65_536;
-
-/// A block with this many bytes is handed on.
-const FULL_BLOCK: usize = 64_512;
 
 /// The memory of a line: for its lanes, a number of twenty digits, a colon and a line feed.
 const LINE_ROOM: usize = LANE_ROOM * MAX_LANES + 22;
@@ -44,18 +39,6 @@ fn write_round(
     let colon = write_lanes(line, idle, cursor, round, busy, near) - 1;
     line[colon] = b':';
     write_digits(round, line, colon)
-}
-
-/// Hands a block on once it is full.
-fn pass_on<W: Write>(block: &mut Vec<u8>, writer: &mut W) -> io::Result<()>
-    ensures passed { OnOk result ((passed : List ℕ) × Appends (W.contents writer.old) (W.contents writer.new) passed × (block.old.items ≡ passed ++ block.new.items)) }
-    ensures front { OnErr result (AppendsFront (W.contents writer.old) (W.contents writer.new) block.old.items) }
-{
-    if block.len() >= FULL_BLOCK {
-        write_bytes(block, writer)?;
-        block.clear();
-    }
-    Ok(())
 }
 
 /// Writes the block, and then a line for each round, in blocks.

@@ -1,13 +1,17 @@
 //! The whole report.
 
-ghost use Rattle.std.specs.Prelude.{◌≡◌, ◌++◌, ◌∷◌, [], List, IfOk, OnErr, OnOk};
+ghost use Rattle.std.specs.Prelude.{◌≡◌, ◌++◌, ◌∷◌, [], List, IfOk, OnErr, OnOk, flat_map};
 ghost use Rattle.std.specs.Io.KnownBytes.{Appends};
 ghost use Rattle.serde_json.specs.Written.{compact_text};
 ghost use Rattle.jb_texts.specs.Front.{AppendsFront};
 ghost use Rattle.jb_texts.specs.Report.{StepReport, report_text, steps_tree};
 ghost use Rattle.jb_texts.specs.ReportTokens.{steps_tokens};
 ghost use Rattle.jb_texts.specs.inside.Head.{head_text};
+ghost use Rattle.jb_texts.specs.inside.Parts.{PassesOn, part_text};
 
+use crate::block::{BLOCK_ROOM, pass_on};
+use crate::report::outputs::write_results;
+use crate::report::parts::{Part, longest_result};
 use crate::report::steps::StepsText;
 use crate::status::status_name;
 use crate::whole::{write_bytes, write_whole};
@@ -18,28 +22,40 @@ use std::io;
 use std::io::Write;
 use std::marker::Model;
 
-/// The text of a report, which contracts see as its bytes.
+/// A text with more bytes isn't put into a block.
+const SHORT_TEXT: usize = 1_024;
+
+/// The text of a report, which contracts see as its bytes. The results stand in it as the writers held them.
 #[derive(Drop)]
 pub struct ReportText {
-    // Up to the list of the steps' reports, since it has the status, which is known last.
-    head: Vec<u8>,
-    steps: Vec<u8>,
+    alloc: Global,
+    // Up to the list of the steps' reports, since it has the status, which is known last; with room for all that a block may hold.
+    block: Vec<u8>,
+    parts: Vec<Part>,
+    // What stands behind the last results.
+    last: Vec<u8>,
 }
 
 impl Model for ReportText {
-    ghost use Rattle.std.specs.Prelude.{ℕ, List, ◌++◌};
+    ghost use Rattle.std.specs.Prelude.{ℕ, List, ◌++◌, flat_map};
+    ghost use Rattle.jb_texts.specs.inside.Parts.{part_text};
 
     ghost Value = { List ℕ };
 
-    ghost view = { λ text. text.head.items ++ text.steps.items };
+    ghost view = { λ text. text.block.items ++ (flat_map part_text text.parts.items ++ text.last.items) };
 }
 
-/// What stands before the list of the steps' reports.
+/// The room that a block needs with results up to this length: of each byte there may be six, and there are quotes and a comma.
+fn room_for(longest: usize) -> usize {
+    longest.saturating_mul(6).saturating_add(BLOCK_ROOM + 3)
+}
+
+/// What stands before the list of the steps' reports, in a text with this room.
 #[tactic(auto, unfolding(crate::specs::inside::Head::head_text))]
-fn head_of(alloc: Global, job: &str, status: Status) -> Result<Vec<u8>, AllocError>
+fn head_of(alloc: Global, room: usize, job: &str, status: Status) -> Result<Vec<u8>, AllocError>
     ensures { IfOk result (λ head. head.items ≡ head_text job.now status) }
 {
-    let mut out = Writer::new(Vec::new(alloc));
+    let mut out = Writer::new(Vec::with_capacity(alloc, room)?);
     out.begin_object()?;
     out.key("job")?;
     out.string(job)?;
@@ -49,15 +65,63 @@ fn head_of(alloc: Global, job: &str, status: Status) -> Result<Vec<u8>, AllocErr
     Ok(out.into_inner())
 }
 
-/// The list of the steps' reports, and the end of the text.
-fn steps_of(steps: StepsText) -> Result<Vec<u8>, AllocError>
-    ensures { IfOk result (λ text. (reports : List StepReport) → steps ≡ steps_tokens reports → text.items ≡ compact_text (steps_tree reports) ++ 125 ∷ 10 ∷ []) }
+/// The list of the steps' reports, and the end of the text, which stands behind the last results.
+fn steps_of(steps: StepsText) -> Result<(Vec<Part>, Vec<u8>), AllocError>
+    ensures { IfOk result (λ text. (reports : List StepReport) → steps ≡ steps_tokens reports
+        → flat_map part_text text.0.items ++ text.1.items ≡ compact_text (steps_tree reports) ++ 125 ∷ 10 ∷ []) }
 {
-    let mut out = steps.into_writer();
+    let (parts, mut out) = steps.into_parts();
     out.end_array()?;
-    let mut text = out.into_inner();
-    text.extend_from_slice(b"}\n")?;
-    Ok(text)
+    let mut last = out.into_inner();
+    last.extend_from_slice(b"}\n")?;
+    Ok((parts, last))
+}
+
+/// Puts the text behind the block, and hands it on once it is full; or hands both on, where the text isn't short. What is left of the
+/// block is given back.
+fn put_text<W: Write>(mut block: Vec<u8>, text: &[u8], writer: &mut W) -> io::Result<Vec<u8>>
+    ensures passed { IfOk result (λ rest. PassesOn (W.contents writer.old) (W.contents writer.new) block.items text.now rest.items) }
+    ensures front { OnErr result (AppendsFront (W.contents writer.old) (W.contents writer.new) (block.items ++ text.now)) }
+{
+    if text.len() <= SHORT_TEXT {
+        block.extend_from_slice(text)?;
+        pass_on(&mut block, writer)?;
+        return Ok(block);
+    }
+    write_bytes(&block, writer)?;
+    block.clear();
+    write_bytes(text, writer)?;
+    Ok(block)
+}
+
+/// Puts a part behind the block, as `put_text` does a text.
+fn put_part<W: Write>(
+    alloc: Global,
+    block: Vec<u8>,
+    part: &Part,
+    writer: &mut W,
+) -> io::Result<Vec<u8>>
+    ensures passed { IfOk result (λ rest. PassesOn (W.contents writer.old) (W.contents writer.new) block.items (part_text part.now) rest.items) }
+    ensures front { OnErr result (AppendsFront (W.contents writer.old) (W.contents writer.new) (block.items ++ part_text part.now)) }
+{
+    let block = put_text(block, &part.text, writer)?;
+    write_results(alloc, block, &part.results, writer)
+}
+
+/// Puts the parts behind the block, one after another.
+fn put_parts<W: Write>(
+    alloc: Global,
+    mut block: Vec<u8>,
+    parts: &[Part],
+    writer: &mut W,
+) -> io::Result<Vec<u8>>
+    ensures passed { IfOk result (λ rest. PassesOn (W.contents writer.old) (W.contents writer.new) block.items (flat_map part_text parts.now) rest.items) }
+    ensures front { OnErr result (AppendsFront (W.contents writer.old) (W.contents writer.new) (block.items ++ flat_map part_text parts.now)) }
+{
+    for part in parts {
+        block = put_part(alloc, block, part, writer)?;
+    }
+    Ok(block)
 }
 
 impl ReportText {
@@ -70,17 +134,31 @@ impl ReportText {
     ) -> Result<ReportText, AllocError>
         ensures { IfOk result (λ text. (reports : List StepReport) → steps ≡ steps_tokens reports → text ≡ report_text (record { job = job.now; status = status; steps = reports })) }
     {
-        let head = head_of(alloc, job, status)?;
-        let steps = steps_of(steps)?;
-        Ok(ReportText { head, steps })
+        let (parts, last) = steps_of(steps)?;
+        let room = room_for(longest_result(&parts));
+        let block = head_of(alloc, room, job, status)?;
+        Ok(ReportText {
+            alloc,
+            block,
+            parts,
+            last,
+        })
     }
 
-    /// Writes the text. It takes no memory. Where the writer fails, it holds the front of the text.
-    pub fn write_to<W: Write>(&self, writer: &mut W) -> io::Result<()>
-        ensures whole { OnOk result (Appends (W.contents writer.old) (W.contents writer.new) self.now) }
-        ensures front { OnErr result (AppendsFront (W.contents writer.old) (W.contents writer.new) self.now) }
+    /// Writes the text, in blocks. It takes no memory where all results are UTF-8. Where the writer fails, it holds the front of the
+    /// text.
+    pub fn write_to<W: Write>(self, writer: &mut W) -> io::Result<()>
+        ensures whole { OnOk result (Appends (W.contents writer.old) (W.contents writer.new) self) }
+        ensures front { OnErr result (AppendsFront (W.contents writer.old) (W.contents writer.new) self) }
     {
-        write_bytes(&self.head, writer)?;
-        write_whole(&self.steps, writer)
+        let ReportText {
+            alloc,
+            block,
+            parts,
+            last,
+        } = self;
+        let block = put_parts(alloc, block, &parts, writer)?;
+        let block = put_text(block, &last, writer)?;
+        write_whole(&block, writer)
     }
 }

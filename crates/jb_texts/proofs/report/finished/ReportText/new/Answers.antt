@@ -4,4 +4,4 @@ use Rattle.jb_texts.proofs.report.finished.ReportText.new.Goals as goal
 
 pub returns : goal.returns
 returns c reports is =
-    (λ i. c.in_ok-head.ensures i ++ c.in_ok-steps.ensures reports is i) ∙ report-joined c.args.job.now c.args.status reports
+    (λ i. c.in_ok-block.ensures i ++ c.in_ok-parts.ensures reports is i) ∙ report-joined c.args.job.now c.args.status reports
