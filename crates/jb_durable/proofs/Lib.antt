@@ -1,5 +1,6 @@
 pub mod Left
 pub mod Opens
+pub mod Over
 pub mod Pages
 pub mod Somes
 pub mod Stages

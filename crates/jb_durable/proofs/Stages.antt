@@ -4,9 +4,12 @@ use Rattle.std.proofs.Math.Logic.{∥∥₁_map}
 use Rattle.sqlite_disk.specs.declared.Disk.{Ghosts}
 use Rattle.sqlite_disk.specs.declared.Files.{Files}
 use Rattle.sqlite_trees.specs.Tree.{Trees}
+use Rattle.sqlite_wal.specs.Reads.{AreClean}
 use Rattle.sqlite_wal.specs.Recovery.{Image}
 use Rattle.jb_store.specs.Checkpoints.{Kept}
 use Rattle.jb_durable.specs.Files.{CanGoOn, IsResumable, HoldsRun, HoldsRunOrNone, HoldsWhole, IsOfARun, Leaves, MayGoOn}
+use Rattle.jb_durable.specs.declared.stop.Life.{Life}
+use Rattle.jb_durable.specs.Lives.{IsLifeOver}
 use Rattle.jb_durable.proofs.Opens.{Resumes, may_go_on, none_goes_on, run_goes_on}
 
 -- WHAT LIVES LEAVE: files from which a run may go on and, unless an open was cut of which the kit doesn't say it, whose tables have their numbers
@@ -29,16 +32,21 @@ module _ {D : Type 0} {g : Ghosts D} (so_far : List Kept → Type 0) where
       let can : Leaves g (CanGoOn so_far) files = λ image may. none_goes_on so_far image (leaves image may) in record { sure = λ _. can; all = λ image may. may_go_on so_far image (can image may) }
 
   module _ (before after : Files D) where
-    pub one_life : (runs loose sure : Bool) → (loose && not sure) ≡ false
+    stands_on : (runs loose sure : Bool) → (loose && not sure) ≡ false
         → (IsTrue runs → Leaves g (MayGoOn so_far) before → Leaves g (HoldsRun so_far) after)
         → (loose ≡ false → Leaves g (CanGoOn so_far) before → Leaves g (CanGoOn so_far) after)
         → (loose ≡ false → Leaves g (MayGoOn so_far) before → Leaves g (MayGoOn so_far) after)
         → (Leaves g (CanGoOn so_far) before → Leaves g (MayGoOn so_far) after)
         → StandAfter g so_far sure before → StandAfter g so_far (runs || (sure && not loose)) after
-    one_life true loose sure once ran first again loosens at =
+    stands_on true loose sure once ran first again loosens at =
         let run = ran refl at.all in
         record { sure = λ _ image may. run_goes_on so_far image (run image may); all = λ image may. may_go_on so_far image (run_goes_on so_far image (run image may)) }
-    one_life false false true once ran first again loosens at = record { sure = λ _. first refl (at.sure refl); all = again refl at.all }
-    one_life false false false once ran first again loosens at = record { sure = λ no. absurd (true≢false (sym no)); all = again refl at.all }
-    one_life false true true once ran first again loosens at = record { sure = λ no. absurd (true≢false (sym no)); all = loosens (at.sure refl) }
-    one_life false true false once ran first again loosens at = absurd (true≢false once)
+    stands_on false false true once ran first again loosens at = record { sure = λ _. first refl (at.sure refl); all = again refl at.all }
+    stands_on false false false once ran first again loosens at = record { sure = λ no. absurd (true≢false (sym no)); all = again refl at.all }
+    stands_on false true true once ran first again loosens at = record { sure = λ no. absurd (true≢false (sym no)); all = loosens (at.sure refl) }
+    stands_on false true false once ran first again loosens at = absurd (true≢false once)
+
+  pub one_life : (before : Files D) (life : Life D) (sure : Bool) → (life.is_loose && not sure) ≡ false → AreClean g life.files.log life.files.db → IsLifeOver g so_far before life
+      → StandAfter g so_far sure before → StandAfter g so_far (life.has_run || (sure && not life.is_loose)) life.files
+  one_life before life sure once honest over = stands_on before life.files life.has_run life.is_loose sure once
+      (λ runs. over.ran runs honest) (λ firm. over.first firm honest) (λ firm. over.again firm honest) (over.loose honest)

@@ -1,16 +1,16 @@
 -- One file that is read under two lists of tables: where each has the table of checkpoints alone, or none, they are one list.
-use Rattle.std.proofs.Common.{◌≡◌, ◌≢◌, ◌⊎◌, ◌+◌, ◌++◌, ◌∷◌, ◌∙◌, ◌&&◌, ◌||◌, ℕ, zero, suc, Bool, true, false, not, List, [], map, slice_index, Option, Some, None, if◌then◌else◌, pos, codes, inl, inr, refl, sym, ap, ap₂, subst, subst₂, true≢false, eqb, arith}
+use Rattle.std.proofs.Common.{◌≡◌, ◌⊎◌, ◌+◌, ◌++◌, ◌∷◌, ◌∙◌, ◌&&◌, ℕ, zero, suc, Bool, true, false, not, List, [], slice_index, Option, None, if◌then◌else◌, pos, codes, inl, inr, refl, sym, ap, ap₂, subst, subst₂, true≢false, eqb, arith}
 use Rattle.std.specs.List.{list_all, list_any}
 use Rattle.std.specs.Ordering.{is_eq}
-use Rattle.std.proofs.lemmas.Bool.{and_parts, cases_Bool, eqb-true}
+use Rattle.std.proofs.lemmas.Bool.{and_parts, cases_Bool}
 use Rattle.std.proofs.lemmas.Map.Text.{is_eq-slice_cmp}
 use Rattle.std.proofs.lemmas.Slice.Eq.{bytes_eq-Decides}
 use Rattle.sqlite_btree.proofs.StoredLemmas.{stored_root_live}
 use Rattle.sqlite_catalog.proofs.LayoutLemmas.{row_kind, zipped_right}
-use Rattle.sqlite_catalog.specs.Listing.{IsIndexRow, IsSound, IsTableRow, IsViewRow, Lists, is_index_row, is_table_row, is_view_row}
+use Rattle.sqlite_catalog.specs.Listing.{IsIndexRow, IsTableRow, IsViewRow, Lists, is_index_row, is_table_row, is_view_row}
 use Rattle.sqlite_pages.specs.PageMap.{PageMap}
 use Rattle.sqlite_pool.proofs.PoolLemmas.{none_of}
-use Rattle.sqlite_pool.specs.File.{IsSoundFile, header_in, in_use, trunks_of, unlocked}
+use Rattle.sqlite_pool.specs.File.{IsSoundFile, in_use, unlocked}
 use Rattle.sqlite_pool.specs.FreeList.{live}
 use Rattle.sqlite_rules.proofs.ListLemmas.{has_kept}
 use Rattle.sqlite_rules.specs.Lists.{Has}
@@ -19,16 +19,15 @@ use Rattle.sqlite_store.specs.Build.{listing}
 use Rattle.sqlite_store.specs.Catalog.{describes, fits_shape, has_no_pages, is_about, is_near, is_present, is_well_formed, may_stand, page_number, roots_in, same_value, shape_at}
 use Rattle.sqlite_store.specs.Db.{IsFile, IsKept, roots_of, rows_at}
 use Rattle.sqlite_store.specs.Exact.{AreRootsFor, entries_of}
-use Rattle.sqlite_store.specs.Listed.{catalog_rows}
-use Rattle.sqlite_store.specs.Listing.{IsOurs, all_trees, file_trees, listed, listed_from}
+use Rattle.sqlite_store.specs.Listing.{IsOurs, listed, listed_from}
 use Rattle.sqlite_store.specs.declared.catalog.Wanted.{Wanted}
-use Rattle.sqlite_trees.specs.Objects.{catalog_tree, listing as object_listing}
+use Rattle.sqlite_trees.specs.Objects.{listing as object_listing}
 use Rattle.sqlite_trees.specs.Listing.{same_code}
 use Rattle.sqlite_trees.specs.Sound.{is_virtual, is_word}
 use Rattle.sqlite_trees.specs.declared.store.Shape.{Shape}
 use Rattle.sqlite_trees.specs.declared.store.Shape.TheVariants.{Absent, FrozenIndex, FrozenTable, Index, Pageless, Table}
 use Rattle.sqlite_value.proofs.OrderLemmas.{value_cmp-Text}
-use Rattle.sqlite_value.specs.Order.{Row, column, value_cmp}
+use Rattle.sqlite_value.specs.Order.{Row, column}
 use Rattle.sqlite_value.specs.declared.value.Value.TheVariants.{Int, Text}
 use Rattle.jb_store.specs.Form.{checkpoint, checkpoint_schema, no_schema}
 

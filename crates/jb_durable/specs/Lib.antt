@@ -1,4 +1,5 @@
 pub mod Works
 pub mod Files
+pub mod Lives
 pub mod Watching
 pub mod Watched

@@ -2,7 +2,8 @@
 
 ghost use Rattle.std.specs.Prelude.{◌≡◌, Bool, false, true, List, IfOk, IfErr, IfSome, IsTrue};
 ghost use Rattle.jb_store.specs.Connections.{IsJustOpened};
-ghost use Rattle.jb_durable.specs.Files.{CanGoOn, HoldsRun, IsOfARun, Leaves, LeavesImage, MayGoOn, has_store};
+ghost use Rattle.jb_durable.specs.Files.{IsOfARun, Leaves, LeavesImage, MayGoOn, has_store};
+ghost use Rattle.jb_durable.specs.Lives.{IsLifeOver};
 ghost use Rattle.jb_durable.specs.Watching.{AreGiven};
 ghost use Rattle.sqlite.specs.Files.{IsCleanLeft, file_state};
 ghost use Rattle.sqlite.specs.State.{HasCleanDisk};
@@ -50,16 +51,7 @@ pub fn open_watched<D: Crash + Drop, G: Given>(
     ensures found { IfOk result (λ conn. HasCleanDisk (file_state conn) → Leaves D.Disk (MayGoOn G.Given.is_so_far) files
         → ∥ IsOfARun G.Given.is_so_far (file_state conn).now.trees ∥₁) }
     ensures not_run { IfErr result (λ rest. IfSome rest (λ life. life.has_run ≡ false)) }
-    ensures usable { IfErr result (λ rest. IfSome rest (λ life. IsTrue (D.Disk.is_usable life.files.log) × IsTrue (D.Disk.is_usable life.files.db))) }
-    ensures clean { IfErr result (λ rest. IfSome rest (λ life. AreClean D.Disk life.files.log life.files.db → AreClean D.Disk files.log files.db)) }
-    ensures cut { IfErr result (λ rest. IfSome rest (λ life. life.is_loose ≡ false → AreClean D.Disk life.files.log life.files.db
-        → Leaves D.Disk (HoldsRun G.Given.is_so_far) files → Leaves D.Disk (HoldsRun G.Given.is_so_far) life.files)) }
-    ensures first { IfErr result (λ rest. IfSome rest (λ life. life.is_loose ≡ false → AreClean D.Disk life.files.log life.files.db
-        → Leaves D.Disk (CanGoOn G.Given.is_so_far) files → Leaves D.Disk (CanGoOn G.Given.is_so_far) life.files)) }
-    ensures again { IfErr result (λ rest. IfSome rest (λ life. life.is_loose ≡ false → AreClean D.Disk life.files.log life.files.db
-        → Leaves D.Disk (MayGoOn G.Given.is_so_far) files → Leaves D.Disk (MayGoOn G.Given.is_so_far) life.files)) }
-    ensures loose { IfErr result (λ rest. IfSome rest (λ life. AreClean D.Disk life.files.log life.files.db
-        → Leaves D.Disk (CanGoOn G.Given.is_so_far) files → Leaves D.Disk (MayGoOn G.Given.is_so_far) life.files)) }
+    ensures over { IfErr result (λ rest. IfSome rest (λ life. IsLifeOver D.Disk G.Given.is_so_far files life)) }
 {
     match Connection::open_files(alloc, watch::<D, G>(files), options) {
         Ok(conn) => { if takes(&conn) { Ok(conn) } else { Err(None) } }

@@ -1,11 +1,10 @@
 //! A life of a process that ends in a crash.
 
-ghost use Rattle.std.specs.Prelude.{◌≡◌, ◌↔◌, Bool, false, true, not, ◌&&◌, List, IfSome, IsTrue};
+ghost use Rattle.std.specs.Prelude.{List, IfSome, IsTrue};
 ghost use Rattle.jb_store.specs.Checkpoints.{Kept};
-ghost use Rattle.jb_durable.specs.Files.{CanGoOn, HoldsRun, Leaves, MayGoOn};
+ghost use Rattle.jb_durable.specs.Lives.{IsLifeOver};
 ghost use Rattle.jb_durable.specs.Watching.{AreGiven};
 ghost use Rattle.jb_durable.specs.Works.{IsSame};
-ghost use Rattle.sqlite_wal.specs.Reads.{AreClean};
 
 use crate::cut::open_watched;
 use crate::run::run_durably;
@@ -32,20 +31,9 @@ fn watched_life<R: Threads + Wait + Sync, W: Work, D: Crash + Drop, G: Given>(
     requires db { IsTrue (D.Disk.is_usable files.db) }
     requires given { AreGiven D.Disk G.Given.was_clean G.Given.could_leave files }
     requires run { IsSame G.Given.is_so_far (W.Work.is_so_far work.old) }
-    ensures usable { IfSome result (λ life. IsTrue (D.Disk.is_usable life.files.log) × IsTrue (D.Disk.is_usable life.files.db)) }
     ensures so_far { IsSame (W.Work.is_so_far work.old) (W.Work.is_so_far work.new) }
     ensures whole { IsSame (W.Work.is_whole work.old) (W.Work.is_whole work.new) }
-    ensures clean { IfSome result (λ life. AreClean D.Disk life.files.log life.files.db → AreClean D.Disk files.log files.db) }
-    ensures ran { IfSome result (λ life. IsTrue life.has_run → AreClean D.Disk life.files.log life.files.db
-        → Leaves D.Disk (MayGoOn G.Given.is_so_far) files → Leaves D.Disk (HoldsRun G.Given.is_so_far) life.files) }
-    ensures cut { IfSome result (λ life. life.is_loose ≡ false → AreClean D.Disk life.files.log life.files.db
-        → Leaves D.Disk (HoldsRun G.Given.is_so_far) files → Leaves D.Disk (HoldsRun G.Given.is_so_far) life.files) }
-    ensures first { IfSome result (λ life. life.is_loose ≡ false → AreClean D.Disk life.files.log life.files.db
-        → Leaves D.Disk (CanGoOn G.Given.is_so_far) files → Leaves D.Disk (CanGoOn G.Given.is_so_far) life.files) }
-    ensures again { IfSome result (λ life. life.is_loose ≡ false → AreClean D.Disk life.files.log life.files.db
-        → Leaves D.Disk (MayGoOn G.Given.is_so_far) files → Leaves D.Disk (MayGoOn G.Given.is_so_far) life.files) }
-    ensures loose { IfSome result (λ life. AreClean D.Disk life.files.log life.files.db
-        → Leaves D.Disk (CanGoOn G.Given.is_so_far) files → Leaves D.Disk (MayGoOn G.Given.is_so_far) life.files) }
+    ensures over { IfSome result (λ life. IsLifeOver D.Disk G.Given.is_so_far files life) }
 {
     match open_watched::<D, G>(alloc, files, options) {
         Ok(mut conn) => {
@@ -68,20 +56,9 @@ pub fn live_and_crash<R: Threads + Wait + Sync, W: Work, D: Crash + Drop>(
 ) -> Option<Life<D>>
     requires log { IsTrue (D.Disk.is_usable files.log) }
     requires db { IsTrue (D.Disk.is_usable files.db) }
-    ensures usable { IfSome result (λ life. IsTrue (D.Disk.is_usable life.files.log) × IsTrue (D.Disk.is_usable life.files.db)) }
     ensures so_far { IsSame (W.Work.is_so_far work.old) (W.Work.is_so_far work.new) }
     ensures whole { IsSame (W.Work.is_whole work.old) (W.Work.is_whole work.new) }
-    ensures clean { IfSome result (λ life. AreClean D.Disk life.files.log life.files.db → AreClean D.Disk files.log files.db) }
-    ensures ran { IfSome result (λ life. IsTrue life.has_run → AreClean D.Disk life.files.log life.files.db
-        → Leaves D.Disk (MayGoOn (W.Work.is_so_far work.old)) files → Leaves D.Disk (HoldsRun (W.Work.is_so_far work.old)) life.files) }
-    ensures cut { IfSome result (λ life. life.is_loose ≡ false → AreClean D.Disk life.files.log life.files.db
-        → Leaves D.Disk (HoldsRun (W.Work.is_so_far work.old)) files → Leaves D.Disk (HoldsRun (W.Work.is_so_far work.old)) life.files) }
-    ensures first { IfSome result (λ life. life.is_loose ≡ false → AreClean D.Disk life.files.log life.files.db
-        → Leaves D.Disk (CanGoOn (W.Work.is_so_far work.old)) files → Leaves D.Disk (CanGoOn (W.Work.is_so_far work.old)) life.files) }
-    ensures again { IfSome result (λ life. life.is_loose ≡ false → AreClean D.Disk life.files.log life.files.db
-        → Leaves D.Disk (MayGoOn (W.Work.is_so_far work.old)) files → Leaves D.Disk (MayGoOn (W.Work.is_so_far work.old)) life.files) }
-    ensures loose { IfSome result (λ life. AreClean D.Disk life.files.log life.files.db
-        → Leaves D.Disk (CanGoOn (W.Work.is_so_far work.old)) files → Leaves D.Disk (MayGoOn (W.Work.is_so_far work.old)) life.files) }
+    ensures over { IfSome result (λ life. IsLifeOver D.Disk (W.Work.is_so_far work.old) files life) }
 {
     watched_life::<R, W, D, Brand>(rt, alloc, files, options, work, stretches)
 }

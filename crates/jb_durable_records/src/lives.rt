@@ -6,10 +6,10 @@ ghost use Rattle.sqlite.specs.Files.{file_state};
 ghost use Rattle.sqlite.specs.Held.{state};
 ghost use Rattle.sqlite.specs.State.{HasCleanDisk};
 ghost use Rattle.sqlite_trees.specs.View.{doubt};
-ghost use Rattle.sqlite_wal.specs.Reads.{AreClean};
 ghost use Rattle.jb_store.specs.Checkpoints.{Has, Kept, ShowsList};
 ghost use Rattle.jb_store.specs.Connections.{IsJustOpened, Keeps};
-ghost use Rattle.jb_durable.specs.Files.{CanGoOn, HoldsRun, HoldsRunOrNone, IsOfARun, Leaves, MayGoOn};
+ghost use Rattle.jb_durable.specs.Files.{HoldsRunOrNone, IsOfARun, Leaves};
+ghost use Rattle.jb_durable.specs.Lives.{IsLifeOver};
 ghost use Rattle.jb_durable.specs.Watching.{AreGiven};
 ghost use Rattle.jb_durable.specs.Works.{IsSame};
 ghost use Rattle.jb_durable_records.specs.Checkpoints.{HaveAllResults, IsRunSoFar, IsWholeRun};
@@ -102,18 +102,7 @@ fn watched_life<
     requires db { IsTrue (D.Disk.is_usable files.db) }
     requires given { AreGiven D.Disk G.Given.was_clean G.Given.could_leave files }
     requires run { IsSame G.Given.is_so_far (IsRunSoFar (F.function (arc_value function.now)) step.now records.now) }
-    ensures usable { IfSome result (λ life. IsTrue (D.Disk.is_usable life.files.log) × IsTrue (D.Disk.is_usable life.files.db)) }
-    ensures clean { IfSome result (λ life. AreClean D.Disk life.files.log life.files.db → AreClean D.Disk files.log files.db) }
-    ensures ran { IfSome result (λ life. IsTrue life.has_run → AreClean D.Disk life.files.log life.files.db
-        → Leaves D.Disk (MayGoOn G.Given.is_so_far) files → Leaves D.Disk (HoldsRun G.Given.is_so_far) life.files) }
-    ensures cut { IfSome result (λ life. life.is_loose ≡ false → AreClean D.Disk life.files.log life.files.db
-        → Leaves D.Disk (HoldsRun G.Given.is_so_far) files → Leaves D.Disk (HoldsRun G.Given.is_so_far) life.files) }
-    ensures first { IfSome result (λ life. life.is_loose ≡ false → AreClean D.Disk life.files.log life.files.db
-        → Leaves D.Disk (CanGoOn G.Given.is_so_far) files → Leaves D.Disk (CanGoOn G.Given.is_so_far) life.files) }
-    ensures again { IfSome result (λ life. life.is_loose ≡ false → AreClean D.Disk life.files.log life.files.db
-        → Leaves D.Disk (MayGoOn G.Given.is_so_far) files → Leaves D.Disk (MayGoOn G.Given.is_so_far) life.files) }
-    ensures loose { IfSome result (λ life. AreClean D.Disk life.files.log life.files.db
-        → Leaves D.Disk (CanGoOn G.Given.is_so_far) files → Leaves D.Disk (MayGoOn G.Given.is_so_far) life.files) }
+    ensures { IfSome result (λ life. IsLifeOver D.Disk G.Given.is_so_far files life) }
 {
     match open_watched::<D, G>(alloc, files, options) {
         Ok(mut conn) => {
@@ -147,18 +136,7 @@ fn live_and_crash<
 ) -> Option<Life<D>>
     requires log { IsTrue (D.Disk.is_usable files.log) }
     requires db { IsTrue (D.Disk.is_usable files.db) }
-    ensures usable { IfSome result (λ life. IsTrue (D.Disk.is_usable life.files.log) × IsTrue (D.Disk.is_usable life.files.db)) }
-    ensures clean { IfSome result (λ life. AreClean D.Disk life.files.log life.files.db → AreClean D.Disk files.log files.db) }
-    ensures ran { IfSome result (λ life. IsTrue life.has_run → AreClean D.Disk life.files.log life.files.db
-        → Leaves D.Disk (MayGoOn (IsRunSoFar (F.function (arc_value function.now)) step.now records.now)) files → Leaves D.Disk (HoldsRun (IsRunSoFar (F.function (arc_value function.now)) step.now records.now)) life.files) }
-    ensures cut { IfSome result (λ life. life.is_loose ≡ false → AreClean D.Disk life.files.log life.files.db
-        → Leaves D.Disk (HoldsRun (IsRunSoFar (F.function (arc_value function.now)) step.now records.now)) files → Leaves D.Disk (HoldsRun (IsRunSoFar (F.function (arc_value function.now)) step.now records.now)) life.files) }
-    ensures first { IfSome result (λ life. life.is_loose ≡ false → AreClean D.Disk life.files.log life.files.db
-        → Leaves D.Disk (CanGoOn (IsRunSoFar (F.function (arc_value function.now)) step.now records.now)) files → Leaves D.Disk (CanGoOn (IsRunSoFar (F.function (arc_value function.now)) step.now records.now)) life.files) }
-    ensures again { IfSome result (λ life. life.is_loose ≡ false → AreClean D.Disk life.files.log life.files.db
-        → Leaves D.Disk (MayGoOn (IsRunSoFar (F.function (arc_value function.now)) step.now records.now)) files → Leaves D.Disk (MayGoOn (IsRunSoFar (F.function (arc_value function.now)) step.now records.now)) life.files) }
-    ensures loose { IfSome result (λ life. AreClean D.Disk life.files.log life.files.db
-        → Leaves D.Disk (CanGoOn (IsRunSoFar (F.function (arc_value function.now)) step.now records.now)) files → Leaves D.Disk (MayGoOn (IsRunSoFar (F.function (arc_value function.now)) step.now records.now)) life.files) }
+    ensures { IfSome result (λ life. IsLifeOver D.Disk (IsRunSoFar (F.function (arc_value function.now)) step.now records.now) files life) }
 {
     watched_life::<F, P, O, R, D, Brand>(
         rt, alloc, files, options, step, function, records, stretches, pace, onlooker,

@@ -1,11 +1,13 @@
-use Rattle.std.proofs.Common.{◌≡◌, ◌⊎◌, ◌∙◌, ℕ, List, true, false, inl, inr, sym, subst, subst₂}
+use Rattle.std.proofs.Common.{◌≡◌, ◌⊎◌, ◌∙◌, ℕ, Bool, List, IsTrue, true, false, refl, sym, subst, subst₂, true≢false}
 use Rattle.std.proofs.Math.Logic.{∥∥₁_elim}
-use Rattle.std.proofs.lemmas.Bool.{and_from, cases_Bool}
+use Rattle.std.proofs.lemmas.Bool.{and_from}
+use Rattle.sqlite_wal.specs.Files.{outcomes}
 use Rattle.sqlite_wal.specs.Recovery.{Image}
 use Rattle.sqlite.specs.Effect.{Database}
 use Rattle.sqlite.specs.Files.{file_state, image_of}
 use Rattle.jb_store.specs.Form.{checkpoint_schema, no_schema}
-use Rattle.jb_durable.specs.Files.{CanGoOn, HoldsRun, IsOfARun, MayGoOn, has_store}
+use Rattle.jb_durable.specs.Files.{IsOfARun, Leaves, MayGoOn, has_store}
+use Rattle.jb_durable.specs.Watched.{disk_of}
 use Rattle.jb_durable.proofs.Opens.{cut_goes_on, cut_may_go_on, cut_run, found_run}
 use Rattle.jb_durable.proofs.Somes.{some_both, some_from}
 use Rattle.jb_durable.proofs.cut.open_watched.Goals as goal
@@ -24,46 +26,46 @@ returns-then-takes-clause-found g c clean leaves =
     let ours = subst (λ (d : Database). (d.schema ≡ no_schema) ⊎ (d.schema ≡ checkpoint_schema)) opened.0.clean (c.takes.ensures.0 c.if-takes.true) in
     subst (λ (d : Database). ∥ IsOfARun so_far d.trees ∥₁) (sym opened.0.clean) (found_run so_far _ s.committed.trees may found.reads found.holds s.committed.schema (opened.1 opened.0.is_open).1 ours)
 
-pub returns-in-Err-clause-clean : goal.returns-in-Err-clause-clean
-returns-in-Err-clause-clean g c = some_from c.cut_short.result _ _ (λ life was clean.
-    let given = c.requires.given in and_from _ _ (sym (given.clean true) ∙ was clean true) (sym (given.clean false) ∙ was clean false)) c.cut_short.ensures.clean
+-- what the disks that are watched may leave, the files may
+passes : (g : _) (c : goal.After-cut_short g) (image : Image) → g.D.Disk.may_leave (disk_of c.watch.result.log) image.log × g.D.Disk.may_leave (disk_of c.watch.result.db) image.db
+    → outcomes g.D.Disk c.args.files.log c.args.files.db image
+passes g c image may = (subst (λ log. g.D.Disk.may_leave log image.log) c.watch.ensures.log may.0, subst (λ db. g.D.Disk.may_leave db image.db) c.watch.ensures.db may.1)
 
-pub returns-in-Err-clause-cut : goal.returns-in-Err-clause-cut
-returns-in-Err-clause-cut g c =
+-- what the files may leave that nothing was written to, they could leave before
+as_before : (g : _) (c : goal.After-cut_short g) (Held : Image → Type 0) (image : Image) → ∥ g.G.Given.could_leave true image.log × g.G.Given.could_leave false image.db ∥₁
+    → Leaves g.D.Disk (λ i. ∥ Held i ∥₁) c.args.files → ∥ Held image ∥₁
+as_before g c Held image could leaves =
+    let given = c.requires.given.left in
+    ∥∥₁_elim could squash₁ (λ was. leaves image ((given true image.log).0 was.0, (given false image.db).0 was.1))
+
+-- the open was cut behind its recovery, or before
+by_stage : {A : Type 0} (is_behind : Bool) → (IsTrue is_behind → A) → (is_behind ≡ false → A) → A
+by_stage true behind before = behind refl
+by_stage false behind before = before refl
+
+pub returns-in-Err-clause-over : goal.returns-in-Err-clause-over
+returns-in-Err-clause-over g c =
+    let life = c.cut_short.result in
     let e = c.cut_short.ensures in
+    let so_far = g.G.Given.is_so_far in
     let given = c.requires.given in
-    some_from c.cut_short.result _ _ (λ life is sure clean leaves image may.
-    elim (cases_Bool (has_store c.in-Err.left)) [
-      | inl store ↦ ∥∥₁_elim (is.1.1 sure store image may) squash₁ (λ could. leaves image ((given.left true image.log).0 could.0, (given.left false image.db).0 could.1))
-      | inr bare ↦ cut_run g.G.Given.is_so_far (λ w. g.met.D.Disk.seen_may_stay w.disk) c.watch.result c.in-Err.left bare (c.in-Err.ensures.unharmed (is.0 clean)) image (is.1.0 clean image may)
-          (λ i m. leaves i (subst (λ log. g.D.Disk.may_leave log i.log) c.watch.ensures.log m.0, subst (λ db. g.D.Disk.may_leave db i.db) c.watch.ensures.db m.1))
-    ]) (some_both c.cut_short.result _ _ e.rest (some_both c.cut_short.result _ _ e.left e.same))
-
-pub returns-in-Err-clause-first : goal.returns-in-Err-clause-first
-returns-in-Err-clause-first g c =
-    let e = c.cut_short.ensures in
-    let given = c.requires.given in
-    some_from c.cut_short.result _ _ (λ life is sure clean leaves image may.
-    elim (cases_Bool (has_store c.in-Err.left)) [
-      | inl store ↦ ∥∥₁_elim (is.1.1 sure store image may) squash₁ (λ could. leaves image ((given.left true image.log).0 could.0, (given.left false image.db).0 could.1))
-      | inr bare ↦ cut_goes_on g.G.Given.is_so_far (λ w. g.met.D.Disk.seen_may_stay w.disk) c.watch.result true c.in-Err.left bare (c.in-Err.ensures.unharmed (is.0 clean)) image (is.1.0 clean image may)
-          (λ i m. leaves i (subst (λ log. g.D.Disk.may_leave log i.log) c.watch.ensures.log m.0, subst (λ db. g.D.Disk.may_leave db i.db) c.watch.ensures.db m.1))
-    ]) (some_both c.cut_short.result _ _ e.rest (some_both c.cut_short.result _ _ e.left e.same))
-
-pub returns-in-Err-clause-again : goal.returns-in-Err-clause-again
-returns-in-Err-clause-again g c =
-    let e = c.cut_short.ensures in
-    let given = c.requires.given in
-    some_from c.cut_short.result _ _ (λ life is sure clean leaves image may.
-    elim (cases_Bool (has_store c.in-Err.left)) [
-      | inl store ↦ ∥∥₁_elim (is.1.1 sure store image may) squash₁ (λ could. leaves image ((given.left true image.log).0 could.0, (given.left false image.db).0 could.1))
-      | inr bare ↦ cut_goes_on g.G.Given.is_so_far (λ w. g.met.D.Disk.seen_may_stay w.disk) c.watch.result false c.in-Err.left bare (c.in-Err.ensures.unharmed (is.0 clean)) image (is.1.0 clean image may)
-          (λ i m. leaves i (subst (λ log. g.D.Disk.may_leave log i.log) c.watch.ensures.log m.0, subst (λ db. g.D.Disk.may_leave db i.db) c.watch.ensures.db m.1))
-    ]) (some_both c.cut_short.result _ _ e.rest (some_both c.cut_short.result _ _ e.left e.same))
-
-pub returns-in-Err-clause-loose : goal.returns-in-Err-clause-loose
-returns-in-Err-clause-loose g c =
-    let e = c.cut_short.ensures in
-    some_from c.cut_short.result _ _ (λ life is clean leaves image may.
-    cut_may_go_on g.G.Given.is_so_far (λ w. g.met.D.Disk.seen_may_stay w.disk) c.watch.result c.in-Err.left (c.in-Err.ensures.unharmed (is.0 clean)) image (is.1 clean image may)
-    (λ i m. leaves i (subst (λ log. g.D.Disk.may_leave log i.log) c.watch.ensures.log m.0, subst (λ db. g.D.Disk.may_leave db i.db) c.watch.ensures.db m.1))) (some_both c.cut_short.result _ _ e.rest e.left)
+    let rest = c.in-Err.left in
+    let behind = has_store rest in
+    let kept = as_before g c in
+    some_from life _ _ (λ life is. record {
+      usable = is.0;
+      clean = λ clean. and_from _ _ (sym (given.clean true) ∙ is.1.0 clean true) (sym (given.clean false) ∙ is.1.0 clean false);
+      ran = λ runs. absurd (true≢false (sym runs ∙ is.1.1.0));
+      cut = λ sure clean leaves image may. by_stage behind
+          (λ store. kept _ image (is.1.1.1.1.1 sure store image may) leaves)
+          (λ bare. cut_run so_far (λ w. g.met.D.Disk.seen_may_stay w.disk) c.watch.result rest bare (c.in-Err.ensures.unharmed (is.1.1.1.0 clean)) image (is.1.1.1.1.0 clean image may) (λ i m. leaves i (passes g c i m)));
+      first = λ sure clean leaves image may. by_stage behind
+          (λ store. kept _ image (is.1.1.1.1.1 sure store image may) leaves)
+          (λ bare. cut_goes_on so_far (λ w. g.met.D.Disk.seen_may_stay w.disk) c.watch.result true rest bare (c.in-Err.ensures.unharmed (is.1.1.1.0 clean)) image (is.1.1.1.1.0 clean image may) (λ i m. leaves i (passes g c i m)));
+      again = λ sure clean leaves image may. by_stage behind
+          (λ store. kept _ image (is.1.1.1.1.1 sure store image may) leaves)
+          (λ bare. cut_goes_on so_far (λ w. g.met.D.Disk.seen_may_stay w.disk) c.watch.result false rest bare (c.in-Err.ensures.unharmed (is.1.1.1.0 clean)) image (is.1.1.1.1.0 clean image may) (λ i m. leaves i (passes g c i m)));
+      loose = λ clean leaves image may.
+          cut_may_go_on so_far (λ w. g.met.D.Disk.seen_may_stay w.disk) c.watch.result rest (c.in-Err.ensures.unharmed (is.1.1.1.0 clean)) image (is.1.1.1.1.0 clean image may) (λ i m. leaves i (passes g c i m));
+    })
+    (some_both life _ _ e.usable (some_both life _ _ e.clean (some_both life _ _ e.cut (some_both life _ _ e.rest (some_both life _ _ e.left e.same)))))

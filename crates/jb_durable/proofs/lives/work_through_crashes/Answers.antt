@@ -1,4 +1,4 @@
-use Rattle.std.proofs.Common.{◌≡◌, ◌⊎◌, ◌∙◌, List, IsTrue, true, false, sym, ap, subst, arith}
+use Rattle.std.proofs.Common.{◌≡◌, ◌⊎◌, List, sym, ap, subst, arith}
 use Rattle.std.proofs.Math.Logic.{∥∥₁_map}
 use Rattle.sqlite.specs.State.{HasCleanDisk}
 use Rattle.sqlite.specs.Files.{file_state, image_of}
@@ -6,7 +6,8 @@ use Rattle.sqlite.specs.Effect.{Database}
 use Rattle.jb_store.specs.Checkpoints.{Has, Kept}
 use Rattle.jb_store.specs.Connections.{Keeps}
 use Rattle.jb_store.specs.Form.{checkpoint_schema, no_schema}
-use Rattle.jb_durable.proofs.Stages.{StandAfter, begins, goes_as, one_life, run_as}
+use Rattle.jb_durable.proofs.Over.{over_as}
+use Rattle.jb_durable.proofs.Stages.{StandAfter, begins, one_life}
 use Rattle.jb_durable.proofs.Opens.{found_run}
 use Rattle.jb_durable.proofs.lives.work_through_crashes.Goals as goal
 
@@ -22,26 +23,18 @@ lives-init g c = record {
 pub lives-preserved : goal.lives-preserved
 lives-preserved g c =
     let so_far = g.W.Work.is_so_far c.args.work.now in
-    let now = g.W.Work.is_so_far c.lives.work in
     let same = c.lives.invariant.so_far in
-    let to = λ (all : List Kept). (same all).0 in
-    let back = λ (all : List Kept). (same all).1 in
-    let left = c.lives.left in
     let life = c.in_ok-life.life in
-    let lived = c.in_ok-life.ensures in
+    let over = c.in_ok-life.ensures.over in
     record {
-      log = lived.usable.0;
-      db = lived.usable.1;
+      log = over.usable.0;
+      db = over.usable.1;
       so_far = λ all. (λ x. (c.live_and_crash.ensures.so_far all).0 ((same all).0 x), λ x. (same all).1 ((c.live_and_crash.ensures.so_far all).1 x));
       whole = λ all. (λ x. (c.live_and_crash.ensures.whole all).0 ((c.lives.invariant.whole all).0 x), λ x. (c.lives.invariant.whole all).1 ((c.live_and_crash.ensures.whole all).1 x));
       stands = λ clean begun.
           subst (λ sure. StandAfter g.D.Disk so_far sure life.files) (sym c.in_ok-is_sure.ensures.sure)
-          (one_life so_far left life.files life.has_run life.is_loose c.lives.is_sure c.in_ok-is_sure.ensures.known
-          (λ runs leaves image may. run_as now so_far back image (lived.ran runs clean (λ i m. goes_as so_far now to i false (leaves i m)) image may))
-          (λ sure leaves image may. goes_as now so_far back image true (lived.first sure clean (λ i m. goes_as so_far now to i true (leaves i m)) image may))
-          (λ sure leaves image may. goes_as now so_far back image false (lived.again sure clean (λ i m. goes_as so_far now to i false (leaves i m)) image may))
-          (λ leaves image may. goes_as now so_far back image false (lived.loose clean (λ i m. goes_as so_far now to i true (leaves i m)) image may))
-          (c.lives.invariant.stands (lived.clean clean) begun));
+          (one_life so_far c.lives.left life c.lives.is_sure c.in_ok-is_sure.ensures.known clean (over_as so_far (g.W.Work.is_so_far c.lives.work) same c.lives.left life over)
+          (c.lives.invariant.stands (over.clean clean) begun));
     }
 
 pub returns-in-Ok-run_durably : goal.returns-in-Ok-run_durably

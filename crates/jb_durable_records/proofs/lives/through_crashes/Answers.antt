@@ -23,18 +23,13 @@ pub lives-preserved : goal.lives-preserved
 lives-preserved g c =
     let so_far = IsRunSoFar (g.F.RecordFunction.function (arc_value c.args.function.now)) c.args.step.now c.args.records.now in
     let life = c.in_ok-life.life in
-    let lived = c.in_ok-life.ensures in
+    let over = c.in_ok-life.ensures in
     record {
-      log = lived.usable.0;
-      db = lived.usable.1;
+      log = over.usable.0;
+      db = over.usable.1;
       stands = λ clean begun.
           subst (λ sure. StandAfter g.D.Disk so_far sure life.files) (sym c.in_ok-is_sure.ensures.sure)
-          (one_life so_far c.lives.left life.files life.has_run life.is_loose c.lives.is_sure c.in_ok-is_sure.ensures.known
-          (λ runs leaves image may. lived.ran runs clean leaves image may)
-          (λ sure leaves image may. lived.first sure clean leaves image may)
-          (λ sure leaves image may. lived.again sure clean leaves image may)
-          (λ leaves image may. lived.loose clean leaves image may)
-          (c.lives.invariant.stands (lived.clean clean) begun));
+          (one_life so_far c.lives.left life c.lives.is_sure c.in_ok-is_sure.ensures.known clean over (c.lives.invariant.stands (over.clean clean) begun));
     }
 
 pub returns-in-Ok-lived : goal.returns-in-Ok-lived
