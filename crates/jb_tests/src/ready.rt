@@ -210,7 +210,7 @@ fn notes_a_process_call(alloc: Global) -> Result<bool, AllocError> {
 fn packs(alloc: Global, processor: &mut NotingProcessor<AnswerProcessor<Twice>>) -> bool {
     let mut results = PackedResults::new(alloc);
     let found = processor.pack_item(2, b"c", &mut results) == Ok(true);
-    found && results.len() == 1 && results.number(0) == 2 && results.text(0) == b"cc"
+    found && results.len() == 1 && results.number(0) == 2 && results.text(0) == b"cc".as_slice()
 }
 
 /// Whether a write call that fails is noted with its numbers.
