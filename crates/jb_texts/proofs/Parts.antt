@@ -1,17 +1,17 @@
 -- Parts of a report: their tokens, and the text that they are printed as.
-use Rattle.std.proofs.Common.{◌≡◌, ℕ, zero, suc, ◌+◌, ◌<◌, Option, subst, Bool, true, false, ltb, List, [], ◌∷◌, ◌++◌, length, get_or, take, drop, map, flat_map, refl, ap, sym, ◌∙◌, append_assoc, append-nil, add-one, arith}
+use Rattle.std.proofs.Common.{◌≡◌, ℕ, zero, suc, ◌+◌, ◌-◌, ◌<◌, ◌≤◌, slice_range, Option, subst, Bool, true, false, ltb, List, [], ◌∷◌, ◌++◌, length, get_or, take, drop, map, flat_map, refl, ap, sym, ◌∙◌, append_assoc, append-nil, length-drop, arith}
 use Rattle.std.specs.Prelude.{fold}
 use Rattle.std.specs.Io.KnownBytes.{Appends}
 use Rattle.std.specs.Str.Lossy.{utf8_lossy}
-use Rattle.std.proofs.lemmas.List.{take-append-drop, map-append}
+use Rattle.std.proofs.lemmas.List.{take-append-drop, take_all, map-append}
 use Rattle.std.proofs.lemmas.List.Concat.{flat_map_single}
 use Rattle.std.proofs.lemmas.Bool.Decides.{nat_tests}
 use Rattle.std.proofs.lemmas.Grind.{flat_map-append}
 use Rattle.std.proofs.lemmas.Simd.{map-map}
 use Rattle.json.specs.Lex.{tokens}
 use Rattle.json.specs.Token.{Token, begin_array, end_array, string}
-use Rattle.json.specs.Print.{ends, print, print_from, quoted}
-use Rattle.json.proofs.Printed.Tokens.{print_from-append, print_from_push}
+use Rattle.json.specs.Print.{ends, print, print_from}
+use Rattle.json.proofs.Printed.Tokens.{print_from-append}
 use Rattle.serde_json.specs.Data.{Data}
 use Rattle.serde_json.specs.Written.{comma_if}
 use Rattle.jb_saved.specs.SavedTree.{tokens_of}
@@ -34,21 +34,31 @@ later results zero within = refl
 later [] (suc k) within = absurd (omega (arith, within))
 later (bytes ∷ results) (suc k) within = let some : ltb 0 (suc k) ≡ true = grind (arith, nat_tests) in after-results (take k results) ∙ sym some
 
-result-last : (before : List Token) (b : Bool) (text : List ℕ) → fold (λ _ t. ends t) false before ≡ b → print (before ++ string text ∷ []) ≡ print before ++ (comma_if b ++ quoted text)
-result-last before true text is = rw (print_from_push, is) refl
-result-last before false text is = rw (print_from_push, is) refl
+begun-by : (b : Bool) (results : List (List ℕ)) (n : ℕ) → 0 < n → 0 < length results → print_from b (results_tokens (take n results)) ≡ comma_if b ++ print (results_tokens (take n results))
+unfolding print_from
+begun-by b results zero some within = absurd (omega (arith, some))
+begun-by b [] (suc n) some within = absurd (omega (arith, within))
+begun-by true (bytes ∷ results) (suc n) some within = refl
+begun-by false (bytes ∷ results) (suc n) some within = refl
 
-taken-more : (results : List (List ℕ)) (k : ℕ) (d : List ℕ) → k < length results → results_tokens (take (suc k) results) ≡ results_tokens (take k results) ++ string (utf8_lossy (get_or results k d)) ∷ []
-taken-more [] k d within = absurd (omega (arith, within))
-taken-more (bytes ∷ results) zero d within = refl
-taken-more (bytes ∷ results) (suc k) d within = ap (λ ts. string (utf8_lossy bytes) ∷ ts) (taken-more results k d (omega (arith, within)))
+taken-then : {X : Type 0} (w n : ℕ) (xs : List X) → take (w + n) xs ≡ take w xs ++ take n (drop w xs)
+taken-then zero n xs = let same : 0 + n ≡ n = omega arith in ap (λ m. take m xs) same
+taken-then (suc w) n [] = take_all (suc w + n) [] (omega arith) ∙ sym (take_all n [] (omega arith))
+taken-then (suc w) n (x ∷ xs) = let on : suc w + n ≡ suc (w + n) = omega arith in ap (λ k. take k (x ∷ xs)) on ∙ ap (λ ys. x ∷ ys) (taken-then w n xs)
 
--- one result more
-pub result-more : (results : List (List ℕ)) (k : ℕ) (d : List ℕ) → k < length results
-    → print (results_tokens (take (k + 1) results)) ≡ print (results_tokens (take k results)) ++ (comma_if (ltb 0 k) ++ quoted (utf8_lossy (get_or results k d)))
-result-more results k d within =
-    ap (λ n. print (results_tokens (take n results))) (add-one k) ∙ ap print (taken-more results k d within)
-    ∙ result-last (results_tokens (take k results)) (ltb 0 k) (utf8_lossy (get_or results k d)) (later results k within)
+-- some results more
+pub range-more : (results : List (List ℕ)) (from to : ℕ) → from < to → to ≤ length results
+    → print (results_tokens (take to results)) ≡ print (results_tokens (take from results)) ++ (comma_if (ltb 0 from) ++ print (results_tokens (slice_range results from to)))
+range-more results from to more within =
+    let n = to - from in
+    let whole : from + n ≡ to = omega (arith, more) in
+    let first = results_tokens (take from results) in
+    let next = slice_range results from to in
+    let both : results_tokens (take to results) ≡ first ++ results_tokens next =
+    ap (λ k. results_tokens (take k results)) (sym whole) ∙ ap results_tokens (taken-then from n results) ∙ map-append (λ bytes. string (utf8_lossy bytes)) (take from results) next in
+    let is = later results from (omega (arith, more, within)) in
+    ap print both ∙ print_from-append false first (results_tokens next) ∙ ap (λ b. print first ++ print_from b (results_tokens next)) is
+    ∙ ap (λ text. print first ++ text) (begun-by (ltb 0 from) (drop from results) n (omega (arith, more)) (omega (arith, length-drop from results, more, within)))
 
 -- the first results, and then the others
 pub results-split : (results : List (List ℕ)) (k : ℕ) → (more : List ℕ) × (print (results_tokens (take k results)) ++ more ≡ print (results_tokens results))
@@ -59,42 +69,34 @@ results-split results k =
     sym (map-append (λ bytes. string (utf8_lossy bytes)) (take k results) (drop k results)) ∙ ap results_tokens (take-append-drop k results) in
     (print_from (fold (λ _ t. ends t) false first) others, sym (print_from-append false first others) ∙ ap print both)
 
-pub one-string : (text : List ℕ) → print (string text ∷ []) ≡ quoted text
-unfolding print_from
-one-string text = append-nil (quoted text)
-
 pub nothing-printed : (results : List (List ℕ)) → print (results_tokens (take 0 results)) ≡ []
 unfolding print_from
 nothing-printed results = refl
 
 -- ---- results that are put behind a block, one after another
 
-module _ (old before : Option (List ℕ)) (block waiting longer : List ℕ) (results : List (List ℕ)) (k : ℕ) (is_later : Bool) (bytes : List ℕ)
-    (within : k < length results) (is : is_later ≡ ltb 0 k) (this : bytes ≡ get_or results k [])
-    (so_far : PassesOn old before block (print (results_tokens (take k results))) waiting)
-    (put : longer ≡ waiting ++ (comma_if is_later ++ quoted (utf8_lossy bytes))) where
+module _ (old before : Option (List ℕ)) (block waiting longer : List ℕ) (results : List (List ℕ)) (from to : ℕ) (more : from < to) (within : to ≤ length results)
+    (so_far : PassesOn old before block (print (results_tokens (take from results))) waiting)
+    (put : longer ≡ waiting ++ (comma_if (ltb 0 from) ++ print (results_tokens (slice_range results from to)))) where
   abbrev next : List ℕ
-  next = comma_if (ltb 0 k) ++ quoted (utf8_lossy (get_or results k []))
-
-  grown : longer ≡ waiting ++ next
-  grown = put ∙ (λ i. waiting ++ (comma_if (is i) ++ quoted (utf8_lossy (this i))))
+  next = comma_if (ltb 0 from) ++ print (results_tokens (slice_range results from to))
 
   abbrev first : List ℕ
-  first = print (results_tokens (take k results))
+  first = print (results_tokens (take from results))
 
   -- of the block the first bytes are handed on
   pub results-passed : (new : Option (List ℕ)) (left : List ℕ) → (passed : List ℕ) × Appends before new passed × (longer ≡ passed ++ left)
-      → PassesOn old new block (print (results_tokens (take (k + 1) results))) left
+      → PassesOn old new block (print (results_tokens (take to results))) left
   results-passed new left passed =
-      subst (λ text. PassesOn old new block text left) (sym (result-more results k [] within))
-      (passes-then old before new block first waiting next left so_far (passes-put before new waiting next longer left grown passed))
+      subst (λ text. PassesOn old new block text left) (sym (range-more results from to more within))
+      (passes-then old before new block first waiting next left so_far (passes-put before new waiting next longer left put passed))
 
   -- or they are written in part
   pub results-cut : (new : Option (List ℕ)) → AppendsFront before new longer → AppendsFront old new (block ++ print (results_tokens results))
   results-cut new front =
-      let more = results-split results (k + 1) in
-      front-passed old before new block first waiting next more.0 (print (results_tokens results)) so_far (subst (λ text. AppendsFront before new text) grown front)
-      (sym (append_assoc first next more.0) ∙ ap (λ text. text ++ more.0) (sym (result-more results k [] within)) ∙ more.1)
+      let others = results-split results to in
+      front-passed old before new block first waiting next others.0 (print (results_tokens results)) so_far (subst (λ text. AppendsFront before new text) put front)
+      (sym (append_assoc first next others.0) ∙ ap (λ text. text ++ others.0) (sym (range-more results from to more within)) ∙ others.1)
 
 -- ---- parts, one after another
 
@@ -113,12 +115,6 @@ module _ {X Y : Type 0} (f : X → List Y) where
   parts-more (x ∷ xs) (suc k) d within = ap (λ ys. f x ++ ys) (parts-more xs k d (omega (arith, within))) ∙ sym (append_assoc (f x) (flat_map f (take k xs)) (f (get_or xs k d)))
 
 -- ---- what is printed behind the parts
-
--- it goes on with more tokens
-pub goes-on-more : (parts : List Part) (now more next : List Token) → next ≡ now ++ more → GoesOn parts now → GoesOn parts next
-goes-on-more parts now more next is before rest =
-    let same : next ++ rest ≡ now ++ (more ++ rest) = ap (λ ts. ts ++ rest) is ∙ append_assoc now more rest in
-    ap (λ ts. print (flat_map part_tokens parts ++ ts)) same ∙ before (more ++ rest) ∙ ap (λ ts. flat_map part_text parts ++ print ts) (sym same)
 
 opened : (b : Bool) (ts : List Token) → print_from b (begin_array ∷ ts) ≡ print_from b (begin_array ∷ []) ++ print ts
 unfolding print_from

@@ -1,9 +1,9 @@
 //! The results of a partition, written as texts in blocks.
 
-ghost use Rattle.std.specs.Prelude.{◌≡◌, ◌++◌, ◌∷◌, [], IsTrue, IfOk, OnErr, OnOk};
+ghost use Rattle.std.specs.Prelude.{◌≡◌, ◌≤◌, ◌<◌, ◌++◌, ◌∷◌, [], All, IsTrue, IfOk, OnErr, OnOk, length, ltb, slice_range};
 ghost use Rattle.std.specs.Str.{IsAscii};
 ghost use Rattle.std.specs.Str.Lossy.{utf8_lossy};
-ghost use Rattle.json.specs.Print.{print, quoted};
+ghost use Rattle.json.specs.Print.{print};
 ghost use Rattle.json.specs.Token.{string};
 ghost use Rattle.serde_json.specs.Written.{comma_if};
 ghost use Rattle.jb_texts.specs.Front.{AppendsFront};
@@ -16,6 +16,9 @@ use json::Writer;
 use std::alloc::{AllocError, Global};
 use std::io;
 use std::io::Write;
+
+/// So many results are written before the block is looked at.
+pub const AT_ONCE: usize = 64;
 
 /// Puts a comma behind the block, before a later result.
 fn with_comma(mut block: Vec<u8>, is_later: bool) -> Result<Vec<u8>, AllocError>
@@ -46,21 +49,58 @@ fn write_result(
     }
 }
 
-/// Puts a result behind the block, as a text, with a comma before it where it is a later one.
-fn with_result(
+/// Writes the results from `from` to `to - 1`, as texts. All are ASCII where the caller says so.
+fn write_range(
+    alloc: Global,
+    out: &mut Writer,
+    results: &PackedList,
+    from: usize,
+    to: usize,
+    is_ascii: bool,
+) -> Result<(), AllocError>
+    requires order { from ≤ to }
+    requires to { to ≤ length results.now }
+    requires ascii { IsTrue is_ascii → All IsAscii results.now }
+    ensures texts { OnOk result (out.new.tokens ≡ out.old.tokens ++ results_tokens (slice_range results.now from to)) }
+    ensures before { out.new.before ≡ out.old.before }
+{
+    for place in from..to {
+        write_result(alloc, out, results.at(place), is_ascii)?;
+    }
+    Ok(())
+}
+
+/// Puts the results from `from` to `to - 1` behind the block, as texts, with a comma before them where they are later ones.
+fn with_range(
     alloc: Global,
     block: Vec<u8>,
-    is_later: bool,
-    bytes: &[u8],
+    results: &PackedList,
+    from: usize,
+    to: usize,
     is_ascii: bool,
 ) -> Result<Vec<u8>, AllocError>
-    requires { IsTrue is_ascii → IsAscii bytes.now }
-    ensures { IfOk result (λ more. more.items ≡ block.items ++ (comma_if is_later ++ quoted (utf8_lossy bytes.now))) }
+    requires order { from ≤ to }
+    requires to { to ≤ length results.now }
+    requires ascii { IsTrue is_ascii → All IsAscii results.now }
+    ensures { IfOk result (λ more. more.items ≡ block.items ++ (comma_if (ltb 0 from) ++ print (results_tokens (slice_range results.now from to)))) }
 {
-    let block = with_comma(block, is_later)?;
+    let block = with_comma(block, from > 0)?;
     let mut out = Writer::new(block);
-    write_result(alloc, &mut out, bytes, is_ascii)?;
+    write_range(alloc, &mut out, results, from, to, is_ascii)?;
     Ok(out.into_inner())
+}
+
+/// Where the results end that are written at once, of those from this one on.
+fn end_from(from: usize, count: usize) -> usize
+    requires { from < count }
+    ensures more { from < result }
+    ensures within { result ≤ count }
+{
+    if count - from <= AT_ONCE {
+        count
+    } else {
+        from + AT_ONCE
+    }
 }
 
 /// Puts the results behind the block, one after another, and hands it on whenever it is full. What is left of it is given back.
@@ -74,9 +114,12 @@ pub fn write_results<W: Write>(
     ensures front { OnErr result (AppendsFront (W.contents writer.old) (W.contents writer.new) (block.items ++ print (results_tokens results.now))) }
 {
     let is_ascii = results.is_ascii();
-    for place in 0..results.len() {
-        block = with_result(alloc, block, place > 0, results.at(place), is_ascii)?;
+    let mut from = 0;
+    while from < results.len() {
+        let to = end_from(from, results.len());
+        block = with_range(alloc, block, results, from, to, is_ascii)?;
         pass_on(&mut block, writer)?;
+        from = to;
     }
     Ok(block)
 }
