@@ -10,7 +10,7 @@ ghost use Rattle.jb_texts.specs.inside.Head.{head_text};
 ghost use Rattle.jb_texts.specs.inside.Parts.{PassesOn, part_text};
 
 use crate::block::{BLOCK_ROOM, pass_on};
-use crate::report::outputs::{AT_ONCE, write_results};
+use crate::report::outputs::{BYTES_AT_ONCE, MOST_AT_ONCE, write_results};
 use crate::report::parts::{Part, longest_result};
 use crate::report::steps::StepsText;
 use crate::status::status_name;
@@ -45,10 +45,11 @@ impl Model for ReportText {
     ghost view = { λ text. text.block.items ++ (flat_map part_text text.parts.items ++ text.last.items) };
 }
 
-/// The room that a block needs with results up to this length: of each byte there may be six, and there are quotes and a comma.
+/// The room that a block needs with results up to this length, of those that are written at once: of each byte there may be six, and each
+/// result has quotes and a comma.
 fn room_for(longest: usize) -> usize {
-    let result = longest.saturating_mul(6).saturating_add(3);
-    result.saturating_mul(AT_ONCE).saturating_add(BLOCK_ROOM)
+    let bytes = longest.max(BYTES_AT_ONCE).saturating_mul(6);
+    bytes.saturating_add(MOST_AT_ONCE * 3 + BLOCK_ROOM)
 }
 
 /// What stands before the list of the steps' reports, in a text with this room.

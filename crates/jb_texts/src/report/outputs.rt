@@ -10,6 +10,7 @@ ghost use Rattle.jb_texts.specs.Front.{AppendsFront};
 ghost use Rattle.jb_texts.specs.inside.Parts.{PassesOn, results_tokens};
 
 use crate::block::pass_on;
+use crate::report::parts::longest_in;
 use crate::report::text::{write_ascii, write_text};
 use jb_base::PackedList;
 use json::Writer;
@@ -17,8 +18,11 @@ use std::alloc::{AllocError, Global};
 use std::io;
 use std::io::Write;
 
-/// So many results are written before the block is looked at.
-pub const AT_ONCE: usize = 64;
+/// The most results that are written before the block is looked at.
+pub const MOST_AT_ONCE: usize = 256;
+
+/// The most bytes of results that are written before the block is looked at, if it isn't one result.
+pub const BYTES_AT_ONCE: usize = 16_384;
 
 /// Puts a comma behind the block, before a later result.
 fn with_comma(mut block: Vec<u8>, is_later: bool) -> Result<Vec<u8>, AllocError>
@@ -90,16 +94,24 @@ fn with_range(
     Ok(out.into_inner())
 }
 
+/// How many results of at most so many bytes are written at once.
+fn count_at_once(longest: usize) -> usize
+    ensures { 1 ≤ result }
+{
+    (BYTES_AT_ONCE / longest.max(1)).min(MOST_AT_ONCE).max(1)
+}
+
 /// Where the results end that are written at once, of those from this one on.
-fn end_from(from: usize, count: usize) -> usize
-    requires { from < count }
+fn end_from(from: usize, count: usize, at_once: usize) -> usize
+    requires from { from < count }
+    requires some { 1 ≤ at_once }
     ensures more { from < result }
     ensures within { result ≤ count }
 {
-    if count - from <= AT_ONCE {
+    if count - from <= at_once {
         count
     } else {
-        from + AT_ONCE
+        from + at_once
     }
 }
 
@@ -114,9 +126,10 @@ pub fn write_results<W: Write>(
     ensures front { OnErr result (AppendsFront (W.contents writer.old) (W.contents writer.new) (block.items ++ print (results_tokens results.now))) }
 {
     let is_ascii = results.is_ascii();
+    let at_once = count_at_once(longest_in(results));
     let mut from = 0;
     while from < results.len() {
-        let to = end_from(from, results.len());
+        let to = end_from(from, results.len(), at_once);
         block = with_range(alloc, block, results, from, to, is_ascii)?;
         pass_on(&mut block, writer)?;
         from = to;

@@ -10,7 +10,7 @@ pub struct Part {
 }
 
 /// The bytes of the longest result.
-fn longest_in(results: &PackedList) -> usize {
+pub fn longest_in(results: &PackedList) -> usize {
     let mut longest = 0;
     for place in 0..results.len() {
         longest = longest.max(results.at(place).len());

@@ -1,4 +1,4 @@
-use Rattle.std.proofs.Common.{rules, ◌≡◌, ◌++◌, ◌∷◌, [], slice_range, ap, sym, ◌∙◌, append_assoc}
+use Rattle.std.proofs.Common.{rules, ◌++◌, ◌∷◌, [], slice_range, ap, sym, ◌∙◌, append_assoc}
 use Rattle.std.specs.Str.Lossy.{utf8_lossy}
 use Rattle.std.proofs.lemmas.List.{map-append}
 use Rattle.json.specs.Token.{string}

@@ -1,4 +1,4 @@
-use Rattle.std.proofs.Common.{◌≤◌, ◌<◌, length, arith}
+use Rattle.std.proofs.Common.{◌≤◌, length, arith}
 use Rattle.jb_texts.proofs.Fronts.{front-stopped, on-err, passes-none}
 use Rattle.jb_texts.proofs.Parts.{nothing-printed, results-cut, results-passed, results-split}
 use Rattle.jb_texts.proofs.report.outputs.write_results.Goals as goal
