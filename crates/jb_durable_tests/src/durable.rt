@@ -1,9 +1,9 @@
 //! Work that goes on from its checkpoints, whatever call of the disk a life ends at.
 
-use crate::files::{crashed, new_files, opened, text_of};
+use crate::files::{closed, crashed, listed, new_files, opened};
 use jb_durable::{LastLife, Work, run_durably, work_through_crashes};
-use jb_store::{Checkpoint, StoreError, list};
-use sqlite::{Files, Options};
+use jb_store::{Checkpoint, StoreError};
+use sqlite::{Alter, Connection, Files, Options};
 use sqlite_disk::{Crash, Fuse, Memory};
 use std::alloc::{AllocError, Global};
 use std::process::Abort;
@@ -73,6 +73,32 @@ impl Work for Count {
     }
 }
 
+/// The work is done after so many stretches at most. It has no clauses, so that the proof of a test doesn't carry those of the call.
+fn is_finished<R: Threads + Wait + Sync, S: Alter>(
+    rt: &R,
+    alloc: Global,
+    conn: &mut Connection<S>,
+    work: &mut Count,
+    stretches: u32,
+) -> bool {
+    matches!(run_durably(rt, alloc, conn, work, stretches), Ok(true))
+}
+
+/// Lives that end in a crash, and one more; none where the files may not be used.
+fn last_life<R: Threads + Wait + Sync, D: Crash + Drop>(
+    rt: &R,
+    alloc: Global,
+    files: Files<D>,
+    work: &mut Count,
+    lives: &[u32],
+    stretches: u32,
+) -> Option<LastLife<D>> {
+    if !files.may_be_used() {
+        return None;
+    }
+    work_through_crashes(rt, alloc, files, Options::new(5), work, lives, stretches)
+}
+
 /// A life of so many stretches at most, and a crash behind it: the files, and whether it said that the work is done.
 fn lived<R: Threads + Wait + Sync, D: Crash + Drop>(
     rt: &R,
@@ -83,8 +109,8 @@ fn lived<R: Threads + Wait + Sync, D: Crash + Drop>(
 ) -> (Files<D>, bool) {
     match opened(alloc, files) {
         Ok(mut conn) => {
-            let end = run_durably(rt, alloc, &mut conn, work, stretches);
-            (crashed(conn.into_store().close()), matches!(end, Ok(true)))
+            let is_done = is_finished(rt, alloc, &mut conn, work, stretches);
+            (crashed(closed(conn)), is_done)
         }
         Err((_, files)) => (crashed(files), false),
     }
@@ -97,12 +123,8 @@ fn shown<D: Crash + Drop>(
 ) -> (Result<String, StoreError>, Files<D>) {
     match opened(alloc, files) {
         Ok(mut conn) => {
-            let all = list(alloc, &mut conn);
-            let files = crashed(conn.into_store().close());
-            match all {
-                Ok(all) => (text_of(alloc, &all).map_err(StoreError::from), files),
-                Err(error) => (Err(error), files),
-            }
+            let all = listed(alloc, &mut conn);
+            (all, crashed(closed(conn)))
         }
         Err((error, files)) => (Err(error), crashed(files)),
     }
@@ -146,18 +168,9 @@ fn assert_answered<R: Threads + Wait + Sync + Abort>(
     calls: [u64; 2],
 ) {
     let files = failing(rt, alloc, kept, calls);
-    assert!(rt; files.may_be_used());
     let mut work = count_from(kept);
     let lives = [STRETCHES + 1];
-    let last = work_through_crashes(
-        rt,
-        alloc,
-        files,
-        Options::new(5),
-        &mut work,
-        &lives,
-        STRETCHES + 1,
-    );
+    let last = last_life(rt, alloc, files, &mut work, &lives, STRETCHES + 1);
     let is_done = matches!(&last, Some(LastLife { is_done: true, .. }));
     assert!(rt; is_done && !work.has_lost, "{kept} {calls:?}");
 }
@@ -201,17 +214,15 @@ fn assert_each_call<R: Threads + Wait + Sync + Abort>(
 
 /// Four lives of a stretch or two, of which all but the last end in a crash.
 fn assert_lives<R: Threads + Wait + Sync + Abort>(rt: &R, alloc: Global) -> Result<(), Fail> {
-    let files = new_files(alloc);
-    assert!(rt; files.may_be_used());
     let mut work = count_from(0);
-    let last = work_through_crashes(rt, alloc, files, Options::new(5), &mut work, &[0, 1, 1], 2);
+    let last = last_life(rt, alloc, new_files(alloc), &mut work, &[0, 1, 1], 2);
     let Some(LastLife { mut conn, is_done }) = last else {
         return Err(Fail::from("an open"));
     };
     assert!(rt; is_done);
-    let all = list(alloc, &mut conn);
-    let _ = conn.into_store().close();
-    assert_eq!(rt; text_of(alloc, &all?)?.as_str(), WHOLE);
+    let all = listed(alloc, &mut conn);
+    let _files = closed(conn);
+    assert_eq!(rt; all?.as_str(), WHOLE);
     Ok(())
 }
 

@@ -1,7 +1,7 @@
-//! Files in memory, and what they hold.
+//! Files in memory, and what they hold. The calls have no clauses, so that the proof of a test doesn't carry what the libraries' show.
 
-use jb_store::{Checkpoint, StoreError};
-use sqlite::{Connection, FileStore, Files, Options};
+use jb_store::{Checkpoint, StoreError, list};
+use sqlite::{Alter, Connection, FileStore, Files, Options};
 use sqlite_disk::{Crash, Disk, Memory};
 use std::alloc::{AllocError, Global};
 
@@ -32,6 +32,20 @@ pub(crate) fn crashed<D: Crash>(mut files: Files<D>) -> Files<D> {
     files.log.crash();
     files.db.crash();
     files
+}
+
+/// The files of a connection.
+pub(crate) fn closed<D: Disk + Drop>(conn: Connection<FileStore<D>>) -> Files<D> {
+    conn.into_store().close()
+}
+
+/// The list that a connection shows.
+pub(crate) fn listed<S: Alter>(
+    alloc: Global,
+    conn: &mut Connection<S>,
+) -> Result<String, StoreError> {
+    let all = list(alloc, conn)?;
+    Ok(text_of(alloc, &all)?)
 }
 
 /// Each checkpoint as its text, a colon and its bytes.

@@ -1,7 +1,7 @@
 //! Files of many kinds: which list each one has, or which refusal it gets, and what an append makes of it.
 
-use crate::files::{crashed, new_files, opened, text_of};
-use jb_store::{StoreError, append, append_over_crash, begin, list};
+use crate::files::{closed, crashed, listed, new_files, opened, text_of};
+use jb_store::{StoreError, append, append_over_crash, begin};
 use sqlite::{Alter, Connection, Error, FileStore, Files, Options};
 use sqlite_disk::Memory;
 use std::alloc::{AllocError, Global};
@@ -82,11 +82,6 @@ fn begun<S: Alter>(alloc: Global, conn: &mut Connection<S>) -> Result<(String, u
     Ok((text_of(alloc, &all)?, (all.len() % 100) as u32 + 1))
 }
 
-fn listed<S: Alter>(alloc: Global, conn: &mut Connection<S>) -> Result<String, StoreError> {
-    let all = list(alloc, conn)?;
-    Ok(text_of(alloc, &all)?)
-}
-
 fn added<S: Alter>(conn: &mut Connection<S>, number: u32) -> Result<(), StoreError> {
     append(conn, number, "new", &[7, 8])
 }
@@ -109,7 +104,7 @@ fn made_by(alloc: Global, sql: &str) -> Result<Files<Memory>, Fail> {
         return Err(Fail::from("new files"));
     };
     run(&mut conn, sql)?;
-    Ok(crashed(conn.into_store().close()))
+    Ok(crashed(closed(conn)))
 }
 
 /// An append, a crash right behind it, and the next open: whether it was told, the list, and what the connection then shows.
@@ -129,7 +124,7 @@ fn added_over_crash(
         return Err(Fail::from("an open"));
     };
     let shown = listed(alloc, &mut again);
-    let _ = again.into_store().close();
+    let _files = closed(again);
     Ok((found.was_told, text_of(alloc, &found.checkpoints)?, shown?))
 }
 
@@ -167,11 +162,7 @@ fn assert_row(rt: &impl Abort, alloc: Global, row: &Found) -> Result<(), Fail> {
         }
         (Err(error), Err(refusal)) => {
             assert!(rt; error == refusal, "{}", row.made_by);
-            assert!(rt;
-                is_same(&conn.into_store().close(), &before),
-                "{}",
-                row.made_by
-            );
+            assert!(rt; is_same(&closed(conn), &before), "{}", row.made_by);
             Ok(())
         }
         _ => Err(Fail::from(row.made_by)),
