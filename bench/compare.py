@@ -1,7 +1,7 @@
 #!/usr/bin/env python3
 """`batchrun` beside Python's `json` and beside a plain program, on the same documents and in one run.
 
-    bench/compare.py [--threads] [--records N] [--runs N]
+    bench/compare.py [--threads | --large] [--records N] [--runs N]
 
 `plain` is the program of the folder plain/, whose head says what it leaves out; it is built here by `rustc`, and its outputs are
 compared with those of `batchrun`. `python3` reads a document of records into a tree by its module `json` and writes that tree again,
@@ -17,6 +17,8 @@ about ten times as long.
 With --threads both programs run the documents of short records, in chunks of 10 to 10,000, and that of faulty ones, on 1 to 64 threads:
 `batchrun` moves its threads between partitions at their checkpoints, the plain program's pool takes partitions whole. A cell is `cpu / wall` in
 seconds, the least of some runs of each, and below the table stands for each program where four threads took less wall time than one.
+
+With --large both run, once, documents of 10,000,000 records with as many faults, and a cell is `cpu s, peak MB`; a document has some 300 MB.
 """
 import argparse
 import json
@@ -47,8 +49,10 @@ CASES = (
     ("{:,} in chunks of 10", "run", MILLION, records_of(documents.short, 10)),
     ("{:,} in chunks of 10, one partition has half", "run", MILLION, records_of(documents.short, 10, 8, documents.skewed)),
     ("{:,} of 28 bytes, 1 in 50 faulty, chunks of 100, 64 partitions", "run", MILLION, records_of(documents.faulty, 100)),
+    ("the same, the shaky ones repeated in place", "run", MILLION, records_of(documents.in_place, 100)),
     ("{:,} of 1,000 bytes, chunks of 1,000, 8 partitions", "run", 3 * MILLION // 10, records_of(documents.wide, 1_000)),
     ("{:,} of ten bytes, restarted half-way, chunks of 100, 64 partitions", "restart", MILLION, records_of(documents.half_done, 100)),
+    ("the same, restarted when 99 of 100 were done", "restart", MILLION, records_of(documents.half_done, 100, 99)),
     ("plan of {:,} slots, 4,096 partitions on 63 threads", "plan", 8_192_000, plan_of(4_096, 63)),
     ("plan of {:,} slots, one partition on 64 threads", "plan", 10_000_000, plan_of(1, 64)),
 )
@@ -126,9 +130,27 @@ def print_threads(plain, options, room):
         print(f"`{by}`: four threads took less wall time than one: {'; '.join(names) or 'nowhere'}")
 
 
+# Documents of ten million records: what each is called, and its kind.
+LARGE = (
+    ("10,000,000 of one byte, each bad and skipped", "bad"),
+    ("10,000,000 of one byte, each shaky and repeated in place, up to the retry limit", "shaky"),
+    ("10,000,001 faults, refused", "refused"),
+)
+
+
+def print_large(plain, room):
+    print("| What | `batchrun`: cpu s, peak MB | `plain`: the same |\n|---|---|---|")
+    path = os.path.join(room, "large.json")
+    for name, kind in LARGE:
+        documents.write_large(path, kind)
+        taken = [measure([program, "run"], path) for program in (PROGRAM, plain)]
+        print(f"| {name} ({os.path.getsize(path) // 1_000_000} MB of document) | {' | '.join(f'{cpu:.1f}, {peak:,.0f}' for *_, cpu, peak in taken)} |", flush=True)
+
+
 def main():
     parser = argparse.ArgumentParser(description=__doc__, formatter_class=argparse.RawDescriptionHelpFormatter)
     parser.add_argument("--threads", action="store_true")
+    parser.add_argument("--large", action="store_true")
     parser.add_argument("--records", type=int, default=MILLION)
     parser.add_argument("--runs", type=int, default=3)
     options = parser.parse_args()
@@ -136,6 +158,9 @@ def main():
     if options.threads:
         with tempfile.TemporaryDirectory() as room:
             return print_threads(plain_program(room), options, room)
+    if options.large:
+        with tempfile.TemporaryDirectory() as room:
+            return print_large(plain_program(room), room)
     print("| What | `batchrun`: instructions each, cpu s, peak MB | `plain`: the same | `python3`: the same |\n|---|---|---|---|")
     with tempfile.TemporaryDirectory() as room:
         plain = plain_program(room)

@@ -54,10 +54,17 @@ def faulty(records, item_count):
     return document
 
 
-def half_done(records, item_count):
-    """The restart of short records in 64 partitions that were stopped after half of their rounds."""
+def in_place(records, item_count):
+    """The same pay slips, of which the shaky ones are repeated in place."""
+    document = faulty(records, item_count)
+    document["job"]["step"][0]["chunk"]["no-rollback-exception-classes"] = {"include": ["Busy"]}
+    return document
+
+
+def half_done(records, item_count, hundredths=50):
+    """The restart of short records in 64 partitions that were stopped after so many of a hundred of their rounds."""
     document = short(records, item_count, partitions=64)
-    words = [PROGRAM, "run", "--rounds", str(records // item_count // 2)]
+    words = [PROGRAM, "run", "--rounds", str(records // item_count * hundredths // 100)]
     stopped = subprocess.run(words, input=json.dumps(document).encode(), stdout=subprocess.PIPE, check=False)
     if stopped.returncode != STOPPED:
         sys.exit("the run wasn't stopped")
@@ -70,6 +77,28 @@ def threaded(make, threads, *given):
     document = make(*given)
     document["job"]["step"][0]["partition"]["plan"]["threads"] = threads
     return document
+
+
+LARGE = 10_000_000
+
+
+def write_large(path, kind):
+    """Writes, piece by piece, a document with so many records of a byte, each of which is `bad` and skipped, or `shaky` and repeated in place;
+    or, `refused`, with one fault more than a list may have."""
+    rule, fault = '{"include":["Busy"]}', '[%d,"bad","Busy"]'
+    rules = f'"skippable-exception-classes":{rule}'
+    if kind == "shaky":
+        fault, rules = '[%d,"shaky",["Busy"]]', f'"retryable-exception-classes":{rule},"no-rollback-exception-classes":{rule}'
+    chunk = f'{{"item-count":1000,"retry-limit":100000,{rules}}}'
+    plan = json.dumps({"threads": 1, "ranges": even(LARGE, 8)})
+    step = f'{{"id":"pay","chunk":{chunk},"partition":{{"plan":{plan}}}}}'
+    with open(path, "w", encoding="utf-8") as file:
+        file.write(f'{{"job":{{"id":"bench","exception-classes":["Busy"],"step":[{step}]}},"data":[{{"records":["0"')
+        file.write(',"1"' * (LARGE - 1))
+        file.write('],"faults":{"process":[' + fault % 0)
+        for place in range(1, LARGE + (kind == "refused")):
+            file.write("," + fault % place)
+        file.write("]}}]}")
 
 
 def load(counts, threads):

@@ -5,7 +5,7 @@
 //! results are written, as the report has them, into one buffer of its own. With more than one thread in the document's plan, a pool of so
 //! many takes the partitions in turn, each to its end. What it leaves out: it checks nothing of a document but that it is JSON, has one step,
 //! and no limits, listeners, analyzer or reducer; it makes no plan for the chunks that it runs; it knows faults of processing alone, in their
-//! order, `bad` ones, which are skipped, and `shaky` ones, which are retried after a rollback, record by record; it keeps no counts but that of
+//! order, `bad` ones, which are skipped, and `shaky` ones, which are retried after a rollback, record by record, or in place; it keeps no counts but that of
 //! results written, and no history. It looks for the faults of a chunk before it makes the results, so that nothing has to be undone. Where
 //! something isn't as it expects, it ends with status 1 and says nothing.
 
@@ -94,14 +94,15 @@ fn number(tree: &Tree) -> Option<usize> {
     tree.number()?.try_into().ok()
 }
 
-fn fault(entry: &Tree) -> Option<Fault> {
+/// A fault of the document. One whose call is repeated in place fails no more when the chunk's faults are looked for.
+fn fault(entry: &Tree, in_place: bool) -> Option<Fault> {
     let [record, kind, classes] = entry.list() else { return None };
-    Some(Fault { record: number(record)?, left: if kind.text()? == "bad" { None } else { Some(classes.list().len()) } })
+    Some(Fault { record: number(record)?, left: if kind.text()? == "bad" { None } else { Some(if in_place { 0 } else { classes.list().len() }) } })
 }
 
 /// Gives each partition the faults of its records.
-fn hand_out(faults: &[Tree], partitions: &mut [Partition]) -> Option<()> {
-    let faults: Vec<Fault> = faults.iter().map(fault).collect::<Option<_>>()?;
+fn hand_out(faults: &[Tree], partitions: &mut [Partition], in_place: bool) -> Option<()> {
+    let faults: Vec<Fault> = faults.iter().map(|it| fault(it, in_place)).collect::<Option<_>>()?;
     let mut faults = faults.into_iter().peekable();
     for partition in partitions {
         while let Some(fault) = faults.next_if(|it| it.record < partition.end) {
@@ -204,7 +205,8 @@ fn run(document: &Tree) -> Option<()> {
         None => fresh(plan, step.records.len())?,
     };
     let faults = data.get("faults").and_then(|it| it.get("process")).map_or(&[][..], Tree::list);
-    hand_out(faults, &mut partitions)?;
+    let in_place = job_step.get("chunk")?.get("no-rollback-exception-classes").is_some();
+    hand_out(faults, &mut partitions, in_place)?;
     run_all(&step, &mut partitions)?;
     let mut out = std::io::stdout().lock();
     out.write_all(b"{\"heard\":[").ok()?;
