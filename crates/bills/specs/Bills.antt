@@ -3,7 +3,7 @@ use Rattle.std.specs.Prelude.{ℕ, List, [], ◌∷◌, Option, Some, None, deci
 use Rattle.csv.specs.Records.{field_at}
 use Rattle.jb_base.specs.Classes.{class_of}
 use Rattle.jb_base.specs.declared.class.ClassId.{ClassId}
-use Rattle.jb_ready.specs.Csv.{first_fields, row_of}
+use Rattle.jb_ready.specs.Csv.{first_fields, csv_row}
 use Rattle.jb_ready.specs.Numbers.{number_of, product_of, sum_of}
 use Rattle.bills.specs.declared.bill.Tariff.{Tariff}
 
@@ -21,7 +21,7 @@ abbrev pub named_cost : Tariff → (fields : List (List ℕ)) → Option (List �
 named_cost tariff fields = cost_by tariff (field_at fields 0) (field_at fields 1)
 
 abbrev pub line_of : List ℕ × ℕ → List ℕ
-line_of named = row_of (named.0 ∷ decimal named.1 ∷ [])
+line_of named = csv_row (named.0 ∷ decimal named.1 ∷ [])
 
 abbrev pub bill_by : Tariff → (fields : Option (List (List ℕ))) → Option (List ℕ)
 bill_by tariff None = None

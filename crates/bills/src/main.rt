@@ -17,10 +17,10 @@ use jb_collect::Status;
 use jb_ready::csv_rows::flexible_records_of;
 use std::io::{self, Read, Write};
 use std::process::ExitCode;
-use step::{Works, run};
+use step::{BillArtifacts, run};
 
 /// Tells which lines a partition skipped, and writes its bills.
-fn write_bills<W: Write>(rt: &HostRuntime, works: &Works, out: &mut W) -> io::Result<()> {
+fn write_bills<W: Write>(rt: &HostRuntime, works: &BillArtifacts, out: &mut W) -> io::Result<()> {
     for note in works.reader.notes.kept() {
         eprintln!(rt; "record {} is skipped", note.number)?;
     }

@@ -23,7 +23,12 @@ use std::sync::{Arc, Wait};
 use std::thread::Threads;
 
 /// What a partition works with. The lines that it can't read are noted.
-pub type Works = ArtifactsOf<NotingReader<UsageReader>, BillProcessor, BillWriter, CountCollector>;
+pub type BillArtifacts = ArtifactsOf<
+    NotingReader<UsageReader>,
+    BillProcessor,
+    BillWriter,
+    CountCollector,
+>;
 
 const TARIFF: Tariff = Tariff {
     standing: 500,
@@ -46,7 +51,7 @@ const THREADS: u32 = 4;
 const ITEM_COUNT: u64 = 2;
 
 /// What a partition works with as it begins.
-fn new_works(alloc: Global, lines: &Arc<PackedList, Global>) -> Result<Works, AllocError> {
+fn new_works(alloc: Global, lines: &Arc<PackedList, Global>) -> Result<BillArtifacts, AllocError> {
     Ok(ArtifactsOf {
         reader: NotingReader {
             inner: UsageReader {
@@ -73,7 +78,7 @@ pub fn run<R: Threads + Wait + Sync>(
     rt: &R,
     alloc: Global,
     lines: PackedList,
-) -> Result<StepEnd<Works>, StepError>
+) -> Result<StepEnd<BillArtifacts>, StepError>
     requires { length lines ≤ max_records }
 {
     let count = lines.len() as u64;
@@ -102,16 +107,16 @@ fn over_desk<L: Ledger + Send + Sync + 'static, R: Threads + Wait + Sync>(
     alloc: Global,
     blank: Blank,
     prepared: Prepared,
-    works: Vec<Works>,
+    works: Vec<BillArtifacts>,
     reducer: FaultlessReducer,
-) -> Result<StepEnd<Works>, StepError>
+) -> Result<StepEnd<BillArtifacts>, StepError>
     requires name { blank.name ≡ L.name }
     requires parts { blank.parts ≡ L.parts }
     requires all { blank.parts ≡ max_parts }
 {
     let desk = prepared.desk::<L>(alloc, blank)?;
     let analyzer = FaultlessAnalyzer::new(alloc);
-    let (end, _, _) = run_pooled_step::<Task<Works>, L, NoGate, R>(
+    let (end, _, _) = run_pooled_step::<Task<BillArtifacts>, L, NoGate, R>(
         rt, alloc, &desk, prepared, works, analyzer, reducer, None, &NoGate,
     );
     end

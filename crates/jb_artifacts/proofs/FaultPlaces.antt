@@ -18,7 +18,7 @@ use Rattle.std.proofs.lemmas.Map.Entries.{length-keys_of, lookup_at_gap, lookup_
 use Rattle.jb_artifacts.specs.declared.faults.FaultPlan.{FaultPlan}
 use Rattle.jb_artifacts.specs.declared.faults.FaultPlan.TheVariants.{Sound}
 use Rattle.jb_artifacts.specs.Faults.{live, plans_of}
-use Rattle.jb_artifacts.specs.inside.FaultPlaces.{Entries, AreInOrder, IsPlaceOf, IsGapFor}
+use Rattle.jb_artifacts.specs.inside.FaultPlaces.{Entries, DoNumbersRise, IsPlaceOf, IsGapFor}
 use Rattle.jb_artifacts.proofs.FaultTables.{found_by}
 
 -- ---- where it stands
@@ -27,7 +27,7 @@ use Rattle.jb_artifacts.proofs.FaultTables.{found_by}
 pub number-at : (entries : Entries) (i : ℕ) (d e : ℕ × FaultPlan) → i < length entries → (get_or entries i d).0 ≡ (get_or entries i e).0
 number-at entries i d e below = ap (λ (entry : ℕ × FaultPlan). entry.0) (get_or_default entries i d e below)
 
-pub rising : (entries : Entries) → AreInOrder entries → IsNonDecreasingBy (λ entry. entry.0) entries
+pub rising : (entries : Entries) → DoNumbersRise entries → IsNonDecreasingBy (λ entry. entry.0) entries
 rising entries order i j d le below =
     let keys : length (keys_of entries) ≡ length entries = length-keys_of entries in
     let first = get_or-map (λ (entry : ℕ × FaultPlan). entry.0) entries i d d.0 (omega arith) in
@@ -36,7 +36,7 @@ rising entries order i j d le below =
     omega arith
 
 -- a place with a smaller number before it, and none at it
-pub place-between : (number : ℕ) (entries : Entries) (place : ℕ) → AreInOrder entries → place ≤ length entries
+pub place-between : (number : ℕ) (entries : Entries) (place : ℕ) → DoNumbersRise entries → place ≤ length entries
     → ((d : ℕ × FaultPlan) → 0 < place → (get_or entries (place - 1) d).0 < number)
     → ((d : ℕ × FaultPlan) → place < length entries → number ≤ (get_or entries place d).0)
     → IsPlaceOf number entries place
@@ -49,7 +49,7 @@ place-between number entries place order bound before after = record {
 }
 
 -- where the record has no plan
-pub gap-at : (number : ℕ) (entries : Entries) (place : ℕ) → AreInOrder entries → IsPlaceOf number entries place
+pub gap-at : (number : ℕ) (entries : Entries) (place : ℕ) → DoNumbersRise entries → IsPlaceOf number entries place
     → ((d : ℕ × FaultPlan) → place < length entries → (get_or entries place d).0 ≡ number → ⊥) → IsGapFor number entries place
 gap-at number entries place order is other = record {
   bound = is.bound;
@@ -63,18 +63,18 @@ gap-at number entries place order is other = record {
   );
 }
 
-pub none-yet : AreInOrder []
+pub none-yet : DoNumbersRise []
 unfolding IsStrictlySortedBy
 none-yet = tt
 
 -- ---- what the list tells
 
-pub none-at : (number : ℕ) (entries : Entries) (place : ℕ) → AreInOrder entries → IsGapFor number entries place → lookup (is_at (nat_cmp number)) entries ≡ None
+pub none-at : (number : ℕ) (entries : Entries) (place : ℕ) → DoNumbersRise entries → IsGapFor number entries place → lookup (is_at (nat_cmp number)) entries ≡ None
 none-at number entries place order gap = lookup_at_gap nat_cmp_total number entries place order
     (λ j entry below is. sym (nat_cmp_is number entry.0 Greater (let low = gap.parts.0 j entry (omega arith) below in let same = ap (λ (e : ℕ × FaultPlan). e.0) (get_or_from_slice_get entries j entry entry is) in omega arith)))
     (λ entry is. sym (nat_cmp_is number entry.0 Less (let within = slice_get_within entries place entry is in let high = gap.parts.1 place entry (omega arith) within in let same = ap (λ (e : ℕ × FaultPlan). e.0) (get_or_from_slice_get entries place entry entry is) in omega arith)))
 
-pub found-at : (number : ℕ) (entries : Entries) (place : ℕ) (plan : FaultPlan) → AreInOrder entries → slice_get entries place ≡ Some (number, plan)
+pub found-at : (number : ℕ) (entries : Entries) (place : ℕ) (plan : FaultPlan) → DoNumbersRise entries → slice_get entries place ≡ Some (number, plan)
     → lookup (is_at (nat_cmp number)) entries ≡ Some plan
 found-at number entries place plan order is = lookup_from_place (eq_by_cmp_equiv nat_cmp_total) entries place number plan (IsDistinct-from_sorted nat_cmp (keys_of entries) order) is
 
@@ -121,11 +121,11 @@ told number before after plan own others q false is =
 fails-at : (q number : ℕ) → (q == number) ≡ false → is_at (nat_cmp q) number ≡ false
 fails-at q number apart = found_by q number ∙ grind (arith, nat_tests, apart)
 
-pub changed-order : (number : ℕ) (entries : Entries) (place : ℕ) (plan next : FaultPlan) → AreInOrder entries → slice_get entries place ≡ Some (number, plan)
-    → AreInOrder (set entries place (number, next))
+pub changed-order : (number : ℕ) (entries : Entries) (place : ℕ) (plan next : FaultPlan) → DoNumbersRise entries → slice_get entries place ≡ Some (number, plan)
+    → DoNumbersRise (set entries place (number, next))
 changed-order number entries place plan next order is = subst (IsStrictlySortedBy nat_cmp) (sym (numbers-kept entries place (number, next) number plan is refl)) order
 
-pub changed-at : (number : ℕ) (entries : Entries) (place : ℕ) (plan next : FaultPlan) → AreInOrder entries → slice_get entries place ≡ Some (number, plan)
+pub changed-at : (number : ℕ) (entries : Entries) (place : ℕ) (plan next : FaultPlan) → DoNumbersRise entries → slice_get entries place ≡ Some (number, plan)
     → (q : ℕ) → lookup (is_at (nat_cmp q)) (set entries place (number, next)) ≡ (if is_at (nat_cmp number) q then Some next else lookup (is_at (nat_cmp q)) entries)
 changed-at number entries place plan next order is q =
     let changed = set entries place (number, next) in
@@ -137,7 +137,7 @@ changed-at number entries place plan next order is q =
 
 -- ---- one plan more
 
-steeply : (entries : Entries) → AreInOrder entries → (i j : ℕ) (d : ℕ × FaultPlan) → i < j → j < length entries → (get_or entries i d).0 < (get_or entries j d).0
+steeply : (entries : Entries) → DoNumbersRise entries → (i j : ℕ) (d : ℕ × FaultPlan) → i < j → j < length entries → (get_or entries i d).0 < (get_or entries j d).0
 steeply entries order i j d less below =
     let keys : length (keys_of entries) ≡ length entries = length-keys_of entries in
     let first = get_or-map (λ (entry : ℕ × FaultPlan). entry.0) entries i d d.0 (omega arith) in
@@ -145,7 +145,7 @@ steeply entries order i j d less below =
     let up : get_or (keys_of entries) i d.0 < get_or (keys_of entries) j d.0 = below_from_sorted (keys_of entries) i j d.0 order less (omega arith) in
     omega arith
 
-inserted-rises : (number : ℕ) (entries : Entries) (place : ℕ) (plan : FaultPlan) → AreInOrder entries → IsGapFor number entries place
+inserted-rises : (number : ℕ) (entries : Entries) (place : ℕ) (plan : FaultPlan) → DoNumbersRise entries → IsGapFor number entries place
     → (k : ℕ) (d : ℕ × FaultPlan) → k < length entries → (get_or (insert entries place (number, plan)) k d).0 < (get_or (insert entries place (number, plan)) (k + 1) d).0
 inserted-rises number entries place plan order gap k d below =
     let entry : ℕ × FaultPlan = (number, plan) in
@@ -182,7 +182,7 @@ inserted-rises number entries place plan order gap k d below =
     (cases_lt k place))
     (cases_lt (k + 1) place)
 
-pub inserted-order : (number : ℕ) (entries : Entries) (place : ℕ) (plan : FaultPlan) → AreInOrder entries → IsGapFor number entries place → AreInOrder (insert entries place (number, plan))
+pub inserted-order : (number : ℕ) (entries : Entries) (place : ℕ) (plan : FaultPlan) → DoNumbersRise entries → IsGapFor number entries place → DoNumbersRise (insert entries place (number, plan))
 inserted-order number entries place plan order gap =
     let more = insert entries place (number, plan) in
     let long : length more ≡ length entries + 1 = length-insert entries place (number, plan) gap.bound in
@@ -199,7 +199,7 @@ behind-others test entries zero entry fails = lookup_tail test entry entries fai
 behind-others test [] (suc place) entry fails = lookup_tail test entry [] fails
 behind-others test (first ∷ entries) (suc place) entry fails = ap (λ later. cond (test first.0) (Some first.1) later) (behind-others test entries place entry fails)
 
-pub inserted-at : (number : ℕ) (entries : Entries) (place : ℕ) (plan : FaultPlan) → AreInOrder entries → IsGapFor number entries place
+pub inserted-at : (number : ℕ) (entries : Entries) (place : ℕ) (plan : FaultPlan) → DoNumbersRise entries → IsGapFor number entries place
     → (q : ℕ) → lookup (is_at (nat_cmp q)) (insert entries place (number, plan)) ≡ (if is_at (nat_cmp number) q then Some plan else lookup (is_at (nat_cmp q)) entries)
 inserted-at number entries place plan order gap q =
     let more = insert entries place (number, plan) in

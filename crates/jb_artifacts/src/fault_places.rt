@@ -1,13 +1,13 @@
 //! Where a record's plan stands among others.
 
 ghost use Rattle.std.specs.Prelude.{IsTrue};
-ghost use Rattle.jb_artifacts.specs.inside.FaultPlaces.{AreInOrder, IsPlaceOf, IsSearched};
+ghost use Rattle.jb_artifacts.specs.inside.FaultPlaces.{DoNumbersRise, IsPlaceOf, IsSearched};
 
 use crate::faults::FaultPlan;
 
 /// Whether the entries before this place have smaller numbers, and no other has.
 fn is_place_of(number: u64, entries: &[(u64, FaultPlan)], place: usize) -> bool
-    requires { AreInOrder entries.now }
+    requires { DoNumbersRise entries.now }
     ensures { IsTrue result → IsPlaceOf number entries.now place }
 {
     if place > entries.len() {
@@ -21,7 +21,7 @@ fn is_place_of(number: u64, entries: &[(u64, FaultPlan)], place: usize) -> bool
 
 /// The place before which the entries have smaller numbers. It is looked for at `near` and behind it first, and then among all.
 fn place_of(number: u64, entries: &[(u64, FaultPlan)], near: usize) -> usize
-    requires { AreInOrder entries.now }
+    requires { DoNumbersRise entries.now }
     ensures { IsPlaceOf number entries.now result }
 {
     if is_place_of(number, entries, near) {
@@ -35,7 +35,7 @@ fn place_of(number: u64, entries: &[(u64, FaultPlan)], near: usize) -> usize
 
 /// The place of the record's plan, or where it would stand. It is looked for at `near` and behind it first, and then among all.
 pub fn search(number: u64, entries: &[(u64, FaultPlan)], near: usize) -> Result<usize, usize>
-    requires { AreInOrder entries.now }
+    requires { DoNumbersRise entries.now }
     ensures { IsSearched number entries.now result }
 {
     let place = place_of(number, entries, near);

@@ -23,13 +23,13 @@ pub struct FaultPlans {
 impl Model for FaultPlans {
     ghost use Rattle.std.specs.Prelude.{ℕ, List};
     ghost use Rattle.jb_artifacts.specs.declared.faults.FaultPlan.{FaultPlan};
-    ghost use Rattle.jb_artifacts.specs.inside.FaultPlaces.{AreInOrder};
+    ghost use Rattle.jb_artifacts.specs.inside.FaultPlaces.{DoNumbersRise};
 
     ghost Value = { List (ℕ × FaultPlan) };
 
     ghost view = { λ plans. plans.table.items };
 
-    ghost invariant = { λ plans. AreInOrder plans.table.items };
+    ghost invariant = { λ plans. DoNumbersRise plans.table.items };
 }
 
 impl FaultPlans {

@@ -1,7 +1,7 @@
 //! The artifacts of a chunk step: what reads, processes, writes and reports on the records of a partition.
 //!
 //! - `interfaces`: what an item reader, an item processor, an item writer and a collector answer.
-//! - `artifacts`, `artifacts_of`: the four of a partition together, in boxes and without.
+//! - `artifacts`: the four of a partition together, of known types or in boxes; `boxes`: an artifact in a box is one.
 //! - `item`, `view`: what is read and written, and what a collector sees.
 //! - `lending_reader`, `packing_processor`, `packed_writer`, `packed_results`: the same interfaces, with no copy and no
 //!   allocation for a record; `packed_artifacts`: the four of a partition that have them.
@@ -10,7 +10,7 @@
 #![tactic(auto)]
 
 mod artifacts;
-mod artifacts_of;
+mod boxes;
 mod count_collector;
 mod fault_places;
 mod fault_plans;
@@ -27,8 +27,7 @@ mod prefix_processor;
 mod table_reader;
 mod view;
 
-pub use artifacts::{Artifacts, Meaning, row_is_served};
-pub use artifacts_of::ArtifactsOf;
+pub use artifacts::{Artifacts, ArtifactsOf, Meaning, fits_row};
 pub use count_collector::CountCollector;
 pub use fault_plans::FaultPlans;
 pub use faults::{FaultList, FaultPlan};

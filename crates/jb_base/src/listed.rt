@@ -17,7 +17,7 @@ impl<T> Model for Listed<T> {
 }
 
 impl<T> Listed<T> {
-    ghost use Rattle.std.specs.Prelude.{◌≡◌, length};
+    ghost use Rattle.std.specs.Prelude.{◌≡◌};
 
     /// The list of these items, whose memory it keeps.
     pub fn new(items: Vec<T>) -> Listed<T>

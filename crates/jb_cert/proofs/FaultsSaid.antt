@@ -6,7 +6,7 @@ use Rattle.std.proofs.lemmas.List.{get_or-take, get_or_default}
 use Rattle.jb_cert.specs.declared.plans.Slot.{Slot}
 use Rattle.jb_cert.specs.declared.plans.PlanFault.{PlanFault}
 use Rattle.jb_cert.specs.declared.plans.PlanFault.TheVariants.{LaneRange, TwiceInRound, OutOfOrder, Missing, Stranger}
-use Rattle.jb_cert.specs.Faults.{slots_in_all, has_lane, is_known, collides, missing_fault}
+use Rattle.jb_cert.specs.Faults.{slots_in_all, has_lane, is_chunk_of, collides, missing_fault}
 use Rattle.jb_cert.specs.WrongPlans.{IsSlotOf, HasLaneOutOfRange, HasStranger, Repeats, HasTwiceInRound, HasOutOfOrder, HasMissing, FirstFaultSays}
 use Rattle.jb_cert.specs.inside.Walk.{fault_here, first_of_two, fault_in_round, fault_after, found_fault}
 use Rattle.jb_cert.proofs.Judged.{no_slot, by_tests, nothing_missing}
@@ -175,12 +175,12 @@ module _ (counts : List ℕ) (threads : ℕ) (rounds : List (List Slot)) (f : Pl
 
   pub says_lane_range : f ≡ LaneRange → HasLaneOutOfRange threads rounds
   says_lane_range is =
-      let test = lane_test (has_lane threads slot) (is_known counts slot) (list_any (collides slot) (take at.i round)) (eqb slot.chunk (slots_in_all slot.partition (take at.r rounds))) (at.is ∙ ap Some is) in
+      let test = lane_test (has_lane threads slot) (is_chunk_of counts slot) (list_any (collides slot) (take at.i round)) (eqb slot.chunk (slots_in_all slot.partition (take at.r rounds))) (at.is ∙ ap Some is) in
       (slot, is_slot, ltb-false slot.lane threads test)
 
   pub says_stranger : f ≡ Stranger → HasStranger counts rounds
   says_stranger is =
-      let test = known_test (has_lane threads slot) (is_known counts slot) (list_any (collides slot) (take at.i round)) (eqb slot.chunk (slots_in_all slot.partition (take at.r rounds))) (at.is ∙ ap Some is) in (
+      let test = known_test (has_lane threads slot) (is_chunk_of counts slot) (list_any (collides slot) (take at.i round)) (eqb slot.chunk (slots_in_all slot.partition (take at.r rounds))) (at.is ∙ ap Some is) in (
         slot,
         is_slot,
         λ has.
@@ -202,7 +202,7 @@ module _ (counts : List ℕ) (threads : ℕ) (rounds : List (List Slot)) (f : Pl
 
   pub says_twice : f ≡ TwiceInRound → HasTwiceInRound rounds
   says_twice is =
-      let test = twice_test (has_lane threads slot) (is_known counts slot) (list_any (collides slot) (take at.i round)) (eqb slot.chunk (slots_in_all slot.partition (take at.r rounds))) (at.is ∙ ap Some is) in
+      let test = twice_test (has_lane threads slot) (is_chunk_of counts slot) (list_any (collides slot) (take at.i round)) (eqb slot.chunk (slots_in_all slot.partition (take at.r rounds))) (at.is ∙ ap Some is) in
       let other = collided slot (take at.i round) test in
       let before : other.0 < at.i = omega (arith, other.1, length-take-le at.i round (omega (arith, at.within))) in
       let there : Slot = get_or (take at.i round) other.0 no_slot in (
@@ -217,7 +217,7 @@ module _ (counts : List ℕ) (threads : ℕ) (rounds : List (List Slot)) (f : Pl
   pub says_out_of_order : f ≡ OutOfOrder → HasOutOfOrder rounds
   says_out_of_order is =
       let ran : ℕ = slots_in_all slot.partition (take at.r rounds) in
-      let test = next_test (has_lane threads slot) (is_known counts slot) (list_any (collides slot) (take at.i round)) (eqb slot.chunk ran) (at.is ∙ ap Some is) in
+      let test = next_test (has_lane threads slot) (is_chunk_of counts slot) (list_any (collides slot) (take at.i round)) (eqb slot.chunk ran) (at.is ∙ ap Some is) in
       let inside : at.r ≤ length rounds = omega (arith, at.round) in
       let stands = stands_from_slot rounds at.r at.i at.round at.within in (
         at.r,

@@ -9,7 +9,7 @@ use Rattle.std.proofs.lemmas.List.FromFn.{length-range_with_len}
 use Rattle.jb_cert.specs.declared.plans.Slot.{Slot}
 use Rattle.jb_cert.specs.declared.plans.PlanFault.{PlanFault}
 use Rattle.jb_cert.specs.declared.plans.PlanFault.TheVariants.{LaneRange, TwiceInRound, OutOfOrder, Missing, Stranger}
-use Rattle.jb_cert.specs.Faults.{slots_of, slots_in_all, has_lane, is_known, collides, missing_fault}
+use Rattle.jb_cert.specs.Faults.{slots_of, slots_in_all, has_lane, is_chunk_of, collides, missing_fault}
 use Rattle.jb_cert.specs.inside.Walk.{fault_here, first_of_two, fault_in_round, fault_after, found_fault}
 use Rattle.jb_cert.proofs.Sets.{get_or-range}
 
@@ -32,14 +32,14 @@ by_tests-same true false twice chunk f g same = refl
 by_tests-same true true true chunk f g same = refl
 by_tests-same true true false chunk f g same = ap (λ n. by_tests true true false (eqb chunk n)) (same refl refl)
 
-pub fault_here-same : (counts : List ℕ) (threads : ℕ) (f g : ℕ → ℕ) (here : List Slot) (slot : Slot) → (is_known counts slot ≡ true → list_any (collides slot) here ≡ false → f slot.partition ≡ g slot.partition) → fault_here counts threads f here slot ≡ fault_here counts threads g here slot
+pub fault_here-same : (counts : List ℕ) (threads : ℕ) (f g : ℕ → ℕ) (here : List Slot) (slot : Slot) → (is_chunk_of counts slot ≡ true → list_any (collides slot) here ≡ false → f slot.partition ≡ g slot.partition) → fault_here counts threads f here slot ≡ fault_here counts threads g here slot
 fault_here-same counts threads f g here slot same =
-    by_tests-same (has_lane threads slot) (is_known counts slot) (list_any (collides slot) here) slot.chunk (f slot.partition) (g slot.partition) same
+    by_tests-same (has_lane threads slot) (is_chunk_of counts slot) (list_any (collides slot) here) slot.chunk (f slot.partition) (g slot.partition) same
 
 known_partition : (a n c k : ℕ) → (ltb a n && ltb c k) ≡ true → (a < n) × (c < k)
 known_partition a n c k is = (grind (arith, nat_tests), grind (arith, nat_tests))
 
-pub known_parts : (counts : List ℕ) (slot : Slot) → is_known counts slot ≡ true → (slot.partition < length counts) × (slot.chunk < slice_index counts slot.partition)
+pub known_parts : (counts : List ℕ) (slot : Slot) → is_chunk_of counts slot ≡ true → (slot.partition < length counts) × (slot.chunk < slice_index counts slot.partition)
 known_parts counts slot is = known_partition slot.partition (length counts) slot.chunk (slice_index counts slot.partition) is
 
 pub fault_in_round-same : (counts : List ℕ) (threads : ℕ) (f g : ℕ → ℕ) → ((p : ℕ) → p < length counts → f p ≡ g p) → (here rest : List Slot) → fault_in_round counts threads f here rest ≡ fault_in_round counts threads g here rest

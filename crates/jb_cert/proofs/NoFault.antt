@@ -6,7 +6,7 @@ use Rattle.std.proofs.lemmas.Bool.Decides.{nat_tests}
 use Rattle.jb_cert.specs.declared.plans.Slot.{Slot}
 use Rattle.jb_cert.specs.declared.plans.PlanFault.{PlanFault}
 use Rattle.jb_cert.specs.declared.plans.PlanFault.TheVariants.{Missing}
-use Rattle.jb_cert.specs.Faults.{slots_in_all, has_lane, is_known, collides, missing_fault}
+use Rattle.jb_cert.specs.Faults.{slots_in_all, has_lane, is_chunk_of, collides, missing_fault}
 use Rattle.jb_cert.specs.inside.Walk.{fault_here, first_of_two, fault_in_round, fault_after, found_fault}
 use Rattle.jb_cert.proofs.Judged.{at_range, by_tests, known_parts, nothing_missing}
 
@@ -55,7 +55,7 @@ known_both a n c k p q = grind (arith, nat_tests)
 
 good_from_none : (counts : List ℕ) (threads : ℕ) (ran : ℕ → ℕ) (here : List Slot) (slot : Slot) → fault_here counts threads ran here slot ≡ None → IsGood counts threads (ran slot.partition) here slot
 good_from_none counts threads ran here slot is =
-    let passed = tests_none (has_lane threads slot) (is_known counts slot) (list_any (collides slot) here) (eqb slot.chunk (ran slot.partition)) is in
+    let passed = tests_none (has_lane threads slot) (is_chunk_of counts slot) (list_any (collides slot) here) (eqb slot.chunk (ran slot.partition)) is in
     let known = known_parts counts slot passed.1 in
     record {
       lane = ltb-true slot.lane threads passed.0;
@@ -67,7 +67,7 @@ good_from_none counts threads ran here slot is =
 
 none_from_good : (counts : List ℕ) (threads : ℕ) (ran : ℕ → ℕ) (here : List Slot) (slot : Slot) → IsGood counts threads (ran slot.partition) here slot → fault_here counts threads ran here slot ≡ None
 none_from_good counts threads ran here slot good =
-    none_from_tests (has_lane threads slot) (is_known counts slot) (list_any (collides slot) here) (eqb slot.chunk (ran slot.partition))
+    none_from_tests (has_lane threads slot) (is_chunk_of counts slot) (list_any (collides slot) here) (eqb slot.chunk (ran slot.partition))
     (lt-ltb slot.lane threads good.lane)
     (known_both slot.partition (length counts) slot.chunk (slice_index counts slot.partition) good.partition good.chunk)
     (none_from_apart slot here good.apart)

@@ -25,8 +25,8 @@ abbrev pub has_lane : ℕ → Slot → Bool
 has_lane threads slot = nat_lt slot.lane threads
 
 -- there is such a partition, and it has such a chunk
-abbrev pub is_known : List ℕ → Slot → Bool
-is_known counts slot = nat_lt slot.partition (length counts) && nat_lt slot.chunk (slice_index counts slot.partition)
+abbrev pub is_chunk_of : List ℕ → Slot → Bool
+is_chunk_of counts slot = nat_lt slot.partition (length counts) && nat_lt slot.chunk (slice_index counts slot.partition)
 
 -- two slots of a round share a lane or a partition
 abbrev pub collides : Slot → Slot → Bool
@@ -37,7 +37,7 @@ collides slot other = other.lane == slot.lane || other.partition == slot.partiti
 abbrev pub slot_fault : List ℕ → ℕ → PlacedSlot → Option PlanFault
 slot_fault counts threads placed =
     if not (has_lane threads placed.slot) then Some LaneRange
-    else (if not (is_known counts placed.slot) then Some Stranger
+    else (if not (is_chunk_of counts placed.slot) then Some Stranger
     else (if list_any (collides placed.slot) placed.before then Some TwiceInRound
     else (if placed.slot.chunk == placed.ran then None else Some OutOfOrder)))
 

@@ -6,7 +6,7 @@ use Rattle.jb_cert.specs.Lawful.{NoneIsShorter, IsLeastNumber}
 use Rattle.jb_cert.specs.Certificates.{Holds, certifies, is_least_plan, bound_certificate}
 use Rattle.jb_cert.specs.Plans.{StandsForLeast}
 use Rattle.jb_cert.specs.Rising.{Rise}
-use Rattle.jb_cert.specs.WrapAround.{start_of, partition_at_place, slot_of, lane_slot, slots_of_round, wrapped_rounds}
+use Rattle.jb_cert.specs.WrapAround.{first_place, partition_at_place, slot_of, lane_slot, slots_of_round, wrapped_rounds}
 
 -- THE BOUND
 
@@ -70,5 +70,5 @@ PartitionsRise = (counts : List ℕ) (threads r : ℕ) → Rise (map (λ slot. s
 -- the partition at a place is the one whose chunks lie round it
 abbrev pub PlacesLieRound : Type 0
 PlacesLieRound =
-    (counts : List ℕ) (p x : ℕ) → p < length counts → start_of counts p ≤ x → x < start_of counts p + slice_index counts p
+    (counts : List ℕ) (p x : ℕ) → p < length counts → first_place counts p ≤ x → x < first_place counts p + slice_index counts p
     → partition_at_place counts x ≡ p

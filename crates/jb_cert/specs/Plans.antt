@@ -5,8 +5,8 @@ use Rattle.jb_cert.specs.declared.plans.Plan.{Plan}
 use Rattle.jb_cert.specs.Lawful.{Pair, IsLawful, NoneIsShorter}
 
 -- the rounds of a plan, each the list of its slots
-abbrev pub rounds_of : Plan → List (List Slot)
-rounds_of plan = map (λ round. round.items) plan.rounds.items
+abbrev pub plan_rounds : Plan → List (List Slot)
+plan_rounds plan = map (λ round. round.items) plan.rounds.items
 
 -- the slot without its lane
 abbrev pub slot_pair : Slot → Pair

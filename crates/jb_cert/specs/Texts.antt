@@ -10,10 +10,10 @@ certificate_text Nothing = codes "Nothing"
 certificate_text (Longest p) = codes "Longest(" ++ (decimal p ++ codes ")")
 certificate_text FullLoad = codes "FullLoad"
 
-abbrev pub fault_text : PlanFault → List ℕ
-fault_text LaneRange = codes "LaneRange"
-fault_text TwiceInRound = codes "TwiceInRound"
-fault_text OutOfOrder = codes "OutOfOrder"
-fault_text Missing = codes "Missing"
-fault_text Stranger = codes "Stranger"
-fault_text Memory = codes "no memory"
+abbrev pub plan_fault_text : PlanFault → List ℕ
+plan_fault_text LaneRange = codes "LaneRange"
+plan_fault_text TwiceInRound = codes "TwiceInRound"
+plan_fault_text OutOfOrder = codes "OutOfOrder"
+plan_fault_text Missing = codes "Missing"
+plan_fault_text Stranger = codes "Stranger"
+plan_fault_text Memory = codes "no memory"

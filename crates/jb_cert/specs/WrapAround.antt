@@ -7,10 +7,10 @@ use Rattle.jb_cert.specs.Load.{mcnaughton}
 use Rattle.jb_cert.specs.Lawful.{Pair}
 
 -- how many chunks lie before those of partition p: the place of its first one
-abbrev pub start_of : List ℕ → ℕ → ℕ
-start_of counts p = sum (take p counts)
+abbrev pub first_place : List ℕ → ℕ → ℕ
+first_place counts p = sum (take p counts)
 
--- the partition whose chunks lie round place x: start_of counts p ≤ x < start_of counts p + count of p
+-- the partition whose chunks lie round place x: first_place counts p ≤ x < first_place counts p + count of p
 abbrev pub partition_at_place : List ℕ → ℕ → ℕ
 partition_at_place [] x = 0
 partition_at_place (n ∷ ns) x = if nat_lt x n then 0 else suc (partition_at_place ns (x - n))
@@ -29,7 +29,7 @@ chunk_at_place rounds start n x =
 abbrev pub pair_at_place : List ℕ → ℕ → ℕ → Pair
 pair_at_place counts rounds x =
     let p = partition_at_place counts x in
-    (p, chunk_at_place rounds (start_of counts p) (slice_index counts p) x)
+    (p, chunk_at_place rounds (first_place counts p) (slice_index counts p) x)
 
 -- what lane l has at round r: place l * rounds + r of the row
 abbrev pub slot_of : List ℕ → ℕ → ℕ → ℕ → Option Pair

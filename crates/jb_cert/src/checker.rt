@@ -1,8 +1,8 @@
 //! The test of a whole plan.
-ghost use Rattle.std.specs.Prelude.{◌≡◌, ℕ, ◌+◌, ◌<◌, ◌≤◌, ◌⊎◌, [], length, slice_index, IfErr, IfNone, OnOk};
+ghost use Rattle.std.specs.Prelude.{◌≡◌, ℕ, ◌+◌, ◌<◌, ◌⊎◌, [], length, slice_index, IfErr, IfNone, OnOk};
 ghost use Rattle.std.specs.List.{list_any};
 ghost use Rattle.jb_cert.specs.Load.{IsWithinLimits};
-ghost use Rattle.jb_cert.specs.Plans.{StandsForLawful, rounds_of};
+ghost use Rattle.jb_cert.specs.Plans.{StandsForLawful, plan_rounds};
 ghost use Rattle.jb_cert.specs.Faults.{collides, first_plan_fault, missing_fault, slots_of};
 ghost use Rattle.jb_cert.specs.inside.Walk.{fault_here, fault_in_round, found_fault};
 
@@ -16,11 +16,11 @@ use std::alloc::Global;
 /// round is `Missing`.
 pub fn check_plan(alloc: Global, counts: &[u64], threads: u32, plan: &Plan) -> Result<(), PlanFault>
     requires { IsWithinLimits counts.now threads }
-    ensures lawful { OnOk result (StandsForLawful counts.now threads (rounds_of plan.now)) }
+    ensures lawful { OnOk result (StandsForLawful counts.now threads (plan_rounds plan.now)) }
     ensures unlawful { IfErr result (λ fault. (fault ≡ PlanFault.Memory)
-        ⊎ (StandsForLawful counts.now threads (rounds_of plan.now) → ⊥)) }
+        ⊎ (StandsForLawful counts.now threads (plan_rounds plan.now) → ⊥)) }
     ensures first { IfErr result (λ fault. (fault ≡ PlanFault.Memory)
-        ⊎ (first_plan_fault counts.now threads (rounds_of plan.now) ≡ Some fault)) }
+        ⊎ (first_plan_fault counts.now threads (plan_rounds plan.now) ≡ Some fault)) }
 {
     let Ok(mut ran) = vec![in alloc; 0u64; counts.len()] else {
         return Err(PlanFault::Memory);
@@ -35,7 +35,7 @@ pub fn check_plan(alloc: Global, counts: &[u64], threads: u32, plan: &Plan) -> R
 fn plan_fault(counts: &[u64], threads: u32, plan: &Plan, ran: &mut [u64]) -> Option<PlanFault>
     requires long { length ran.old ≡ length counts.now }
     requires none { (p : ℕ) → p < length counts.now → slice_index ran.old p ≡ 0 }
-    ensures { result ≡ found_fault counts.now threads (rounds_of plan.now) }
+    ensures { result ≡ found_fault counts.now threads (plan_rounds plan.now) }
 {
     for round in &plan.rounds {
         if let Some(fault) = round_fault(counts, threads, round, ran) {

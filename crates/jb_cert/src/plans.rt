@@ -36,9 +36,9 @@ pub enum PlanFault {
 /// The fault's name, or `no memory`.
 impl fmt::Display for PlanFault {
     ghost use Rattle.std.specs.Prelude.{Some};
-    ghost use Rattle.jb_cert.specs.Texts.{fault_text};
+    ghost use Rattle.jb_cert.specs.Texts.{plan_fault_text};
 
-    ghost output = { λ fault. Some (fault_text fault) };
+    ghost output = { λ fault. Some (plan_fault_text fault) };
 
     fn fmt<W: fmt::Write>(&self, f: &mut fmt::Formatter<W>) -> fmt::Result {
         f.write_str(match self {

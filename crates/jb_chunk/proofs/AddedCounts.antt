@@ -1,73 +1,70 @@
 -- What a committed chunk adds to the counts.
 use Rattle.std.proofs.Common.{◌≡◌, ℕ, ◌-◌, ◌≤◌, inl, inr, Bool, true, false, not, cond, List, [], ◌∷◌, length, Option, Some, None, refl, ap, subst, arith}
-use Rattle.std.specs.Prelude.{◌==◌, ⊤}
-use Rattle.std.specs.List.{range_with_len, find}
+use Rattle.std.specs.List.{range_with_len, find, take_while}
 use Rattle.jb_base.specs.declared.class.ClassId.{ClassId}
 use Rattle.jb_base.specs.Rules.{RulesRecord}
 use Rattle.jb_rules.specs.declared.choice.Choice.{Choice}
 use Rattle.jb_rules.specs.declared.choice.Choice.TheVariants.{Skip, Retry, Again, Fail}
-use Rattle.jb_rules.specs.declared.counts.Counts.{Counts}
 use Rattle.jb_rules.specs.declared.row.Row.{Row}
 use Rattle.jb_rules.specs.Counts.{IsDelta}
-use Rattle.jb_artifacts.specs.Writer.{Writer, Numbered, write_fault}
+use Rattle.jb_artifacts.specs.Faults.{is_live}
+use Rattle.jb_artifacts.specs.Writer.{Writer, Numbered, texts_of, write_fault, after_write}
 use Rattle.jb_artifacts.specs.Meaning.{ArtifactsMeaning}
-use Rattle.jb_chunk.specs.declared.chunk_end.ChunkEnd.{ChunkEnd}
-use Rattle.jb_chunk.specs.declared.chunk_end.ChunkEnd.TheVariants.{Committed, Rolled, Failed}
-use Rattle.jb_chunk.specs.Attempt.{block_of, counts_of, end_of, end_at, end_by, fault_at, skips_at, settled_at, results_of}
+use Rattle.jb_chunk.specs.declared.outcome.Outcome.{Outcome}
+use Rattle.jb_chunk.specs.Attempt.{block_of, counts_of, end_of, end_at, end_by, fault_at, skips_at, settled_at, results_of, row_after, work_used}
 use Rattle.jb_chunk.specs.Standing.{TaskState}
 use Rattle.jb_chunk.specs.Block.{entry, settles, settling, stops, skips_before, choice_at, is_skip}
 use Rattle.jb_chunk.specs.Entries.{fault_in}
-use Rattle.jb_chunk.proofs.RecordCounts.{all-counted}
+use Rattle.jb_chunk.specs.inside.TriedChunk.{HasDelta}
+use Rattle.jb_chunk.proofs.RecordCounts.{few-counted}
+use Rattle.jb_chunk.proofs.WrittenResults.{whole-long, front-longer}
 
--- the results that are written where the chunk is committed with these counts
-abbrev pub kept_results : TaskState → Counts → Numbered
-kept_results t delta = cond (delta.write_skip == 0) (results_of t) []
-
--- as many results are written as the counts say, and the counts are those of the chunk's records
-abbrev pub IsAdded : TaskState → ChunkEnd → Type 0
-IsAdded t (Committed delta) =
-    (length (kept_results t delta) ≡ delta.write)
-    × (t.row.at ≤ (block_of t).hi → IsDelta ((block_of t).hi - t.row.at) delta)
-IsAdded t (Rolled class) = ⊤
-IsAdded t (Failed class) = ⊤
+-- a chunk ended so that has as many results behind its checkpoint as its row says, of so many that are written; and what it
+-- adds to the counts is what its records may
+abbrev pub IsAdded : TaskState → (written : ℕ) → Outcome → Type 0
+IsAdded t written e =
+    ((row_after t.row (block_of t).hi e).written ≤ written)
+    × (t.row.at ≤ (block_of t).hi → HasDelta ((block_of t).hi - t.row.at) e)
 
 -- EACH RECORD IS COUNTED
 
 written-delta : (t : TaskState) → t.row.at ≤ (block_of t).hi → IsDelta ((block_of t).hi - t.row.at) (counts_of t (length (results_of t)) 0)
 written-delta t le =
-    let counted = all-counted t.work t.row.at (block_of t).hi le in
-    record { passed = omega (arith, counted); commit = refl; rollback = refl; results = inl (refl, omega (arith, counted)) }
+    let few = few-counted t.work t.row.at (block_of t).hi le in
+    let reads = few.reads in
+    let all = few.all in
+    record { passed = omega (arith, reads, all); commit = refl; rollback = refl; results = inl (refl, omega (arith, reads, all)) }
 
 unwritten-delta : (t : TaskState) → 1 ≤ length (results_of t) → t.row.at ≤ (block_of t).hi → IsDelta ((block_of t).hi - t.row.at) (counts_of t 0 1)
 unwritten-delta t some le =
-    let counted = all-counted t.work t.row.at (block_of t).hi le in
-    record { passed = omega (arith, counted); commit = refl; rollback = refl; results = inr (refl, refl, omega (arith, counted, some)) }
+    let few = few-counted t.work t.row.at (block_of t).hi le in
+    let reads = few.reads in
+    let all = few.all in
+    record { passed = omega (arith, reads, all); commit = refl; rollback = refl; results = inr (refl, refl, omega (arith, reads, all, some)) }
 
--- A SKIPPED WRITE CALL HAD RESULTS
+-- a fault ends the chunk; where it is skipped, the write call had results
+added-choice : (t : TaskState) (written : ℕ) (class : ClassId) (choice : Choice) → t.row.written ≤ written → (is_skip choice ≡ true → 1 ≤ length (results_of t)) → IsAdded t written (end_by (counts_of t 0 1) class choice)
+added-choice t written class Skip le some = (omega (arith, le), unwritten-delta t (some refl))
+added-choice t written class Retry le some = (le, λ _. tt)
+added-choice t written class Again le some = (le, λ _. tt)
+added-choice t written class Fail le some = (le, λ _. tt)
 
-added-unskipped : (t : TaskState) (skipped : Counts) (class : ClassId) (choice : Choice) → not (is_skip choice) ≡ true → IsAdded t (end_by skipped class choice)
-added-unskipped t skipped class Skip e = absurd cc
-added-unskipped t skipped class Retry e = tt
-added-unskipped t skipped class Again e = tt
-added-unskipped t skipped class Fail e = tt
+skipped-none : (b : Bool) (n : ℕ) → not b ≡ true → b ≡ true → 1 ≤ n
+skipped-none b n e is = absurd cc
 
-added-stopped : (t : TaskState) (fault : Option ClassId) (skips : ℕ) → stops t.rules t.row fault skips ≡ true → IsAdded t (end_at t fault skips)
-added-stopped t None skips e = absurd cc
-added-stopped t (Some class) skips e = added-unskipped t (counts_of t 0 1) class (choice_at t.rules t.row class skips) e
-
-added-choice : (t : TaskState) (class : ClassId) (choice : Choice) → 1 ≤ length (results_of t) → IsAdded t (end_by (counts_of t 0 1) class choice)
-added-choice t class Skip some = (refl, λ le. unwritten-delta t some le)
-added-choice t class Retry some = tt
-added-choice t class Again some = tt
-added-choice t class Fail some = tt
+added-stopped : (t : TaskState) (written : ℕ) (fault : Option ClassId) (skips : ℕ) → t.row.written ≤ written → stops t.rules t.row fault skips ≡ true → IsAdded t written (end_at t fault skips)
+added-stopped t written None skips le e = absurd cc
+added-stopped t written (Some class) skips le e = let choice = choice_at t.rules t.row class skips in added-choice t written class choice le (skipped-none (is_skip choice) _ e)
 
 some-written : (w : Writer) (found : Numbered) (class : ClassId) → write_fault w found ≡ Some class → 1 ≤ length found
 some-written w [] class e = absurd cc
 some-written w (x ∷ xs) class e = omega arith
 
-added-written : (t : TaskState) (fault : Option ClassId) (skips : ℕ) → write_fault t.work.writer (results_of t) ≡ fault → IsAdded t (end_at t fault skips)
-added-written t None skips e = (refl, λ le. written-delta t le)
-added-written t (Some class) skips e = added-choice t class (choice_at t.rules t.row class skips) (some-written t.work.writer (results_of t) class e)
+added-written : (t : TaskState) (fault : Option ClassId) (skips : ℕ) → length t.work.writer.written ≡ t.row.written → write_fault t.work.writer (results_of t) ≡ fault → IsAdded t (length (after_write t.work.writer (results_of t)).written) (end_at t fault skips)
+added-written t None skips count e = let long = whole-long t.work.writer (results_of t) e in (omega (arith, count, long), written-delta t)
+added-written t (Some class) skips count e =
+    let longer = front-longer t.work.writer.written (texts_of (take_while (λ r. not (is_live t.work.writer.faults r.0)) (results_of t))) in
+    added-choice t _ class (choice_at t.rules t.row class skips) (omega (arith, count, longer)) (λ _. some-written t.work.writer (results_of t) class e)
 
 abbrev value_or : ℕ → Option ℕ → ℕ
 value_or n None = n
@@ -87,10 +84,11 @@ pub settling-stops : (rules : RulesRecord) (row : Row) (w : ArtifactsMeaning) (h
 unfolding settling settles
 settling-stops rules row w hi k e = found-passes (settles rules row w) (range_with_len row.at (hi - row.at)) k e
 
-added-after : (t : TaskState) (o : Option ℕ) → settled_at t ≡ o → IsAdded t (end_at t (fault_at t o) (skips_at t o))
-added-after t None at = added-written t (fault_at t None) (skips_at t None) refl
-added-after t (Some k) at = added-stopped t (fault_at t (Some k)) (skips_at t (Some k)) (settling-stops t.rules t.row t.work (block_of t).hi k at)
+added-after : (t : TaskState) (o : Option ℕ) → length t.work.writer.written ≡ t.row.written → settled_at t ≡ o → IsAdded t (length (work_used t o).writer.written) (end_at t (fault_at t o) (skips_at t o))
+unfolding work_used
+added-after t None count at = added-written t (fault_at t None) (skips_at t None) count refl
+added-after t (Some k) count at = added-stopped t _ (fault_at t (Some k)) (skips_at t (Some k)) (omega (arith, count)) (settling-stops t.rules t.row t.work (block_of t).hi k at)
 
-pub end-added : (t : TaskState) → IsAdded t (end_of t)
+pub end-added : (t : TaskState) → length t.work.writer.written ≡ t.row.written → IsAdded t (length (work_used t (settled_at t)).writer.written) (end_of t)
 unfolding end_of
-end-added t = added-after t (settled_at t) refl
+end-added t count = added-after t (settled_at t) count refl

@@ -50,6 +50,10 @@ after_repeats-in_place t = ap (λ (r : Row). r.in_place) (after_repeats-row t)
 pub after_repeats-work : (t : TaskState) → IsRestored t.row.at (block_of t).hi t.work (after_repeats t).work
 after_repeats-work t = (after_repeats-repeated t).work
 
+-- as many results are written as its row says
+pub repeats-count : (t : TaskState) → length t.work.writer.written ≡ t.row.written → length (after_repeats t).work.writer.written ≡ (after_repeats t).row.written
+repeats-count t count = ap (λ (r : Writer). length r.written) (after_repeats-work t).writer ∙ count ∙ sym (ap (λ (x : Row). x.written) (after_repeats-row t))
+
 pub after_repeats-ready-by : (t : TaskState) → IsReady t → IsSoundRow (after_repeats t).row → IsReady (after_repeats t)
 after_repeats-ready-by t ready sound =
     let restored = after_repeats-work t in

@@ -1,120 +1,102 @@
 -- What an attempt leaves.
-use Rattle.std.proofs.Common.{◌≡◌, ℕ, ◌+◌, ◌≤◌, ◌++◌, List, length, length-append, take, take_all, refl, ap, sym, ◌∙◌, subst, arith, Option, Some, None}
+use Rattle.std.proofs.Common.{◌≡◌, ℕ, ◌≤◌, List, length, length-append, length-take, refl, ap, sym, ◌∙◌, subst, arith, Option, Some, None}
+use Rattle.std.proofs.lemmas.List.{length-take-le}
 use Rattle.jb_rules.specs.Sound.{IsSoundRow}
 use Rattle.jb_rules.specs.declared.row.Row.{Row}
-use Rattle.jb_artifacts.specs.Reader.{reader_end, opened}
-use Rattle.jb_artifacts.specs.Writer.{Numbered, texts_of, failing}
+use Rattle.jb_artifacts.specs.Reader.{reader_end}
+use Rattle.jb_artifacts.specs.Writer.{failing}
 use Rattle.jb_artifacts.specs.Meaning.{ArtifactsMeaning}
-use Rattle.jb_chunk.specs.declared.chunk_end.ChunkEnd.{ChunkEnd}
-use Rattle.jb_chunk.specs.declared.chunk_end.ChunkEnd.TheVariants.{Committed, Rolled, Failed}
-use Rattle.jb_chunk.specs.Attempt.{after_repeats, block_of, results_of, settled_at, work_left, IsRestored, again_of, ending_of, ending_by, attempt_of}
-use Rattle.jb_chunk.specs.inside.ChunkEnds.{place_by, kept_by, row_with, work_by, after_end, values_with, outcome_with}
+use Rattle.jb_chunk.specs.declared.outcome.Outcome.{Outcome}
+use Rattle.jb_chunk.specs.declared.outcome.Outcome.TheVariants.{Committed, Rolled, Failed, NoMemory}
+use Rattle.jb_chunk.specs.Attempt.{after_repeats, block_of, results_of, settled_at, work_used, row_after, values_of, IsRestored, again_of, ending_of, ending_by, attempt_of}
 use Rattle.jb_chunk.specs.Block.{passed, MayBeUsed}
-use Rattle.jb_chunk.specs.Standing.{TaskState, IsReady}
+use Rattle.jb_chunk.specs.Standing.{TaskState, IsReady, at_checkpoint}
 use Rattle.jb_chunk.specs.inside.TriedChunk.{IsTried}
-use Rattle.jb_artifacts.proofs.Writing.{length-texts}
-use Rattle.jb_chunk.proofs.ChunkEnds.{take-front, front-longer}
-use Rattle.jb_chunk.proofs.AddedCounts.{IsAdded}
-use Rattle.jb_chunk.proofs.WorkLeft.{read_end, write_plans, work_as, left-as}
+use Rattle.jb_chunk.proofs.WrittenResults.{front-kept}
+use Rattle.jb_chunk.proofs.WorkUsed.{read_end, write_plans, more_written, used-as, used-there}
 use Rattle.jb_chunk.proofs.ChunkRepeats.{may-same, may-used_for}
 use Rattle.jb_chunk.proofs.UsedPlans.{worn-passed}
 use Rattle.jb_chunk.proofs.OwnRecords.{read-in, failing-in}
 
-grown : (t : TaskState) (kept : Numbered) (count : ℕ) → length kept ≡ count → IsReady t → length (t.work.writer.written ++ texts_of kept) ≡ t.row.written + count
-grown t kept count more r = let before = r.count in omega (arith, before, more, length-append t.work.writer.written (texts_of kept), length-texts kept)
+-- no end changes the range of a row, or takes a result back
+record IsAfter (row now : Row) : Type 0 where
+  lo : now.lo ≡ row.lo
+  hi : now.hi ≡ row.hi
+  written : row.written ≤ now.written
+
+after-row : (row : Row) (hi : ℕ) (e : Outcome) → IsAfter row (row_after row hi e)
+after-row row hi (Committed delta) = record { lo = refl; hi = refl; written = omega arith }
+after-row row hi (Rolled class) = record { lo = refl; hi = refl; written = omega arith }
+after-row row hi (Failed class) = record { lo = refl; hi = refl; written = omega arith }
+after-row row hi NoMemory = record { lo = refl; hi = refl; written = omega arith }
 
 -- where a chunk ended so, reader and writer stand at the checkpoint of its row
-stands-by : (t : TaskState) (e : ChunkEnd) → IsAdded t e → IsSoundRow (row_with t.row (block_of t).hi e) → IsReady t
-    → IsReady (record (after_end t e) { work = work_as t (settled_at t) (place_by e t.row.at (block_of t).hi) (kept_by e t.work.writer.written (results_of t)) })
-stands-by t (Committed delta) added sound r =
-    let count = grown t _ delta.write added.0 r in
+pub ready-by : (t : TaskState) (again : ℕ) (e : Outcome) → (row_after t.row (block_of t).hi e).written ≤ length (work_used t (settled_at t)).writer.written → IsSoundRow (row_after t.row (block_of t).hi e) → IsReady t → IsReady (ending_by t again e).task
+ready-by t again e kept sound r =
+    let row = after-row t.row (block_of t).hi e in
+    let there = used-there t (settled_at t) in
+    let count = length-take-le (row_after t.row (block_of t).hi e).written (work_used t (settled_at t)).writer.written kept in
     record {
       sound = sound;
       item_counted = r.item_counted;
       retried = r.retried;
-      fits = record { from = r.fits.from; to = r.fits.to; count = omega (arith, count) };
+      fits = record {
+        from = let at = r.fits.from in let first = there.first in let lo = row.lo in omega (arith, at, first, lo);
+        to = let at = r.fits.to in let end = there.end in let hi = row.hi in omega (arith, at, end, hi);
+        count = omega (arith, count);
+      };
       place = refl;
       count = count;
     }
-stands-by t (Rolled class) added sound r = record {
-  sound = sound;
-  item_counted = r.item_counted;
-  retried = r.retried;
-  fits = record { from = r.fits.from; to = r.fits.to; count = omega (arith, r.count) };
-  place = refl;
-  count = r.count;
-}
-stands-by t (Failed class) added sound r = record {
-  sound = sound;
-  item_counted = r.item_counted;
-  retried = r.retried;
-  fits = record { from = r.fits.from; to = r.fits.to; count = omega (arith, r.count) };
-  place = refl;
-  count = r.count;
-}
-
-pub ready-by : (t : TaskState) (e : ChunkEnd) → IsAdded t e → IsSoundRow (row_with t.row (block_of t).hi e) → IsReady t → IsReady (after_end t e)
-ready-by t e added sound r =
-    subst (λ (w : ArtifactsMeaning). IsReady (record (after_end t e) { work = w })) (sym (left-as t _ _)) (stands-by t e added sound r)
-
--- an end leaves the parts that the functions give
-pub parts-of : (t : TaskState) (again : ℕ) (e : ChunkEnd) → ending_by t again e ≡ ending_of (after_end t e) (outcome_with e) (values_with t.work.collector t.partition (row_with t.row (block_of t).hi e) e) again
-parts-of t again (Committed delta) = refl
-parts-of t again (Rolled class) = refl
-parts-of t again (Failed class) = refl
 
 -- a task whose chunk, after all its repeats, was tried to its end was attempted
-pub tried-attempt : (t : TaskState) (end : ChunkEnd) (values : List (List ℕ)) (again : ℕ) (after : TaskState) → let s = after_repeats t in IsTried s end after.work → after ≡ record s { row = after.row; work = after.work } → after.row ≡ row_with s.row (block_of s).hi end → values ≡ values_with s.work.collector s.partition (row_with s.row (block_of s).hi end) end → again ≡ again_of t → ending_of after (outcome_with end) values again ≡ attempt_of t
+pub tried-attempt : (t : TaskState) (end : Outcome) (values : List (List ℕ)) (again : ℕ) (after : TaskState) → let s = after_repeats t in IsTried s end after.work → after ≡ record s { row = after.row; work = after.work } → after.row ≡ row_after s.row (block_of s).hi end → values ≡ values_of s.work.collector s.partition (row_after s.row (block_of s).hi end) end → again ≡ again_of t → ending_of after end values again ≡ attempt_of t
 tried-attempt t end values again after done same row collected is =
     let s = after_repeats t in
-    let left : after ≡ after_end s end = same ∙ (λ i. record s { row = row i; work = done.left i }) in
-    (λ i. ending_of (left i) (outcome_with end) (collected i) (is i)) ∙ sym (parts-of s (again_of t) end) ∙ ap (ending_by s (again_of t)) done.ended
+    let left : after ≡ (ending_by s again end).task = same ∙ (λ i. record s { row = row i; work = done.left i }) in
+    (λ i. ending_of (left i) end (collected i) (is i)) ∙ ap (ending_by s (again_of t)) done.ended
 
 may-write : (t : TaskState) (settled : Option ℕ) → MayBeUsed t.row.at (block_of t).hi t.work.writer.faults (write_plans t settled)
 may-write t (Some k) = may-same t.row.at (block_of t).hi t.work.writer.faults
 may-write t None = may-used_for t.work.writer.faults (failing t.work.writer.faults (results_of t)) t.row.at (block_of t).hi (failing-in t)
 
-cut-kept : (e : ChunkEnd) (old : List (List ℕ)) (found : Numbered) (n : ℕ) → length old ≡ n → take n (kept_by e old found) ≡ old
-cut-kept (Committed delta) old found n h = take-front old _ n h
-cut-kept (Rolled class) old found n h = take_all n old (omega (arith, h))
-cut-kept (Failed class) old found n h = take_all n old (omega (arith, h))
-
--- opened again at the checkpoint
-abbrev pub reopened : Row → ArtifactsMeaning → ArtifactsMeaning
-reopened row w = record w { reader = opened w.reader row.at; writer = record w.writer { written = take row.written w.writer.written } }
-
 -- what an end leaves, opened again at the checkpoint
-pub restored-by : (t : TaskState) (e : ChunkEnd) → IsReady t → IsRestored t.row.at (block_of t).hi t.work (reopened t.row (work_by t e))
-restored-by t e r =
+pub restored-by : (t : TaskState) (again : ℕ) (e : Outcome) → IsReady t → IsRestored t.row.at (block_of t).hi t.work (at_checkpoint t.row (ending_by t again e).task.work)
+restored-by t again e r =
     let s = settled_at t in
     let end = read_end t s in
+    let row = row_after t.row (block_of t).hi e in
     let worn = worn-passed t.work (passed t.work t.row.at end) t.row.at end (block_of t).hi (read-in t s refl) refl in
-    subst (λ (w : ArtifactsMeaning). IsRestored t.row.at (block_of t).hi t.work (reopened t.row w)) (sym (left-as t _ _)) (record {
+    subst (λ (w : ArtifactsMeaning). IsRestored t.row.at (block_of t).hi t.work (at_checkpoint t.row (at_checkpoint row w))) (sym (used-as t s)) (record {
       reader = λ i. record t.work.reader { place = sym r.place i; faults = (passed t.work t.row.at end).reader.faults };
       processor = refl;
-      writer = λ i. record { written = cut-kept e t.work.writer.written (results_of t) t.row.written r.count i; faults = write_plans t s };
+      writer = λ i. record { written = front-kept t.work.writer.written (more_written t s) t.row.written row.written r.count (after-row t.row (block_of t).hi e).written i; faults = write_plans t s };
       collector = refl;
       read_plans = worn.read_plans;
       process_plans = worn.process_plans;
       write_plans = may-write t s;
     })
 
-pub first-by : (t : TaskState) (e : ChunkEnd) (now : ArtifactsMeaning) → now ≡ work_by t e → now.reader.first ≡ t.work.reader.first
-first-by t e now at = ap (λ (v : ArtifactsMeaning). v.reader.first) (at ∙ left-as t _ _)
+-- and it can be opened there
+pub record CanReopen (row : Row) (now : ArtifactsMeaning) : Type 0 where
+  pub from : now.reader.first ≤ row.at
+  pub to : row.at ≤ reader_end now.reader
+  pub count : row.written ≤ length now.writer.written
 
-pub end-by : (t : TaskState) (e : ChunkEnd) (now : ArtifactsMeaning) → now ≡ work_by t e → reader_end now.reader ≡ reader_end t.work.reader
-end-by t e now at = ap (λ (v : ArtifactsMeaning). reader_end v.reader) (at ∙ left-as t _ _)
-
-kept-longer : (e : ChunkEnd) (old : List (List ℕ)) (found : Numbered) → length old ≤ length (kept_by e old found)
-kept-longer (Committed delta) old found = front-longer old _
-kept-longer (Rolled class) old found = omega arith
-kept-longer (Failed class) old found = omega arith
-
-pub longer-by : (t : TaskState) (e : ChunkEnd) (now : ArtifactsMeaning) → now ≡ work_by t e → length t.work.writer.written ≤ length now.writer.written
-unfolding work_left
-longer-by t e now at =
-    let grown : length now.writer.written ≡ length (kept_by e t.work.writer.written (results_of t)) = ap (λ (v : ArtifactsMeaning). length v.writer.written) at in
-    omega (arith, grown, kept-longer e t.work.writer.written (results_of t))
-
-pub collector-by : (t : TaskState) (e : ChunkEnd) (now : ArtifactsMeaning) → now ≡ work_by t e → now.collector ≡ t.work.collector
-collector-by t e now at = ap (λ (v : ArtifactsMeaning). v.collector) (at ∙ left-as t _ _)
+pub can-reopen-by : (t : TaskState) (again : ℕ) (e : Outcome) → IsReady t → CanReopen t.row (ending_by t again e).task.work
+can-reopen-by t again e r =
+    let there = used-there t (settled_at t) in
+    let row = row_after t.row (block_of t).hi e in
+    let used = work_used t (settled_at t) in
+    let from = r.fits.from in
+    let to = r.fits.to in
+    let count = r.count in
+    let first = there.first in
+    let end = there.end in
+    let at_from = r.sound.placed.at_from in
+    let at_to = r.sound.placed.at_to in
+    let more = (after-row t.row (block_of t).hi e).written in
+    let grown = ap (λ (w : ArtifactsMeaning). length w.writer.written) (used-as t (settled_at t)) in
+    let long = length-append t.work.writer.written (more_written t (settled_at t)) in
+    let cut = length-take row.written used.writer.written in
+    record { from = omega (arith, first, from, at_from); to = omega (arith, end, to, at_to); count = omega (arith, count, more, grown, long, cut) }

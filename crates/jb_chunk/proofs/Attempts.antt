@@ -7,77 +7,72 @@ use Rattle.jb_rules.specs.declared.row.Row.{Row}
 use Rattle.jb_artifacts.specs.Reader.{Reader, reader_end}
 use Rattle.jb_artifacts.specs.Writer.{Writer}
 use Rattle.jb_artifacts.specs.Meaning.{ArtifactsMeaning}
-use Rattle.jb_chunk.specs.declared.chunk_end.ChunkEnd.{ChunkEnd}
-use Rattle.jb_chunk.specs.declared.chunk_end.ChunkEnd.TheVariants.{Committed, Rolled, Failed}
 use Rattle.jb_chunk.specs.declared.outcome.Outcome.{Outcome}
-use Rattle.jb_chunk.specs.declared.outcome.Outcome.TheVariants.{NoMemory}
-use Rattle.jb_chunk.specs.Attempt.{IsRestored, block_of, all_repeated, after_repeats, again_of, IsAttempt, ending_of, attempt_of}
-use Rattle.jb_chunk.specs.inside.ChunkEnds.{row_with, work_by, values_with, outcome_with}
-use Rattle.jb_chunk.specs.Standing.{TaskState, IsReady}
+use Rattle.jb_chunk.specs.declared.outcome.Outcome.TheVariants.{Committed, Rolled, Failed, NoMemory}
+use Rattle.jb_chunk.specs.Attempt.{IsRestored, block_of, all_repeated, after_repeats, again_of, settled_at, row_after, work_used, values_of, IsAttempt, ending_of, ending_by, attempt_of}
+use Rattle.jb_chunk.specs.Standing.{TaskState, IsReady, at_checkpoint}
 use Rattle.jb_chunk.specs.inside.TriedChunk.{IsTried, HasDelta}
-use Rattle.jb_chunk.proofs.AddedCounts.{IsAdded, end-added}
-use Rattle.jb_chunk.proofs.AfterRepeats.{after_repeats-is, after_repeats-row, after_repeats-block, after_repeats-work, after_repeats-ready-by, again-few}
+use Rattle.jb_chunk.proofs.AddedCounts.{end-added}
+use Rattle.jb_chunk.proofs.AfterRepeats.{repeats-count, after_repeats-is, after_repeats-row, after_repeats-block, after_repeats-work, after_repeats-ready-by, again-few}
 use Rattle.jb_chunk.proofs.ChunkRepeats.{restored-trans}
-use Rattle.jb_chunk.proofs.AttemptLeaves.{ready-by, tried-attempt, reopened, restored-by, collector-by, first-by, end-by, longer-by}
+use Rattle.jb_chunk.proofs.AttemptLeaves.{ready-by, tried-attempt, restored-by, CanReopen, can-reopen-by}
+use Rattle.jb_chunk.proofs.WorkUsed.{used-there}
 
 -- what `try_block` gives: the row after the repeats, and the chunk tried
-abbrev pub IsChunkTried : TaskState → (repeated : Row) → ChunkEnd → ArtifactsMeaning → Type 0
+abbrev pub IsChunkTried : TaskState → (repeated : Row) → Outcome → ArtifactsMeaning → Type 0
 IsChunkTried t repeated end now = (repeated ≡ (all_repeated t).row) × IsTried (all_repeated t) end now
 
-tried-behind : (t : TaskState) (repeated : Row) (end : ChunkEnd) (now : ArtifactsMeaning) → IsChunkTried t repeated end now → IsTried (after_repeats t) end now
+tried-behind : (t : TaskState) (repeated : Row) (end : Outcome) (now : ArtifactsMeaning) → IsChunkTried t repeated end now → IsTried (after_repeats t) end now
 tried-behind t repeated end now done = subst (λ u. IsTried u end now) (after_repeats-is t) done.1
 
-attempt-by : (t : TaskState) (e : ChunkEnd) (values : List (List ℕ)) (again : ℕ) (after : TaskState) → ending_of after (outcome_with e) values again ≡ attempt_of t → IsAttempt t (ending_of after (outcome_with e) values again)
-attempt-by t (Committed delta) values again after done = done
-attempt-by t (Rolled class) values again after done = done
-attempt-by t (Failed class) values again after done = done
+attempt-by : (t : TaskState) (records : ℕ) (e : Outcome) (values : List (List ℕ)) (again : ℕ) (after : TaskState) → HasDelta records e → ending_of after e values again ≡ attempt_of t → IsAttempt t (ending_of after e values again)
+attempt-by t records (Committed delta) values again after found done = done
+attempt-by t records (Rolled class) values again after found done = done
+attempt-by t records (Failed class) values again after found done = done
+attempt-by t records NoMemory values again after found done = absurd found
 
 -- the row after the repeats is as it was, but for them
 pub repeated-row : (t : TaskState) (repeated : Row) → repeated ≡ (all_repeated t).row → repeated ≡ repeated_row t.row (again_of t)
 repeated-row t repeated e = e ∙ after_repeats-row t
 
-added-delta : (t : TaskState) (e : ChunkEnd) → t.row.at ≤ (block_of t).hi → IsAdded t e → HasDelta ((block_of t).hi - t.row.at) e
-added-delta t (Committed delta) le added = added.1 le
-added-delta t (Rolled class) le added = tt
-added-delta t (Failed class) le added = tt
-
-pub counted-row : (t : TaskState) (hi : ℕ) (repeated : Row) (end : ChunkEnd) (now : ArtifactsMeaning) → hi ≡ (block_of t).hi → t.row.at ≤ hi → IsChunkTried t repeated end now → HasDelta (hi - repeated.at) end
-counted-row t hi repeated end now h le done =
+pub counted-row : (t : TaskState) (hi : ℕ) (repeated : Row) (end : Outcome) (now : ArtifactsMeaning) → IsReady t → hi ≡ (block_of t).hi → t.row.at ≤ hi → IsChunkTried t repeated end now → HasDelta (hi - repeated.at) end
+counted-row t hi repeated end now ready h le done =
     let s = after_repeats t in
     let tr = tried-behind t repeated end now done in
     let there : (block_of s).hi ≡ hi = ap (λ b. b.hi) (after_repeats-block t) ∙ sym h in
     let at : s.row.at ≡ t.row.at = ap (λ (x : Row). x.at) (after_repeats-row t) in
-    let own = added-delta s end (omega (arith, there, at, le)) (subst (IsAdded s) (sym tr.ended) (end-added s)) in
-    subst (λ (x : Row). HasDelta (hi - x.at) end) (sym done.0) (subst (λ n. HasDelta (n - s.row.at) end) there own)
+    let own = (end-added s (repeats-count t ready.count)).1 (omega (arith, there, at, le)) in
+    subst (λ (x : Row). HasDelta (hi - x.at) end) (sym done.0) (subst (λ n. HasDelta (n - s.row.at) end) there (subst (λ e. HasDelta ((block_of s).hi - s.row.at) e) (sym tr.ended) own))
 
-pub row-same : (t : TaskState) (hi : ℕ) (repeated : Row) (end : ChunkEnd) (now : ArtifactsMeaning) (row : Row) → hi ≡ (block_of t).hi → IsChunkTried t repeated end now → row ≡ row_with repeated hi end → row ≡ row_with (after_repeats t).row (block_of (after_repeats t)).hi end
+pub row-same : (t : TaskState) (hi : ℕ) (repeated : Row) (end : Outcome) (now : ArtifactsMeaning) (row : Row) → hi ≡ (block_of t).hi → IsChunkTried t repeated end now → row ≡ row_after repeated hi end → row ≡ row_after (after_repeats t).row (block_of (after_repeats t)).hi end
 row-same t hi repeated end now row h done r =
     let there = h ∙ sym (ap (λ b. b.hi) (after_repeats-block t)) in
-    r ∙ (λ i. row_with (done.0 i) (there i) end)
+    r ∙ (λ i. row_after (done.0 i) (there i) end)
 
-pub done-attempt : (t : TaskState) (hi : ℕ) (repeated : Row) (end : ChunkEnd) (now : ArtifactsMeaning) (row : Row) (out : Outcome) (values : List (List ℕ)) (again : ℕ) (after : TaskState) → hi ≡ (block_of t).hi → IsChunkTried t repeated end now → row ≡ row_with repeated hi end → out ≡ outcome_with end → values ≡ values_with now.collector t.partition row end → again ≡ repeated.in_place - t.row.in_place → after ≡ record t { row = row; work = now } → IsAttempt t (ending_of after out values again)
-done-attempt t hi repeated end now row out values again after h done r o v n a =
+pub done-attempt : (t : TaskState) (hi : ℕ) (repeated : Row) (end : Outcome) (now : ArtifactsMeaning) (row : Row) (values : List (List ℕ)) (again : ℕ) (after : TaskState) → IsReady t → hi ≡ (block_of t).hi → t.row.at ≤ hi → IsChunkTried t repeated end now → row ≡ row_after repeated hi end → values ≡ values_of now.collector t.partition row end → again ≡ repeated.in_place - t.row.in_place → after ≡ record t { row = row; work = now } → IsAttempt t (ending_of after end values again)
+done-attempt t hi repeated end now row values again after ready h le done r v n a =
     let s = after_repeats t in
     let tr = tried-behind t repeated end now done in
     let row_is = row-same t hi repeated end now row h done r in
     let left = subst (λ (x : ArtifactsMeaning). IsTried s end x) (sym (ap (λ (x : TaskState). x.work) a)) tr in
-    let collected = v ∙ ap (λ c. values_with c t.partition row end) (collector-by s end now tr.left) ∙ ap (λ x. values_with s.work.collector t.partition x end) row_is in
+    let collector = ap (λ (x : ArtifactsMeaning). x.collector) tr.left ∙ (used-there s (settled_at s)).collector in
+    let collected = v ∙ (λ i. values_of (collector i) t.partition (row_is i) end) in
     let same : after ≡ record s { row = after.row; work = after.work } = a ∙ (λ i. record t { row = (sym a i).row; work = (sym a i).work }) in
     let is : again ≡ again_of t = n ∙ ap (λ (x : Row). x.in_place - t.row.in_place) done.0 in
     let finished = tried-attempt t end values again after left same (ap (λ (x : TaskState). x.row) a ∙ row_is) collected is in
-    subst (λ (x : Outcome). IsAttempt t (ending_of after x values again)) (sym o) (attempt-by t end values again after finished)
+    attempt-by t _ end values again after (counted-row t hi repeated end now ready h le done) finished
 
 pub after_repeats-is-ready : (t : TaskState) (repeated : Row) → IsReady t → IsSoundRow repeated → repeated ≡ (all_repeated t).row → IsReady (after_repeats t)
 after_repeats-is-ready t repeated ready sound is = after_repeats-ready-by t ready (subst IsSoundRow is sound)
 
-pub done-ready : (t : TaskState) (hi : ℕ) (repeated : Row) (end : ChunkEnd) (now : ArtifactsMeaning) (row : Row) (after : TaskState) → IsReady t → IsSoundRow repeated → IsSoundRow row → hi ≡ (block_of t).hi → IsChunkTried t repeated end now → row ≡ row_with repeated hi end → after ≡ record t { row = row; work = now } → IsReady after
+pub done-ready : (t : TaskState) (hi : ℕ) (repeated : Row) (end : Outcome) (now : ArtifactsMeaning) (row : Row) (after : TaskState) → IsReady t → IsSoundRow repeated → IsSoundRow row → hi ≡ (block_of t).hi → IsChunkTried t repeated end now → row ≡ row_after repeated hi end → after ≡ record t { row = row; work = now } → IsReady after
 done-ready t hi repeated end now row after ready whole sound h done r a =
     let s = after_repeats t in
     let tr = tried-behind t repeated end now done in
     let row_is = row-same t hi repeated end now row h done r in
     let there = after_repeats-is-ready t repeated ready whole done.0 in
-    let added = subst (IsAdded s) (sym tr.ended) (end-added s) in
-    subst IsReady (sym (a ∙ (λ i. record t { row = row_is i; work = tr.left i }))) (ready-by s end added (subst IsSoundRow row_is sound) there)
+    let kept = subst (λ (e : Outcome). (row_after s.row (block_of s).hi e).written ≤ length (work_used s (settled_at s)).writer.written) (sym tr.ended) (end-added s there.count).0 in
+    subst IsReady (sym (a ∙ (λ i. record t { row = row_is i; work = tr.left i }))) (ready-by s 0 end kept (subst IsSoundRow row_is sound) there)
 
 -- no more calls are repeated than retries are left
 pub done-few : (t : TaskState) (repeated : Row) (again : ℕ) → repeated ≡ (all_repeated t).row → IsReady t → again ≡ repeated.in_place - t.row.in_place → again ≤ max_retry_limit
@@ -88,16 +83,16 @@ done-few t repeated again row ready n =
     omega (arith, is, few, limit)
 
 -- the collector found no memory: what the end left is opened again at the checkpoint
-pub undone-restored : (t : TaskState) (repeated : Row) (end : ChunkEnd) (now : ArtifactsMeaning) → IsReady t → IsSoundRow repeated → IsChunkTried t repeated end now → IsRestored t.row.at (block_of t).hi t.work (reopened t.row now)
+pub undone-restored : (t : TaskState) (repeated : Row) (end : Outcome) (now : ArtifactsMeaning) → IsReady t → IsSoundRow repeated → IsChunkTried t repeated end now → IsRestored t.row.at (block_of t).hi t.work (at_checkpoint t.row now)
 undone-restored t repeated end now ready sound done =
     let s = after_repeats t in
     let tr = tried-behind t repeated end now done in
     let there = after_repeats-is-ready t repeated ready sound done.0 in
-    let left = work_by s end in
-    let P : Row → Type 0 = λ x. IsRestored x.at (row_block t.item_count x).hi s.work (reopened x left) in
-    let here = subst P (after_repeats-row t) (restored-by s end there) in
-    let whole = restored-trans t.row.at (block_of t).hi t.work s.work (reopened t.row left) (after_repeats-work t) here in
-    subst (λ (x : ArtifactsMeaning). IsRestored t.row.at (block_of t).hi t.work (reopened t.row x)) (sym tr.left) whole
+    let left = (ending_by s 0 end).task.work in
+    let P : Row → Type 0 = λ x. IsRestored x.at (row_block t.item_count x).hi s.work (at_checkpoint x left) in
+    let here = subst P (after_repeats-row t) (restored-by s 0 end there) in
+    let whole = restored-trans t.row.at (block_of t).hi t.work s.work (at_checkpoint t.row left) (after_repeats-work t) here in
+    subst (λ (x : ArtifactsMeaning). IsRestored t.row.at (block_of t).hi t.work (at_checkpoint t.row x)) (sym tr.left) whole
 
 pub undone-attempt : (t : TaskState) (work : ArtifactsMeaning) (out : Outcome) (values : List (List ℕ)) (again : ℕ) (after : TaskState) → out ≡ NoMemory → values ≡ [] → again ≡ 0 → after ≡ record t { work = work } → IsRestored t.row.at (block_of t).hi t.work work → IsAttempt t (ending_of after out values again)
 undone-attempt t work out values again after o v n a restored =
@@ -132,25 +127,11 @@ undone-ready t work after ready restored a =
       count = written ∙ ready.count;
     })
 
--- what a chunk that was tried to its end left can be opened again at the checkpoint
-pub record CanReopen (row : Row) (now : ArtifactsMeaning) : Type 0 where
-  pub from : now.reader.first ≤ row.at
-  pub to : row.at ≤ reader_end now.reader
-  pub count : row.written ≤ length now.writer.written
-
-pub can-reopen : (t : TaskState) (repeated : Row) (end : ChunkEnd) (now : ArtifactsMeaning) → IsReady t → IsSoundRow repeated → IsChunkTried t repeated end now → CanReopen t.row now
+-- where it can be opened
+pub can-reopen : (t : TaskState) (repeated : Row) (end : Outcome) (now : ArtifactsMeaning) → IsReady t → IsSoundRow repeated → IsChunkTried t repeated end now → CanReopen t.row now
 can-reopen t repeated end now ready sound done =
     let s = after_repeats t in
-    let left = (tried-behind t repeated end now done).left in
     let there = after_repeats-is-ready t repeated ready sound done.0 in
-    let first = first-by s end now left in
-    let past = end-by s end now left in
-    let longer = longer-by s end now left in
-    let at = ap (λ (x : Row). x.at) (after_repeats-row t) in
-    let kept = ap (λ (x : Row). x.written) (after_repeats-row t) in
-    let from = there.fits.from in
-    let at_from = there.sound.placed.at_from in
-    let to = there.fits.to in
-    let at_to = there.sound.placed.at_to in
-    let count = there.count in
-    record { from = omega (arith, first, from, at_from, at); to = omega (arith, past, to, at_to, at); count = omega (arith, longer, count, kept) }
+    let left = (ending_by s 0 end).task.work in
+    let own = subst (λ (x : Row). CanReopen x left) (after_repeats-row t) (can-reopen-by s 0 end there) in
+    subst (λ (x : ArtifactsMeaning). CanReopen t.row x) (sym (tried-behind t repeated end now done).left) (record { from = own.from; to = own.to; count = own.count })

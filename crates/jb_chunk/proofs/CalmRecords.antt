@@ -1,5 +1,5 @@
 -- Records of which no call fails.
-use Rattle.std.proofs.Common.{◌≡◌, ℕ, zero, suc, ◌+◌, ◌-◌, ◌≤◌, ◌<◌, Bool, false, cond, List, ◌∷◌, length, Option, Some, None, is_some, refl, ap, ◌∙◌, arith}
+use Rattle.std.proofs.Common.{◌≡◌, ℕ, zero, suc, ◌+◌, ◌-◌, ◌≤◌, ◌<◌, Bool, false, cond, List, ◌∷◌, Option, Some, None, is_some, refl, ap, ◌∙◌, arith}
 use Rattle.std.specs.Prelude.{find, count_by}
 use Rattle.std.specs.List.{filter_map, range_with_len, cons_option}
 use Rattle.std.proofs.lemmas.List.Sums.{sum_by-cons}
@@ -10,7 +10,7 @@ use Rattle.jb_artifacts.specs.Reader.{record_at}
 use Rattle.jb_artifacts.specs.Writer.{Numbered, texts_of, failing}
 use Rattle.jb_artifacts.specs.Meaning.{ArtifactsMeaning}
 use Rattle.jb_chunk.specs.Block.{entry, entry_by, results, count_of, settles, settling, stops, skips_before}
-use Rattle.jb_chunk.specs.Entries.{fault_in, is_read_fault, is_process_fault, is_filtered, text_in, numbered}
+use Rattle.jb_chunk.specs.Entries.{Entry, Processed, fault_in, text_in, numbered}
 use Rattle.jb_chunk.specs.Plain.{plain_answers, IsCalm}
 
 -- the answer for a record
@@ -53,13 +53,9 @@ faultless w (suc n) lo sound writes =
     ap (λ e. failing w.writer.faults (cons_option (numbered lo (text_in e)) (filter_map (result_at w) (range_with_len (lo + 1) n)))) (sound lo (omega arith) (omega arith))
     ∙ faultless-one w.writer.faults lo (answer_at w lo) _ (writes lo (omega arith) (omega arith)) rest
 
-sound-fault : (a : Option (List ℕ)) → fault_in (entry_by None None a) ≡ None
-sound-fault None = refl
-sound-fault (Some x) = refl
-
 sound-settles : (rules : RulesRecord) (row : Row) (w : ArtifactsMeaning) (k : ℕ) → IsSound w k → settles rules row w k ≡ false
 unfolding settles
-sound-settles rules row w k e = ap (λ o. stops rules row o (skips_before row w k)) (ap fault_in e ∙ sound-fault (answer_at w k))
+sound-settles rules row w k e = ap (λ o. stops rules row o (skips_before row w k)) (ap fault_in e)
 
 pub find-idle : (p : ℕ → Bool) (n lo : ℕ) → ((k : ℕ) → lo ≤ k → k < lo + n → p k ≡ false) → find p (range_with_len lo n) ≡ None
 find-idle p zero lo idle = refl
@@ -75,26 +71,6 @@ count-idle p (suc n) lo idle =
     sum_by-cons (λ k. cond (p k) 1 0) lo (range_with_len (lo + 1) n)
     ∙ ap (λ b. cond b 1 0 + count_by p (range_with_len (lo + 1) n)) first
     ∙ ap (λ m. 0 + m) rest
-
-sound-read : (a : Option (List ℕ)) → is_read_fault (entry_by None None a) ≡ false
-sound-read None = refl
-sound-read (Some x) = refl
-
-sound-process : (a : Option (List ℕ)) → is_process_fault (entry_by None None a) ≡ false
-sound-process None = refl
-sound-process (Some x) = refl
-
-filtered-one : (a : Option (List ℕ)) (rest : List (List ℕ)) (m n : ℕ) → m + length rest ≡ n → (cond (is_filtered (entry_by None None a)) 1 0 + m) + length (cons_option a rest) ≡ suc n
-filtered-one None rest m n e = omega (arith, e)
-filtered-one (Some x) rest m n e = omega (arith, e)
-
-filtered-calm : (w : ArtifactsMeaning) (n lo : ℕ) → ((k : ℕ) → lo ≤ k → k < lo + n → IsSound w k) → count_by (λ k. is_filtered (entry w k)) (range_with_len lo n) + length (filter_map (answer_at w) (range_with_len lo n)) ≡ n
-filtered-calm w zero lo sound = omega arith
-filtered-calm w (suc n) lo sound =
-    let rest = filtered-calm w n (lo + 1) (λ k le lt. sound k (omega (arith, le)) (omega (arith, lt))) in
-    ap (λ m. m + length (filter_map (answer_at w) (range_with_len lo (suc n)))) (sum_by-cons (λ k. cond (is_filtered (entry w k)) 1 0) lo (range_with_len (lo + 1) n))
-    ∙ ap (λ e. (cond (is_filtered e) 1 0 + count_by (λ k. is_filtered (entry w k)) (range_with_len (lo + 1) n)) + length (cons_option (answer_at w lo) (filter_map (answer_at w) (range_with_len (lo + 1) n)))) (sound lo (omega arith) (omega arith))
-    ∙ filtered-one (answer_at w lo) _ _ n rest
 
 -- the records of a calm range, by their numbers from `lo` on
 pub calm-sound : (w : ArtifactsMeaning) (lo hi : ℕ) → lo ≤ hi → IsCalm w lo hi → (k : ℕ) → lo ≤ k → k < lo + (hi - lo) → IsSound w k
@@ -112,14 +88,6 @@ pub calm-settling : (rules : RulesRecord) (row : Row) (w : ArtifactsMeaning) (hi
 unfolding settling
 calm-settling rules row w hi le calm = find-idle (settles rules row w) (hi - row.at) row.at (λ k from to. sound-settles rules row w k (calm-sound w row.at hi le calm k from to))
 
-pub calm-reads : (w : ArtifactsMeaning) (lo hi : ℕ) → lo ≤ hi → IsCalm w lo hi → count_of is_read_fault w lo hi ≡ 0
+pub calm-counts : (p : Entry → Bool) → ((answer : Option (List ℕ)) → p (Processed answer) ≡ false) → (w : ArtifactsMeaning) (lo hi : ℕ) → lo ≤ hi → IsCalm w lo hi → count_of p w lo hi ≡ 0
 unfolding count_of
-calm-reads w lo hi le calm = count-idle (λ k. is_read_fault (entry w k)) (hi - lo) lo (λ k from to. ap is_read_fault (calm-sound w lo hi le calm k from to) ∙ sound-read (answer_at w k))
-
-pub calm-processes : (w : ArtifactsMeaning) (lo hi : ℕ) → lo ≤ hi → IsCalm w lo hi → count_of is_process_fault w lo hi ≡ 0
-unfolding count_of
-calm-processes w lo hi le calm = count-idle (λ k. is_process_fault (entry w k)) (hi - lo) lo (λ k from to. ap is_process_fault (calm-sound w lo hi le calm k from to) ∙ sound-process (answer_at w k))
-
-pub calm-filtered : (w : ArtifactsMeaning) (lo hi : ℕ) → lo ≤ hi → IsCalm w lo hi → count_of is_filtered w lo hi + length (plain_answers w lo hi) ≡ hi - lo
-unfolding count_of plain_answers
-calm-filtered w lo hi le calm = filtered-calm w (hi - lo) lo (calm-sound w lo hi le calm)
+calm-counts p none w lo hi le calm = count-idle (λ k. p (entry w k)) (hi - lo) lo (λ k from to. ap p (calm-sound w lo hi le calm k from to) ∙ none (answer_at w k))

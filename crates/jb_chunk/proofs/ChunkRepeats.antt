@@ -1,12 +1,13 @@
 -- A block and its repeats.
 use Rattle.std.proofs.Common.{◌≡◌, ℕ, zero, suc, ◌+◌, ◌-◌, ◌≤◌, ◌<◌, ◌⊎◌, inl, inr, Bool, true, false, not, cond, ◌&&◌, nat_lt, List, Option, Some, None, refl, ap, sym, ◌∙◌, subst, arith, eqb}
+use Rattle.std.specs.Prelude.{◌||◌}
 use Rattle.std.proofs.lemmas.Bool.Decides.{nat_tests}
 use Rattle.jb_base.specs.declared.class.ClassId.{ClassId}
 use Rattle.jb_base.specs.Rules.{RulesRecord}
 use Rattle.jb_rules.specs.declared.row.Row.{Row}
 use Rattle.jb_rules.specs.declared.choice.Choice.{Choice}
 use Rattle.jb_rules.specs.declared.choice.Choice.TheVariants.{Skip, Retry, Again, Fail}
-use Rattle.jb_rules.specs.Decide.{choice_by, has_class, retry_for, skip_open}
+use Rattle.jb_rules.specs.Decide.{has_class, is_below}
 use Rattle.jb_rules.specs.Rows.{row_block, repeated_row}
 use Rattle.jb_artifacts.specs.declared.faults.FaultPlan.{FaultPlan}
 use Rattle.jb_artifacts.specs.Faults.{FaultTable, used, used_at}
@@ -16,18 +17,23 @@ use Rattle.jb_chunk.specs.Attempt.{settled_at, results_of, fault_at, skips_at, c
 use Rattle.jb_chunk.specs.Standing.{TaskState}
 use Rattle.jb_chunk.specs.Block.{entry, settles, settling, stops, repeats, choice_at, is_skip, is_again, used_times, MayBeUsed}
 use Rattle.jb_chunk.specs.inside.Repeats.{IsRepeated}
-use Rattle.jb_chunk.specs.Entries.{Entry, ReadFault, ProcessFault, Filtered, Answered}
+use Rattle.jb_chunk.specs.Entries.{Entry, ReadFault, ProcessFault, Processed}
 use Rattle.jb_chunk.proofs.OwnRecords.{found-of, failing-in}
 
 -- A REPEAT TAKES A RETRY
 
-again-opened : (retried : Choice) (retrying skip opened : Bool) → is_again (choice_by retried retrying skip opened) ≡ true → opened ≡ true
-again-opened retried false skip true e = refl
-again-opened retried false true false e = absurd cc
-again-opened retried false false false e = absurd cc
-again-opened retried true true opened e = absurd cc
-again-opened retried true false true e = refl
-again-opened retried true false false e = absurd cc
+-- the choice for a fault, by what is open
+abbrev pub choice_by : (again retrying skip opened : Bool) → Choice
+choice_by again retrying skip opened = cond (skip && (retrying || not opened)) Skip (cond (not opened) Fail (cond again Again Retry))
+
+abbrev pub can_skip : RulesRecord → ClassId → (skips : ℕ) → Bool
+can_skip rules class skips = has_class rules.skippable class && is_below rules.skip_limit skips
+
+again-opened : (again retrying skip opened : Bool) → is_again (choice_by again retrying skip opened) ≡ true → opened ≡ true
+again-opened again retrying skip true e = refl
+again-opened again retrying false false e = absurd cc
+again-opened again true true false e = absurd cc
+again-opened again false true false e = absurd cc
 
 pub opened-below : (b : Bool) (m n : ℕ) → (b && nat_lt m n) ≡ true → m < n
 opened-below b m n e = grind (arith, nat_tests)
@@ -37,19 +43,19 @@ pub repeats-below : (rules : RulesRecord) (row : Row) (fault : Option ClassId) (
 repeats-below rules row None skips e = absurd cc
 repeats-below rules row (Some class) skips e =
     opened-below (has_class rules.retryable class) row.retries rules.retry_limit
-    (again-opened (retry_for rules class) (nat_lt row.at row.redo) (skip_open rules class skips) _ e)
+    (again-opened (has_class rules.no_rollback class) (nat_lt row.at row.redo) (can_skip rules class skips) _ e)
 
 -- WHAT IS SKIPPED STAYS SKIPPED WHERE FEWER RETRIES ARE LEFT
 
-skips-by : (no_rollback retrying skip opened fewer : Bool) → (fewer ≡ true → opened ≡ true) → not (is_skip (choice_by (cond no_rollback Again Retry) retrying skip opened)) ≡ false → not (is_skip (choice_by (cond no_rollback Again Retry) retrying skip fewer)) ≡ false
-skips-by true false skip true fewer more e = absurd cc
-skips-by false false skip true fewer more e = absurd cc
-skips-by b false skip false true more e = let never : true ≡ false = sym (more refl) in absurd cc
-skips-by b false skip false false more e = e
-skips-by b true true opened fewer more e = refl
-skips-by true true false true fewer more e = absurd cc
-skips-by false true false true fewer more e = absurd cc
-skips-by b true false false fewer more e = absurd cc
+skips-by : (again retrying skip opened fewer : Bool) → (fewer ≡ true → opened ≡ true) → not (is_skip (choice_by again retrying skip opened)) ≡ false → not (is_skip (choice_by again retrying skip fewer)) ≡ false
+skips-by again true true opened fewer more e = refl
+skips-by again false true false true more e = let never : false ≡ true = more refl in absurd cc
+skips-by again false true false false more e = refl
+skips-by true false true true fewer more e = absurd cc
+skips-by false false true true fewer more e = absurd cc
+skips-by again retrying false false fewer more e = absurd cc
+skips-by true retrying false true fewer more e = absurd cc
+skips-by false retrying false true fewer more e = absurd cc
 
 fewer-opened : (b : Bool) (m n : ℕ) → (b && nat_lt (m + 1) n) ≡ true → (b && nat_lt m n) ≡ true
 fewer-opened b m n e = grind (arith, nat_tests)
@@ -57,7 +63,7 @@ fewer-opened b m n e = grind (arith, nat_tests)
 pub stops-kept : (rules : RulesRecord) (row : Row) (fault : Option ClassId) (skips : ℕ) → stops rules row fault skips ≡ false → stops rules (repeated_row row 1) fault skips ≡ false
 stops-kept rules row None skips e = refl
 stops-kept rules row (Some class) skips e =
-    skips-by (has_class rules.no_rollback class) (nat_lt row.at row.redo) (skip_open rules class skips) _ _
+    skips-by (has_class rules.no_rollback class) (nat_lt row.at row.redo) (can_skip rules class skips) _ _
     (fewer-opened (has_class rules.retryable class) row.retries rules.retry_limit) e
 
 -- a fault that is repeated isn't skipped
@@ -181,8 +187,7 @@ restored-call lo hi w k (ReadFault class) from to = record {
   write_plans = may-same lo hi _;
 }
 restored-call lo hi w k (ProcessFault class) from to = restored-process lo hi w k from to
-restored-call lo hi w k Filtered from to = restored-process lo hi w k from to
-restored-call lo hi w k (Answered text) from to = restored-process lo hi w k from to
+restored-call lo hi w k (Processed answer) from to = restored-process lo hi w k from to
 
 restored-repeat : (t : TaskState) (o : Option ℕ) → settled_at t ≡ o → IsRestored t.row.at (block_of t).hi t.work (repeated_work t o)
 unfolding settling

@@ -1,5 +1,5 @@
 -- A record that was read and processed, with repeats; and a block whose records are done one after another.
-use Rattle.std.proofs.Common.{◌≡◌, ℕ, zero, suc, ◌+◌, ◌≤◌, ◌<◌, inl, inr, true, false, List, [], ◌++◌, length, take, option_to_list, is_some, Option, Some, None, Ok, Err, refl, ap, sym, ◌∙◌, subst, arith}
+use Rattle.std.proofs.Common.{◌≡◌, ℕ, zero, suc, ◌+◌, ◌≤◌, ◌<◌, inl, inr, Bool, false, List, [], ◌++◌, length, take, option_to_list, Option, Some, None, Ok, Err, refl, ap, sym, ◌∙◌, subst, arith}
 use Rattle.std.proofs.lemmas.Grind.{common_steps}
 use Rattle.jb_base.specs.declared.class.ClassId.{ClassId}
 use Rattle.jb_base.specs.declared.artifact_error.ArtifactError.TheVariants.{Fault, Memory}
@@ -16,8 +16,8 @@ use Rattle.jb_chunk.specs.declared.gather.Gathered.TheVariants.{Settled}
 use Rattle.jb_chunk.specs.Attempt.{IsRestored, block_of}
 use Rattle.jb_chunk.specs.Standing.{TaskState}
 use Rattle.jb_chunk.specs.Block.{entry, entry_by, repeats, is_again, choice_at, settling, passed, MayBeUsed}
-use Rattle.jb_chunk.specs.Entries.{Entry, ReadFault, ProcessFault, Filtered, Answered, fault_in, numbered}
-use Rattle.jb_chunk.specs.inside.Gathering.{Yield, IsTally, IsStep, IsWornTo, passed_one, processed_at}
+use Rattle.jb_chunk.specs.Entries.{Entry, ReadFault, ProcessFault, Processed, fault_in, numbered}
+use Rattle.jb_chunk.specs.inside.Gathering.{Yield, IsTally, IsGatheringStep, IsWornTo, passed_one, processed_at}
 use Rattle.jb_chunk.specs.inside.Repeats.{AreRepeats, next_fault, called_times, called, IsRead, IsProcessed, IsDone, IsEntered, IsGathering, IsWhole, IsGathered}
 use Rattle.jb_chunk.specs.inside.TriedChunk.{IsTorn}
 use Rattle.jb_chunk.proofs.RecordCounts.{tally-more}
@@ -93,15 +93,10 @@ process-fault-done : (rules : RulesRecord) (skips : ℕ) (row between now : Row)
 process-fault-done rules skips row between now w v left k item text class place r same p =
     process-done rules skips row between now w v left k item p.again (Some class) (ProcessFault class) place r p.grown p.asked p.faulted.0 refl p.faulted.1 p.last
 
-found-done : (rules : RulesRecord) (skips : ℕ) (row between now : Row) (w v left : ArtifactsMeaning) (k : ℕ) (item text result : List ℕ) → w.reader.place ≡ k → IsRead rules skips row w k (Ok item) between v → text ≡ item → IsProcessed rules skips between v k text (Ok true) now left → v.processor.answer k text ≡ Some result → IsDone rules skips row w k (Answered result) now left
-found-done rules skips row between now w v left k item text result place r same p answer =
-    let is = sym answer ∙ ap (v.processor.answer k) same ∙ answer-same w v k r.again item r.answered.2 r.answered.1 in
-    process-done rules skips row between now w v left k item p.again None (Answered result) place r p.grown p.asked p.answered.0 (ap (entry_by None None) is) p.answered.2 refl
-
-filtered-done : (rules : RulesRecord) (skips : ℕ) (row between now : Row) (w v left : ArtifactsMeaning) (k : ℕ) (item text : List ℕ) → w.reader.place ≡ k → IsRead rules skips row w k (Ok item) between v → text ≡ item → IsProcessed rules skips between v k text (Ok false) now left → v.processor.answer k text ≡ None → IsDone rules skips row w k Filtered now left
-filtered-done rules skips row between now w v left k item text place r same p answer =
-    let is = sym answer ∙ ap (v.processor.answer k) same ∙ answer-same w v k r.again item r.answered.2 r.answered.1 in
-    process-done rules skips row between now w v left k item p.again None Filtered place r p.grown p.asked p.answered.0 (ap (entry_by None None) is) p.answered.2 refl
+processed-done : (rules : RulesRecord) (skips : ℕ) (row between now : Row) (w v left : ArtifactsMeaning) (k : ℕ) (item text : List ℕ) (found : Bool) → w.reader.place ≡ k → IsRead rules skips row w k (Ok item) between v → text ≡ item → IsProcessed rules skips between v k text (Ok found) now left → IsDone rules skips row w k (Processed (v.processor.answer k text)) now left
+processed-done rules skips row between now w v left k item text found place r same p =
+    let is = ap (v.processor.answer k) same ∙ answer-same w v k r.again item r.answered.2 r.answered.1 in
+    process-done rules skips row between now w v left k item p.again None (Processed (v.processor.answer k text)) place r p.grown p.asked p.answered.0 (ap Processed is) p.answered.2 refl
 
 -- ITS KIND OF ENTRY
 
@@ -110,7 +105,7 @@ added-none before after e = e ∙ grind (arith, common_steps)
 
 pub read-fault-entered : (rules : RulesRecord) (skips : ℕ) (row : Row) (w : ArtifactsMeaning) (k : ℕ) (class : ClassId) (now : Row) (left : ArtifactsMeaning) (results : Numbered) → w.reader.place ≡ k → IsRead rules skips row w k (Err (Fault class)) now left → IsEntered rules skips row w k results (kind.ReadFault class) now left results
 read-fault-entered rules skips row w k class now left results place r = record {
-  text = [];
+  answer = None;
   done = read-fault-done rules skips row w k class now left place r;
   added = added-none results results refl;
 }
@@ -124,36 +119,17 @@ read-there rules skips row between w v k item r = (ap (λ (x : ArtifactsMeaning)
 
 pub process-fault-entered : (rules : RulesRecord) (skips : ℕ) (row between now : Row) (w v left : ArtifactsMeaning) (k : ℕ) (item text : List ℕ) (class : ClassId) (before after : Numbered) → w.reader.place ≡ k → IsRead rules skips row w k (Ok item) between v → text ≡ item → IsProcessed rules skips between v k text (Err (Fault class)) now left → after ≡ before → IsEntered rules skips row w k before (kind.ProcessFault class) now left after
 process-fault-entered rules skips row between now w v left k item text class before after place r same p kept = record {
-  text = [];
+  answer = None;
   done = process-fault-done rules skips row between now w v left k item text class place r same p;
   added = added-none before after kept;
 }
 
-answer-found : (answer : Option (List ℕ)) → true ≡ is_some answer → (text : List ℕ) × (answer ≡ Some text)
-answer-found None e = absurd cc
-answer-found (Some text) e = (text, refl)
-
-answer-none : (answer : Option (List ℕ)) → false ≡ is_some answer → answer ≡ None
-answer-none None e = refl
-answer-none (Some text) e = absurd cc
-
-pub found-entered : (rules : RulesRecord) (skips : ℕ) (row between now : Row) (w v left : ArtifactsMeaning) (k : ℕ) (item text : List ℕ) (before after : Numbered) → w.reader.place ≡ k → IsRead rules skips row w k (Ok item) between v → text ≡ item → IsProcessed rules skips between v k text (Ok true) now left → after ≡ before ++ option_to_list (numbered k (v.processor.answer k text)) → IsEntered rules skips row w k before kind.Answered now left after
-found-entered rules skips row between now w v left k item text before after place r same p added =
-    let found = answer-found (v.processor.answer k text) p.answered.1 in
-    record {
-      text = found.0;
-      done = found-done rules skips row between now w v left k item text found.0 place r same p found.1;
-      added = added ∙ ap (λ answer. before ++ option_to_list (numbered k answer)) found.1;
-    }
-
-pub filtered-entered : (rules : RulesRecord) (skips : ℕ) (row between now : Row) (w v left : ArtifactsMeaning) (k : ℕ) (item text : List ℕ) (before after : Numbered) → w.reader.place ≡ k → IsRead rules skips row w k (Ok item) between v → text ≡ item → IsProcessed rules skips between v k text (Ok false) now left → after ≡ before ++ option_to_list (numbered k (v.processor.answer k text)) → IsEntered rules skips row w k before kind.Filtered now left after
-filtered-entered rules skips row between now w v left k item text before after place r same p added =
-    let none = answer-none (v.processor.answer k text) p.answered.1 in
-    record {
-      text = [];
-      done = filtered-done rules skips row between now w v left k item text place r same p none;
-      added = added ∙ ap (λ answer. before ++ option_to_list (numbered k answer)) none;
-    }
+pub processed-entered : (rules : RulesRecord) (skips : ℕ) (row between now : Row) (w v left : ArtifactsMeaning) (k : ℕ) (item text : List ℕ) (found : Bool) (before after : Numbered) → w.reader.place ≡ k → IsRead rules skips row w k (Ok item) between v → text ≡ item → IsProcessed rules skips between v k text (Ok found) now left → after ≡ before ++ option_to_list (numbered k (v.processor.answer k text)) → IsEntered rules skips row w k before kind.Processed now left after
+processed-entered rules skips row between now w v left k item text found before after place r same p added = record {
+  answer = v.processor.answer k text;
+  done = processed-done rules skips row between now w v left k item text found place r same p;
+  added = added;
+}
 
 -- WITHOUT MEMORY FOR ONE
 
@@ -223,7 +199,7 @@ gathering-none t tally place le counted = record {
 }
 
 abbrev skips_now : Row → Yield → ℕ
-skips_now row tally = skips_of row + tally.read_skips + tally.process_skips
+skips_now row tally = skips_of row + tally.skips
 
 done-at : (t : TaskState) (n : ℕ) (tally : Yield) (now next : Row) (w left : ArtifactsMeaning) (e : Entry) → IsGathering t n tally now w → t.row.at ≤ n → n < (block_of t).hi → IsDone t.rules (skips_now now tally) now w n e next left → (v : TaskState) × IsAfter t v n (skips_now now tally) tally e next left
 done-at t n tally now next w left e g from to done =
@@ -244,16 +220,16 @@ done-at t n tally now next w left e g from to done =
     let c = subst (λ x. IsDone u.rules skips u.row x n e next left) g.passes b in
     done-after t u n skips tally e next left between c
 
-pub gathering-more : (t : TaskState) (n : ℕ) (tally new : Yield) (now next : Row) (w left : ArtifactsMeaning) (e : Entry) → IsGathering t n tally now w → t.row.at ≤ n → n < (block_of t).hi → IsDone t.rules (skips_now now tally) now w n e next left → IsStep t.rules next e n tally None new → IsGathering t (n + 1) new next left
+pub gathering-more : (t : TaskState) (n : ℕ) (tally new : Yield) (now next : Row) (w left : ArtifactsMeaning) (e : Entry) → IsGathering t n tally now w → t.row.at ≤ n → n < (block_of t).hi → IsDone t.rules (skips_now now tally) now w n e next left → IsGatheringStep t.rules next e n tally None new → IsGathering t (n + 1) new next left
 gathering-more t n tally new now next w left e g from to done step =
     let after = done-at t n tally now next w left e g from to done in
     let v = after.0 in
     let a = after.1 in
     let b = a.between in
     let place : e ≡ entry (passed v.work v.row.at n) n = a.becomes ∙ sym (entry-passed v.work v.row.at n) in
-    let s1 = subst (λ x. IsStep x next e n tally None new) (sym (same-rules b.repeated)) step in
-    let s2 = subst (λ x. IsStep v.rules x e n tally None new) a.row s1 in
-    let s3 = subst (λ x. IsStep v.rules v.row x n tally None new) place s2 in
+    let s1 = subst (λ x. IsGatheringStep x next e n tally None new) (sym (same-rules b.repeated)) step in
+    let s2 = subst (λ x. IsGatheringStep v.rules x e n tally None new) a.row s1 in
+    let s3 = subst (λ x. IsGatheringStep v.rules v.row x n tally None new) place s2 in
     record {
       last = v;
       repeated = b.repeated;
@@ -266,16 +242,16 @@ gathering-more t n tally new now next w left e g from to done step =
 not-again : (rules : RulesRecord) (row : Row) (class : ClassId) (skips : ℕ) (fault : Option ClassId) → fault ≡ Some class → repeats rules row fault skips ≡ false → is_again (choice_at rules row class skips) ≡ false
 not-again rules row class skips fault e last = ap (λ f. repeats rules row f skips) (sym e) ∙ last
 
-pub gathering-settled : (t : TaskState) (n : ℕ) (tally new : Yield) (now next : Row) (w left : ArtifactsMeaning) (e : Entry) (class : ClassId) (choice : Choice) (found : Numbered) → IsGathering t n tally now w → t.row.at ≤ n → n < (block_of t).hi → IsDone t.rules (skips_now now tally) now w n e next left → IsStep t.rules next e n tally (Some (class, choice)) new → IsGathered t (Settled n class choice) found next left
+pub gathering-settled : (t : TaskState) (n : ℕ) (tally new : Yield) (now next : Row) (w left : ArtifactsMeaning) (e : Entry) (class : ClassId) (choice : Choice) (found : Numbered) → IsGathering t n tally now w → t.row.at ≤ n → n < (block_of t).hi → IsDone t.rules (skips_now now tally) now w n e next left → IsGatheringStep t.rules next e n tally (Some (class, choice)) new → IsGathered t (Settled n class choice) found next left
 gathering-settled t n tally new now next w left e class choice found g from to done step =
     let after = done-at t n tally now next w left e g from to done in
     let v = after.0 in
     let a = after.1 in
     let b = a.between in
     let place : e ≡ entry (passed v.work v.row.at n) n = a.becomes ∙ sym (entry-passed v.work v.row.at n) in
-    let s1 = subst (λ x. IsStep x next e n tally (Some (class, choice)) new) (sym (same-rules b.repeated)) step in
-    let s2 = subst (λ x. IsStep v.rules x e n tally (Some (class, choice)) new) a.row s1 in
-    let s3 = subst (λ x. IsStep v.rules v.row x n tally (Some (class, choice)) new) place s2 in
+    let s1 = subst (λ x. IsGatheringStep x next e n tally (Some (class, choice)) new) (sym (same-rules b.repeated)) step in
+    let s2 = subst (λ x. IsGatheringStep v.rules x e n tally (Some (class, choice)) new) a.row s1 in
+    let s3 = subst (λ x. IsGatheringStep v.rules v.row x n tally (Some (class, choice)) new) place s2 in
     let settled = step-some v.rules v.row v.work (passed v.work v.row.at n) n (block_of v).hi tally new class choice b.from b.to refl b.counted b.none s3 in
     let last = not-again v.rules v.row class (skips_now now tally) (fault_in (entry v.work n)) settled.1 a.last in (
       v,

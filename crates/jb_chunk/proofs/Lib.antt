@@ -8,9 +8,9 @@ pub mod DoneRecords
 pub mod WriteRepeats
 pub mod AfterRepeats
 pub mod UsedPlans
-pub mod WorkLeft
+pub mod WorkUsed
 pub mod OwnRecords
-pub mod ChunkEnds
+pub mod WrittenResults
 pub mod TriedChunk
 pub mod AttemptLeaves
 pub mod Attempts
@@ -21,5 +21,4 @@ pub mod RunsOfAttempts
 pub mod CalmRecords
 pub mod PlainRuns
 pub mod Worked
-pub mod Crossing
 pub mod WithoutRepeats

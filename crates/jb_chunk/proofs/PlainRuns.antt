@@ -10,23 +10,24 @@ use Rattle.jb_plan.specs.Blocks.{left, ChunksFollow}
 use Rattle.jb_chunk.specs.Alone.{IsRunOf, IsAlone}
 use Rattle.jb_rules.specs.States.{has_ended}
 use Rattle.jb_rules.specs.Rows.{committed_row, state_at}
-use Rattle.jb_rules.specs.Counts.{no_counts}
 use Rattle.jb_artifacts.specs.Faults.{FaultTable, live}
 use Rattle.jb_artifacts.specs.Writer.{fault_of, used_for}
 use Rattle.jb_artifacts.specs.Meaning.{ArtifactsMeaning}
 use Rattle.jb_artifacts.proofs.Writing.{length-texts}
-use Rattle.jb_chunk.specs.declared.chunk_end.ChunkEnd.TheVariants.{Committed}
-use Rattle.jb_chunk.specs.Attempt.{block_of, all_repeated, again_of, asks_repeat, fault_at, skips_at, end_of, end_at, counts_of, results_of, AttemptEnd, ending_by, attempt_of}
-use Rattle.jb_chunk.specs.Block.{count_of, skips_before, repeats}
-use Rattle.jb_chunk.specs.Entries.{is_read_fault, is_filtered}
+use Rattle.jb_chunk.specs.declared.outcome.Outcome.TheVariants.{Committed}
+use Rattle.jb_chunk.specs.Attempt.{block_of, all_repeated, again_of, asks_repeat, fault_at, skips_at, end_of, end_at, counts_with, counts_of, results_of, work_used, AttemptEnd, ending_by, attempt_of}
+use Rattle.jb_chunk.specs.Block.{results, skips_before, repeats}
+use Rattle.jb_chunk.specs.Entries.{is_fault, is_read_fault}
 use Rattle.jb_chunk.specs.Plain.{plain_answers, plain_delta, plain_row, plain_outputs, IsCalm, IsPlain}
-use Rattle.jb_chunk.specs.Standing.{TaskState, HasItemCount, IsReady}
+use Rattle.jb_chunk.specs.Standing.{TaskState, HasItemCount, IsReady, at_checkpoint}
 use Rattle.jb_rules.specs.declared.row.RowState.{RowState}
 use Rattle.jb_chunk.proofs.ChunkRepeats.{after_repeats-last}
-use Rattle.jb_chunk.proofs.WorkLeft.{work_as, left-as}
+use Rattle.jb_chunk.proofs.WorkUsed.{work_as}
+use Rattle.jb_chunk.proofs.WrittenResults.{whole-written, whole-kept}
+use Rattle.jb_chunk.proofs.RecordCounts.{few-counted}
 use Rattle.jb_chunk.proofs.PassedRecords.{between-outside}
 use Rattle.jb_chunk.proofs.SettlingRecord.{numbers-split}
-use Rattle.jb_chunk.proofs.CalmRecords.{answer_at, calm-texts, calm-failing, calm-settling, calm-reads, calm-processes, calm-filtered}
+use Rattle.jb_chunk.proofs.CalmRecords.{answer_at, calm-texts, calm-failing, calm-settling, calm-counts}
 use Rattle.jb_chunk.proofs.RunsAlone.{block-in, finished-at, waiting-at, below-at, left-waiting}
 
 -- two chunks are as one, but for the commits
@@ -123,23 +124,16 @@ found-calm u le calm = sym (length-texts (results_of u)) ∙ ap length (calm-tex
 
 delta-calm : (u : TaskState) → u.row.at ≤ (block_of u).hi → IsCalm u.work u.row.at (block_of u).hi → counts_of u (length (results_of u)) 0 ≡ plain_delta ((block_of u).hi - u.row.at) (length (plain_answers u.work u.row.at (block_of u).hi)) 1
 delta-calm u le calm =
-    let read_skips = calm-reads u.work u.row.at (block_of u).hi le calm in
-    let process_skips = calm-processes u.work u.row.at (block_of u).hi le calm in
-    let both = calm-filtered u.work u.row.at (block_of u).hi le calm in
+    let records = (block_of u).hi - u.row.at in
+    let skips = calm-counts is_fault (λ answer. refl) u.work u.row.at (block_of u).hi le calm in
+    let reads = calm-counts is_read_fault (λ answer. refl) u.work u.row.at (block_of u).hi le calm in
     let found = found-calm u le calm in
-    let read : ((block_of u).hi - u.row.at) - count_of is_read_fault u.work u.row.at (block_of u).hi ≡ (block_of u).hi - u.row.at = omega (arith, read_skips) in
-    let filtered : count_of is_filtered u.work u.row.at (block_of u).hi ≡ ((block_of u).hi - u.row.at) - length (plain_answers u.work u.row.at (block_of u).hi) = omega (arith, both) in
-    λ i. record no_counts {
-      read = read i;
-      write = found i;
-      commit = 1;
-      read_skip = read_skips i;
-      process_skip = process_skips i;
-      filter = filtered i;
-    }
+    let all : records - 0 ≡ records = omega arith in
+    (λ i. counts_with records (skips i) (reads i) (found i) (found i) 0)
+    ∙ ap (λ n. record (plain_delta records (length (plain_answers u.work u.row.at (block_of u).hi)) 1) { read = n; filter = n - length (plain_answers u.work u.row.at (block_of u).hi) }) all
 
 abbrev calm_work : TaskState → ArtifactsMeaning
-calm_work u = work_as u None (block_of u).hi (u.work.writer.written ++ plain_answers u.work u.row.at (block_of u).hi)
+calm_work u = record (work_as u None) { writer = record (work_as u None).writer { written = u.work.writer.written ++ plain_answers u.work u.row.at (block_of u).hi } }
 
 abbrev calm_next : TaskState → TaskState
 calm_next t =
@@ -148,19 +142,26 @@ calm_next t =
       work = calm_work t;
     }
 
-attempted-calm : (t : TaskState) → t.row.at ≤ (block_of t).hi → IsCalm t.work t.row.at (block_of t).hi → (attempt_of t).task ≡ calm_next t
-attempted-calm t le calm =
+-- what a calm block used, opened behind all its results
+opened-calm : (t : TaskState) → length t.work.writer.written ≡ t.row.written → t.row.at ≤ (block_of t).hi → IsCalm t.work t.row.at (block_of t).hi → (ending_by t (again_of t) (Committed (counts_of t (length (results_of t)) 0))).task.work ≡ calm_work t
+unfolding work_used
+opened-calm t count le calm =
+    let row = committed_row t.row (block_of t).hi (counts_of t (length (results_of t)) 0) in
+    let faultless = ap (fault_of t.work.writer.faults) (calm-failing t.work t.row.at (block_of t).hi le calm) in
+    let whole = whole-kept t.work.writer (results_of t) t.row.written count faultless in
+    let all = whole-written t.work.writer (results_of t) faultless ∙ ap (λ xs. t.work.writer.written ++ xs) (calm-texts t.work t.row.at (block_of t).hi le calm) in
+    ap (λ s. at_checkpoint row (work_used t s)) (calm-settling t.rules t.row t.work (block_of t).hi le calm)
+    ∙ (λ i. record (work_as t None) { writer = whole i })
+    ∙ (λ i. record (work_as t None) { writer = record (work_as t None).writer { written = all i } })
+
+attempted-calm : (t : TaskState) → length t.work.writer.written ≡ t.row.written → t.row.at ≤ (block_of t).hi → IsCalm t.work t.row.at (block_of t).hi → (attempt_of t).task ≡ calm_next t
+attempted-calm t count le calm =
     let unchanged = ap (λ (v : TaskState). record t { row = v.row; work = v.work }) (after_repeats-calm t le calm) in
     let delta = delta-calm t le calm in
-    let settled = calm-settling t.rules t.row t.work (block_of t).hi le calm in
-    let texts = calm-texts t.work t.row.at (block_of t).hi le calm in
+    let work = opened-calm t count le calm in
     ap (λ v. (ending_by v (again_of t) (end_of v)).task) unchanged
     ∙ ap (λ e. (ending_by t (again_of t) e).task) (end-calm t le calm)
-    ∙ (λ i. record t {
-      row = committed_row t.row (block_of t).hi (delta i);
-      work = left-as t (block_of t).hi (t.work.writer.written ++ texts i) i;
-    })
-    ∙ ap (λ s. record (calm_next t) { work = work_as t s (block_of t).hi (t.work.writer.written ++ plain_answers t.work t.row.at (block_of t).hi) }) settled
+    ∙ (λ i. record t { row = committed_row t.row (block_of t).hi (delta i); work = work i })
 
 -- the records after a calm block are as calm as before
 calm-rest : (u : TaskState) (hi : ℕ) → u.row.at ≤ (block_of u).hi → (block_of u).hi ≤ hi → IsCalm u.work u.row.at hi → IsCalm (calm_work u) (block_of u).hi hi
@@ -185,7 +186,10 @@ calm-written : (u : TaskState) → (calm_work u).writer.written ≡ u.work.write
 calm-written u = refl
 
 calm-few : (w : ArtifactsMeaning) (lo hi : ℕ) → lo ≤ hi → IsCalm w lo hi → length (plain_answers w lo hi) ≤ hi - lo
-calm-few w lo hi le calm = let both = calm-filtered w lo hi le calm in omega (arith, both)
+calm-few w lo hi le calm =
+    let all = (few-counted w lo hi le).all in
+    let found = ap length (calm-texts w lo hi le calm) in
+    omega (arith, all, found, length-texts (results w lo hi))
 
 -- the number of chunks that are left falls by one with each
 left-more : ChunksFollow → (t : TaskState) → t.row.at < t.row.hi → t.row.redo ≤ t.row.hi → HasItemCount t.item_count → left t.row.at t.row.redo t.row.hi t.item_count ≡ 1 + left (block_of t).hi t.row.redo t.row.hi t.item_count
@@ -250,19 +254,20 @@ calm-first t hi le calm = record {
 }
 
 -- where no call in the range fails, attempts that end the task leave what the Plain run leaves
-pub plain-run : ChunksFollow → (t : TaskState) (es : List AttemptEnd) (s : TaskState) → IsRunOf t es s → has_ended s.row.state ≡ true → t.row.at ≤ t.row.hi → t.row.redo ≤ t.row.hi → t.row.state ≡ state_at t.row.at t.row.hi → HasItemCount t.item_count → IsCalm t.work t.row.at t.row.hi → IsPlain t s
-plain-run law t [] s run ended le redo stands count calm =
+pub plain-run : ChunksFollow → (t : TaskState) (es : List AttemptEnd) (s : TaskState) → IsRunOf t es s → has_ended s.row.state ≡ true → t.row.at ≤ t.row.hi → t.row.redo ≤ t.row.hi → t.row.state ≡ state_at t.row.at t.row.hi → HasItemCount t.item_count → length t.work.writer.written ≡ t.row.written → IsCalm t.work t.row.at t.row.hi → IsPlain t s
+plain-run law t [] s run ended le redo stands count written calm =
     let here : has_ended (state_at t.row.at t.row.hi) ≡ true = ap has_ended (sym stands) ∙ ap (λ (v : TaskState). has_ended v.row.state) (sym run) ∙ ended in
     let P : TaskState → Type 0 = λ v. IsPlain t v in
     subst P (sym run) (plain-none law t (ended-at (t.row.at == t.row.hi) t.row.at t.row.hi refl here) redo stands count)
-plain-run law t (e ∷ es) s run ended le redo stands count calm =
+plain-run law t (e ∷ es) s run ended le redo stands count written calm =
     let lt = below-at t.row.at t.row.hi le (sym stands ∙ run.0) in
     let b = block-in law t lt redo count in
     let from = b.0 in
     let to = b.1 in
-    let next : e.task ≡ calm_next t = ap (λ (x : AttemptEnd). x.task) run.1 ∙ attempted-calm t (omega (arith, from)) (calm-first t (block_of t).hi to calm) in
+    let next : e.task ≡ calm_next t = ap (λ (x : AttemptEnd). x.task) run.1 ∙ attempted-calm t written (omega (arith, from)) (calm-first t (block_of t).hi to calm) in
     let P : TaskState → Type 0 = λ v. IsRunOf v es s in
-    let then = plain-run law (calm_next t) es s (subst P next run.2) ended to redo refl count (calm-rest t t.row.hi (omega (arith, from)) to calm) in
+    let grown = length-append t.work.writer.written (plain_answers t.work t.row.at (block_of t).hi) in
+    let then = plain-run law (calm_next t) es s (subst P next run.2) ended to redo refl count (omega (arith, grown, written)) (calm-rest t t.row.hi (omega (arith, from)) to calm) in
     (then.0 ∙ next-row law t lt redo count calm, then.1 ∙ next-outputs law t lt redo count)
 
 -- where no call in the range fails, a task that waits and runs alone does what its Plain run does
@@ -270,7 +275,7 @@ pub plain-alone : ChunksFollow → (t s : TaskState) → IsReady t → t.row.sta
 plain-alone law t s ready waiting alone calm =
     let sound = ready.sound in
     let lt = left-waiting t.row sound waiting in
-    plain-run law t alone.attempts s alone.run alone.ended sound.placed.at_to sound.placed.redo_to (waiting ∙ sym (waiting-at t.row.at t.row.hi lt)) ready.item_counted calm
+    plain-run law t alone.attempts s alone.run alone.ended sound.placed.at_to sound.placed.redo_to (waiting ∙ sym (waiting-at t.row.at t.row.hi lt)) ready.item_counted ready.count calm
 
 unlike-failed : (s : RowState) → s ≡ state.Failed → s ≡ state.Finished → ⊥
 unlike-failed s f e = cc

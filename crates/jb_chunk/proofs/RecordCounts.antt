@@ -6,7 +6,7 @@ use Rattle.std.proofs.lemmas.List.Elements.{filter_map-append}
 use Rattle.std.proofs.lemmas.List.Sums.{sum_by-append}
 use Rattle.jb_artifacts.specs.Meaning.{ArtifactsMeaning}
 use Rattle.jb_chunk.specs.Block.{entry, results, count_of, passed}
-use Rattle.jb_chunk.specs.Entries.{Entry, ReadFault, ProcessFault, Filtered, Answered, text_in, numbered, one_if, is_read_fault, is_process_fault, is_filtered}
+use Rattle.jb_chunk.specs.Entries.{Entry, ReadFault, ProcessFault, Processed, text_in, numbered, one_if, is_fault, is_read_fault}
 use Rattle.jb_chunk.specs.inside.Gathering.{Yield, IsTally, IsCountedUp}
 use Rattle.jb_chunk.proofs.PassedRecords.{entry-passed}
 
@@ -67,42 +67,56 @@ tally-more w now lo n t new le at tally up =
           ∙ ap (λ xs. xs ++ option_to_list (numbered n (text_in (entry now n)))) tally.found
           ∙ ap (λ v. results w lo n ++ option_to_list (numbered n (text_in v))) same
           ∙ sym (results-more w lo n le);
+      skips = counts is_fault _ _ tally.skips up.skips;
       read_skips = counts is_read_fault _ _ tally.read_skips up.read_skips;
-      process_skips = counts is_process_fault _ _ tally.process_skips up.process_skips;
-      filtered = counts is_filtered _ _ tally.filtered up.filtered;
     }
 
-pub tally-none : (w : ArtifactsMeaning) (lo : ℕ) (t : Yield) → t.found ≡ [] → t.read_skips ≡ 0 → t.process_skips ≡ 0 → t.filtered ≡ 0 → IsTally w lo lo t
-tally-none w lo t found reads processes filtered = record {
+pub tally-none : (w : ArtifactsMeaning) (lo : ℕ) (t : Yield) → t.found ≡ [] → t.skips ≡ 0 → t.read_skips ≡ 0 → IsTally w lo lo t
+tally-none w lo t found skips reads = record {
   found = found ∙ sym (results-none w lo);
+  skips = skips ∙ sym (count-none is_fault w lo);
   read_skips = reads ∙ sym (count-none is_read_fault w lo);
-  process_skips = processes ∙ sym (count-none is_process_fault w lo);
-  filtered = filtered ∙ sym (count-none is_filtered w lo);
 }
 
 pub one_if-le : (b : Bool) → one_if b ≤ 1
 one_if-le true = omega arith
 one_if-le false = omega arith
 
-one_each : (k : ℕ) (e : Entry) → one_if (is_read_fault e) + one_if (is_process_fault e) + one_if (is_filtered e) + length (option_to_list (numbered k (text_in e))) ≡ 1
-one_each k (ReadFault class) = refl
-one_each k (ProcessFault class) = refl
-one_each k Filtered = refl
-one_each k (Answered text) = refl
+-- so many records have so many skips, so many of them of reads, and so many results
+pub record AreFew (records skips read_skips results : ℕ) : Type 0 where
+  pub reads : read_skips ≤ skips
+  pub all : skips + results ≤ records
 
-counted-to : (w : ArtifactsMeaning) (lo m n : ℕ) → lo + m ≡ n → count_of is_read_fault w lo n + count_of is_process_fault w lo n + count_of is_filtered w lo n + length (results w lo n) ≡ m
-counted-to w lo zero n e =
-    let P : ℕ → Type 0 = λ n. count_of is_read_fault w lo n + count_of is_process_fault w lo n + count_of is_filtered w lo n + length (results w lo n) ≡ 0 in
+few-each : (k : ℕ) (e : Entry) → AreFew 1 (one_if (is_fault e)) (one_if (is_read_fault e)) (length (option_to_list (numbered k (text_in e))))
+few-each k (ReadFault class) = record { reads = omega arith; all = omega arith }
+few-each k (ProcessFault class) = record { reads = omega arith; all = omega arith }
+few-each k (Processed None) = record { reads = omega arith; all = omega arith }
+few-each k (Processed (Some text)) = record { reads = omega arith; all = omega arith }
+
+few-to : (w : ArtifactsMeaning) (lo m n : ℕ) → lo + m ≡ n → AreFew m (count_of is_fault w lo n) (count_of is_read_fault w lo n) (length (results w lo n))
+few-to w lo zero n e =
+    let P : ℕ → Type 0 = λ n. AreFew 0 (count_of is_fault w lo n) (count_of is_read_fault w lo n) (length (results w lo n)) in
     let same : lo ≡ n = omega arith in
-    subst P same (omega (arith, count-none is_read_fault w lo, count-none is_process_fault w lo, count-none is_filtered w lo, ap length (results-none w lo)))
-counted-to w lo (suc m) n e =
-    let P : ℕ → Type 0 = λ n. count_of is_read_fault w lo n + count_of is_process_fault w lo n + count_of is_filtered w lo n + length (results w lo n) ≡ suc m in
+    let skips = count-none is_fault w lo in
+    let reads = count-none is_read_fault w lo in
+    let found = ap length (results-none w lo) in
+    subst P same (record { reads = omega (arith, skips, reads); all = omega (arith, skips, found) })
+few-to w lo (suc m) n e =
+    let P : ℕ → Type 0 = λ n. AreFew (suc m) (count_of is_fault w lo n) (count_of is_read_fault w lo n) (length (results w lo n)) in
     let k = lo + m in
     let same : k + 1 ≡ n = omega arith in
     let le : lo ≤ k = omega arith in
-    let grown = ap length (results-more w lo k le) ∙ length-append (results w lo k) (option_to_list (numbered k (text_in (entry w k)))) in
-    subst P same (omega (arith, counted-to w lo m k refl, count-more is_read_fault w lo k le, count-more is_process_fault w lo k le, count-more is_filtered w lo k le, grown, one_each k (entry w k)))
+    let skips = count-more is_fault w lo k le in
+    let reads = count-more is_read_fault w lo k le in
+    let found = ap length (results-more w lo k le) ∙ length-append (results w lo k) (option_to_list (numbered k (text_in (entry w k)))) in
+    let before = few-to w lo m k refl in
+    let here = few-each k (entry w k) in
+    let before_reads = before.reads in
+    let before_all = before.all in
+    let here_reads = here.reads in
+    let here_all = here.all in
+    subst P same (record { reads = omega (arith, before_reads, here_reads, skips, reads); all = omega (arith, before_all, here_all, skips, found) })
 
--- each record has one entry
-pub all-counted : (w : ArtifactsMeaning) (lo hi : ℕ) → lo ≤ hi → count_of is_read_fault w lo hi + count_of is_process_fault w lo hi + count_of is_filtered w lo hi + length (results w lo hi) ≡ hi - lo
-all-counted w lo hi le = counted-to w lo (hi - lo) hi (omega arith)
+-- a record has a fault or a result, and not both
+pub few-counted : (w : ArtifactsMeaning) (lo hi : ℕ) → lo ≤ hi → AreFew (hi - lo) (count_of is_fault w lo hi) (count_of is_read_fault w lo hi) (length (results w lo hi))
+few-counted w lo hi le = few-to w lo (hi - lo) hi (omega arith)

@@ -17,7 +17,7 @@ use Rattle.jb_artifacts.specs.Meaning.{ArtifactsMeaning}
 use Rattle.jb_chunk.specs.Attempt.{settled_at, fault_at, skips_at, called_again, repeated_work, asks_repeat, block_of}
 use Rattle.jb_chunk.specs.Standing.{TaskState}
 use Rattle.jb_chunk.specs.Block.{entry, entry_by, settles, settling, stops, repeats, skips_before, count_of, results, used_between, passed}
-use Rattle.jb_chunk.specs.Entries.{Entry, ReadFault, ProcessFault, Filtered, Answered, fault_in, is_read_fault, is_process_fault, is_filtered, text_in, numbered}
+use Rattle.jb_chunk.specs.Entries.{Entry, ReadFault, ProcessFault, Processed, fault_in, is_fault, is_read_fault, text_in, numbered}
 use Rattle.jb_chunk.specs.inside.Gathering.{Yield, IsTally, passed_one}
 use Rattle.jb_chunk.specs.inside.Repeats.{IsRepeated, AreRepeats, next_fault, called_times, called, IsDone}
 use Rattle.jb_chunk.proofs.PassedRecords.{fun_ext, between-outside, entry-passed, passed-more}
@@ -59,10 +59,7 @@ alike-in lo n k m w v from to same j le lt = same j le (omega (arith, from, to, 
 
 pub skips-alike : (row : Row) (w v : ArtifactsMeaning) (n k : ℕ) → row.at ≤ k → k ≤ n → Alike row.at (n - row.at) w v → skips_before (repeated_row row 1) v k ≡ skips_before row w k
 skips-alike row w v n k from to same =
-    let here = alike-in row.at n k k w v from to same in
-    let reads = counts-alike is_read_fault w v row.at k from here in
-    let processes = counts-alike is_process_fault w v row.at k from here in
-    λ i. skips_of row + reads i + processes i
+    ap (λ m. skips_of row + m) (counts-alike is_fault w v row.at k from (alike-in row.at n k k w v from to same))
 
 -- what isn't found holds nowhere
 none-holds : (p : ℕ → Bool) (x : ℕ) (b : Bool) (others : Option ℕ) → p x ≡ b → cond b (Some x) others ≡ None → (p x ≡ false) × (others ≡ None)
@@ -97,9 +94,8 @@ pub tally-alike : (w v : ArtifactsMeaning) (lo n : ℕ) (t : Yield) → lo ≤ n
 unfolding results
 tally-alike w v lo n t le same tally = record {
   found = tally.found ∙ sym (results-alike w v (n - lo) lo same);
+  skips = tally.skips ∙ sym (counts-alike is_fault w v lo n le same);
   read_skips = tally.read_skips ∙ sym (counts-alike is_read_fault w v lo n le same);
-  process_skips = tally.process_skips ∙ sym (counts-alike is_process_fault w v lo n le same);
-  filtered = tally.filtered ∙ sym (counts-alike is_filtered w v lo n le same);
 }
 
 -- A CALL IS REPEATED AT RECORD `n`
@@ -116,8 +112,7 @@ entry-other : (w : ArtifactsMeaning) (n k : ℕ) (e : Entry) → k < n → entry
 unfolding entry
 entry-other w n k (ReadFault class) lt = ap (λ p. entry_by (live p) (live (w.processor.faults k)) (w.processor.answer k (record_at w.reader k))) (other w.reader.faults n k lt)
 entry-other w n k (ProcessFault class) lt = process-other w n k lt
-entry-other w n k Filtered lt = process-other w n k lt
-entry-other w n k (Answered text) lt = process-other w n k lt
+entry-other w n k (Processed answer) lt = process-other w n k lt
 
 alike-call : (w : ArtifactsMeaning) (lo n : ℕ) (e : Entry) → lo ≤ n → Alike lo (n - lo) w (called_again w n e)
 alike-call w lo n e le k from to = entry-other w n k e (omega (arith, le, to))

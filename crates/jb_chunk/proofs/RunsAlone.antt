@@ -1,5 +1,5 @@
 -- A task that runs alone.
-use Rattle.std.proofs.Common.{◌≡◌, ℕ, ◌+◌, ◌≤◌, ◌<◌, ◌⊎◌, inl, inr, Bool, true, false, cond, List, [], ◌∷◌, ◌++◌, length, length-append, Option, Some, None, refl, ap, sym, ◌∙◌, subst, arith}
+use Rattle.std.proofs.Common.{◌≡◌, ℕ, ◌+◌, ◌-◌, ◌≤◌, ◌<◌, ◌⊎◌, inl, inr, Bool, true, false, cond, List, [], ◌∷◌, ◌++◌, length, length-append, Option, Some, None, refl, ap, sym, ◌∙◌, subst, arith}
 use Rattle.std.specs.Prelude.{nat_lt, ◌==◌}
 use Rattle.std.proofs.lemmas.Bool.Decides.{nat_tests}
 use Rattle.std.proofs.Math.Nat.{eq-or-lt_of_le}
@@ -10,38 +10,32 @@ use Rattle.jb_rules.specs.declared.counts.Counts.{Counts}
 use Rattle.jb_rules.specs.declared.row.Row.{Row}
 use Rattle.jb_rules.specs.declared.row.RowState.{RowState}
 use Rattle.jb_rules.specs.declared.row.RowState.TheVariants as state
-use Rattle.jb_rules.specs.declared.choice.Choice.TheVariants.{Retry, Again}
-use Rattle.jb_rules.specs.Decide.{has_class, choice_by, skip_open}
+use Rattle.jb_rules.specs.Decide.{has_class}
 use Rattle.jb_rules.specs.States.{has_ended}
 use Rattle.jb_rules.specs.Rows.{row_block, state_at}
 use Rattle.jb_rules.specs.Sound.{IsSoundRow}
-use Rattle.jb_chunk.specs.declared.chunk_end.ChunkEnd.{ChunkEnd}
-use Rattle.jb_chunk.specs.declared.chunk_end.ChunkEnd.TheVariants.{Committed, Rolled, Failed}
 use Rattle.jb_chunk.specs.declared.outcome.Outcome.{Outcome}
-use Rattle.jb_chunk.specs.declared.outcome.Outcome.TheVariants as outcome
+use Rattle.jb_chunk.specs.declared.outcome.Outcome.TheVariants.{Committed, Rolled, Failed}
 use Rattle.jb_chunk.specs.Alone.{IsRunOf, IsAlone, IsBroken, retries_left, attempts_left}
-use Rattle.jb_chunk.specs.Attempt.{AttemptEnd, after_repeats, block_of, again_of, counts_of, fault_at, skips_at, end_by, end_of, end_at, settled_at, attempt_of, ending_of, IsUnfinished}
-use Rattle.jb_chunk.specs.inside.ChunkEnds.{after_end, outcome_with}
-use Rattle.jb_chunk.proofs.AddedCounts.{IsAdded, end-added}
-use Rattle.jb_chunk.proofs.AfterRepeats.{after_repeats-row, after_repeats-left, after_repeats-in_place}
-use Rattle.jb_chunk.proofs.AttemptLeaves.{parts-of}
-use Rattle.jb_chunk.proofs.ChunkRepeats.{opened-below}
+use Rattle.jb_chunk.specs.Attempt.{AttemptEnd, after_repeats, block_of, again_of, counts_of, fault_at, skips_at, end_by, end_of, end_at, settled_at, attempt_of, ending_by, ending_of, IsUnfinished}
+use Rattle.jb_chunk.specs.inside.TriedChunk.{HasDelta}
+use Rattle.jb_chunk.proofs.AddedCounts.{end-added}
+use Rattle.jb_chunk.proofs.AfterRepeats.{after_repeats-row, after_repeats-left, after_repeats-in_place, repeats-count}
+use Rattle.jb_chunk.proofs.ChunkRepeats.{choice_by, can_skip, opened-below}
 use Rattle.jb_chunk.specs.Standing.{TaskState, IsReady, HasItemCount, HasRepeats}
 
 -- a chunk is rolled back only where a retry is left
-rolled-open : (no_rollback retrying skip opened : Bool) (skipped : Counts) (k class : ClassId) → end_by skipped k (choice_by (cond no_rollback Again Retry) retrying skip opened) ≡ Rolled class → opened ≡ true
-rolled-open b false skip true skipped k class e = refl
-rolled-open b false true false skipped k class e = cc
-rolled-open b false false false skipped k class e = cc
-rolled-open b true true opened skipped k class e = cc
-rolled-open b true false true skipped k class e = refl
-rolled-open b true false false skipped k class e = cc
+rolled-open : (again retrying skip opened : Bool) (skipped : Counts) (k class : ClassId) → end_by skipped k (choice_by again retrying skip opened) ≡ Rolled class → opened ≡ true
+rolled-open again retrying skip true skipped k class e = refl
+rolled-open again retrying false false skipped k class e = cc
+rolled-open again true true false skipped k class e = cc
+rolled-open again false true false skipped k class e = cc
 
 end-below : (t : TaskState) (fault : Option ClassId) (skips : ℕ) (class : ClassId) → end_at t fault skips ≡ Rolled class → t.row.retries < t.rules.retry_limit
 end-below t None skips class e = cc
 end-below t (Some k) skips class e =
     opened-below (has_class t.rules.retryable k) t.row.retries t.rules.retry_limit
-    (rolled-open (has_class t.rules.no_rollback k) (nat_lt t.row.at t.row.redo) (skip_open t.rules k skips) _ (counts_of t 0 1) k class e)
+    (rolled-open (has_class t.rules.no_rollback k) (nat_lt t.row.at t.row.redo) (can_skip t.rules k skips) _ (counts_of t 0 1) k class e)
 
 pub rolled-below : (t : TaskState) (class : ClassId) → end_of t ≡ Rolled class → t.row.retries < t.rules.retry_limit
 unfolding end_of
@@ -65,26 +59,17 @@ pub record IsCommit (before after : TaskState) : Type 0 where
   pub further : IsFurther before after
   pub stands : after.row.state ≡ state_at after.row.at after.row.hi
 
-commit-by : (t : TaskState) (e : ChunkEnd) (d : Counts) → IsAdded t e → (t.row.at < (block_of t).hi) × ((block_of t).hi ≤ t.row.hi) → outcome.Committed d ≡ outcome_with e → IsCommit t (after_end t e)
-commit-by t (Committed delta) d added b o =
+commit-by : (t : TaskState) (again : ℕ) (delta : Counts) → HasDelta ((block_of t).hi - t.row.at) (Committed delta) → (t.row.at < (block_of t).hi) × ((block_of t).hi ≤ t.row.hi) → IsCommit t (ending_by t again (Committed delta)).task
+commit-by t again delta added b =
     let lt = b.0 in
     let le = b.1 in
-    let none = (added.1 (omega (arith, lt))).rollback in
+    let none = added.rollback in
     record { further = record { fewer = omega (arith, lt, le); room = omega (arith, none); repeats = omega arith }; stands = refl }
-commit-by t (Rolled class) d added b o = cc
-commit-by t (Failed class) d added b o = cc
 
-roll-by : (t : TaskState) (e : ChunkEnd) (class : ClassId) → e ≡ end_of t → t.row.state ≡ state.Waiting → outcome.Rolled class ≡ outcome_with e → IsFurther t (after_end t e) × ((after_end t e).row.state ≡ state.Waiting)
-roll-by t (Committed delta) class h w o = cc
-roll-by t (Rolled k) class h w o =
-    let below = rolled-below t k (sym h) in
-    (record { fewer = omega (arith, below); room = omega (arith, below); repeats = omega (arith, below) }, w)
-roll-by t (Failed k) class h w o = cc
-
-fail-by : (t : TaskState) (e : ChunkEnd) (class : ClassId) → outcome.Failed class ≡ outcome_with e → (after_end t e).row.state ≡ state.Failed
-fail-by t (Committed delta) class o = cc
-fail-by t (Rolled k) class o = cc
-fail-by t (Failed k) class o = refl
+roll-by : (t : TaskState) (again : ℕ) (class : ClassId) → end_of t ≡ Rolled class → IsFurther t (ending_by t again (Rolled class)).task
+roll-by t again class is =
+    let below = rolled-below t class is in
+    record { fewer = omega (arith, below); room = omega (arith, below); repeats = omega (arith, below) }
 
 pub finished-at : (at hi : ℕ) → at ≡ hi → state_at at hi ≡ state.Finished
 finished-at at hi e = let same : (at == hi) ≡ true = grind (arith, nat_tests) in ap (λ b. cond b state.Finished state.Waiting) same
@@ -104,12 +89,12 @@ below-at at hi le waiting = some-left at hi (state_at at hi) (eq-or-lt_of_le le)
 pub left-waiting : (row : Row) → IsSoundRow row → row.state ≡ state.Waiting → row.at < row.hi
 left-waiting row sound waiting = some-left row.at row.hi row.state (eq-or-lt_of_le sound.placed.at_to) sound.finished.1 waiting
 
--- what an attempt with this outcome leaves of the task after all its repeats
-left-by : (t after : TaskState) (out : Outcome) (values : List (List ℕ)) (again : ℕ) → ending_of after out values again ≡ attempt_of t → after ≡ after_end (after_repeats t) (end_of (after_repeats t))
-left-by t after out values again done = ap (λ (e : AttemptEnd). e.task) (done ∙ parts-of (after_repeats t) (again_of t) (end_of (after_repeats t)))
+-- how a task's chunk ended, after all its repeats, and what that left
+ended-by : (t after : TaskState) (out : Outcome) (values : List (List ℕ)) (again : ℕ) → ending_of after out values again ≡ attempt_of t → end_of (after_repeats t) ≡ out
+ended-by t after out values again done = sym (ap (λ (e : AttemptEnd). e.outcome) done)
 
-ended-by : (t after : TaskState) (out : Outcome) (values : List (List ℕ)) (again : ℕ) → ending_of after out values again ≡ attempt_of t → out ≡ outcome_with (end_of (after_repeats t))
-ended-by t after out values again done = ap (λ (e : AttemptEnd). e.outcome) (done ∙ parts-of (after_repeats t) (again_of t) (end_of (after_repeats t)))
+left-by : (t after : TaskState) (out : Outcome) (values : List (List ℕ)) (again : ℕ) → ending_of after out values again ≡ attempt_of t → (ending_by (after_repeats t) (again_of t) out).task ≡ after
+left-by t after out values again done = ap (λ e. (ending_by (after_repeats t) (again_of t) e).task) (sym (ended-by t after out values again done)) ∙ sym (ap (λ (e : AttemptEnd). e.task) done)
 
 -- the repeats take no attempt away that isn't a retry, and no record
 after_repeats-further : (t after : TaskState) → IsFurther (after_repeats t) after → IsFurther t after
@@ -133,26 +118,24 @@ block-after_repeats law t ready waiting =
     let P : Row → Type 0 = λ x. (x.at < (row_block t.item_count x).hi) × ((row_block t.item_count x).hi ≤ x.hi) in
     subst P (sym (after_repeats-row t)) (block-in law t (left-waiting t.row ready.sound waiting) ready.sound.placed.redo_to ready.item_counted)
 
-commit-left : ChunksFollow → (before after : TaskState) (d : Counts) (values : List (List ℕ)) (again : ℕ) → IsReady before → before.row.state ≡ state.Waiting → ending_of after (outcome.Committed d) values again ≡ attempt_of before → IsCommit before after
+commit-left : ChunksFollow → (before after : TaskState) (d : Counts) (values : List (List ℕ)) (again : ℕ) → IsReady before → before.row.state ≡ state.Waiting → ending_of after (Committed d) values again ≡ attempt_of before → IsCommit before after
 commit-left law before after d values again ready waiting done =
     let s = after_repeats before in
-    let P : TaskState → Type 0 = λ u. IsCommit s u in
-    let made = subst P (sym (left-by before after _ values again done)) (commit-by s (end_of s) d (end-added s) (block-after_repeats law before ready waiting) (ended-by before after _ values again done)) in
+    let block = block-after_repeats law before ready waiting in
+    let lt = block.0 in
+    let added = subst (HasDelta ((block_of s).hi - s.row.at)) (ended-by before after _ values again done) ((end-added s (repeats-count before ready.count)).1 (omega (arith, lt))) in
+    let made = subst (IsCommit s) (left-by before after _ values again done) (commit-by s (again_of before) d added block) in
     record { further = after_repeats-further before after made.further; stands = made.stands }
 
-roll-left : (before after : TaskState) (class : ClassId) (values : List (List ℕ)) (again : ℕ) → before.row.state ≡ state.Waiting → ending_of after (outcome.Rolled class) values again ≡ attempt_of before → IsFurther before after × (after.row.state ≡ state.Waiting)
+roll-left : (before after : TaskState) (class : ClassId) (values : List (List ℕ)) (again : ℕ) → before.row.state ≡ state.Waiting → ending_of after (Rolled class) values again ≡ attempt_of before → IsFurther before after × (after.row.state ≡ state.Waiting)
 roll-left before after class values again waiting done =
     let s = after_repeats before in
-    let P : TaskState → Type 0 = λ u. IsFurther s u × (u.row.state ≡ state.Waiting) in
-    let waits = ap (λ (x : Row). x.state) (after_repeats-row before) ∙ waiting in
-    let made = subst P (sym (left-by before after _ values again done)) (roll-by s (end_of s) class refl waits (ended-by before after _ values again done)) in
-    (after_repeats-further before after made.0, made.1)
+    let left = left-by before after _ values again done in
+    let made = roll-by s (again_of before) class (ended-by before after _ values again done) in
+    (after_repeats-further before after (subst (IsFurther s) left made), ap (λ (x : TaskState). x.row.state) (sym left) ∙ ap (λ (x : Row). x.state) (after_repeats-row before) ∙ waiting)
 
-fail-left : (before after : TaskState) (class : ClassId) (values : List (List ℕ)) (again : ℕ) → ending_of after (outcome.Failed class) values again ≡ attempt_of before → after.row.state ≡ state.Failed
-fail-left before after class values again done =
-    let s = after_repeats before in
-    let P : TaskState → Type 0 = λ u. u.row.state ≡ state.Failed in
-    subst P (sym (left-by before after _ values again done)) (fail-by s (end_of s) class (ended-by before after _ values again done))
+fail-left : (before after : TaskState) (class : ClassId) (values : List (List ℕ)) (again : ℕ) → ending_of after (Failed class) values again ≡ attempt_of before → after.row.state ≡ state.Failed
+fail-left before after class values again done = ap (λ (x : TaskState). x.row.state) (sym (left-by before after _ values again done))
 
 -- no more is retried than the limit of a step's retries
 pub has-room : (t : TaskState) → IsReady t → t.row.counts.rollback + max_retry_limit < max_rollbacks → t.row.in_place + max_retry_limit ≤ max_in_place → HasRoom t
@@ -193,11 +176,11 @@ last-alone start now e way ready waiting last ended = record {
 }
 
 -- a chunk that was committed ends the task where no record is left
-pub commit-ends : ChunksFollow → (start now after : TaskState) (d : Counts) (values : List (List ℕ)) (again : ℕ) → IsReady now → now.row.state ≡ state.Waiting → IsUnderWay start now → ending_of after (outcome.Committed d) values again ≡ attempt_of now → after.row.at ≡ after.row.hi → IsAlone start after × (after.row.state ≡ state.Finished)
+pub commit-ends : ChunksFollow → (start now after : TaskState) (d : Counts) (values : List (List ℕ)) (again : ℕ) → IsReady now → now.row.state ≡ state.Waiting → IsUnderWay start now → ending_of after (Committed d) values again ≡ attempt_of now → after.row.at ≡ after.row.hi → IsAlone start after × (after.row.state ≡ state.Finished)
 commit-ends law start now after d values again ready waiting way done at =
     let commit = commit-left law now after d values again ready waiting done in
     let ended = commit.stands ∙ finished-at after.row.at after.row.hi at in
-    (last-alone start now (ending_of after (outcome.Committed d) values again) way ready waiting done (ap has_ended ended), ended)
+    (last-alone start now (ending_of after (Committed d) values again) way ready waiting done (ap has_ended ended), ended)
 
 -- what holds where the task is to be attempted again
 pub record IsNext (start now after : TaskState) : Type 0 where
@@ -219,21 +202,21 @@ next-of start now e waiting room way last further again =
       fewer = further.fewer;
     }
 
-pub commit-next : ChunksFollow → (start now after : TaskState) (d : Counts) (values : List (List ℕ)) (again : ℕ) → IsReady now → now.row.state ≡ state.Waiting → HasRoom now → IsUnderWay start now → ending_of after (outcome.Committed d) values again ≡ attempt_of now → after.row.at < after.row.hi → IsNext start now after
+pub commit-next : ChunksFollow → (start now after : TaskState) (d : Counts) (values : List (List ℕ)) (again : ℕ) → IsReady now → now.row.state ≡ state.Waiting → HasRoom now → IsUnderWay start now → ending_of after (Committed d) values again ≡ attempt_of now → after.row.at < after.row.hi → IsNext start now after
 commit-next law start now after d values again ready waiting room way done lt =
     let commit = commit-left law now after d values again ready waiting done in
-    next-of start now (ending_of after (outcome.Committed d) values again) waiting room way done commit.further (commit.stands ∙ waiting-at after.row.at after.row.hi lt)
+    next-of start now (ending_of after (Committed d) values again) waiting room way done commit.further (commit.stands ∙ waiting-at after.row.at after.row.hi lt)
 
-pub roll-next : (start now after : TaskState) (class : ClassId) (values : List (List ℕ)) (again : ℕ) → now.row.state ≡ state.Waiting → HasRoom now → IsUnderWay start now → ending_of after (outcome.Rolled class) values again ≡ attempt_of now → IsNext start now after
+pub roll-next : (start now after : TaskState) (class : ClassId) (values : List (List ℕ)) (again : ℕ) → now.row.state ≡ state.Waiting → HasRoom now → IsUnderWay start now → ending_of after (Rolled class) values again ≡ attempt_of now → IsNext start now after
 roll-next start now after class values again waiting room way done =
     let rolled = roll-left now after class values again waiting done in
-    next-of start now (ending_of after (outcome.Rolled class) values again) waiting room way done rolled.0 rolled.1
+    next-of start now (ending_of after (Rolled class) values again) waiting room way done rolled.0 rolled.1
 
 -- a chunk that failed ends the task
-pub fail-ends : (start now after : TaskState) (class : ClassId) (values : List (List ℕ)) (again : ℕ) → IsReady now → now.row.state ≡ state.Waiting → IsUnderWay start now → ending_of after (outcome.Failed class) values again ≡ attempt_of now → IsAlone start after × (after.row.state ≡ state.Failed)
+pub fail-ends : (start now after : TaskState) (class : ClassId) (values : List (List ℕ)) (again : ℕ) → IsReady now → now.row.state ≡ state.Waiting → IsUnderWay start now → ending_of after (Failed class) values again ≡ attempt_of now → IsAlone start after × (after.row.state ≡ state.Failed)
 fail-ends start now after class values again ready waiting way done =
     let ended = fail-left now after class values again done in
-    (last-alone start now (ending_of after (outcome.Failed class) values again) way ready waiting done (ap has_ended ended), ended)
+    (last-alone start now (ending_of after (Failed class) values again) way ready waiting done (ap has_ended ended), ended)
 
 -- an attempt that found no memory breaks the run off
 pub breaks-off : (start now after : TaskState) → IsReady now → now.row.state ≡ state.Waiting → IsUnderWay start now → IsUnfinished now after → IsBroken start after

@@ -9,10 +9,10 @@ use Rattle.jb_base.specs.Limits.{max_rollbacks, max_in_place}
 use Rattle.jb_rules.specs.Laws.{RowsStaySound}
 use Rattle.jb_rules.specs.States.{has_ended}
 use Rattle.jb_chunk.specs.Alone.{IsRunOf, IsOnTheWay, IsAlone, retries_of, retries_left, attempts_left}
-use Rattle.jb_chunk.specs.Attempt.{AttemptEnd, after_repeats, again_of, end_of, attempt_of}
+use Rattle.jb_chunk.specs.Attempt.{AttemptEnd, after_repeats, end_of, attempt_of}
 use Rattle.jb_chunk.specs.Laws.{OneEnd, CalmRunsArePlain, RunsAreShort, RetriesAreFew, WaysJoin, WaysEnd, TasksStayReady, TasksStandAtCheckpoints, SamePlace, SameEnd, CommitsTakeOneChunk}
 use Rattle.jb_chunk.specs.Standing.{TaskState, IsReady, taken_up}
-use Rattle.jb_chunk.proofs.OnCourse.{IsOnCourse, Goes, ready-course, course-next, rollbacks-rise, repeats-grow, ready-next, one-chunk, retry-by, again-in}
+use Rattle.jb_chunk.proofs.OnCourse.{IsOnCourse, Goes, ready-course, course-next, rollbacks-rise, repeats-grow, ready-next, one-chunk, retry-by}
 use Rattle.jb_chunk.proofs.AfterRepeats.{after_repeats-row, after_repeats-left}
 use Rattle.jb_chunk.proofs.PlainRuns.{plain-run, plain-alone}
 use Rattle.jb_chunk.proofs.RunsAlone.{block-in, finished-at}
@@ -68,14 +68,12 @@ runs-are-short law t s es ready run = few-run law t es s (ready-course t ready) 
 attempt-retries : (t : TaskState) → ((attempt_of t).task.row.retries ≡ t.row.retries + retries_of (attempt_of t)) × (retries_of (attempt_of t) + retries_left (attempt_of t).task ≡ retries_left t)
 attempt-retries t =
     let s = after_repeats t in
-    let e = end_of s in
-    let own = retry-by s (again_of t) e refl in
+    let own = retry-by s (end_of s) refl in
     let counted = own.0 in
     let left = own.1 in
-    let again = again-in t e in
     let before = ap (λ (x : Row). x.retries) (after_repeats-row t) in
     let more = after_repeats-left t in
-    (omega (arith, counted, again, before), omega (arith, left, again, more))
+    (omega (arith, counted, before), omega (arith, left, more))
 
 pub retries-are-few : RetriesAreFew
 retries-are-few t s [] run =
@@ -198,4 +196,4 @@ calm-runs-are-plain law t s ready (inl waiting) calm alone = plain-alone law t s
 calm-runs-are-plain law t s ready (inr finished) calm alone =
     let sound = ready.sound in
     let at = sound.finished.0 finished in
-    plain-run law t alone.attempts s alone.run alone.ended sound.placed.at_to sound.placed.redo_to (finished ∙ sym (finished-at t.row.at t.row.hi at)) ready.item_counted calm
+    plain-run law t alone.attempts s alone.run alone.ended sound.placed.at_to sound.placed.redo_to (finished ∙ sym (finished-at t.row.at t.row.hi at)) ready.item_counted ready.count calm

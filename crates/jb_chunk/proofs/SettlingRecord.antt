@@ -9,9 +9,9 @@ use Rattle.jb_base.specs.Rules.{RulesRecord}
 use Rattle.jb_rules.specs.declared.row.Row.{Row}
 use Rattle.jb_rules.specs.Rows.{skips_of}
 use Rattle.jb_artifacts.specs.Meaning.{ArtifactsMeaning}
-use Rattle.jb_chunk.specs.Block.{entry, settles, settling, stops, is_skip, choice_at, skips_before, count_of, passed}
-use Rattle.jb_chunk.specs.Entries.{fault_in, is_process_fault}
-use Rattle.jb_chunk.specs.inside.Gathering.{Yield, IsTally, IsStep}
+use Rattle.jb_chunk.specs.Block.{entry, settles, settling, stops, is_skip, choice_at, skips_before, passed}
+use Rattle.jb_chunk.specs.Entries.{fault_in}
+use Rattle.jb_chunk.specs.inside.Gathering.{Yield, IsTally, IsGatheringStep}
 use Rattle.jb_chunk.proofs.PassedRecords.{entry-passed}
 use Rattle.jb_chunk.proofs.RecordCounts.{numbers-to}
 
@@ -57,10 +57,8 @@ settling-found rules row w n hi le lt none found =
     ∙ ap (λ b. cond b (Some n) (find p (range_with_len (n + 1) rest))) found
 
 -- the skips before a record are those of the row and of the tally
-pub skips-tally : (row : Row) (w : ArtifactsMeaning) (n : ℕ) (t : Yield) → IsTally w row.at n t → skips_before row w n ≡ skips_of row + t.read_skips + t.process_skips
-skips-tally row w n t tally =
-    ap (λ m. skips_of row + m + count_of is_process_fault w row.at n) (sym tally.read_skips)
-    ∙ ap (λ m. skips_of row + t.read_skips + m) (sym tally.process_skips)
+pub skips-tally : (row : Row) (w : ArtifactsMeaning) (n : ℕ) (t : Yield) → IsTally w row.at n t → skips_before row w n ≡ skips_of row + t.skips
+skips-tally row w n t tally = ap (λ m. skips_of row + m) (sym tally.skips)
 
 -- a record settles the block by its fault and the skips before it
 settles-by : (rules : RulesRecord) (row : Row) (w : ArtifactsMeaning) (n skips : ℕ) (fault : Option ClassId) (b : Bool) → fault_in (entry w n) ≡ fault → skips_before row w n ≡ skips → stops rules row fault skips ≡ b → settles rules row w n ≡ b
@@ -68,7 +66,7 @@ unfolding settles
 settles-by rules row w n skips fault b e f h =
     ap (λ o. stops rules row o (skips_before row w n)) e ∙ ap (stops rules row fault) f ∙ h
 
-pub step-some : (rules : RulesRecord) (row : Row) (w now : ArtifactsMeaning) (n hi : ℕ) (t new : Yield) (class : ClassId) (choice : Choice) → row.at ≤ n → n < hi → now ≡ passed w row.at n → IsTally w row.at n t → settling rules row w n ≡ None → IsStep rules row (entry now n) n t (Some (class, choice)) new → (settling rules row w hi ≡ Some n) × (fault_in (entry w n) ≡ Some class) × (choice ≡ choice_at rules row class (skips_before row w n)) × (is_skip choice ≡ false)
+pub step-some : (rules : RulesRecord) (row : Row) (w now : ArtifactsMeaning) (n hi : ℕ) (t new : Yield) (class : ClassId) (choice : Choice) → row.at ≤ n → n < hi → now ≡ passed w row.at n → IsTally w row.at n t → settling rules row w n ≡ None → IsGatheringStep rules row (entry now n) n t (Some (class, choice)) new → (settling rules row w hi ≡ Some n) × (fault_in (entry w n) ≡ Some class) × (choice ≡ choice_at rules row class (skips_before row w n)) × (is_skip choice ≡ false)
 step-some rules row w now n hi t new class choice le lt at tally none step =
     let same : entry now n ≡ entry w n = ap (λ v. entry v n) at ∙ entry-passed w row.at n in
     let fault : fault_in (entry w n) ≡ Some class = ap fault_in (sym same) ∙ step.0 in
@@ -76,7 +74,7 @@ step-some rules row w now n hi t new class choice le lt at tally none step =
     let found = settles-by rules row w n _ _ true fault skips (ap not step.2) in
     (settling-found rules row w n hi le lt none found, fault, step.1 ∙ ap (choice_at rules row class) (sym skips), ap is_skip step.1 ∙ step.2)
 
-pub step-none : (rules : RulesRecord) (row : Row) (w now : ArtifactsMeaning) (n : ℕ) (t new : Yield) → row.at ≤ n → now ≡ passed w row.at n → IsTally w row.at n t → settling rules row w n ≡ None → IsStep rules row (entry now n) n t None new → settling rules row w (n + 1) ≡ None
+pub step-none : (rules : RulesRecord) (row : Row) (w now : ArtifactsMeaning) (n : ℕ) (t new : Yield) → row.at ≤ n → now ≡ passed w row.at n → IsTally w row.at n t → settling rules row w n ≡ None → IsGatheringStep rules row (entry now n) n t None new → settling rules row w (n + 1) ≡ None
 step-none rules row w now n t new le at tally none step =
     let same : entry now n ≡ entry w n = ap (λ v. entry v n) at ∙ entry-passed w row.at n in
     let idle = settles-by rules row w n _ _ false (ap fault_in (sym same)) (skips-tally row w n t tally) step.0 in

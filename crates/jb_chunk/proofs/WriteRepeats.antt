@@ -6,27 +6,28 @@ use Rattle.jb_base.specs.declared.artifact_error.ArtifactError.TheVariants.{Faul
 use Rattle.jb_base.specs.Rules.{RulesRecord}
 use Rattle.jb_rules.specs.declared.row.Row.{Row}
 use Rattle.jb_rules.specs.declared.choice.Choice.{Choice}
+use Rattle.jb_rules.specs.declared.choice.Choice.TheVariants.{Skip, Retry, Again, Fail}
+use Rattle.jb_rules.specs.declared.counts.Counts.{Counts}
 use Rattle.jb_rules.specs.Counts.{no_counts}
 use Rattle.jb_rules.specs.Rows.{repeated_row, skips_of}
 use Rattle.jb_artifacts.specs.Faults.{FaultTable}
 use Rattle.jb_artifacts.specs.Reader.{Reader, opened, reader_end}
 use Rattle.jb_artifacts.specs.Writer.{Writer, Numbered, texts_of, cut, write_fault, after_write, failing}
 use Rattle.jb_artifacts.specs.Meaning.{ArtifactsMeaning}
-use Rattle.jb_chunk.specs.declared.chunk_end.ChunkEnd.{ChunkEnd}
-use Rattle.jb_chunk.specs.declared.chunk_end.ChunkEnd.TheVariants.{Committed}
+use Rattle.jb_chunk.specs.declared.outcome.Outcome.{Outcome}
+use Rattle.jb_chunk.specs.declared.outcome.Outcome.TheVariants.{Committed}
 use Rattle.jb_chunk.specs.declared.gather.Gathered.TheVariants.{Settled}
-use Rattle.jb_chunk.specs.Attempt.{settled_at, results_of, fault_at, skips_at, repeated, repeated_work, asks_repeat, all_repeated, end_by, block_of}
-use Rattle.jb_chunk.specs.Standing.{TaskState}
+use Rattle.jb_chunk.specs.Attempt.{settled_at, results_of, fault_at, skips_at, repeated, repeated_work, asks_repeat, all_repeated, end_by, row_after, block_of}
+use Rattle.jb_chunk.specs.Standing.{TaskState, at_checkpoint}
 use Rattle.jb_chunk.specs.Block.{entry, results, repeats, is_skip, is_again, choice_at, passed, skips_before, MayBeUsed}
 use Rattle.jb_chunk.specs.Entries.{fault_in}
-use Rattle.jb_chunk.specs.inside.ChunkEnds.{end_from, place_by}
-use Rattle.jb_chunk.specs.inside.Gathering.{Yield, IsTally, IsWornTo, counts_with}
-use Rattle.jb_chunk.specs.inside.Repeats.{IsRepeated, IsWhole, IsGathered, IsPut, IsWriteEndAfter, IsFinishAfter, IsTornWrite, rewritten, written_times}
-use Rattle.jb_chunk.specs.inside.TriedChunk.{IsTried, IsFinish, IsTorn, writer_by}
+use Rattle.jb_chunk.specs.inside.Gathering.{Yield, IsTally, IsWornTo}
+use Rattle.jb_chunk.specs.inside.Repeats.{IsRepeated, IsWhole, IsGathered, IsPut, IsFinishAfter, IsTornWrite, rewritten, written_times}
+use Rattle.jb_chunk.specs.inside.TriedChunk.{IsTried, IsFinish, IsTorn, counts_by, end_from}
 use Rattle.jb_chunk.proofs.RecordRepeats.{row-none, row-suc, settling-alike, tally-alike, skips-alike}
 use Rattle.jb_chunk.proofs.ChunkRepeats.{same-rules, same-hi, repeated-more, repeated-last, may-same, may-trans, may-used_for}
 use Rattle.jb_chunk.proofs.SettlingRecord.{skips-tally}
-use Rattle.jb_chunk.proofs.ChunkEnds.{front-longer, kept-none, kept-some}
+use Rattle.jb_chunk.proofs.WrittenResults.{front-longer, whole-kept}
 use Rattle.jb_chunk.proofs.TriedChunk.{settled-tried, whole-tried}
 use Rattle.jb_chunk.proofs.UsedPlans.{worn-passed}
 use Rattle.jb_chunk.proofs.DoneRecords.{restored-worn}
@@ -92,10 +93,10 @@ tally-writer : (w : ArtifactsMeaning) (v : Writer) (lo hi : ℕ) (tally : Yield)
 tally-writer w v lo hi tally le counted = tally-alike w (record w { writer = v }) lo hi tally le (λ k from to. entry-writer w v k) counted
 
 -- a block that was written, after the repeats of its write
-pub finished-tried : (t : TaskState) (tally : Yield) (row next : Row) (left new : ArtifactsMeaning) (end : ChunkEnd) → t.row.at ≤ (block_of t).hi → IsWhole t tally row left → IsFinishAfter t.rules row (block_of t).hi tally left end next new → (next ≡ (all_repeated t).row) × IsTried (all_repeated t) end new
+pub finished-tried : (t : TaskState) (tally : Yield) (row next : Row) (left new : ArtifactsMeaning) (end : Outcome) → t.row.at ≤ (block_of t).hi → IsWhole t tally row left → IsFinishAfter t.rules row (block_of t).hi tally left end next new → (next ≡ (all_repeated t).row) × IsTried (all_repeated t) end new
 finished-tried t tally row next left new end le (u, repeated, row_is, none, counted, passes) (again, wrote, finish) =
     let found = tally.found in
-    let skips = skips_of row + tally.read_skips + tally.process_skips in
+    let skips = skips_of row + tally.skips in
     let at : u.row.at ≡ t.row.at = ap (λ (x : Row). x.at) repeated.row in
     let hi = same-hi repeated in
     let rules = same-rules repeated in
@@ -106,7 +107,7 @@ finished-tried t tally row next left new end le (u, repeated, row_is, none, coun
       le = le_u;
       none = none;
       found_is = sym counted.found;
-      skipped = skips-tally u.row u.work (block_of u).hi tally counted ∙ ap (λ (x : Row). skips_of x + tally.read_skips + tally.process_skips) (sym row_is);
+      skipped = skips-tally u.row u.work (block_of u).hi tally counted ∙ ap (λ (x : Row). skips_of x + tally.skips) (sym row_is);
     } in
     let asked : (j : ℕ) → j < again → repeats u.rules (repeated_row u.row j) (write_fault (rewritten u.work.writer found j) found) skips ≡ true =
     λ j lt. (λ i. repeats (rules i) (repeated_row (sym row_is i) j) (write_fault (rewritten (sym writer i) found j) found) skips) ∙ wrote.asked j lt in
@@ -134,11 +135,12 @@ asks-settled u k class choice at fault chosen last =
     ∙ ap is_again (sym chosen) ∙ last
 
 -- a chunk that a record's fault settled
-pub stopped-tried : (t : TaskState) (k : ℕ) (class : ClassId) (choice : Choice) (row : Row) (left new : ArtifactsMeaning) (end : ChunkEnd) (found : Numbered) → IsGathered t (Settled k class choice) found row left → end ≡ end_by no_counts class choice → new ≡ record left { reader = opened left.reader row.at } → (row ≡ (all_repeated t).row) × IsTried (all_repeated t) end new
-stopped-tried t k class choice row left new end found (u, repeated, row_is, at, fault, chosen, unskipped, last, passes) ends opens =
+pub stopped-tried : (t : TaskState) (k : ℕ) (class : ClassId) (choice : Choice) (row : Row) (left new : ArtifactsMeaning) (end : Outcome) (found : Numbered) → length t.work.writer.written ≡ t.row.written → IsGathered t (Settled k class choice) found row left → end ≡ end_by no_counts class choice → new ≡ record left { reader = opened left.reader row.at } → (row ≡ (all_repeated t).row) × IsTried (all_repeated t) end new
+stopped-tried t k class choice row left new end found count (u, repeated, row_is, at, fault, chosen, unskipped, last, passes) ends opens =
     let is : u ≡ all_repeated t = repeated-last t u repeated (asks-settled u k class choice at fault chosen last) in
     let place = ap (λ (x : Row). record left { reader = opened left.reader x.at }) row_is in
-    let done = settled-tried u k class left new end at fault (ap is_skip (sym chosen) ∙ unskipped) passes (ends ∙ ap (end_by no_counts class) chosen) (opens ∙ place) in
+    let written = ap (λ (x : Writer). length x.written) repeated.work.writer ∙ count ∙ sym (ap (λ (x : Row). x.written) repeated.row) in
+    let done = settled-tried u k class left new end written at fault (ap is_skip (sym chosen) ∙ unskipped) passes (ends ∙ ap (end_by no_counts class) chosen) (opens ∙ place) in
     (row_is ∙ ap (λ (x : TaskState). x.row) is, subst (λ x. IsTried x end new) is done)
 
 -- where the reader may be opened again, and how much is written
@@ -210,38 +212,47 @@ whole-torn t tally row left new le (u, repeated, row_is, none, counted, passes) 
 
 -- HOW A WRITE CALL ENDS THE BLOCK
 
-skips-now : (row now : Row) (tally : Yield) (again : ℕ) → now ≡ repeated_row row again → skips_of now + tally.read_skips + tally.process_skips ≡ skips_of row + tally.read_skips + tally.process_skips
-skips-now row now tally again e = ap (λ (x : Row). skips_of x + tally.read_skips + tally.process_skips) e
+skips-now : (row now : Row) (tally : Yield) (again : ℕ) → now ≡ repeated_row row again → skips_of now + tally.skips ≡ skips_of row + tally.skips
+skips-now row now tally again e = ap (λ (x : Row). skips_of x + tally.skips) e
 
 records-now : (row now : Row) (hi again : ℕ) → now ≡ repeated_row row again → hi - now.at ≡ hi - row.at
 records-now row now hi again e = ap (λ (x : Row). hi - x.at) e
 
-pub put-written : (rules : RulesRecord) (row now : Row) (hi : ℕ) (w left : ArtifactsMeaning) (tally : Yield) (end : ChunkEnd) → IsPut rules (skips_of row + tally.read_skips + tally.process_skips) row w tally.found (Ok tt) now left → end ≡ Committed (counts_with (hi - row.at) tally (length tally.found) 0) → IsWriteEndAfter rules row hi tally w end now left
-put-written rules row now hi w left tally end put ends =
+pub put-written : (rules : RulesRecord) (row now : Row) (hi : ℕ) (w left : ArtifactsMeaning) (tally : Yield) (end : Outcome) → w.reader.place ≡ hi → length w.writer.written ≡ row.written → IsPut rules (skips_of row + tally.skips) row w tally.found (Ok tt) now left → end ≡ Committed (counts_by (hi - row.at) tally (length tally.found) 0) → IsFinishAfter rules row hi tally w end now left
+put-written rules row now hi w left tally end place count put ends =
     let found = tally.found in
     let fault = put.answered.0 in
-    let writer = rewritten w.writer found put.again in (
+    let writer = rewritten w.writer found put.again in
+    let kept : now.written ≡ row.written = ap (λ (x : Row). x.written) put.grown in
+    let whole = sym (whole-kept writer found now.written (count ∙ sym kept) fault) in (
       put.again,
-      record { grown = put.grown; asked = put.asked; last = ap (λ f. repeats rules now f (skips_of row + tally.read_skips + tally.process_skips)) fault },
+      record { grown = put.grown; asked = put.asked; last = ap (λ f. repeats rules now f (skips_of row + tally.skips)) fault },
       record {
         ended =
             ends
-            ∙ ap (λ n. Committed (counts_with n tally (length found) 0)) (sym (records-now row now hi put.again put.grown))
-            ∙ ap (λ f. end_from rules now (hi - now.at) tally f (skips_of now + tally.read_skips + tally.process_skips)) (sym fault);
+            ∙ ap (λ n. Committed (counts_by n tally (length found) 0)) (sym (records-now row now hi put.again put.grown))
+            ∙ ap (λ f. end_from rules now (hi - now.at) tally f (skips_of now + tally.skips)) (sym fault);
         left =
             put.answered.2
-            ∙ ap (λ (v : Writer). record w { writer = v }) (kept-none writer found (hi - row.at) (length found) tally (sym fault))
-            ∙ ap (λ e. record w { writer = writer_by e writer found }) (sym ends);
+            ∙ (λ i. record w { reader = opened w.reader (place i); writer = whole i })
+            ∙ ap (λ e. at_checkpoint (row_after now hi e) (record w { writer = after_write writer found })) (sym ends);
       },
     )
 
-pub put-faulted : (rules : RulesRecord) (row now : Row) (hi : ℕ) (w left back : ArtifactsMeaning) (tally : Yield) (class : ClassId) (end : ChunkEnd) → length w.writer.written ≡ row.written → IsPut rules (skips_of row + tally.read_skips + tally.process_skips) row w tally.found (Err (Fault class)) now left → end ≡ end_from rules now (hi - row.at) tally (Some class) (skips_of row + tally.read_skips + tally.process_skips) → back ≡ record left { writer = cut left.writer now.written } → IsWriteEndAfter rules row hi tally w end now back
-put-faulted rules row now hi w left back tally class end count put ends cuts =
+-- a fault keeps no result of the write
+fault-kept : (row : Row) (hi : ℕ) (skipped : Counts) (class : ClassId) (choice : Choice) → skipped.write ≡ 0 → row.written ≡ (row_after row hi (end_by skipped class choice)).written
+fault-kept row hi skipped class Skip none = omega (arith, none)
+fault-kept row hi skipped class Retry none = refl
+fault-kept row hi skipped class Again none = refl
+fault-kept row hi skipped class Fail none = refl
+
+pub put-faulted : (rules : RulesRecord) (row now : Row) (hi : ℕ) (w left back new : ArtifactsMeaning) (tally : Yield) (class : ClassId) (end : Outcome) → IsPut rules (skips_of row + tally.skips) row w tally.found (Err (Fault class)) now left → end ≡ end_from rules now (hi - row.at) tally (Some class) (skips_of row + tally.skips) → back ≡ record left { writer = cut left.writer now.written } → new ≡ record back { reader = opened back.reader (row_after now hi end).at } → IsFinishAfter rules row hi tally w end now new
+put-faulted rules row now hi w left back new tally class end put ends cuts opens =
     let found = tally.found in
-    let skips = skips_of row + tally.read_skips + tally.process_skips in
+    let skips = skips_of row + tally.skips in
     let fault = put.faulted.0 in
     let writer = rewritten w.writer found put.again in
-    let kept : now.written ≡ row.written = ap (λ (x : Row). x.written) put.grown in (
+    let kept = fault-kept now hi (counts_by (hi - row.at) tally 0 1) class (choice_at rules now class skips) refl in (
       put.again,
       record { grown = put.grown; asked = put.asked; last = ap (λ f. repeats rules now f skips) fault ∙ put.last },
       record {
@@ -249,12 +260,11 @@ put-faulted rules row now hi w left back tally class end count put ends cuts =
             ends
             ∙ ap (λ n. end_from rules now n tally (Some class) skips) (sym (records-now row now hi put.again put.grown))
             ∙ ap (λ n. end_from rules now (hi - now.at) tally (Some class) n) (sym (skips-now row now tally put.again put.grown))
-            ∙ ap (λ f. end_from rules now (hi - now.at) tally f (skips_of now + tally.read_skips + tally.process_skips)) (sym fault);
+            ∙ ap (λ f. end_from rules now (hi - now.at) tally f (skips_of now + tally.skips)) (sym fault);
         left =
-            cuts
-            ∙ ap (λ (v : ArtifactsMeaning). record v { writer = cut v.writer now.written }) put.faulted.1
-            ∙ ap (λ (v : Writer). record w { writer = v }) (kept-some rules now (hi - row.at) tally writer found class skips now.written (count ∙ sym kept))
-            ∙ ap (λ e. record w { writer = writer_by e writer found }) (sym ends);
+            opens
+            ∙ ap (λ (v : ArtifactsMeaning). record v { reader = opened v.reader (row_after now hi end).at }) (cuts ∙ ap (λ (v : ArtifactsMeaning). record v { writer = cut v.writer now.written }) put.faulted.1)
+            ∙ ap (λ n. record w { reader = opened w.reader (row_after now hi end).at; writer = cut (after_write writer found) n }) (kept ∙ ap (λ e. (row_after now hi e).written) (sym ends));
       },
     )
 
@@ -272,14 +282,3 @@ put-torn rules skips row now w left found put =
       written = ap (take (length w.writer.written)) grown ∙ take-append_seam w.writer.written more;
       longer = omega (arith, long, longer);
     }
-
--- the reader opened again where the chunk isn't committed
-pub finish-of : (rules : RulesRecord) (row now : Row) (hi : ℕ) (tally : Yield) (w left back : ArtifactsMeaning) (end : ChunkEnd) → IsWriteEndAfter rules row hi tally w end now left → back ≡ record left { reader = opened left.reader (place_by end now.at hi) } → IsFinishAfter rules row hi tally w end now back
-finish-of rules row now hi tally w left back end (again, wrote, ended) opens = (
-  again,
-  wrote,
-  record {
-    ended = ended.ended;
-    left = opens ∙ ap (λ (v : ArtifactsMeaning). record v { reader = opened v.reader (place_by end now.at hi) }) ended.left;
-  },
-)

@@ -1,5 +1,5 @@
 -- Attempt: what one try at the task's next chunk does to row, outputs, fault plans and values.
-use Rattle.std.specs.Prelude.{ℕ, zero, suc, ◌≡◌, ◌+◌, ◌-◌, ◌++◌, ◌==◌, Bool, true, false, if◌then◌else◌, List, [], ◌∷◌, length, Option, Some, None}
+use Rattle.std.specs.Prelude.{ℕ, zero, suc, ◌≡◌, ◌+◌, ◌-◌, ◌==◌, Bool, true, false, if◌then◌else◌, List, [], ◌∷◌, length, Option, Some, None, unwrap_or}
 use Rattle.jb_base.specs.declared.class.ClassId.{ClassId}
 use Rattle.jb_base.specs.declared.range.Range.{Range}
 use Rattle.jb_rules.specs.declared.counts.Counts.{Counts}
@@ -10,16 +10,13 @@ use Rattle.jb_rules.specs.Counts.{no_counts}
 use Rattle.jb_rules.specs.Rows.{row_block, repeated_row, committed_row, rolled_row, failed_row}
 use Rattle.jb_artifacts.specs.declared.view.RowView.{RowView}
 use Rattle.jb_artifacts.specs.Faults.{used_at}
-use Rattle.jb_artifacts.specs.Reader.{opened}
-use Rattle.jb_artifacts.specs.Writer.{Texts, Numbered, texts_of, write_fault, after_write}
+use Rattle.jb_artifacts.specs.Writer.{Numbered, write_fault, after_write}
 use Rattle.jb_artifacts.specs.Meaning.{ArtifactsMeaning}
-use Rattle.jb_chunk.specs.declared.chunk_end.ChunkEnd.{ChunkEnd}
-use Rattle.jb_chunk.specs.declared.chunk_end.ChunkEnd.TheVariants.{Committed, Rolled, Failed}
 use Rattle.jb_chunk.specs.declared.outcome.Outcome.{Outcome}
-use Rattle.jb_chunk.specs.declared.outcome.Outcome.TheVariants as outcome
+use Rattle.jb_chunk.specs.declared.outcome.Outcome.TheVariants.{Committed, Rolled, Failed, NoMemory}
 use Rattle.jb_chunk.specs.Block.{entry, results, count_of, skips_before, choice_at, repeats, settling, passed, MayBeUsed}
-use Rattle.jb_chunk.specs.Entries.{Entry, ReadFault, fault_in, is_read_fault, is_process_fault, is_filtered}
-use Rattle.jb_chunk.specs.Standing.{TaskState}
+use Rattle.jb_chunk.specs.Entries.{Entry, ReadFault, fault_in, is_fault, is_read_fault}
+use Rattle.jb_chunk.specs.Standing.{TaskState, at_checkpoint}
 
 -- THE CHUNK
 
@@ -41,40 +38,44 @@ fault_at t None = write_fault t.work.writer (results_of t)
 
 -- the skips before it: before the write, all faults of the chunk are counted as skips
 abbrev pub skips_at : TaskState → (settled : Option ℕ) → ℕ
-skips_at t (Some k) = skips_before t.row t.work k
-skips_at t None = skips_before t.row t.work (block_of t).hi
+skips_at t settled = skips_before t.row t.work (unwrap_or settled (block_of t).hi)
 
 -- HOW IT ENDS
 
--- What a chunk adds to the counts that is committed with so many results, and so many write calls skipped (Jakarta Batch
--- 2.1, "Metric"; that READ counts the reads that succeeded, and a skipped write call counts one, is this project's choice).
+-- What a chunk of so many records adds to the counts that is committed, with so many skips of records, so many of them of
+-- reads, and so many results, so many of them written, and so many write calls skipped (Jakarta Batch 2.1, "Metric"; that
+-- READ counts the reads that succeeded, and a skipped write call counts one, is this project's choice).
+abbrev pub counts_with : (records skips read_skips results written write_skips : ℕ) → Counts
+counts_with records skips read_skips results written write_skips = record no_counts {
+  read = records - read_skips;
+  write = written;
+  commit = 1;
+  read_skip = read_skips;
+  process_skip = skips - read_skips;
+  filter = records - skips - results;
+  write_skip = write_skips;
+}
+
+-- what the chunk adds
 abbrev pub counts_of : TaskState → (written write_skips : ℕ) → Counts
-counts_of t written write_skips =
+counts_of t =
     let counted : (Entry → Bool) → ℕ = λ p. count_of p t.work t.row.at (block_of t).hi in
-    record no_counts {
-      read = (block_of t).hi - t.row.at - counted is_read_fault;
-      write = written;
-      commit = 1;
-      read_skip = counted is_read_fault;
-      process_skip = counted is_process_fault;
-      filter = counted is_filtered;
-      write_skip = write_skips;
-    }
+    counts_with ((block_of t).hi - t.row.at) (counted is_fault) (counted is_read_fault) (length (results_of t))
 
 -- A chunk ends by a fault as is chosen for it, when no call of it is to be repeated any more (Jakarta Batch 2.1, "Chunk
 -- Exception Handling"). One that is skipped and ends it is a write's, with which the whole list of that write call is left
 -- out (this project's choice): then it is committed with these counts.
-abbrev pub end_by : (skipped : Counts) → ClassId → Choice → ChunkEnd
+abbrev pub end_by : (skipped : Counts) → ClassId → Choice → Outcome
 end_by skipped class Skip = Committed skipped
 end_by skipped class Fail = Failed class
 end_by skipped class _ = Rolled class
 
 -- and without a fault it is written
-abbrev pub end_at : TaskState → (fault : Option ClassId) → (skips : ℕ) → ChunkEnd
+abbrev pub end_at : TaskState → (fault : Option ClassId) → (skips : ℕ) → Outcome
 end_at t None skips = Committed (counts_of t (length (results_of t)) 0)
 end_at t (Some class) skips = end_by (counts_of t 0 1) class (choice_at t.rules t.row class skips)
 
-unfoldable pub end_of : TaskState → ChunkEnd
+unfoldable pub end_of : TaskState → Outcome
 end_of t = end_at t (fault_at t (settled_at t)) (skips_at t (settled_at t))
 
 -- REPEATS IN PLACE
@@ -120,28 +121,30 @@ again_of t = (after_repeats t).row.in_place - t.row.in_place
 
 -- WHAT IT LEAVES
 
+-- the row that each end leaves of a chunk up to `hi`
+abbrev pub row_after : Row → (hi : ℕ) → Outcome → Row
+row_after row hi (Committed delta) = committed_row row hi delta
+row_after row hi (Rolled class) = rolled_row row hi
+row_after row hi (Failed class) = failed_row row
+row_after row hi NoMemory = row
+
 -- The artifacts that a chunk used: its records up to the one that settles it, after which nothing is written; else all its
 -- records, and then the writer. So it is also where the chunk is rolled back.
-abbrev pub work_used : TaskState → (settled : Option ℕ) → ArtifactsMeaning
+unfoldable pub work_used : TaskState → (settled : Option ℕ) → ArtifactsMeaning
 work_used t (Some k) = passed t.work t.row.at (k + 1)
 work_used t None = record (passed t.work t.row.at (block_of t).hi) { writer = after_write t.work.writer (results_of t) }
-
--- those artifacts, with the reader opened at `place` and this list written
-unfoldable pub work_left : TaskState → (place : ℕ) → (written : Texts) → ArtifactsMeaning
-work_left t place written =
-    let used = work_used t (settled_at t) in
-    record used { reader = opened used.reader place; writer = record used.writer { written = written } }
 
 -- what the collector sees of a row
 abbrev pub view_of : (partition : ℕ) → Row → (last : Bool) → RowView
 view_of partition row last = record { partition = partition; lo = row.lo; hi = row.hi; at = row.at; counts = row.counts; last = last }
 
--- The collector's texts for a chunk that left this row: one, and one more where the partition is finished by it (Jakarta
--- Batch 2.1, "Partition Collector"; the number of its calls is this project's choice).
-abbrev pub values_of : (RowView → List ℕ) → (partition : ℕ) → Row → List (List ℕ)
-values_of collector partition row =
+-- The collector's texts for a chunk that ended so and left this row: where it is committed one, and one more where the
+-- partition is finished by it (Jakarta Batch 2.1, "Partition Collector"; the number of its calls is this project's choice).
+abbrev pub values_of : (RowView → List ℕ) → (partition : ℕ) → Row → Outcome → List (List ℕ)
+values_of collector partition row (Committed delta) =
     collector (view_of partition row false)
     ∷ (if row.at == row.hi then collector (view_of partition row true) ∷ [] else [])
+values_of collector partition row _ = []
 
 -- how an attempt ended: the task that it left, its outcome, the collector's texts, and how often it repeated a call in place
 pub record AttemptEnd : Type 0 where
@@ -153,18 +156,14 @@ pub record AttemptEnd : Type 0 where
 abbrev pub ending_of : TaskState → Outcome → List (List ℕ) → (again : ℕ) → AttemptEnd
 ending_of task out values again = record { task = task; outcome = out; values = values; again = again }
 
--- What each end of the chunk leaves, after so many repeats. Committed, its results are written behind the others, unless its
--- write call is skipped. Else the reader stands at the last checkpoint again (Jakarta Batch 2.1, "Default Retry Behavior -
--- Rollback"), and what a failing write call wrote is not kept (this project's choice).
-abbrev pub ending_by : TaskState → (again : ℕ) → ChunkEnd → AttemptEnd
-ending_by t again (Committed delta) =
-    let row = committed_row t.row (block_of t).hi delta in
-    let written = t.work.writer.written ++ texts_of (if delta.write_skip == 0 then results_of t else []) in
-    ending_of (record t { row = row; work = work_left t row.at written }) (outcome.Committed delta) (values_of t.work.collector t.partition row) again
-ending_by t again (Rolled class) =
-    ending_of (record t { row = rolled_row t.row (block_of t).hi; work = work_left t t.row.at t.work.writer.written }) (outcome.Rolled class) [] again
-ending_by t again (Failed class) =
-    ending_of (record t { row = failed_row t.row; work = work_left t t.row.at t.work.writer.written }) (outcome.Failed class) [] again
+-- What each end of the chunk leaves, after so many repeats: its row, and the artifacts that it used, opened at that row's
+-- checkpoint. So the results of a committed chunk are written behind the others, unless its write call is skipped. Else the
+-- reader stands at the last checkpoint again (Jakarta Batch 2.1, "Default Retry Behavior - Rollback"), and what a failing
+-- write call wrote is not kept (this project's choice).
+abbrev pub ending_by : TaskState → (again : ℕ) → Outcome → AttemptEnd
+ending_by t again out =
+    let row = row_after t.row (block_of t).hi out in
+    ending_of (record t { row = row; work = at_checkpoint row (work_used t (settled_at t)) }) out (values_of t.work.collector t.partition row out) again
 
 -- the attempt at the task's next chunk, where it finds its memory: the chunk ends after all its repeats
 abbrev pub attempt_of : TaskState → AttemptEnd
@@ -187,7 +186,7 @@ pub record IsUnfinished (before after : TaskState) : Type 0 where
   pub work : IsRestored before.row.at (block_of before).hi before.work after.work
 
 abbrev pub IsAttemptBy : Outcome → TaskState → AttemptEnd → Type 0
-IsAttemptBy outcome.NoMemory t e = (e.values ≡ []) × (e.again ≡ 0) × IsUnfinished t e.task
+IsAttemptBy NoMemory t e = (e.values ≡ []) × (e.again ≡ 0) × IsUnfinished t e.task
 IsAttemptBy _ t e = e ≡ attempt_of t
 
 -- the attempt ended so: it is the attempt of the task, or it found no memory

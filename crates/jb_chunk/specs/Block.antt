@@ -13,15 +13,15 @@ use Rattle.jb_artifacts.specs.Faults.{FaultTable, live, used, is_live}
 use Rattle.jb_artifacts.specs.Reader.{record_at}
 use Rattle.jb_artifacts.specs.Writer.{Numbered}
 use Rattle.jb_artifacts.specs.Meaning.{ArtifactsMeaning}
-use Rattle.jb_chunk.specs.Entries.{Entry, ReadFault, ProcessFault, Filtered, Answered, fault_in, is_read_fault, is_process_fault, text_in, numbered}
+use Rattle.jb_chunk.specs.Entries.{Entry, ReadFault, ProcessFault, Processed, fault_in, is_fault, text_in, numbered}
 
--- What becomes of a record is one of four things: its read fails; else its process call fails; else the processor
--- answers none, which filters it; else it has a result (Jakarta Batch 2.1, "Regular Chunk Processing" and "ItemProcessor").
+-- What becomes of a record is one of three things: its read fails; else its process call fails; else it is processed, and
+-- has a result, unless the processor answers none, which filters it (Jakarta Batch 2.1, "Regular Chunk Processing" and
+-- "ItemProcessor").
 abbrev pub entry_by : (read_fault process_fault : Option ClassId) → (answer : Option (List ℕ)) → Entry
 entry_by (Some class) process_fault answer = ReadFault class
 entry_by None (Some class) answer = ProcessFault class
-entry_by None None None = Filtered
-entry_by None None (Some text) = Answered text
+entry_by None None answer = Processed answer
 
 -- the entry of the record with this number
 unfoldable pub entry : ArtifactsMeaning → ℕ → Entry
@@ -39,7 +39,7 @@ count_of p w lo hi = count_by (λ k. p (entry w k)) (range_with_len lo (hi - lo)
 -- No other partition's are among them (this project's choice: a limit for the whole step would make the answer depend on
 -- the threads).
 abbrev pub skips_before : Row → ArtifactsMeaning → ℕ → ℕ
-skips_before row w k = skips_of row + count_of is_read_fault w row.at k + count_of is_process_fault w row.at k
+skips_before row w k = skips_of row + count_of is_fault w row.at k
 
 -- what becomes of a fault of this class after so many skips; below `redo` a rolled-back block is done again
 abbrev pub choice_at : RulesRecord → Row → ClassId → (skips : ℕ) → Choice

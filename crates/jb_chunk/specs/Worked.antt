@@ -210,7 +210,7 @@ pub record RunsTo (t : TaskState) (row_numbers : List ℕ) (row_state : RowState
 -- THE ROWS
 
 -- the first run: a partition whose two records are one chunk, and one of a single record
-pub record FirstRun : Type 0 where
+pub record FirstRunAlone : Type 0 where
   pub first :
       RunsTo first_task
       (2 ∷ 0 ∷ 0 ∷ 2 ∷ 2 ∷ 2 ∷ 1 ∷ 0 ∷ 0 ∷ 0 ∷ 0 ∷ 0 ∷ 0 ∷ []) Finished
@@ -236,8 +236,8 @@ EverythingFiltered =
     [] (codes "0:4:0" ∷ codes "0:4:0:end" ∷ [])
 
 -- an empty range: the partition is at its end without an attempt
-abbrev pub NoRecord : Type 0
-NoRecord =
+abbrev pub NoRecordAlone : Type 0
+NoRecordAlone =
     RunsTo recordless_task
     (0 ∷ 0 ∷ 0 ∷ 0 ∷ 0 ∷ 0 ∷ 0 ∷ 0 ∷ 0 ∷ 0 ∷ 0 ∷ 0 ∷ 0 ∷ []) Finished [] []
 
@@ -261,7 +261,7 @@ SkipInRedo =
 
 -- one failed partition: two of its records can never be processed, and one may be skipped. The other partition has skips of its
 -- own, and goes on.
-pub record OneFailed : Type 0 where
+pub record OneFailedAlone : Type 0 where
   pub failed :
       RunsTo failed_task
       (2 ∷ 0 ∷ 0 ∷ 1 ∷ 2 ∷ 1 ∷ 1 ∷ 1 ∷ 0 ∷ 1 ∷ 0 ∷ 0 ∷ 0 ∷ []) Failed

@@ -1,4 +1,3 @@
-pub mod ChunkEnds
 pub mod Gathering
 pub mod Repeats
 pub mod TriedChunk

@@ -1,20 +1,18 @@
 //! One chunk tried to its end.
 
-ghost use Rattle.std.specs.Prelude.{ℕ, ◌≡◌, ◌≤◌, ◌<◌, ◌+◌, ◌-◌, [], length, IfOk, OnErr};
+ghost use Rattle.std.specs.Prelude.{◌≡◌, ◌≤◌, ◌<◌, ◌+◌, ◌-◌, [], length, IfOk, OnErr};
 ghost use Rattle.jb_artifacts.specs.Reader.{reader_end, opened};
-ghost use Rattle.jb_artifacts.specs.Writer.{Numbered};
 ghost use Rattle.jb_rules.specs.Rows.{row_block};
 ghost use Rattle.jb_rules.specs.Sound.{IsSoundRow};
-ghost use Rattle.jb_chunk.specs.Attempt.{end_by, all_repeated};
-ghost use Rattle.jb_chunk.specs.inside.ChunkEnds.{place_by};
-ghost use Rattle.jb_chunk.specs.inside.Gathering.{IsSmallTally, counts_with, yield_of};
+ghost use Rattle.jb_chunk.specs.Attempt.{counts_with, end_by, row_after, all_repeated};
+ghost use Rattle.jb_chunk.specs.inside.Gathering.{IsSmallTally, yield_of};
 ghost use Rattle.jb_chunk.specs.Standing.{HasItemCount, HasRepeats};
-ghost use Rattle.jb_chunk.specs.inside.Repeats.{IsWriteEndAfter, IsFinishAfter, IsTornWrite};
+ghost use Rattle.jb_chunk.specs.inside.Repeats.{IsFinishAfter, IsTornWrite};
 ghost use Rattle.jb_chunk.specs.inside.TriedChunk.{OfTask, IsTried, IsTorn};
 
-use crate::chunk_end::ChunkEnd;
 use crate::chunk_results::ChunkResults;
 use crate::gather::{Gathered, gather};
+use crate::outcome::Outcome;
 use crate::partition_artifacts::PartitionArtifacts;
 use crate::repeat::write_in_place;
 use crate::tally::Tally;
@@ -23,84 +21,45 @@ use jb_rules::{Choice, Counts, Row, decide};
 use std::alloc::{AllocError, Global};
 
 /// How the chunk ends by a fault of this class, for which this is chosen; a write call that is skipped adds this to the counts.
-fn end_by_choice(choice: Choice, class: ClassId, skipped: Counts) -> ChunkEnd
+fn end_by_choice(choice: Choice, class: ClassId, skipped: Counts) -> Outcome
     ensures { result ≡ end_by skipped class choice }
 {
     match choice {
-        Choice::Skip => ChunkEnd::Committed(skipped),
-        Choice::Retry | Choice::Again => ChunkEnd::Rolled(class),
-        Choice::Fail => ChunkEnd::Failed(class),
+        Choice::Skip => Outcome::Committed(skipped),
+        Choice::Retry | Choice::Again => Outcome::Rolled(class),
+        Choice::Fail => Outcome::Failed(class),
     }
 }
 
-/// What a chunk of so many records adds to the counts that is committed.
-fn counts_with(records: u64, tally: &Tally, written: u64, write_skips: u64) -> Counts
-    requires { tally.now.read_skips ≤ records }
-    ensures { (found : Numbered) → result ≡ counts_with records (yield_of tally.now found) written write_skips }
+/// What a chunk of so many records, with so many results, adds to the counts that is committed.
+fn counts_with(records: u64, tally: &Tally, results: u64, written: u64, write_skips: u64) -> Counts
+    requires skips { tally.now.skips + results ≤ records }
+    requires reads { tally.now.read_skips ≤ tally.now.skips }
+    ensures { result ≡ counts_with records tally.now.skips tally.now.read_skips results written write_skips }
 {
     Counts {
         read: records - tally.read_skips,
         write: written,
         commit: 1,
         read_skip: tally.read_skips,
-        process_skip: tally.process_skips,
-        filter: tally.filtered,
+        process_skip: tally.skips - tally.read_skips,
+        filter: records - tally.skips - results,
         write_skip: write_skips,
         ..Counts::ZERO
     }
 }
 
-/// Opens the reader again at the checkpoint, where the chunk isn't committed.
-fn reopen<A: PartitionArtifacts>(artifacts: &mut A, end: ChunkEnd, at: u64, hi: u64)
+/// Opens the reader again at the checkpoint, where the chunk, up to `hi`, isn't committed.
+fn reopen<A: PartitionArtifacts>(artifacts: &mut A, end: Outcome, row: &Row, hi: u64)
     requires place { (A.meaning artifacts.old).reader.place ≡ hi }
-    requires from { (A.meaning artifacts.old).reader.first ≤ at }
-    requires to { at ≤ reader_end (A.meaning artifacts.old).reader }
+    requires from { (A.meaning artifacts.old).reader.first ≤ row.now.at }
+    requires to { row.now.at ≤ reader_end (A.meaning artifacts.old).reader }
     ensures { let w = A.meaning artifacts.old in
-        A.meaning artifacts.new ≡ record w { reader = opened w.reader (place_by end at hi) } }
+        A.meaning artifacts.new ≡ record w { reader = opened w.reader (row_after row.now hi end).at } }
 {
     match end {
-        ChunkEnd::Committed(_) => {}
-        ChunkEnd::Rolled(_) | ChunkEnd::Failed(_) => artifacts.open_reader_at(at),
-    }
-}
-
-/// Writes a chunk's results, and settles the write's fault: what isn't committed is cut back. The row counts the repeats.
-fn settle_write<A: PartitionArtifacts>(
-    artifacts: &mut A,
-    rules: &Rules,
-    row: &mut Row,
-    hi: u64,
-    tally: &Tally,
-    results: &A::Results,
-) -> Result<ChunkEnd, AllocError>
-    requires sound { IsSoundRow row.old }
-    requires room { HasRepeats rules.now row.old }
-    requires order { row.old.at < hi }
-    requires few { IsSmallTally tally.now }
-    requires records { tally.now.read_skips ≤ hi - row.old.at }
-    requires count { length (A.meaning artifacts.old).writer.written ≡ row.old.written }
-    ensures ok { let w = A.meaning artifacts.old in
-        let came_to = yield_of tally.now (A.Results.pairs results.now) in
-        IfOk result (λ end. IsWriteEndAfter rules.now row.old hi came_to w end row.new (A.meaning artifacts.new)) }
-    ensures sound { IsSoundRow row.new }
-    ensures err { let w = A.meaning artifacts.old in
-        let now = A.meaning artifacts.new in
-        OnErr result (IsTornWrite w (A.Results.pairs results.now) now) }
-{
-    let records = hi - row.at;
-    let skips = row.skips() + tally.read_skips + tally.process_skips;
-    match write_in_place(artifacts, rules, row, skips, results) {
-        Ok(()) => {
-            let delta = counts_with(records, tally, results.count(), 0);
-            Ok(ChunkEnd::Committed(delta))
-        }
-        Err(ArtifactError::Fault(class)) => {
-            let choice = decide(rules, class, row.at < row.redo, skips, row.retries);
-            artifacts.open_writer_at(row.written);
-            let skipped = counts_with(records, tally, 0, 1);
-            Ok(end_by_choice(choice, class, skipped))
-        }
-        Err(ArtifactError::Memory) => Err(AllocError),
+        Outcome::Committed(_) => {}
+        _ => artifacts.open_reader_at(row.at),
     }
 }
 
@@ -112,7 +71,7 @@ pub fn try_block<A: PartitionArtifacts>(
     rules: &Rules,
     row: &mut Row,
     item_count: u64,
-) -> Result<ChunkEnd, AllocError>
+) -> Result<Outcome, AllocError>
     requires sound { IsSoundRow row.old }
     requires room { HasRepeats rules.now row.old }
     requires some_left { row.old.at < row.old.hi }
@@ -143,7 +102,7 @@ fn try_records<A: PartitionArtifacts>(
     row: &mut Row,
     item_count: u64,
     results: &mut A::Results,
-) -> Result<ChunkEnd, AllocError>
+) -> Result<Outcome, AllocError>
     requires sound { IsSoundRow row.old }
     requires room { HasRepeats rules.now row.old }
     requires some_left { row.old.at < row.old.hi }
@@ -171,7 +130,8 @@ fn try_records<A: PartitionArtifacts>(
     }
 }
 
-/// Writes the results of a whole chunk, and settles its end.
+/// Writes the results of a whole chunk, and settles the write's fault: what isn't committed is cut back. The row counts the
+/// repeats.
 fn finish_block<A: PartitionArtifacts>(
     artifacts: &mut A,
     rules: &Rules,
@@ -179,12 +139,13 @@ fn finish_block<A: PartitionArtifacts>(
     hi: u64,
     tally: &Tally,
     results: &A::Results,
-) -> Result<ChunkEnd, AllocError>
+) -> Result<Outcome, AllocError>
     requires sound { IsSoundRow row.old }
     requires room { HasRepeats rules.now row.old }
     requires order { row.old.at < hi }
     requires few { IsSmallTally tally.now }
-    requires records { tally.now.read_skips ≤ hi - row.old.at }
+    requires records { tally.now.skips + length (A.Results.pairs results.now) ≤ hi - row.old.at }
+    requires reads { tally.now.read_skips ≤ tally.now.skips }
     requires place { (A.meaning artifacts.old).reader.place ≡ hi }
     requires from { (A.meaning artifacts.old).reader.first ≤ row.old.at }
     requires to { hi ≤ reader_end (A.meaning artifacts.old).reader }
@@ -197,11 +158,22 @@ fn finish_block<A: PartitionArtifacts>(
         let now = A.meaning artifacts.new in
         OnErr result (IsTornWrite w (A.Results.pairs results.now) now) }
 {
-    match settle_write(artifacts, rules, row, hi, tally, results) {
-        Ok(end) => {
-            reopen(artifacts, end, row.at, hi);
+    let records = hi - row.at;
+    let skips = row.skips() + tally.skips;
+    match write_in_place(artifacts, rules, row, skips, results) {
+        Ok(()) => {
+            let found = results.count();
+            let delta = counts_with(records, tally, found, found, 0);
+            Ok(Outcome::Committed(delta))
+        }
+        Err(ArtifactError::Fault(class)) => {
+            let choice = decide(rules, class, row.at < row.redo, skips, row.retries);
+            let skipped = counts_with(records, tally, results.count(), 0, 1);
+            let end = end_by_choice(choice, class, skipped);
+            artifacts.open_writer_at(row.written);
+            reopen(artifacts, end, row, hi);
             Ok(end)
         }
-        Err(error) => Err(error),
+        Err(ArtifactError::Memory) => Err(AllocError),
     }
 }

@@ -73,8 +73,8 @@ impl<A: PartitionArtifacts<Results = PackedResults>> PartitionArtifacts for Boxe
 
     ghost bytes = { A.bytes };
 
-    fn serves(&self, row: &Row) -> bool {
-        self.held.artifacts.serves(row)
+    fn fit(&self, row: &Row) -> bool {
+        self.held.artifacts.fit(row)
     }
 
     fn place(&self) -> u64 {

@@ -1,6 +1,6 @@
 //! What becomes of a record.
 
-ghost use Rattle.std.specs.Prelude.{◌≡◌, List, ℕ};
+ghost use Rattle.std.specs.Prelude.{◌≡◌, List, Option, ℕ};
 ghost use Rattle.jb_chunk.specs.Entries.{fault_in};
 ghost use Rattle.jb_chunk.specs.inside.Gathering.{entry_with};
 
@@ -13,19 +13,18 @@ pub enum EntryKind {
     ReadFault(ClassId),
     /// Its processing failed.
     ProcessFault(ClassId),
-    /// It was filtered.
-    Filtered,
-    /// It has a result.
-    Answered,
+    /// It was processed.
+    Processed,
 }
 
 impl EntryKind {
+    /// The class of the fault, if the record has one.
     pub fn fault(&self) -> Option<ClassId>
-        ensures { (text : List ℕ) → result ≡ fault_in (entry_with self.now text) }
+        ensures { (answer : Option (List ℕ)) → result ≡ fault_in (entry_with self.now answer) }
     {
         match self {
             EntryKind::ReadFault(class) | EntryKind::ProcessFault(class) => Some(*class),
-            EntryKind::Filtered | EntryKind::Answered => None,
+            EntryKind::Processed => None,
         }
     }
 }

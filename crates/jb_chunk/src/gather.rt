@@ -5,7 +5,7 @@ ghost use Rattle.jb_artifacts.specs.Reader.{reader_end};
 ghost use Rattle.jb_rules.specs.Sound.{IsSoundRow};
 ghost use Rattle.jb_rules.specs.Rows.{row_block, skips_of};
 ghost use Rattle.jb_chunk.specs.Entries.{Entry};
-ghost use Rattle.jb_chunk.specs.inside.Gathering.{IsWornTo, IsStep, IsSmallTally, yield_of};
+ghost use Rattle.jb_chunk.specs.inside.Gathering.{IsWornTo, IsGatheringStep, IsSmallTally, yield_of};
 ghost use Rattle.jb_chunk.specs.Standing.{HasItemCount, HasRepeats};
 ghost use Rattle.jb_chunk.specs.inside.Repeats.{IsDone, IsEntered, IsGathered};
 ghost use Rattle.jb_chunk.specs.inside.TriedChunk.{OfTask, IsTorn};
@@ -57,8 +57,7 @@ fn read_and_process<A: PartitionArtifacts>(
         Err(ArtifactError::Memory) => return Err(AllocError),
     };
     match process_in_place(artifacts, rules, row, skips, number, &item, results) {
-        Ok(true) => Ok(EntryKind::Answered),
-        Ok(false) => Ok(EntryKind::Filtered),
+        Ok(_) => Ok(EntryKind::Processed),
         Err(ArtifactError::Fault(class)) => Ok(EntryKind::ProcessFault(class)),
         Err(ArtifactError::Memory) => Err(AllocError),
     }
@@ -80,15 +79,15 @@ fn settle_record<A: PartitionArtifacts>(
     requires from { (A.meaning artifacts.old).reader.first ≤ number }
     requires to { number < reader_end (A.meaning artifacts.old).reader }
     ensures stepped { let w = A.meaning artifacts.old in
-        let skips = skips_of row.old + tally.old.read_skips + tally.old.process_skips in
+        let skips = skips_of row.old + tally.old.skips in
         let before = yield_of tally.old (A.Results.pairs results.old) in
         let after = yield_of tally.new (A.Results.pairs results.new) in
-        IfOk result (λ settled. (e : Entry) × IsDone rules.now skips row.old w number e row.new (A.meaning artifacts.new) × IsStep rules.now row.new e number before settled after) }
+        IfOk result (λ settled. (e : Entry) × IsDone rules.now skips row.old w number e row.new (A.meaning artifacts.new) × IsGatheringStep rules.now row.new e number before settled after) }
     ensures sound { IsSoundRow row.new }
     ensures room { HasRepeats rules.now row.new }
     ensures err { OnErr result (IsWornTo number (number + 1) (A.meaning artifacts.old) (A.meaning artifacts.new)) }
 {
-    let skips = row.skips() + tally.read_skips + tally.process_skips;
+    let skips = row.skips() + tally.skips;
     let kind = read_and_process(artifacts, rules, row, skips, number, results)?;
     if let Some(class) = kind.fault() {
         let choice = decide(rules, class, row.at < row.redo, skips, row.retries);

@@ -6,9 +6,9 @@
 //! - `laws`: what holds of a task's attempts, wherever they lead.
 //! - `outcome`: how an attempt ends.
 //! - `alone`: a task's attempts, one after another.
-//! - `block`: one chunk tried to its end, `chunk_end`.
-//! - `gather`: its records, read and processed one by one; each has an entry of some kind, `entry`, and those that have no
-//!   result are counted, `tally`.
+//! - `block`: one chunk tried to its end.
+//! - `gather`: its records, read and processed one by one; each has an entry of some kind, `entry`, and those that are
+//!   skipped are counted, `tally`.
 //! - `repeat`: its calls, repeated in place.
 //! - `checkpoint`: reader and writer, opened again.
 #![tactic(auto)]
@@ -17,7 +17,6 @@ mod alone;
 mod block;
 mod boxed;
 mod checkpoint;
-mod chunk_end;
 mod chunk_results;
 mod entry;
 mod gather;

@@ -3,8 +3,8 @@
 use crate::chunk_results::ChunkResults;
 use crate::partition_artifacts::PartitionArtifacts;
 use jb_artifacts::{
-    Collector, Item, ItemProcessor, ItemReader, ItemWriter, LendingReader, Meaning,
-    PackedArtifacts, PackedResults, PackedWriter, PackingProcessor, RowView, row_is_served,
+    Collector, Item, LendingReader, Meaning, PackedArtifacts, PackedResults, PackedWriter,
+    PackingProcessor, RowView,
 };
 use jb_base::ArtifactError;
 use jb_rules::Row;
@@ -22,33 +22,28 @@ impl<
 
     ghost bytes = { λ item own. own };
 
-    fn serves(&self, row: &Row) -> bool {
-        row_is_served(
-            row,
-            self.reader.first(),
-            self.reader.end(),
-            self.writer.count(),
-        )
+    fn fit(&self, row: &Row) -> bool {
+        self.inner.fit(row)
     }
 
     fn place(&self) -> u64 {
-        self.reader.place()
+        self.inner.place()
     }
 
     fn count(&self) -> u64 {
-        self.writer.count()
+        self.inner.count()
     }
 
     fn open_reader_at(&mut self, at: u64) {
-        self.reader.open_at(at);
+        self.inner.open_reader_at(at);
     }
 
     fn open_writer_at(&mut self, count: u64) {
-        self.writer.open_at(count);
+        self.inner.open_writer_at(count);
     }
 
     fn read_item(&mut self) -> Result<(), ArtifactError> {
-        self.reader.pass_item()
+        self.inner.reader.pass_item()
     }
 
     fn process_item(
@@ -57,15 +52,15 @@ impl<
         _item: &(),
         results: &mut PackedResults,
     ) -> Result<bool, ArtifactError> {
-        let record = self.reader.record(number);
-        self.processor.pack_item(number, record, results)
+        let record = self.inner.reader.record(number);
+        self.inner.processor.pack_item(number, record, results)
     }
 
     fn write_items(&mut self, results: &PackedResults) -> Result<(), ArtifactError> {
-        self.writer.write_packed(results)
+        self.inner.writer.write_packed(results)
     }
 
     fn collect(&self, view: &RowView) -> Result<Item, AllocError> {
-        self.collector.collect(view)
+        self.inner.collect(view)
     }
 }

@@ -10,14 +10,13 @@ ghost use Rattle.jb_chunk.specs.Entries.{numbered};
 
 use crate::chunk_results::{ChunkResults, ItemResults};
 use jb_artifacts::{
-    Artifacts, ArtifactsOf, Collector, Item, ItemProcessor, ItemReader, ItemWriter, Meaning,
-    RowView, row_is_served,
+    ArtifactsOf, Collector, Item, ItemProcessor, ItemReader, ItemWriter, Meaning, RowView, fits_row,
 };
 use jb_base::ArtifactError;
 use jb_rules::Row;
 use std::alloc::{AllocError, Global};
 
-/// A partition's reader, processor, writer and collector as one: in boxes, `Artifacts`, or of known types, `ArtifactsOf`; those
+/// A partition's reader, processor, writer and collector as one: those of known types or in boxes, `ArtifactsOf`; those
 /// that lend their records, `PackedArtifacts`; and such in one box, `BoxedArtifacts`.
 pub trait PartitionArtifacts: Meaning + Drop {
     /// What a read gives: the record's bytes, or nothing, where the reader keeps them and lends them.
@@ -30,7 +29,7 @@ pub trait PartitionArtifacts: Meaning + Drop {
     ghost bytes: { Self.Record → (own : List ℕ) → List ℕ };
 
     /// Whether the reader has the row's records, and the writer as many results as it committed.
-    fn serves(&self, row: &Row) -> bool
+    fn fit(&self, row: &Row) -> bool
         ensures { IsTrue result ↔ Fits (Self.meaning self.now) row.now };
 
     /// The number of the record that is read next.
@@ -140,61 +139,6 @@ fn put_behind(
     }
 }
 
-impl PartitionArtifacts for Artifacts {
-    type Record = Item;
-
-    type Results = ItemResults;
-
-    ghost bytes = { λ item own. item };
-
-    fn serves(&self, row: &Row) -> bool {
-        self.fit(row)
-    }
-
-    fn place(&self) -> u64 {
-        self.reader.place()
-    }
-
-    fn count(&self) -> u64 {
-        self.writer.count()
-    }
-
-    fn open_reader_at(&mut self, at: u64) {
-        self.reader.open_at(at);
-    }
-
-    fn open_writer_at(&mut self, count: u64) {
-        self.writer.open_at(count);
-    }
-
-    fn read_item(&mut self) -> Result<Item, ArtifactError> {
-        match self.reader.read_item() {
-            Ok(Some(item)) => Ok(item),
-            Ok(None) => unreachable!(),
-            Err(error) => Err(error),
-        }
-    }
-
-    fn process_item(
-        &mut self,
-        number: u64,
-        item: &Item,
-        results: &mut ItemResults,
-    ) -> Result<bool, ArtifactError> {
-        results.items.reserve(1)?;
-        let answer = self.processor.process_item(number, item.as_slice());
-        put_behind(number, answer, &mut results.items)
-    }
-
-    fn write_items(&mut self, results: &ItemResults) -> Result<(), ArtifactError> {
-        self.writer.write_items(results.items.as_slice())
-    }
-
-    fn collect(&self, view: &RowView) -> Result<Item, AllocError> {
-        self.collector.collect(view)
-    }
-}
-
 impl<
     R: ItemReader + Drop,
     P: ItemProcessor + Drop,
@@ -207,8 +151,8 @@ impl<
 
     ghost bytes = { λ item own. item };
 
-    fn serves(&self, row: &Row) -> bool {
-        row_is_served(
+    fn fit(&self, row: &Row) -> bool {
+        fits_row(
             row,
             self.reader.first(),
             self.reader.end(),

@@ -3,16 +3,15 @@
 ghost use Rattle.std.specs.Prelude.{◌≡◌, ◌≤◌, ◌<◌, ◌-◌, IfOk, [], length};
 ghost use Rattle.jb_rules.specs.Sound.{IsSoundRow};
 ghost use Rattle.jb_base.specs.Limits.{max_rollbacks};
-ghost use Rattle.jb_chunk.specs.Attempt.{values_of};
-ghost use Rattle.jb_chunk.specs.inside.ChunkEnds.{outcome_with, values_with, row_with};
+ghost use Rattle.jb_rules.specs.declared.counts.Counts.{Counts};
+ghost use Rattle.jb_chunk.specs.Attempt.{row_after, values_of};
 ghost use Rattle.jb_chunk.specs.inside.TriedChunk.{HasDelta};
-ghost use Rattle.jb_chunk.specs.declared.outcome.Outcome.TheVariants.{NoMemory};
+ghost use Rattle.jb_chunk.specs.declared.outcome.Outcome.TheVariants.{Committed, NoMemory};
 ghost use Rattle.jb_artifacts.specs.Reader.{reader_end};
 ghost use Rattle.jb_chunk.specs.Standing.{at_checkpoint};
 
 use crate::block::try_block;
 use crate::checkpoint::open_at_checkpoint;
-use crate::chunk_end::ChunkEnd;
 use crate::outcome::{Done, Outcome};
 use crate::partition_artifacts::PartitionArtifacts;
 use crate::partition_task::PartitionTask;
@@ -43,7 +42,7 @@ impl<A: PartitionArtifacts + Send> PartitionTask for Task<A> {
     } };
 
     fn fits(artifacts: &A, row: &Row) -> bool {
-        artifacts.serves(row)
+        artifacts.fit(row)
     }
 
     fn start(partition: u32, row: Row, rules: Rules, item_count: u64, artifacts: A) -> Task<A> {
@@ -72,7 +71,7 @@ impl<A: PartitionArtifacts + Send> PartitionTask for Task<A> {
         self.row.sound()
             && 1 <= self.item_count
             && self.item_count <= MAX_ITEM_COUNT
-            && self.artifacts.serves(&self.row)
+            && self.artifacts.fit(&self.row)
             && self.artifacts.place() == self.row.at
             && self.artifacts.count() == self.row.written
     }
@@ -101,7 +100,7 @@ impl<A: PartitionArtifacts + Send> PartitionTask for Task<A> {
                             item_count,
                             artifacts,
                         },
-                        outcome: outcome_of(end),
+                        outcome: end,
                         values,
                         again: repeated.in_place - row.in_place,
                     },
@@ -116,30 +115,20 @@ impl<A: PartitionArtifacts + Send> PartitionTask for Task<A> {
 }
 
 /// The row after its chunk, up to `hi`, ended so.
-fn ended_row(row: &Row, hi: u64, end: ChunkEnd) -> Row
+fn ended_row(row: &Row, hi: u64, end: Outcome) -> Row
     requires sound { IsSoundRow row.now }
     requires from { row.now.at < hi }
     requires to { hi ≤ row.now.hi }
     requires room { row.now.counts.rollback < max_rollbacks }
     requires counted { HasDelta (hi - row.now.at) end }
-    ensures row { result ≡ row_with row.now hi end }
+    ensures row { result ≡ row_after row.now hi end }
     ensures sound { IsSoundRow result }
 {
     match end {
-        ChunkEnd::Committed(delta) => row.committed(hi, &delta),
-        ChunkEnd::Rolled(_) => row.rolled(hi),
-        ChunkEnd::Failed(_) => row.failed(),
-    }
-}
-
-/// The outcome of a chunk that ended so.
-fn outcome_of(end: ChunkEnd) -> Outcome
-    ensures { result ≡ outcome_with end }
-{
-    match end {
-        ChunkEnd::Committed(delta) => Outcome::Committed(delta),
-        ChunkEnd::Rolled(class) => Outcome::Rolled(class),
-        ChunkEnd::Failed(class) => Outcome::Failed(class),
+        Outcome::Committed(delta) => row.committed(hi, &delta),
+        Outcome::Rolled(_) => row.rolled(hi),
+        Outcome::Failed(_) => row.failed(),
+        Outcome::NoMemory => *row,
     }
 }
 
@@ -149,13 +138,13 @@ fn values_after<A: PartitionArtifacts>(
     artifacts: &A,
     partition: u32,
     row: &Row,
-    end: ChunkEnd,
+    end: Outcome,
 ) -> Result<Vec<Item>, AllocError>
-    ensures { IfOk result (λ values. values.items ≡ values_with (A.meaning artifacts.now).collector partition row.now end) }
+    ensures { IfOk result (λ values. values.items ≡ values_of (A.meaning artifacts.now).collector partition row.now end) }
 {
     match end {
-        ChunkEnd::Committed(_) => collect_values(alloc, artifacts, partition, row),
-        ChunkEnd::Rolled(_) | ChunkEnd::Failed(_) => Ok(Vec::new(alloc)),
+        Outcome::Committed(_) => collect_values(alloc, artifacts, partition, row),
+        _ => Ok(Vec::new(alloc)),
     }
 }
 
@@ -166,7 +155,7 @@ fn collect_values<A: PartitionArtifacts>(
     partition: u32,
     row: &Row,
 ) -> Result<Vec<Item>, AllocError>
-    ensures { IfOk result (λ values. values.items ≡ values_of (A.meaning artifacts.now).collector partition row.now) }
+    ensures { (delta : Counts) → IfOk result (λ values. values.items ≡ values_of (A.meaning artifacts.now).collector partition row.now (Committed delta)) }
 {
     let view = RowView {
         partition,

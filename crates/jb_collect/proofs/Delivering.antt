@@ -1,5 +1,5 @@
 -- A list that is told member by member.
-use Rattle.std.proofs.Common.{◌≡◌, ◌<◌, ℕ, ◌+◌, List, [], ◌∷◌, ◌++◌, length, get_or, take, drop, None, Result, Ok, Err, ap, refl, sym, ◌∙◌, subst, append-nil}
+use Rattle.std.proofs.Common.{◌≡◌, ◌<◌, ℕ, ◌+◌, List, [], ◌∷◌, ◌++◌, length, get_or, take, drop, None, Result, Ok, Err, ap, sym, ◌∙◌, subst, append-nil}
 use Rattle.std.proofs.lemmas.List.{map-append, take_more, take-append-drop}
 use Rattle.std.proofs.lemmas.Grind.{flat_map-append}
 use Rattle.jb_base.specs.declared.artifact_error.ArtifactError.{ArtifactError}
@@ -11,7 +11,7 @@ use Rattle.jb_collect.specs.declared.calls.AnalyzerCall.{AnalyzerCall}
 use Rattle.jb_collect.specs.declared.calls.AnalyzerCall.TheVariants.{Collected}
 use Rattle.jb_collect.specs.Heard.{collected_calls, ended_calls, heard_of, heard_in, endings_of}
 use Rattle.jb_collect.specs.Taken.{Taken, HasTaken, TakesCall, TakesCalls}
-use Rattle.jb_collect.proofs.Taking.{one_after_another, takes_one, takes_more, takes_no_more}
+use Rattle.jb_collect.proofs.Taking.{none_taken, one_after_another, takes_one, takes_more, takes_no_more}
 
 -- what is called for a list is what is called for its parts
 module _ {X : Type 0} (calls : List X → List AnalyzerCall) (split : (xs ys : List X) → calls (xs ++ ys) ≡ calls xs ++ calls ys) where
@@ -57,7 +57,7 @@ no_more_texts before after p left text rest error is takes =
     (takes_no_more before after (Collected p text ∷ []) (collected_calls p rest) error (takes_one before after (Collected p text) (Err error) takes))
 
 pub no_text : (before : List (Taken AnalyzerCall)) (p : ℕ) (left : List (List ℕ)) → length left ≡ 0 → HasTaken before (collected_calls p left) None before
-no_text before p [] none = record { next = []; grown = sym (append-nil before); taken = refl }
+no_text before p [] none = none_taken before
 no_text before p (text ∷ rest) none = absurd cc
 
 -- ---- an end

@@ -1,11 +1,12 @@
 -- Calls one after another, up to the first fault.
-use Rattle.std.proofs.Common.{◌≡◌, List, [], ◌∷◌, ◌++◌, map, Option, Some, None, Result, Ok, Err, MatchOption, refl, ap, ap₂, sym, ◌∙◌, subst, append_assoc, append-nil}
+use Rattle.std.proofs.Common.{◌≡◌, List, [], ◌∷◌, ◌++◌, drop, length, map, Option, Some, None, Result, Ok, Err, MatchOption, refl, ap, ap₂, sym, ◌∙◌, subst, append_assoc, append-nil}
+use Rattle.std.proofs.Math.Seq.{drop-append_seam}
 use Rattle.jb_base.specs.declared.class.ClassId.{ClassId}
 use Rattle.jb_base.specs.declared.artifact_error.ArtifactError.{ArtifactError}
 use Rattle.jb_base.specs.declared.artifact_error.ArtifactError.TheVariants.{Fault, Memory}
 use Rattle.jb_collect.specs.declared.calls.AnalyzerCall.{AnalyzerCall}
 use Rattle.jb_collect.specs.Laws.{AllAreTaken, TakenUpToTheFault, SomeAreTaken, TakenOneAfterAnother, NoneAfterAFault}
-use Rattle.jb_collect.specs.Taken.{Taken, AreTaken, HasTaken, TakesCall, TakesCalls, well, faulted}
+use Rattle.jb_collect.specs.Taken.{Taken, AreTaken, Grew, HasTaken, TakesCall, TakesCalls, since, well, faulted}
 
 none_some : (f : Option ClassId) (class : ClassId) → f ≡ None → f ≡ Some class → ⊥
 none_some f class none some = cc
@@ -78,29 +79,39 @@ module _ {C : Type 0} where
   over (c ∷ cs) ds class [] taken = absurd taken
   over (c ∷ cs) ds class (t ∷ ts) taken = (taken.0, over_one t.fault cs ds class ts taken.1 (over cs ds class ts))
 
+  -- ---- since a moment
+
+  pub since_is : (before after next : List (Taken C)) → after ≡ before ++ next → next ≡ since before after
+  since_is before after next e = sym (ap (λ (xs : List (Taken C)). drop (length before) xs) e ∙ drop-append_seam before next)
+
+  pub has_grown : (before after next : List (Taken C)) → after ≡ before ++ next → Grew before after
+  has_grown before after next e = e ∙ ap (λ (xs : List (Taken C)). before ++ xs) (since_is before after next e)
+
+  pub has_taken : (before after next : List (Taken C)) (cs : List C) (fault : Option ClassId) → after ≡ before ++ next → AreTaken cs fault next → HasTaken before cs fault after
+  has_taken before after next cs fault e taken = record { grown = has_grown before after next e; taken = subst (AreTaken cs fault) (since_is before after next e) taken }
+
   pub none_taken : (before : List (Taken C)) → HasTaken before [] None before
-  none_taken before = record { next = []; grown = sym (append-nil before); taken = refl }
+  none_taken before = has_taken before before [] [] None (sym (append-nil before)) refl
+
+  -- over a moment between
+  pub behind : (before between after : List (Taken C)) → Grew before between → Grew between after → after ≡ before ++ (since before between ++ since between after)
+  behind before between after one two =
+      two ∙ ap (λ (xs : List (Taken C)). xs ++ since between after) one ∙ append_assoc before (since before between) (since between after)
 
   pub one_after_another : (before between after : List (Taken C)) (cs ds : List C) (fault : Option ClassId) → HasTaken before cs None between → HasTaken between ds fault after → HasTaken before (cs ++ ds) fault after
-  one_after_another before between after cs ds fault first then_ = record {
-    next = first.next ++ then_.next;
-    grown = then_.grown ∙ ap (λ (xs : List (Taken C)). xs ++ then_.next) first.grown ∙ append_assoc before first.next then_.next;
-    taken = more cs ds fault first.next then_.next first.taken then_.taken;
-  }
+  one_after_another before between after cs ds fault first then_ =
+      has_taken before after (since before between ++ since between after) (cs ++ ds) fault (behind before between after first.grown then_.grown)
+      (more cs ds fault (since before between) (since between after) first.taken then_.taken)
 
   pub none_after : (before after : List (Taken C)) (cs ds : List C) (class : ClassId) → HasTaken before cs (Some class) after → HasTaken before (cs ++ ds) (Some class) after
-  none_after before after cs ds class taken = record {
-    next = taken.next;
-    grown = taken.grown;
-    taken = over cs ds class taken.next taken.taken;
-  }
+  none_after before after cs ds class h = record { grown = h.grown; taken = over cs ds class (since before after) h.taken }
 
   -- ---- by what was answered
 
   -- one call is a list of one
   pub takes_one : (before after : List (Taken C)) (c : C) (result : Result (Unit {0}) ArtifactError) → TakesCall before c result after → TakesCalls before (c ∷ []) result after
-  takes_one before after c (Ok done) takes = record { next = well c ∷ []; grown = takes; taken = (refl, refl) }
-  takes_one before after c (Err (Fault class)) takes = record { next = faulted c class ∷ []; grown = takes; taken = (refl, (refl, refl)) }
+  takes_one before after c (Ok done) takes = has_taken before after (well c ∷ []) (c ∷ []) None takes (refl, refl)
+  takes_one before after c (Err (Fault class)) takes = has_taken before after (faulted c class ∷ []) (c ∷ []) (Some class) takes (refl, (refl, refl))
   takes_one before after c (Err Memory) takes = record {
     first = [];
     next = c;
@@ -136,11 +147,11 @@ module _ {C : Type 0} where
 
 pub all_are_taken : AllAreTaken
 all_are_taken before after calls taken =
-    taken.grown ∙ ap (λ (xs : List (Taken AnalyzerCall)). before ++ xs) (all_well calls taken.next taken.taken)
+    taken.grown ∙ ap (λ (xs : List (Taken AnalyzerCall)). before ++ xs) (all_well calls (since before after) taken.taken)
 
 pub taken_up_to_the_fault : TakenUpToTheFault
 taken_up_to_the_fault before after calls class taken =
-    let found = up_to calls class taken.next taken.taken in
+    let found = up_to calls class (since before after) taken.taken in
     record {
       first = found.first;
       last = found.last;

@@ -47,12 +47,12 @@ abbrev pub heard_by : (begun_anew : Bool) → List Row → List AttemptEnd → L
 heard_by begun_anew rows attempts tasks = heard_first begun_anew rows ++ heard_in attempts ++ heard_last tasks
 
 -- the calls about a partition
-abbrev pub partition_of : AnalyzerCall → ℕ
-partition_of (call.Collected partition text) = partition
-partition_of (call.Status partition status) = partition
+abbrev pub partition_told : AnalyzerCall → ℕ
+partition_told (call.Collected partition text) = partition
+partition_told (call.Status partition status) = partition
 
 abbrev pub calls_about : ℕ → List AnalyzerCall → List AnalyzerCall
-calls_about p calls = filter (λ one. partition_of one == p) calls
+calls_about p calls = filter (λ one. partition_told one == p) calls
 
 -- how attempts ended, of which these tasks, outcomes and texts came back
 abbrev pub endings_of : {T : Type 0} → (T → TaskState) → List (Done T) → List AttemptEnd

@@ -9,14 +9,6 @@ use Rattle.jb_collect.specs.declared.calls.Status.{Status}
 use Rattle.jb_collect.specs.declared.calls.Status.TheVariants as status
 use Rattle.jb_collect.specs.Taken.{Taken}
 
--- How a run of a step ends: `begin` failed; or some partition isn't completed or a callback failed, so that the step is
--- undone; or `before_completion` failed; or the step is completed
-pub data RunEnd : Type 0 where
-  NotBegun : RunEnd
-  Undone : RunEnd
-  NotCompleted : RunEnd
-  Completed : RunEnd
-
 -- the step is rolled back
 abbrev pub rolled_back : List ReducerCall
 rolled_back = Rollback ∷ After partitions.Rollback ∷ []
@@ -26,23 +18,17 @@ abbrev pub calls_before : (discards : Bool) → List ReducerCall
 calls_before false = Begin ∷ []
 calls_before true = Begin ∷ Rollback ∷ []
 
--- after the partitions
-abbrev pub calls_after : RunEnd → List ReducerCall
-calls_after NotBegun = []
-calls_after Undone = rolled_back
-calls_after NotCompleted = Before ∷ rolled_back
-calls_after Completed = Before ∷ After partitions.Commit ∷ []
+-- after the partitions, by how the step stands then and whether `before_completion` fails: the step is completed, or is rolled
+-- back
+abbrev pub calls_after : Status → (before_failed : Bool) → List ReducerCall
+calls_after status.Completed true = Before ∷ rolled_back
+calls_after status.Completed false = Before ∷ After partitions.Commit ∷ []
+calls_after _ before_failed = rolled_back
 
 -- all calls of a run: where `begin` fails there are no more
-abbrev pub reducer_calls : (discards : Bool) → RunEnd → List ReducerCall
-reducer_calls discards NotBegun = Begin ∷ []
-reducer_calls discards end = calls_before discards ++ calls_after end
-
--- how a run ends that has begun: by how the step stands before `before_completion`, and by whether that fails
-abbrev pub run_end : Status → (before_failed : Bool) → RunEnd
-run_end status.Completed true = NotCompleted
-run_end status.Completed false = Completed
-run_end _ before_failed = Undone
+abbrev pub reducer_calls : (begun : Bool) → (discards : Bool) → Status → (before_failed : Bool) → List ReducerCall
+reducer_calls false discards stands before_failed = Begin ∷ []
+reducer_calls true discards stands before_failed = calls_before discards ++ calls_after stands before_failed
 
 -- `before_completion` was answered with a fault
 abbrev pub is_before : ReducerCall → Bool

@@ -1,5 +1,5 @@
 -- Calls that an object took, and what it answered: all were answered well, or the last with a fault.
-use Rattle.std.specs.Prelude.{◌≡◌, Option, Some, None, MatchOption, Result, Ok, Err, List, [], ◌∷◌, ◌++◌, map}
+use Rattle.std.specs.Prelude.{◌≡◌, Option, Some, None, MatchOption, Result, Ok, Err, List, [], ◌∷◌, ◌++◌, drop, length, map}
 use Rattle.jb_base.specs.declared.class.ClassId.{ClassId}
 use Rattle.jb_base.specs.declared.artifact_error.ArtifactError.{ArtifactError}
 use Rattle.jb_base.specs.declared.artifact_error.ArtifactError.TheVariants.{Fault, Memory}
@@ -35,11 +35,17 @@ AreTaken (c ∷ cs) fault [] = ⊥
 AreTaken (c ∷ cs) fault (t ∷ ts) =
     (t.call ≡ c) × MatchOption t.fault (AreTaken cs fault ts) (λ class. (fault ≡ Some class) × (ts ≡ []))
 
+-- the calls since then; what was there before stays
+abbrev pub since : {C : Type 0} → (before after : List (Taken C)) → List (Taken C)
+since before after = drop (length before) after
+
+abbrev pub Grew : {C : Type 0} → (before after : List (Taken C)) → Type 0
+Grew before after = after ≡ before ++ since before after
+
 -- from one moment to another these calls were taken so
 pub record HasTaken {C : Type 0} (before : List (Taken C)) (calls : List C) (fault : Option ClassId) (after : List (Taken C)) : Type 0 where
-  pub next : List (Taken C)
-  pub grown : after ≡ before ++ next
-  pub taken : AreTaken calls fault next
+  pub grown : Grew before after
+  pub taken : AreTaken calls fault (since before after)
 
 -- some of these calls, the first ones, were taken and answered well, and the next one wasn't taken
 pub record HasTakenSome {C : Type 0} (before : List (Taken C)) (calls : List C) (after : List (Taken C)) : Type 0 where

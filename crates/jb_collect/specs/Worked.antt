@@ -12,7 +12,7 @@ use Rattle.jb_collect.specs.declared.calls.ReducerCall.TheVariants.{Begin, Befor
 use Rattle.jb_collect.specs.declared.calls.PartitionStatus.TheVariants as end
 use Rattle.jb_collect.specs.Heard.{heard_of, heard_by}
 use Rattle.jb_collect.specs.Listed.{taken_of}
-use Rattle.jb_collect.specs.ReducerCalls.{NotBegun, before_failed, reducer_calls, run_end}
+use Rattle.jb_collect.specs.ReducerCalls.{before_failed, reducer_calls}
 use Rattle.jb_collect.specs.Taken.{AreTaken, well, faulted}
 
 abbrev pub text : ℕ → List ℕ → AnalyzerCall
@@ -21,8 +21,8 @@ text partition letters = call.Collected partition letters
 abbrev pub ended : ℕ → Status → AnalyzerCall
 ended partition status = call.Status partition status
 
-abbrev pub rows_of : List TaskState → List Row
-rows_of tasks = map (λ t. t.row) tasks
+abbrev pub task_rows : List TaskState → List Row
+task_rows tasks = map (λ t. t.row) tasks
 
 -- the task after its next attempt
 abbrev pub next_task : TaskState → TaskState
@@ -31,17 +31,17 @@ next_task t = (attempt_of t).task
 -- WHAT IS HEARD
 
 -- the first run: three records in two partitions, each finished by its first chunk
-abbrev pub FirstRun : Type 0
-FirstRun =
-    heard_by true (rows_of (first_task ∷ second_task ∷ [])) (attempt_of first_task ∷ attempt_of second_task ∷ [])
+abbrev pub FirstRunHeard : Type 0
+FirstRunHeard =
+    heard_by true (task_rows (first_task ∷ second_task ∷ [])) (attempt_of first_task ∷ attempt_of second_task ∷ [])
     (next_task first_task ∷ next_task second_task ∷ [])
     ≡ text 0 (codes "0:2:2") ∷ text 0 (codes "0:2:2:end") ∷ ended 0 Completed
     ∷ text 1 (codes "1:3:1") ∷ text 1 (codes "1:3:1:end") ∷ ended 1 Completed ∷ []
 
 -- one failed partition beside one that is finished: its status comes with the attempt that fails
-abbrev pub OneFailed : Type 0
-OneFailed =
-    heard_by true (rows_of (failed_task ∷ beside_failed_task ∷ []))
+abbrev pub OneFailedHeard : Type 0
+OneFailedHeard =
+    heard_by true (task_rows (failed_task ∷ beside_failed_task ∷ []))
     (attempt_of failed_task ∷ attempt_of beside_failed_task ∷ attempt_of (next_task failed_task) ∷ [])
     (next_task (next_task failed_task) ∷ next_task beside_failed_task ∷ [])
     ≡ text 0 (codes "0:2:1") ∷ text 1 (codes "1:6:2") ∷ text 1 (codes "1:6:2:end") ∷ ended 1 Completed ∷ ended 0 Failed ∷ []
@@ -52,15 +52,15 @@ seven partition lo hi = task partition lo hi 2 strict sound sound sound
 
 abbrev pub StoppedAfterARound : Type 0
 StoppedAfterARound =
-    heard_by true (rows_of (seven 0 0 3 ∷ seven 1 3 5 ∷ seven 2 5 7 ∷ [])) (attempt_of (seven 0 0 3) ∷ attempt_of (seven 1 3 5) ∷ [])
+    heard_by true (task_rows (seven 0 0 3 ∷ seven 1 3 5 ∷ seven 2 5 7 ∷ [])) (attempt_of (seven 0 0 3) ∷ attempt_of (seven 1 3 5) ∷ [])
     (next_task (seven 0 0 3) ∷ next_task (seven 1 3 5) ∷ seven 2 5 7 ∷ [])
     ≡ text 0 (codes "0:2:2") ∷ text 1 (codes "1:5:2") ∷ text 1 (codes "1:5:2:end") ∷ ended 1 Completed
     ∷ ended 0 Stopped ∷ ended 2 Stopped ∷ []
 
 -- no record at all: the partition is completed where the step begins it, and not heard of again at a restart
-pub record NoRecord : Type 0 where
-  pub begun : heard_by true (rows_of (recordless_task ∷ [])) [] [] ≡ ended 0 Completed ∷ []
-  pub restarted : heard_by false (rows_of (recordless_task ∷ [])) [] [] ≡ []
+pub record NoRecordHeard : Type 0 where
+  pub begun : heard_by true (task_rows (recordless_task ∷ [])) [] [] ≡ ended 0 Completed ∷ []
+  pub restarted : heard_by false (task_rows (recordless_task ∷ [])) [] [] ≡ []
 
 -- of a rollback nothing is heard
 abbrev pub RolledBack : Type 0
@@ -97,12 +97,12 @@ pub record ListedCalls : Type 0 where
 
 -- THE REDUCER'S CALLS, in all cases: an earlier run's results are kept or discarded
 pub record ReducerCalls : Type 0 where
-  pub begin_fails : (discards : Bool) → reducer_calls discards NotBegun ≡ Begin ∷ []
-  pub completed : reducer_calls false (run_end Completed false) ≡ Begin ∷ Before ∷ After end.Commit ∷ []
-  pub before_fails : reducer_calls false (run_end Completed true) ≡ Begin ∷ Before ∷ Rollback ∷ After end.Rollback ∷ []
-  pub stopped : (fails : Bool) → reducer_calls false (run_end Stopped fails) ≡ Begin ∷ Rollback ∷ After end.Rollback ∷ []
-  pub failed : (fails : Bool) → reducer_calls false (run_end Failed fails) ≡ Begin ∷ Rollback ∷ After end.Rollback ∷ []
-  pub discarding : reducer_calls true (run_end Completed false) ≡ Begin ∷ Rollback ∷ Before ∷ After end.Commit ∷ []
+  pub begin_fails : (discards : Bool) (stands : Status) (fails : Bool) → reducer_calls false discards stands fails ≡ Begin ∷ []
+  pub completed : reducer_calls true false Completed false ≡ Begin ∷ Before ∷ After end.Commit ∷ []
+  pub before_fails : reducer_calls true false Completed true ≡ Begin ∷ Before ∷ Rollback ∷ After end.Rollback ∷ []
+  pub stopped : (fails : Bool) → reducer_calls true false Stopped fails ≡ Begin ∷ Rollback ∷ After end.Rollback ∷ []
+  pub failed : (fails : Bool) → reducer_calls true false Failed fails ≡ Begin ∷ Rollback ∷ After end.Rollback ∷ []
+  pub discarding : reducer_calls true true Completed false ≡ Begin ∷ Rollback ∷ Before ∷ After end.Commit ∷ []
 
 -- whether it was `before_completion` that was answered with a fault
 pub record ReducerFaults : Type 0 where

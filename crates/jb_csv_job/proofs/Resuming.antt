@@ -11,7 +11,7 @@ use Rattle.jb_csv_job.specs.Kept.{IsJobSoFar}
 use Rattle.jb_durable.specs.Files.{IsOfARun}
 use Rattle.jb_durable_records.specs.Checkpoints.{IsRunSoFar, form_of}
 use Rattle.jb_durable_records.specs.Form.{Form, form_text}
-use Rattle.jb_ready.specs.Csv.{AreRowsOf, row_of}
+use Rattle.jb_ready.specs.Csv.{AreRowsOf, csv_row}
 use Rattle.jb_records.specs.Function.{Function}
 use Rattle.jb_records.specs.declared.step.RecordsStep.{RecordsStep}
 use Rattle.jb_store.specs.Checkpoints.{Kept}
@@ -42,7 +42,7 @@ same-records cfg s xs (r ∷ rs) (o ∷ os) s2 s3 ys zs read none other end =
 same-rows : (text : List ℕ) (rows others : List (List ℕ)) → AreRowsOf text rows → AreRowsOf text others → rows ≡ others
 same-rows text rows others are were =
     are.are
-    ∙ ap (map row_of) (same-records default_config st.StartRecord (strip_bom text) are.records were.records are.read.0 were.read.0 are.read.1 were.read.1 are.read.2 are.read.3 were.read.2 were.read.3)
+    ∙ ap (map csv_row) (same-records default_config st.StartRecord (strip_bom text) are.records were.records are.read.0 were.read.0 are.read.1 were.read.1 are.read.2 are.read.3 were.read.2 were.read.3)
     ∙ sym were.are
 
 no-text : (bytes : List ℕ) → None ≡ Some bytes → ⊥

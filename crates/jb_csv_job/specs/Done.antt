@@ -12,7 +12,7 @@ use Rattle.jb_step.specs.Statuses.{status_of}
 
 -- What was written is the results of all records that were read, each once and in order. Where the bytes of a stream aren't known, nothing
 -- is said of them.
-pub record IsDone (f : Function) (text old new : Option (List ℕ)) : Type 0 where
+pub record IsJobDone (f : Function) (text old new : Option (List ℕ)) : Type 0 where
   pub records : List (List ℕ)
   pub read : IfSome text (λ bytes. AreRowsOf bytes records)
   pub written : Appends old new (concat (all_results f records))

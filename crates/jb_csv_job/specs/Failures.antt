@@ -23,9 +23,9 @@ run_text records run.Memory = Some (codes "no memory")
 run_text records _ = None
 
 -- of a job with this name and these words for its input and its records
-abbrev pub failure_text : (name input records : List ℕ) → Failure → Option (List ℕ)
-failure_text name input records failure.Usage = Some (codes "usage: " ++ (name ++ (codes " THREADS FILE < " ++ input)))
-failure_text name input records (failure.File error) = file_text error
-failure_text name input records (failure.Run error) = run_text records error
-failure_text name input records (failure.Stream error) = None
-failure_text name input records failure.Memory = Some (codes "no memory")
+abbrev pub job_failure_text : (name input records : List ℕ) → Failure → Option (List ℕ)
+job_failure_text name input records failure.Usage = Some (codes "usage: " ++ (name ++ (codes " THREADS FILE < " ++ input)))
+job_failure_text name input records (failure.File error) = file_text error
+job_failure_text name input records (failure.Run error) = run_text records error
+job_failure_text name input records (failure.Stream error) = None
+job_failure_text name input records failure.Memory = Some (codes "no memory")

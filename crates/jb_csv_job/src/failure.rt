@@ -1,7 +1,7 @@
 //! Why there is no answer.
 
 ghost use Rattle.std.specs.Prelude.{◌≡◌};
-ghost use Rattle.jb_csv_job.specs.Failures.{failure_text};
+ghost use Rattle.jb_csv_job.specs.Failures.{job_failure_text};
 ghost use Rattle.jb_csv_job.specs.declared.failure.Failure.TheVariants.{File, Memory, Run, Stream};
 
 use jb_durable_records::DurableError;
@@ -36,7 +36,7 @@ pub struct FailureText<'a> {
 }
 
 impl<'a> fmt::Display for FailureText<'a> {
-    ghost output = { λ text. failure_text text.name.now text.input.now text.records.now text.failure };
+    ghost output = { λ text. job_failure_text text.name.now text.input.now text.records.now text.failure };
 
     fn fmt<W: fmt::Write>(&self, f: &mut fmt::Formatter<W>) -> fmt::Result {
         let (name, input, records) = (self.name, self.input, self.records);

@@ -1,10 +1,10 @@
 //! The run of a job over CSV.
 
-ghost use Rattle.std.specs.Prelude.{◌≡◌, ◌≤◌, ◌⊎◌, ℕ, List, IfOk};
+ghost use Rattle.std.specs.Prelude.{◌≡◌, ◌≤◌, ◌⊎◌, List, IfOk};
 ghost use Rattle.sqlite.specs.Held.{state};
 ghost use Rattle.sqlite.specs.State.{HasCleanDisk};
 ghost use Rattle.jb_base.specs.Limits.{max_threads_asked};
-ghost use Rattle.jb_csv_job.specs.Done.{IsDone, IsDoneSoFar, exit_status};
+ghost use Rattle.jb_csv_job.specs.Done.{IsJobDone, IsDoneSoFar, exit_status};
 ghost use Rattle.jb_csv_job.specs.Kept.{IsJobSoFar, job_form};
 ghost use Rattle.jb_durable.specs.Files.{IsOfARun};
 ghost use Rattle.jb_store.specs.Checkpoints.{Kept, ShowsList};
@@ -62,7 +62,7 @@ pub fn run_csv_job<
     // With status 0 what is written are the results of all records, whatever earlier lives the checkpoints are of.
     ensures all { HasCleanDisk (state S.Store conn.new) → IsJustOpened (state S.Store conn.old) → (all : List Kept) → ShowsList (state S.Store conn.old).now all
         → IsJobSoFar (F.function function) (job_form job.now) (R.remaining reader.old) all
-        → IfOk result (λ status. status ≡ 0 → IsDone (F.function function) (R.remaining reader.old) (W.contents writer.old) (W.contents writer.new)) }
+        → IfOk result (λ status. status ≡ 0 → IsJobDone (F.function function) (R.remaining reader.old) (W.contents writer.old) (W.contents writer.new)) }
 
     // With any status they are those of each partition's records before its checkpoint, and the status is that of the rows.
     ensures so_far { HasCleanDisk (state S.Store conn.new) → IsJustOpened (state S.Store conn.old) → (all : List Kept) → ShowsList (state S.Store conn.old).now all

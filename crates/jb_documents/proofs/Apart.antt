@@ -16,7 +16,7 @@ use Rattle.serde_json.specs.Data.{Data, Members, no_members, put}
 use Rattle.serde_json.specs.Find.{get, get_member}
 use Rattle.serde_json.specs.Read.{max_depth}
 use Rattle.serde_json.proofs.Views.{get_member-put, get_member-put_other}
-use Rattle.jb_documents.specs.inside.Borrowed.{data_of, members_data, in_range, members_in_range, seen, joined, IsApart, IsReadable}
+use Rattle.jb_documents.specs.inside.Borrowed.{data_of, members_data, in_range, members_in_range, seen, members_joined, IsApart, IsReadable}
 
 -- ---- the last member of a name is the one that is found
 
@@ -52,49 +52,49 @@ skipped None j b e = rw e refl
 skipped (Some x) j b e = refl
 
 others_stay : (front back : json.Members) (name k : List ℕ) (part : json.Json) → (name ≡ k → ⊥)
-    → find.get_member name (joined front (json.member k part back)) ≡ find.get_member name (joined front back)
+    → find.get_member name (members_joined front (json.member k part back)) ≡ find.get_member name (members_joined front back)
 others_stay json.no_members back name k part other = skipped (find.get_member name back) part (bytes_eq k name) (other_test k name _ refl other)
 others_stay (json.member l j ms) back name k part other = ap (λ later. later_or later (cond (bytes_eq l name) (Some j) None)) (others_stay ms back name k part other)
 
 found_between : (front back : json.Members) (name : List ℕ) (part : json.Json) → find.get_member name back ≡ None
-    → find.get_member name (joined front (json.member name part back)) ≡ Some part
+    → find.get_member name (members_joined front (json.member name part back)) ≡ Some part
 found_between json.no_members back name part none = rw (none, (bytes_eq-Decides name name).1 refl) refl
 found_between (json.member l j ms) back name part none = ap (λ later. later_or later (cond (bytes_eq l name) (Some j) None)) (found_between ms back name part none)
 
 pub part_found : (name : List ℕ) (whole part rest : json.Json) → IsApart name whole part rest → get name (data_of whole) ≡ Some (data_of part)
 part_found name whole part rest a =
-    ap (λ j. get name (data_of j)) a.whole_is ∙ found_last name (joined a.front (json.member name part a.back)) no_members
+    ap (λ j. get name (data_of j)) a.whole_is ∙ found_last name (members_joined a.front (json.member name part a.back)) no_members
     ∙ ap (λ o. chosen o None) (found_between a.front a.back name part a.last)
 
 pub others_found : (name : List ℕ) (whole part rest : json.Json) → IsApart name whole part rest → (other : List ℕ) → (other ≡ name → ⊥) → get other (data_of rest) ≡ get other (data_of whole)
 others_found name whole part rest a other differs =
-    ap (λ j. get other (data_of j)) a.rest_is ∙ found_last other (joined a.front a.back) no_members
+    ap (λ j. get other (data_of j)) a.rest_is ∙ found_last other (members_joined a.front a.back) no_members
     ∙ ap (λ o. chosen o None) (sym (others_stay a.front a.back other name part differs))
-    ∙ sym (ap (λ j. get other (data_of j)) a.whole_is ∙ found_last other (joined a.front (json.member name part a.back)) no_members)
+    ∙ sym (ap (λ j. get other (data_of j)) a.whole_is ∙ found_last other (members_joined a.front (json.member name part a.back)) no_members)
 
 -- ---- the parts can be printed and read again, where the whole can
 
-numbers_apart : (front back : json.Members) (name : List ℕ) (part : json.Json) → MembersHaveNumbers (joined front (json.member name part back)) → HasNumbers part × MembersHaveNumbers (joined front back)
+numbers_apart : (front back : json.Members) (name : List ℕ) (part : json.Json) → MembersHaveNumbers (members_joined front (json.member name part back)) → HasNumbers part × MembersHaveNumbers (members_joined front back)
 numbers_apart json.no_members back name part h = (h.0, h.1)
 numbers_apart (json.member k j ms) back name part h = let more = numbers_apart ms back name part h.1 in (more.0, (h.0, more.1))
 
-depth_apart : (front back : json.Members) (name : List ℕ) (part : json.Json) (d : ℕ) → members_depth (joined front (json.member name part back)) ≤ d → (depth part ≤ d) × (members_depth (joined front back) ≤ d)
+depth_apart : (front back : json.Members) (name : List ℕ) (part : json.Json) (d : ℕ) → members_depth (members_joined front (json.member name part back)) ≤ d → (depth part ≤ d) × (members_depth (members_joined front back) ≤ d)
 depth_apart json.no_members back name part d h = (omega (arith, h), omega (arith, h))
 depth_apart (json.member k j ms) back name part d h =
     let more = depth_apart ms back name part d (omega (arith, h)) in
     (more.0, omega (arith, h, more.1))
 
-ranges_apart : (front back : json.Members) (name : List ℕ) (part : json.Json) → members_in_range (joined front (json.member name part back)) ≡ true → (in_range part ≡ true) × (members_in_range (joined front back) ≡ true)
+ranges_apart : (front back : json.Members) (name : List ℕ) (part : json.Json) → members_in_range (members_joined front (json.member name part back)) ≡ true → (in_range part ≡ true) × (members_in_range (members_joined front back) ≡ true)
 ranges_apart json.no_members back name part h = let both = and_parts (in_range part) (members_in_range back) h in (both.0, both.1)
 ranges_apart (json.member k j ms) back name part h =
-    let both = and_parts (in_range j) (members_in_range (joined ms (json.member name part back))) h in
+    let both = and_parts (in_range j) (members_in_range (members_joined ms (json.member name part back))) h in
     let more = ranges_apart ms back name part both.1 in
     (more.0, rw (both.0, more.1) refl)
 
 pub readable_apart : (name : List ℕ) (whole part rest : json.Json) → IsApart name whole part rest → IsReadable whole → IsReadable part × IsReadable rest
 readable_apart name whole part rest a r =
     let numbers = numbers_apart a.front a.back name part (subst HasNumbers a.whole_is r.numbers) in
-    let deep : suc (members_depth (joined a.front (json.member name part a.back))) ≤ max_depth = subst (λ j. depth j ≤ max_depth) a.whole_is r.nests in
+    let deep : suc (members_depth (members_joined a.front (json.member name part a.back))) ≤ max_depth = subst (λ j. depth j ≤ max_depth) a.whole_is r.nests in
     let depths = depth_apart a.front a.back name part 126 (omega (arith, deep)) in
     let ranges = ranges_apart a.front a.back name part (subst (λ j. in_range j ≡ true) a.whole_is r.ranges) in (
       record { numbers = numbers.0; nests = omega (arith, depths.0); ranges = ranges.0 },
@@ -106,7 +106,7 @@ readable_apart name whole part rest a r =
 abbrev Member : Type 0 → Type 0
 Member A = Bor (List ℕ) × Value A
 
-joined_view : {A : Type 0} (xs ys : List (Member A)) → members_view (xs ++ ys) ≡ joined (members_view xs) (members_view ys)
+joined_view : {A : Type 0} (xs ys : List (Member A)) → members_view (xs ++ ys) ≡ members_joined (members_view xs) (members_view ys)
 joined_view [] ys = refl
 joined_view (x ∷ xs) ys = ap (json.member x.0.now (value_view x.1)) (joined_view xs ys)
 
@@ -119,8 +119,8 @@ pub apart_at : {A : Type 0} (name : List ℕ) (xs : List (Member A)) (i : ℕ) (
 apart_at name xs i x within is called last =
     let front = members_view (take i xs) in
     let back = members_view (drop (suc i) xs) in
-    let all : members_view xs ≡ joined front (json.member name (value_view x.1) back) =
-    ap members_view (sym (split_at xs i x within is)) ∙ joined_view (take i xs) (x ∷ drop (suc i) xs) ∙ ap (λ k. joined front (json.member k (value_view x.1) back)) called in
+    let all : members_view xs ≡ members_joined front (json.member name (value_view x.1) back) =
+    ap members_view (sym (split_at xs i x within is)) ∙ joined_view (take i xs) (x ∷ drop (suc i) xs) ∙ ap (λ k. members_joined front (json.member k (value_view x.1) back)) called in
     record { front = front; back = back; whole_is = ap json.object all; rest_is = ap json.object (joined_view (take i xs) (drop (suc i) xs)); last = last }
 
 -- ---- a field that is taken out

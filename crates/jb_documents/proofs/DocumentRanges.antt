@@ -34,7 +34,7 @@ use Rattle.jb_base.specs.Classes.{class_of}
 use Rattle.jb_documents.specs.declared.run.document.Document.{Document}
 use Rattle.jb_documents.specs.declared.run.faults.PlannedFault.{PlannedFault}
 use Rattle.jb_documents.specs.declared.run.faults.StepFaults.{StepFaults}
-use Rattle.jb_documents.specs.DocumentRanges.{IsDeclared, AreShaky, IsKind, IsFault, AreFaults, IsStepData, IsRunDocument, IsSlot, IsNamed, IsClaim}
+use Rattle.jb_documents.specs.DocumentRanges.{IsDeclared, AreShaky, IsKind, IsPlannedFault, AreFaults, IsStepData, IsRunDocument, IsSlot, IsNamed, IsClaim}
 use Rattle.jb_documents.specs.FaultLists.{FaultForm, bad, shaky, form_at, is_past, fault_number, known_class, class_named, named_class_at, shaky_classes_at, fault_kind, planned_fault_at, planned_faults_at, no_faults, step_faults_at}
 use Rattle.jb_documents.specs.PlanDocument.{counts_at, plan_document_at}
 use Rattle.jb_documents.specs.RunDocument.{data_list_at, document_at}
@@ -174,19 +174,19 @@ rise-more xs y rise past k lt =
 -- ---- entries
 
 abbrev HaveFaults : List (List ℕ) → ℕ → List PlannedFault → Type 0
-HaveFaults classes records faults = IsStrictlyIncreasing (map number_of faults) × All (IsFault classes records) faults
+HaveFaults classes records faults = IsStrictlyIncreasing (map number_of faults) × All (IsPlannedFault classes records) faults
 
-fault-read : (classes : List (List ℕ)) → length classes ≤ max_classes → (f : Field) (records : ℕ) (earlier : List PlannedFault) (d : Data) → IfOk (planned_fault_at classes f records earlier d) (λ fault. IsPast earlier fault.number × IsFault classes records fault)
+fault-read : (classes : List (List ℕ)) → length classes ≤ max_classes → (f : Field) (records : ℕ) (earlier : List PlannedFault) (d : Data) → IfOk (planned_fault_at classes f records earlier d) (λ fault. IsPast earlier fault.number × IsPlannedFault classes records fault)
 unfolding planned_fault_at
 fault-read classes few f records earlier d =
     next _ (triple_at f d) _ (λ entry. next _ (shaped f (whole_number entry.0)) _ (λ number. next _ (shaped f (as_str entry.1)) _ (λ word. next _ (form_at f word entry.2) _ (λ form.
     followed (λ n. IsPast earlier n × (n < records)) _ (fault_number f records earlier number) _ (number-read f records number earlier (is_past (slice_get earlier (length earlier - 1)) number) refl) (λ place is.
     followed (IsKind classes) _ (fault_kind classes f form) _ (kind-read classes few f form) (λ kind are. (is.0, record { within = is.1; kind = are })))))))
 
-one-fault : (classes : List (List ℕ)) (records : ℕ) (done : List PlannedFault) (fault : PlannedFault) → HaveFaults classes records done → IsPast done fault.number → IsFault classes records fault → HaveFaults classes records (done ++ fault ∷ [])
+one-fault : (classes : List (List ℕ)) (records : ℕ) (done : List PlannedFault) (fault : PlannedFault) → HaveFaults classes records done → IsPast done fault.number → IsPlannedFault classes records fault → HaveFaults classes records (done ++ fault ∷ [])
 one-fault classes records done fault are past is = (
   rw (map-append number_of done (fault ∷ [])) (rise-more (map number_of done) fault.number are.0 (λ some. past-there done fault.number past some)),
-  All-append (IsFault classes records) done (fault ∷ []) are.1 (All-cons (IsFault classes records) fault [] is (All-nil (IsFault classes records))),
+  All-append (IsPlannedFault classes records) done (fault ∷ []) are.1 (All-cons (IsPlannedFault classes records) fault [] is (All-nil (IsPlannedFault classes records))),
 )
 
 none-rise : IsStrictlyIncreasing []
@@ -197,10 +197,10 @@ unfolding planned_faults_at
 faults-read classes few records f d = followed _ _ (list_at 0 max_entries f d) _ (list-between 0 max_entries f d) (λ items within.
     IfOk-weaker (each_at (planned_fault_at classes f records) items) _ _ (λ faults are. record { few = omega (arith, are.0, within.1); rise = are.1.0; each = are.1.1 })
     (both _ _ (each_at (planned_fault_at classes f records) items) (each-long (planned_fault_at classes f records) items)
-    (each-keeps (HaveFaults classes records) (planned_fault_at classes f records) (λ done g are. IfOk-weaker (planned_fault_at classes f records done g) _ _ (λ fault is. one-fault classes records done fault are is.0 is.1) (fault-read classes few f records done g)) [] items (none-rise, All-nil (IsFault classes records)))))
+    (each-keeps (HaveFaults classes records) (planned_fault_at classes f records) (λ done g are. IfOk-weaker (planned_fault_at classes f records done g) _ _ (λ fault is. one-fault classes records done fault are is.0 is.1) (fault-read classes few f records done g)) [] items (none-rise, All-nil (IsPlannedFault classes records)))))
 
 no-entries : (classes : List (List ℕ)) (records : ℕ) → AreFaults classes records []
-no-entries classes records = record { few = omega arith; rise = none-rise; each = All-nil (IsFault classes records) }
+no-entries classes records = record { few = omega arith; rise = none-rise; each = All-nil (IsPlannedFault classes records) }
 
 record AreStepFaults (classes : List (List ℕ)) (records : ℕ) (faults : StepFaults) : Type 0 where
   read : AreFaults classes records faults.read

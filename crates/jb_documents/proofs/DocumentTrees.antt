@@ -38,7 +38,7 @@ use Rattle.jb_documents.specs.declared.run.faults.FaultKind.TheVariants.{Bad, Sh
 use Rattle.jb_documents.specs.declared.run.faults.PlannedFault.{PlannedFault}
 use Rattle.jb_documents.specs.declared.run.faults.StepFaults.{StepFaults}
 use Rattle.jb_documents.specs.declared.run.step_data.StepData.{StepData}
-use Rattle.jb_documents.specs.DocumentRanges.{IsDeclared, AreShaky, IsKind, IsFault, AreFaults, IsStepData, IsRunDocument, IsSlot, IsNamed, IsClaim}
+use Rattle.jb_documents.specs.DocumentRanges.{IsDeclared, AreShaky, IsKind, IsPlannedFault, AreFaults, IsStepData, IsRunDocument, IsSlot, IsNamed, IsClaim}
 use Rattle.jb_documents.specs.DocumentTrees.{load_tree, slot_tree, round_tree, certificate_tree, claim_tree, class_tree, fault_tree, faults_tree, step_faults_tree, data_tree, document_tree}
 use Rattle.jb_documents.specs.FaultLists.{form_at, is_past, fault_number, known_class, class_named, named_class_at, shaky_classes_at, fault_kind, planned_fault_at, planned_faults_at, no_faults, step_faults_at}
 use Rattle.jb_documents.specs.PlanDocument.{counts_at, plan_document_at}
@@ -169,7 +169,7 @@ faults-back classes are records f faults kept =
     then-ok (list_at 0 max_entries f (list_tree (map tree faults))) (items_of (map tree faults)) (each_at (planned_fault_at classes f records)) faults
     (list-back 0 max_entries f (map tree faults) (omega arith) (omega (arith, length-map faults tree, kept.few)))
     (each-back (planned_fault_at classes f records) tree (λ fault. fault) faults (λ done fault rest is.
-    let one = member-has (IsFault classes records) faults done fault rest kept.each is in
+    let one = member-has (IsPlannedFault classes records) faults done fault rest kept.each is in
     subst (λ (earlier : List PlannedFault). planned_fault_at classes f records earlier (tree fault) ≡ Ok fault) (sym (map-id done))
     (fault-by classes are f records done fault.number fault.kind one.within one.kind (is-past done fault.number (number-is-past faults done fault rest kept.rise is))))
     ∙ ap Ok (map-id faults))
@@ -246,5 +246,5 @@ document-back law document kept =
     let d = document_tree document in
     let job = document.job in
     then-ok (required (λ _. job_at) field.Job d) job _ document (required-back (λ _. job_at) field.Job d (job_tree job) job refl (law job kept.job))
-    (then-ok (required (data_list_at job) field.Data d) document.steps _ document (required-back (data_list_at job) field.Data d (list_tree (map (data_tree job.classes) document.steps)) document.steps refl (list-back-data job kept.job field.Data document.steps kept.one_each kept.each))
+    (then-ok (required (data_list_at job) field.Data d) document.step_data _ document (required-back (data_list_at job) field.Data d (list_tree (map (data_tree job.classes) document.step_data)) document.step_data refl (list-back-data job kept.job field.Data document.step_data kept.one_each kept.each))
     refl)

@@ -26,7 +26,7 @@ use Rattle.jb_saved.specs.SavedRows.{SavedRows}
 use Rattle.jb_documents.specs.declared.restart.document.RestartDocument.{RestartDocument}
 use Rattle.jb_documents.specs.DocumentRanges.{IsStepData, HoldsResults, IsLeft, IsRestartDocument}
 use Rattle.jb_documents.specs.RestartDocument.{Refusal, fields, saves, named_in, resume_at, restart_at}
-use Rattle.jb_documents.specs.ResumeFields.{Texts, holds, held_at, outputs_at}
+use Rattle.jb_documents.specs.ResumeFields.{WrittenTexts, holds, held_at, outputs_at}
 use Rattle.jb_documents.specs.RunDocument.{data_list_at}
 use Rattle.jb_documents.proofs.DocumentRanges.{list-read}
 
@@ -36,10 +36,10 @@ of-fields P (Err fault) known = tt
 
 -- ---- what the run before left
 
-pub hold-decides : (pairs : List (Texts × Row)) → Decides (list_all holds pairs) (All HoldsResults pairs)
+pub hold-decides : (pairs : List (WrittenTexts × Row)) → Decides (list_all holds pairs) (All HoldsResults pairs)
 hold-decides pairs = Decides-by_and holds HoldsResults (list_all holds) (λ pair. (leb-true pair.1.written (length pair.0), le-leb pair.1.written (length pair.0))) refl (λ pair more. refl) pairs
 
-held-read : (f : Field) (outputs : List Texts) (rows : List Row) → IfOk (held_at f outputs rows) (λ held. (length held ≡ length rows) × All HoldsResults (zip held rows))
+held-read : (f : Field) (outputs : List WrittenTexts) (rows : List Row) → IfOk (held_at f outputs rows) (λ held. (length held ≡ length rows) × All HoldsResults (zip held rows))
 unfolding held_at
 held-read f outputs rows =
     if-so _ (length outputs == length rows) _ _ (λ many. if-so (λ held. (length held ≡ length rows) × All HoldsResults (zip held rows)) (list_all holds (zip outputs rows)) _ (Ok outputs) (λ all. (eqb-true (length outputs) (length rows) many, (hold-decides (zip outputs rows)).0 all)))
@@ -54,7 +54,7 @@ named-by : (steps : List StepRecord) (s : SavedRows) (known : Bool) → list_any
 named-by steps s true is = (refl, found-id steps s.step is)
 named-by steps s false is = tt
 
-left-of : (steps : List StepRecord) (held : List Texts) (saved named : SavedRows) → (length held ≡ length saved.rows) × All HoldsResults (zip held saved.rows) → (named ≡ saved) × Contains (map (λ step. step.id) steps) saved.step → IsLeft steps (record { outputs = held; saved = named })
+left-of : (steps : List StepRecord) (held : List WrittenTexts) (saved named : SavedRows) → (length held ≡ length saved.rows) × All HoldsResults (zip held saved.rows) → (named ≡ saved) × Contains (map (λ step. step.id) steps) saved.step → IsLeft steps (record { outputs = held; saved = named })
 left-of steps held saved named are is = subst (λ (s : SavedRows). IsLeft steps (record { outputs = held; saved = s })) (sym is.0) (record { one_each = are.0; held = are.1; named = is.1 })
 
 resume-read : (steps : List StepRecord) (f : Field) (d : Data) → IfOk (resume_at steps f d) (IsLeft steps)

@@ -27,7 +27,7 @@ use Rattle.jb_documents.specs.declared.restart.resume.Resume.{Resume}
 use Rattle.jb_documents.specs.DocumentRanges.{HoldsResults, IsLeft, IsRestartDocument}
 use Rattle.jb_documents.specs.DocumentTrees.{data_tree, texts_tree, resume_tree, restart_tree}
 use Rattle.jb_documents.specs.RestartDocument.{fields, saves, named_in, resume_at, restart_at}
-use Rattle.jb_documents.specs.ResumeFields.{Texts, held_at, texts_at, outputs_at}
+use Rattle.jb_documents.specs.ResumeFields.{WrittenTexts, held_at, texts_at, outputs_at}
 use Rattle.jb_documents.specs.RunDocument.{data_list_at}
 use Rattle.jb_documents.proofs.DocumentTrees.{list-back-data}
 use Rattle.jb_documents.proofs.RestartRanges.{hold-decides}
@@ -37,15 +37,15 @@ field-ok r x is = ap fields is
 
 -- ---- what the run before left
 
-texts-back : (f : Field) (texts : Texts) → texts_at f (texts_tree texts) ≡ Ok texts
+texts-back : (f : Field) (texts : WrittenTexts) → texts_at f (texts_tree texts) ≡ Ok texts
 unfolding texts_at
 texts-back f texts = each-back (λ _ text. shaped f (as_str text)) string (λ text. text) texts (λ done text rest is. refl) ∙ ap Ok (map-id texts)
 
-outputs-back : (f : Field) (outputs : List Texts) → outputs_at f (list_tree (map texts_tree outputs)) ≡ Ok outputs
+outputs-back : (f : Field) (outputs : List WrittenTexts) → outputs_at f (list_tree (map texts_tree outputs)) ≡ Ok outputs
 unfolding outputs_at
 outputs-back f outputs = each-back (λ _. texts_at f) texts_tree (λ texts. texts) outputs (λ done texts rest is. texts-back f texts) ∙ ap Ok (map-id outputs)
 
-held-back : (f : Field) (outputs : List Texts) (rows : List Row) → length outputs ≡ length rows → All HoldsResults (zip outputs rows) → held_at f outputs rows ≡ Ok outputs
+held-back : (f : Field) (outputs : List WrittenTexts) (rows : List Row) → length outputs ≡ length rows → All HoldsResults (zip outputs rows) → held_at f outputs rows ≡ Ok outputs
 unfolding held_at
 held-back f outputs rows many held = rw (eq-eqb (length outputs) (length rows) many, (hold-decides (zip outputs rows)).1 held) refl
 
@@ -83,7 +83,7 @@ restart-back jobs saved document kept sound =
     let d = restart_tree document in
     let job = document.job in
     then-ok (fields (required (λ _. job_at) field.Job d)) job _ document (field-ok (required (λ _. job_at) field.Job d) job (required-back (λ _. job_at) field.Job d (job_tree job) job refl (jobs job kept.run.job)))
-    (then-ok (fields (required (data_list_at job) field.Data d)) document.steps _ document (field-ok (required (data_list_at job) field.Data d) document.steps (required-back (data_list_at job) field.Data d (list_tree (map (data_tree job.classes) document.steps)) document.steps refl (list-back-data job kept.run.job field.Data document.steps kept.run.one_each kept.run.each)))
+    (then-ok (fields (required (data_list_at job) field.Data d)) document.step_data _ document (field-ok (required (data_list_at job) field.Data d) document.step_data (required-back (data_list_at job) field.Data d (list_tree (map (data_tree job.classes) document.step_data)) document.step_data refl (list-back-data job kept.run.job field.Data document.step_data kept.run.one_each kept.run.each)))
     (then-ok (fields (required (λ _ tree. Ok tree) field.Resume d)) (resume_tree document.resume) _ document (field-ok (required (λ _ tree. Ok tree) field.Resume d) (resume_tree document.resume) (required-back (λ _ tree. Ok tree) field.Resume d (resume_tree document.resume) (resume_tree document.resume) refl refl))
     (then-ok (resume_at job.steps field.Resume (resume_tree document.resume)) document.resume _ document (resume-back saved job.steps field.Resume document.resume kept.resume sound)
     refl)))

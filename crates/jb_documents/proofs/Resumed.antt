@@ -12,21 +12,21 @@ use Rattle.jb_saved.specs.declared.place.SavedPlace.TheVariants.{Step}
 use Rattle.jb_saved.specs.Reading.{saved_at}
 use Rattle.jb_saved.specs.SavedRows.{SavedRows}
 use Rattle.jb_documents.specs.declared.restart.resume.Resume.{Resume}
-use Rattle.jb_documents.specs.ResumeFields.{Texts, outputs_at, held_at}
+use Rattle.jb_documents.specs.ResumeFields.{WrittenTexts, outputs_at, held_at}
 use Rattle.jb_documents.specs.RestartDocument.{Refusal, of_saved, ◌>>=◌, fields, saves, named_in, resume_at}
 
 -- the step's name comes last
-abbrev pub end : Bool → List Texts → SavedRows → Result Resume Refusal
+abbrev pub end : Bool → List WrittenTexts → SavedRows → Result Resume Refusal
 end true outputs saved = Ok (record { outputs = outputs; saved = saved })
 end false outputs saved = Err (of_saved Step)
 
-after-saved : (steps : List StepRecord) (outputs held : List Texts) (saved : SavedRows) (found : Bool) (reading : Result SavedRows Refusal)
+after-saved : (steps : List StepRecord) (outputs held : List WrittenTexts) (saved : SavedRows) (found : Bool) (reading : Result SavedRows Refusal)
     → reading ≡ Ok saved → held_at field.Outputs outputs saved.rows ≡ Ok held → list_any (λ (step : StepRecord). bytes_eq step.id saved.step) steps ≡ found
     → (reading >>= λ s. fields (held_at field.Outputs outputs s.rows) >>= λ h. saves (named_in steps s) >>= λ n. Ok (record { outputs = h; saved = n })) ≡ end found held saved
 after-saved steps outputs held saved true reading f g h = rw (f, g, h) refl
 after-saved steps outputs held saved false reading f g h = rw (f, g, h) refl
 
-pub resume-read : (steps : List StepRecord) (d resume o t : Data) (outputs held : List Texts) (saved : SavedRows) (found : Bool)
+pub resume-read : (steps : List StepRecord) (d resume o t : Data) (outputs held : List WrittenTexts) (saved : SavedRows) (found : Bool)
     → object_at field.Resume (field.Outputs ∷ field.Saved ∷ []) d ≡ Ok resume
     → get (name_of field.Outputs) resume ≡ Some o → outputs_at field.Outputs o ≡ Ok outputs
     → shaped field.Saved (get (name_of field.Saved) resume) ≡ Ok t → saves (saved_at t) ≡ Ok saved

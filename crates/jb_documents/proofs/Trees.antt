@@ -16,11 +16,11 @@ use Rattle.serde_json.specs.Events.{items_len}
 use Rattle.serde_json.specs.Find.{as_number, as_str, as_u64}
 use Rattle.serde_json.specs.Read.{number_of}
 use Rattle.jb_job.specs.Reading.{member_names, triple_of, whole_number}
-use Rattle.jb_documents.specs.inside.Borrowed.{number_data, data_of, members_data, seen, all_seen, keys}
+use Rattle.jb_documents.specs.inside.Borrowed.{number_data, data_of, members_data, seen, items_seen, keys}
 
 -- ---- kinds
 
-pub seen-Array : {A : Type 0} (v : Vec (Value A) A) → seen (Array v) ≡ array (all_seen v.items)
+pub seen-Array : {A : Type 0} (v : Vec (Value A) A) → seen (Array v) ≡ array (items_seen v.items)
 seen-Array v = ap data_of (view-Array v)
 
 pub seen-Object : {A : Type 0} (v : Vec (Bor (List ℕ) × Value A) A) → seen (Object v) ≡ object (members_data (members_view v.items) no_members)
@@ -56,11 +56,11 @@ whole_number-data_of (json.object ms) = refl
 
 -- ---- lists
 
-pub items_len-all_seen : {A : Type 0} (vs : List (Value A)) → items_len (all_seen vs) ≡ length vs
+pub items_len-all_seen : {A : Type 0} (vs : List (Value A)) → items_len (items_seen vs) ≡ length vs
 items_len-all_seen [] = refl
 items_len-all_seen (v ∷ vs) = ap suc (items_len-all_seen vs)
 
-pub triple_of-not_three : {A : Type 0} (vs : List (Value A)) → (length vs ≡ 3 → ⊥) → triple_of (all_seen vs) ≡ None
+pub triple_of-not_three : {A : Type 0} (vs : List (Value A)) → (length vs ≡ 3 → ⊥) → triple_of (items_seen vs) ≡ None
 triple_of-not_three [] h = refl
 triple_of-not_three (a ∷ []) h = refl
 triple_of-not_three (a ∷ b ∷ []) h = refl

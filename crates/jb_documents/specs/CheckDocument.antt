@@ -11,7 +11,7 @@ use Rattle.jb_cert.specs.declared.plans.Slot.{Slot}
 use Rattle.jb_cert.specs.declared.certificates.Certificate.{Certificate}
 use Rattle.jb_cert.specs.declared.certificates.Certificate.TheVariants.{Nothing, Longest, FullLoad}
 use Rattle.jb_base.specs.Limits.{max_place, max_threads}
-use Rattle.jb_cert.specs.Plans.{rounds_of}
+use Rattle.jb_cert.specs.Plans.{plan_rounds}
 use Rattle.jb_documents.specs.PlanDocument.{counts_at}
 use Rattle.jb_documents.specs.declared.check.claim.PlanClaim.{PlanClaim}
 
@@ -66,7 +66,7 @@ check_document_at d = do
 
 -- what code holds, as the claim that it stands for
 abbrev pub claim_of : PlanClaim → Claim
-claim_of c = record { counts = c.load.counts; threads = c.load.threads; rounds = rounds_of c.plan; certificate = c.certificate }
+claim_of c = record { counts = c.load.counts; threads = c.load.threads; rounds = plan_rounds c.plan; certificate = c.certificate }
 
 -- The bytes are the text of a document, and it makes this claim.
 abbrev pub Claims : Claim → List ℕ → Type 0

@@ -19,7 +19,7 @@ use Rattle.jb_documents.specs.declared.run.faults.FaultKind.{FaultKind}
 use Rattle.jb_documents.specs.declared.run.faults.FaultKind.TheVariants.{Bad, Shaky}
 use Rattle.jb_documents.specs.declared.run.faults.PlannedFault.{PlannedFault}
 use Rattle.jb_documents.specs.declared.run.step_data.StepData.{StepData}
-use Rattle.jb_documents.specs.ResumeFields.{Texts}
+use Rattle.jb_documents.specs.ResumeFields.{WrittenTexts}
 
 -- ---- the document of `run`
 
@@ -38,7 +38,7 @@ IsKind classes (Bad class) = IsDeclared classes class
 IsKind classes (Shaky faults) = AreShaky classes faults
 
 -- the fault of one of so many records
-pub record IsFault (classes : List (List ℕ)) (records : ℕ) (fault : PlannedFault) : Type 0 where
+pub record IsPlannedFault (classes : List (List ℕ)) (records : ℕ) (fault : PlannedFault) : Type 0 where
   pub within : fault.number < records
   pub kind : IsKind classes fault.kind
 
@@ -46,7 +46,7 @@ pub record IsFault (classes : List (List ℕ)) (records : ℕ) (fault : PlannedF
 pub record AreFaults (classes : List (List ℕ)) (records : ℕ) (faults : List PlannedFault) : Type 0 where
   pub few : length faults ≤ max_entries
   pub rise : IsStrictlyIncreasing (map (λ fault. fault.number) faults)
-  pub each : All (IsFault classes records) faults
+  pub each : All (IsPlannedFault classes records) faults
 
 -- the data of a step of a job with these classes
 pub record IsStepData (classes : List (List ℕ)) (given : StepData) : Type 0 where
@@ -61,8 +61,8 @@ pub record IsStepData (classes : List (List ℕ)) (given : StepData) : Type 0 wh
 
 pub record IsRunDocument (document : Document) : Type 0 where
   pub job : IsJob document.job
-  pub one_each : length document.steps ≡ length document.job.steps
-  pub each : All (IsStepData document.job.classes) document.steps
+  pub one_each : length document.step_data ≡ length document.job.steps
+  pub each : All (IsStepData document.job.classes) document.step_data
 
 -- ---- the document of `check`
 
@@ -83,7 +83,7 @@ pub record IsClaim (claim : Claim) : Type 0 where
 -- ---- the document of `restart`
 
 -- a writer holds the results that its row committed, and may hold more
-abbrev pub HoldsResults : Texts × Row → Type 0
+abbrev pub HoldsResults : WrittenTexts × Row → Type 0
 HoldsResults (texts, row) = row.written ≤ length texts
 
 -- what the run before left of one of these steps
@@ -93,5 +93,5 @@ pub record IsLeft (steps : List StepRecord) (resume : Resume) : Type 0 where
   pub named : Contains (map (λ step. step.id) steps) resume.saved.step
 
 pub record IsRestartDocument (document : RestartDocument) : Type 0 where
-  pub run : IsRunDocument (record { job = document.job; steps = document.steps })
+  pub run : IsRunDocument (record { job = document.job; step_data = document.step_data })
   pub resume : IsLeft document.job.steps document.resume

@@ -18,7 +18,7 @@ use Rattle.jb_documents.specs.declared.run.faults.FaultKind.TheVariants.{Bad, Sh
 use Rattle.jb_documents.specs.declared.run.faults.PlannedFault.{PlannedFault}
 use Rattle.jb_documents.specs.declared.run.faults.StepFaults.{StepFaults}
 use Rattle.jb_documents.specs.declared.run.step_data.StepData.{StepData}
-use Rattle.jb_documents.specs.ResumeFields.{Texts}
+use Rattle.jb_documents.specs.ResumeFields.{WrittenTexts}
 
 -- ---- the document of `plan`
 
@@ -86,12 +86,12 @@ data_tree classes given = object
 
 abbrev pub document_tree : Document → Data
 document_tree document = object
-    (with_field field.Data (list_tree (map (data_tree document.job.classes) document.steps))
+    (with_field field.Data (list_tree (map (data_tree document.job.classes) document.step_data))
     (with_field field.Job (job_tree document.job) no_members))
 
 -- ---- the document of `restart`
 
-abbrev pub texts_tree : Texts → Data
+abbrev pub texts_tree : WrittenTexts → Data
 texts_tree texts = list_tree (map string texts)
 
 abbrev pub resume_tree : Resume → Data
@@ -101,6 +101,6 @@ resume_tree resume = object
 
 abbrev pub restart_tree : RestartDocument → Data
 restart_tree document = object
-    (with_field field.Data (list_tree (map (data_tree document.job.classes) document.steps))
+    (with_field field.Data (list_tree (map (data_tree document.job.classes) document.step_data))
     (with_field field.Job (job_tree document.job)
     (with_field field.Resume (resume_tree document.resume) no_members)))

@@ -4,5 +4,5 @@ use Rattle.std.specs.List.Sorted.{IsNonDecreasingBy}
 use Rattle.jb_documents.specs.declared.run.faults.PlannedFault.{PlannedFault}
 
 -- None is for an earlier record than the one before it.
-abbrev pub AreInOrder : List PlannedFault → Type 0
-AreInOrder faults = IsNonDecreasingBy (λ fault. fault.number) faults
+abbrev pub AreFaultsInOrder : List PlannedFault → Type 0
+AreFaultsInOrder faults = IsNonDecreasingBy (λ fault. fault.number) faults

@@ -61,7 +61,7 @@ restart_at d = do
   steps ← fields (required (data_list_at job) field.Data document)
   tree ← fields (required (λ f d. Ok d) field.Resume document)
   resume ← resume_at job.steps field.Resume tree
-  Ok (record { job = job; steps = steps; resume = resume })
+  Ok (record { job = job; step_data = steps; resume = resume })
 
 -- ---- what code is held to
 
@@ -72,16 +72,16 @@ in_document (of_fault fault) = of_fault (of_field fault)
 in_document never = never
 
 -- what an error says of a document
-abbrev pub refusal_of : RestartFault → Cause Refusal
-refusal_of (Document error) = in_document (cause_of error)
-refusal_of (Saved place) = of_fault (of_saved place)
+abbrev pub restart_cause : RestartFault → Cause Refusal
+restart_cause (Document error) = in_document (cause_of error)
+restart_cause (Saved place) = of_fault (of_saved place)
 
 -- what a function returned is what reading gives, unless memory ran out
 abbrev pub GivesRestart : {Y : Type 0} → Result Y RestartFault → Result Y Refusal → Type 0
-GivesRestart result reading = Answers refusal_of (λ x. x) result reading
+GivesRestart result reading = Answers restart_cause (λ x. x) result reading
 
 -- the bytes are the JSON text of this document
-pub record IsRestart (bytes : List ℕ) (document : RestartDocument) : Type 0 where
+pub record IsRestartText (bytes : List ℕ) (document : RestartDocument) : Type 0 where
   pub tree : Data
   pub text : tree_of bytes ≡ Some tree
   pub fields : restart_at tree ≡ Ok document

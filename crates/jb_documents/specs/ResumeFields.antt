@@ -8,23 +8,23 @@ use Rattle.jb_job.specs.Reading.{wrong_shape, out_of_range, Read, ◌>>=◌, sha
 use Rattle.jb_rules.specs.declared.row.Row.{Row}
 
 -- the texts that a writer holds
-abbrev pub Texts : Type 0
-Texts = List (List ℕ)
+abbrev pub WrittenTexts : Type 0
+WrittenTexts = List (List ℕ)
 
 -- texts, of any number and length
-unfoldable pub texts_at : Field → Data → Read Texts
+unfoldable pub texts_at : Field → Data → Read WrittenTexts
 texts_at f d = shaped f (as_array d) >>= each_at (λ _ text. shaped f (as_str text))
 
 -- lists of texts
-unfoldable pub outputs_at : Field → Data → Read (List Texts)
+unfoldable pub outputs_at : Field → Data → Read (List WrittenTexts)
 outputs_at f d = shaped f (as_array d) >>= each_at (λ _. texts_at f)
 
 -- the writer holds the results that its row committed, and may hold more, which were rolled back
-abbrev pub holds : Texts × Row → Bool
+abbrev pub holds : WrittenTexts × Row → Bool
 holds (texts, row) = nat_le row.written (length texts)
 
 -- as many writers as rows, and each holds what its row committed
-unfoldable pub held_at : Field → List Texts → List Row → Read (List Texts)
+unfoldable pub held_at : Field → List WrittenTexts → List Row → Read (List WrittenTexts)
 held_at f outputs rows =
     if length outputs == length rows
     then (if list_all holds (zip outputs rows) then Ok outputs else Err (out_of_range f))

@@ -25,7 +25,7 @@ document_at d = do
   document ← object_at field.Unknown (field.Job ∷ field.Data ∷ []) d
   job ← required (λ f. job_at) field.Job document
   steps ← required (data_list_at job) field.Data document
-  Ok (record { job = job; steps = steps })
+  Ok (record { job = job; step_data = steps })
 
 -- the bytes are the JSON text of this document
 pub record IsDocument (bytes : List ℕ) (document : Document) : Type 0 where

@@ -16,7 +16,7 @@ use Rattle.jb_documents.specs.declared.run.faults.PlannedFault.{PlannedFault}
 use Rattle.jb_documents.specs.declared.run.step_data.StepData.{StepData}
 use Rattle.jb_documents.specs.DocumentRanges.{AreFaults, IsLeft, IsSlot}
 use Rattle.jb_documents.specs.DocumentTrees.{load_tree, claim_tree, document_tree}
-use Rattle.jb_documents.specs.ResumeFields.{Texts}
+use Rattle.jb_documents.specs.ResumeFields.{WrittenTexts}
 
 -- full load: three equal partitions on two threads
 abbrev pub three_equal : Load
@@ -29,8 +29,8 @@ three_equal_document = codes "{\"counts\":[3,3,3],\"threads\":2}"
 abbrev pub slot_in : (lane partition chunk : ℕ) → Slot
 slot_in lane partition chunk = record { lane = lane; partition = partition; chunk = chunk }
 
-abbrev pub two_rounds : Claim
-two_rounds = record {
+abbrev pub two_rounds_claim : Claim
+two_rounds_claim = record {
   counts = 2 ∷ 1 ∷ [];
   threads = 2;
   rounds = (slot_in 0 0 0 ∷ slot_in 1 1 0 ∷ []) ∷ (slot_in 0 0 1 ∷ []) ∷ [];
@@ -57,17 +57,17 @@ three_records = record {
 }
 
 abbrev pub run_document : Document
-run_document = record { job = classes_job; steps = three_records ∷ [] }
+run_document = record { job = classes_job; step_data = three_records ∷ [] }
 
-abbrev pub slot_of : (lane : ℕ) → Slot
-slot_of lane = slot_in lane 0 0
+abbrev pub worked_slot : (lane : ℕ) → Slot
+worked_slot lane = slot_in lane 0 0
 
 -- two texts of a writer
-abbrev pub two_texts : Texts
+abbrev pub two_texts : WrittenTexts
 two_texts = codes "a" ∷ codes "b" ∷ []
 
 -- what was left of a step that was stopped: two results of each of its first two partitions, and none of the third
-abbrev pub Left : List Texts → SavedRows → Type 0
+abbrev pub Left : List WrittenTexts → SavedRows → Type 0
 Left outputs saved = IsLeft classes_job.steps (record { outputs = outputs; saved = saved })
 
 pub record DocumentRows : Type 0 where
@@ -77,7 +77,7 @@ pub record DocumentRows : Type 0 where
       ≡ codes "{\"data\":[{\"drop\":\"x\",\"faults\":{\"process\":[[0,\"shaky\",[\"E\",\"G\"]],[2,\"bad\",\"F\"]],\"read\":[[0,\"bad\",\"E\"]],\"write\":[]},\"prefix\":\"p\",\"records\":[\"a\",\"b\",\"c\"]}],\"job\":" ++ (compact_text (job_tree classes_job) ++ codes "}")
   pub plan : compact_text (load_tree three_equal) ≡ three_equal_document
   pub check :
-      compact_text (claim_tree two_rounds)
+      compact_text (claim_tree two_rounds_claim)
       ≡ codes "{\"certificate\":\"FullLoad\",\"counts\":[2,1],\"rounds\":[[[0,0,0],[1,1,0]],[[0,0,1]]],\"threads\":2}"
   -- faults of three records and three classes: of rising records, of one record twice, past the records, of no class
   pub rising : AreFaults classes_job.classes 3 (bad_record 0 2 ∷ bad_record 2 2 ∷ [])
@@ -85,8 +85,8 @@ pub record DocumentRows : Type 0 where
   pub past : AreFaults classes_job.classes 3 (bad_record 3 2 ∷ []) → ⊥
   pub undeclared : AreFaults classes_job.classes 3 (bad_record 0 3 ∷ []) → ⊥
   -- lanes up to the last one
-  pub last_lane : IsSlot (slot_of 4294967295)
-  pub past_lanes : IsSlot (slot_of 4294967296) → ⊥
+  pub last_lane : IsSlot (worked_slot 4294967295)
+  pub past_lanes : IsSlot (worked_slot 4294967296) → ⊥
   -- what was left: as it is, with a result less than was committed, without a writer, and of another step
   pub left : Left (two_texts ∷ two_texts ∷ [] ∷ []) stopped
   pub fewer : Left (two_texts ∷ (codes "a" ∷ []) ∷ [] ∷ []) stopped → ⊥

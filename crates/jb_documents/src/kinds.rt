@@ -1,13 +1,13 @@
 //! The kinds of fields of a tree that borrows its text, as `jb_job::kinds` reads those of one with texts of its own.
 
-ghost use Rattle.std.specs.Prelude.{◌≡◌, ◌≤◌, List, length, map, Result, IfOk};
+ghost use Rattle.std.specs.Prelude.{◌≡◌, ◌≤◌, length, map, Result, IfOk};
 ghost use Rattle.std.specs.List.{list_all};
 ghost use Rattle.json.specs.Value.{members_view};
 ghost use Rattle.json.specs.declared.value.Value.{Value};
 ghost use Rattle.serde_json.specs.Find.{as_array, as_str};
 ghost use Rattle.jb_job.specs.declared.error.JobError.{JobError};
 ghost use Rattle.jb_job.specs.Reading.{Gives, GivesExactly, each_at, is_named, list_at, object_at, shaped, text_at, triple_at, whole_number};
-ghost use Rattle.jb_documents.specs.inside.Borrowed.{all_seen, keys, seen};
+ghost use Rattle.jb_documents.specs.inside.Borrowed.{items_seen, keys, seen};
 
 use crate::numbers::whole_number;
 use jb_job::kinds::Member;
@@ -54,7 +54,7 @@ pub fn items<'t, 'a>(
     field: Field,
     tree: &'t Borrowed<'a>,
 ) -> Result<&'t Vec<Borrowed<'a>>, JobError>
-    ensures { GivesExactly (λ v. all_seen v.now.items) result (shaped field (as_array (seen tree.now))) }
+    ensures { GivesExactly (λ v. items_seen v.now.items) result (shaped field (as_array (seen tree.now))) }
 {
     match tree {
         Borrowed::Array(items) => Ok(items),
@@ -64,7 +64,7 @@ pub fn items<'t, 'a>(
 
 /// As `items`, by value.
 pub fn array<'a>(field: Field, tree: Borrowed<'a>) -> Result<Vec<Borrowed<'a>>, JobError>
-    ensures { GivesExactly (λ v. all_seen v.items) result (shaped field (as_array (seen tree.entry))) }
+    ensures { GivesExactly (λ v. items_seen v.items) result (shaped field (as_array (seen tree.entry))) }
 {
     match tree {
         Borrowed::Array(items) => Ok(items),
@@ -80,7 +80,7 @@ pub fn list<'t, 'a>(
     field: Field,
     tree: &'t Borrowed<'a>,
 ) -> Result<&'t Vec<Borrowed<'a>>, JobError>
-    ensures exact { GivesExactly (λ v. all_seen v.now.items) result (list_at low high field (seen tree.now)) }
+    ensures exact { GivesExactly (λ v. items_seen v.now.items) result (list_at low high field (seen tree.now)) }
     ensures short { IfOk result (λ v. length v.now.items ≤ high) }
 {
     let items = items(field, tree)?;
@@ -101,7 +101,7 @@ pub fn list_by_value<'a>(
     field: Field,
     tree: Borrowed<'a>,
 ) -> Result<Vec<Borrowed<'a>>, JobError>
-    ensures { GivesExactly (λ v. all_seen v.items) result (list_at low high field (seen tree.entry)) }
+    ensures { GivesExactly (λ v. items_seen v.items) result (list_at low high field (seen tree.entry)) }
 {
     let _items = list(low, high, field, &tree)?;
     array(field, tree)
@@ -175,7 +175,7 @@ pub fn each<M: Member<T>, T: Drop, F: Fn(&[T], &Borrowed<'_>) -> Result<T, JobEr
 ) -> Result<Vec<T>, JobError>
     requires callable { F.IsAlwaysCallable read }
     requires exact { (done : _) (tree : _) (one : Result T JobError) → F.post read done tree one → Gives M.shown one (M.kind (map M.shown done.now) (seen tree.now)) }
-    ensures { Gives (λ v. map M.shown v.items) result (each_at M.kind (all_seen items.now.items)) }
+    ensures { Gives (λ v. map M.shown v.items) result (each_at M.kind (items_seen items.now.items)) }
 {
     let mut done = Vec::with_capacity(alloc, items.len())?;
     for item in items {

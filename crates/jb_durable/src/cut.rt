@@ -1,11 +1,12 @@
 //! An open that may be cut.
 
-ghost use Rattle.std.specs.Prelude.{◌≡◌, Bool, false, true, List, IfOk, IfErr, IfSome, IsTrue};
+ghost use Rattle.std.specs.Prelude.{◌≡◌, ◌⊎◌, Bool, false, true, IfOk, IfErr, IfSome, IsTrue};
 ghost use Rattle.jb_store.specs.Connections.{IsJustOpened};
+ghost use Rattle.jb_store.specs.Form.{checkpoint_schema, no_schema};
 ghost use Rattle.jb_durable.specs.Files.{IsOfARun, Leaves, LeavesImage, MayGoOn, has_store};
 ghost use Rattle.jb_durable.specs.Lives.{IsLifeOver};
 ghost use Rattle.jb_durable.specs.Watching.{AreGiven};
-ghost use Rattle.sqlite.specs.Files.{IsCleanLeft, file_state};
+ghost use Rattle.sqlite.specs.Files.{Finds, IsCleanLeft, LeavesFiles, file_state};
 ghost use Rattle.sqlite.specs.State.{HasCleanDisk};
 ghost use Rattle.sqlite_wal.specs.Files.{outcomes};
 ghost use Rattle.sqlite_wal.specs.Reads.{AreClean};
@@ -15,8 +16,28 @@ use crate::stop::{Life, has_store, stop_cut, unwatch, watch};
 use crate::watched::{Given, Watched};
 use jb_store::takes;
 use sqlite::{Connection, FileStore, Leftover, Options};
-use sqlite_disk::{Crash, Files};
+use sqlite_disk::{Crash, Disk, Files};
 use std::alloc::Global;
+
+/// Opens a log and its database file to a list of checkpoints, or to a database in which nothing is defined yet. An error comes with what is
+/// left of an open that failed; none where the files hold something else.
+pub fn open_own<D: Disk + Drop>(
+    alloc: Global,
+    files: Files<D>,
+    options: Options,
+) -> Result<Connection<FileStore<D>>, Option<Leftover<D>>>
+    requires log { IsTrue (D.Disk.is_usable files.log) }
+    requires db { IsTrue (D.Disk.is_usable files.db) }
+    ensures opened { IfOk result (λ conn. HasCleanDisk (file_state conn) → IsJustOpened (file_state conn)) }
+    ensures found { IfOk result (λ conn. HasCleanDisk (file_state conn) → Finds files conn) }
+    ensures own { IfOk result (λ conn. ((file_state conn).now.schema ≡ no_schema) ⊎ ((file_state conn).now.schema ≡ checkpoint_schema)) }
+    ensures unharmed { IfErr result (λ rest. IfSome rest (λ left. IsCleanLeft left → LeavesFiles files left)) }
+{
+    match Connection::open_files(alloc, files, options) {
+        Ok(conn) => { if takes(&conn) { Ok(conn) } else { Err(None) } }
+        Err((_, left)) => Err(Some(left)),
+    }
+}
 
 /// The machine stops in an open, or behind one that failed.
 fn cut_short<D: Crash + Drop, G: Given>(left: Leftover<Watched<D, G>>) -> Option<Life<D>>
@@ -37,8 +58,8 @@ fn cut_short<D: Crash + Drop, G: Given>(left: Leftover<Watched<D, G>>) -> Option
     })
 }
 
-/// Opens a log and its database file to a list of checkpoints, or to a database in which nothing is defined yet. An error comes with what
-/// the machine leaves that stopped in the open; none where the files hold something else.
+/// Opens them over disks that know what they were. An error comes with what the machine leaves that stopped in the open; none where the files
+/// hold something else.
 pub fn open_watched<D: Crash + Drop, G: Given>(
     alloc: Global,
     files: Files<D>,
@@ -53,8 +74,9 @@ pub fn open_watched<D: Crash + Drop, G: Given>(
     ensures not_run { IfErr result (λ rest. IfSome rest (λ life. life.has_run ≡ false)) }
     ensures over { IfErr result (λ rest. IfSome rest (λ life. IsLifeOver D.Disk G.Given.is_so_far files life)) }
 {
-    match Connection::open_files(alloc, watch::<D, G>(files), options) {
-        Ok(conn) => { if takes(&conn) { Ok(conn) } else { Err(None) } }
-        Err((_, left)) => Err(cut_short(left)),
+    match open_own(alloc, watch::<D, G>(files), options) {
+        Ok(conn) => Ok(conn),
+        Err(Some(left)) => Err(cut_short(left)),
+        Err(None) => Err(None),
     }
 }

@@ -7,10 +7,10 @@ ghost use Rattle.jb_durable.specs.Files.{HoldsRunOrNone, Leaves};
 ghost use Rattle.sqlite.specs.Files.{file_state};
 ghost use Rattle.sqlite.specs.State.{HasCleanDisk};
 
+use crate::cut::open_own;
 use crate::life::live_and_crash;
 use crate::run::run_durably;
-use crate::work::Work;
-use jb_store::takes;
+use crate::work::DurableWork;
 use sqlite::{Connection, FileStore, Options};
 use sqlite_disk::{Crash, Disk, Files};
 use std::alloc::Global;
@@ -30,7 +30,7 @@ pub struct LastLife<D: Disk> {
 ///
 /// None where the last open or the last run fails, where an open finds a database that isn't one of checkpoints, and where two opens had
 /// written and were cut behind their recovery, with no life between them that had the files open.
-pub fn work_through_crashes<R: Threads + Wait + Sync, W: Work, D: Crash + Drop>(
+pub fn work_through_crashes<R: Threads + Wait + Sync, W: DurableWork, D: Crash + Drop>(
     rt: &R,
     alloc: Global,
     files: Files<D>,
@@ -41,8 +41,8 @@ pub fn work_through_crashes<R: Threads + Wait + Sync, W: Work, D: Crash + Drop>(
 ) -> Option<LastLife<D>>
     requires log { IsTrue (D.Disk.is_usable files.log) }
     requires db { IsTrue (D.Disk.is_usable files.db) }
-    ensures whole { IfSome result (λ last. HasCleanDisk (file_state last.conn) → Leaves D.Disk (HoldsRunOrNone (W.Work.is_so_far work.old)) files
-        → IsTrue last.is_done → ∥ ((all : List Kept) × Keeps (file_state last.conn) all × W.Work.is_whole work.old all × W.Work.stands_at work.new all) ∥₁) }
+    ensures whole { IfSome result (λ last. HasCleanDisk (file_state last.conn) → Leaves D.Disk (HoldsRunOrNone (W.DurableWork.is_so_far work.old)) files
+        → IsTrue last.is_done → ∥ ((all : List Kept) × Keeps (file_state last.conn) all × W.DurableWork.is_whole work.old all × W.DurableWork.stands_at work.new all) ∥₁) }
 {
     let mut left = files;
     let mut is_sure = true;
@@ -51,13 +51,10 @@ pub fn work_through_crashes<R: Threads + Wait + Sync, W: Work, D: Crash + Drop>(
         is_sure = life.sure_after(is_sure)?;
         left = life.files;
     }
-    let mut conn = match Connection::open_files(alloc, left, options) {
+    let mut conn = match open_own(alloc, left, options) {
         Ok(conn) => conn,
         Err(_) => return None,
     };
-    if !takes(&conn) {
-        return None;
-    }
     match run_durably(rt, alloc, &mut conn, work, stretches) {
         Ok(is_done) => Some(LastLife { conn, is_done }),
         Err(_) => None,

@@ -10,7 +10,7 @@ ghost use Rattle.sqlite.specs.Held.{state};
 ghost use Rattle.sqlite.specs.State.{HasCleanDisk};
 ghost use Rattle.sqlite_trees.specs.View.{doubt};
 
-use crate::work::Work;
+use crate::work::DurableWork;
 use jb_store::{StoreError, append, begin};
 use sqlite::{Alter, Connection};
 use std::alloc::Global;
@@ -23,34 +23,34 @@ pub enum RunError<E: Drop> {
     /// The file.
     Store(StoreError),
     /// The work.
-    Work(E),
+    DurableWork(E),
     /// There are 4,294,967,295 checkpoints.
     TooMany,
 }
 
 /// One stretch more, kept in the database; false where the work was done.
-fn advance<R: Threads + Wait + Sync, W: Work, S: Alter>(
+fn advance<R: Threads + Wait + Sync, W: DurableWork, S: Alter>(
     rt: &R,
     alloc: Global,
     conn: &mut Connection<S>,
     work: &mut W,
     count: &mut u32,
 ) -> Result<bool, RunError<W::Error>>
-    ensures kept { HasCleanDisk (state S.Store conn.new) → (all : List Kept) → StandsAt (W.Work.is_so_far work.old) (W.Work.stands_at work.old) (state S.Store conn.old) count.old all
-        → IfOk result (λ more. (now : List Kept) × StandsAt (W.Work.is_so_far work.old) (W.Work.stands_at work.new) (state S.Store conn.new) count.new now
-        × (more ≡ false → W.Work.is_whole work.old now)) }
+    ensures kept { HasCleanDisk (state S.Store conn.new) → (all : List Kept) → StandsAt (W.DurableWork.is_so_far work.old) (W.DurableWork.stands_at work.old) (state S.Store conn.old) count.old all
+        → IfOk result (λ more. (now : List Kept) × StandsAt (W.DurableWork.is_so_far work.old) (W.DurableWork.stands_at work.new) (state S.Store conn.new) count.new now
+        × (more ≡ false → W.DurableWork.is_whole work.old now)) }
     ensures counted { IfOk result (λ more. more ≡ true → count.new ≡ count.old + 1) }
     ensures many { IfErr result (λ e. e ≡ TooMany → count.old ≡ 2 ^ 32 - 1) }
-    ensures so_far { IsSame (W.Work.is_so_far work.old) (W.Work.is_so_far work.new) }
-    ensures whole { IsSame (W.Work.is_whole work.old) (W.Work.is_whole work.new) }
+    ensures so_far { IsSame (W.DurableWork.is_so_far work.old) (W.DurableWork.is_so_far work.new) }
+    ensures whole { IsSame (W.DurableWork.is_whole work.old) (W.DurableWork.is_whole work.new) }
     ensures clean { doubt (state S.Store conn.old).is_clean ≤ doubt (state S.Store conn.new).is_clean }
-    ensures crash { HasCleanDisk (state S.Store conn.new) → (all : List Kept) → StandsAt (W.Work.is_so_far work.old) (W.Work.stands_at work.old) (state S.Store conn.old) count.old all
-        → (db : _) → (state S.Store conn.new).may_leave db → IsOfARun (W.Work.is_so_far work.old) db }
+    ensures crash { HasCleanDisk (state S.Store conn.new) → (all : List Kept) → StandsAt (W.DurableWork.is_so_far work.old) (W.DurableWork.stands_at work.old) (state S.Store conn.old) count.old all
+        → (db : _) → (state S.Store conn.new).may_leave db → IsOfARun (W.DurableWork.is_so_far work.old) db }
 {
     let next = match work.go_on(rt, alloc) {
         Ok(Some(next)) => next,
         Ok(None) => return Ok(false),
-        Err(error) => return Err(RunError::Work(error)),
+        Err(error) => return Err(RunError::DurableWork(error)),
     };
     if *count == u32::MAX {
         return Err(RunError::TooMany);
@@ -64,7 +64,7 @@ fn advance<R: Threads + Wait + Sync, W: Work, S: Alter>(
 
 /// Takes the work up from the checkpoints of a database that was just opened, and goes on with it, for so many stretches at most;
 /// true where it is done. Whatever a crash leaves, at any moment, are the checkpoints of a run so far.
-pub fn run_durably<R: Threads + Wait + Sync, W: Work, S: Alter>(
+pub fn run_durably<R: Threads + Wait + Sync, W: DurableWork, S: Alter>(
     rt: &R,
     alloc: Global,
     conn: &mut Connection<S>,
@@ -72,16 +72,16 @@ pub fn run_durably<R: Threads + Wait + Sync, W: Work, S: Alter>(
     stretches: u32,
 ) -> Result<bool, RunError<W::Error>>
     ensures shown { IsJustOpened (state S.Store conn.old) → (all : List Kept) → Has (state S.Store conn.old).now.trees all → ShowsList (state S.Store conn.old).now all }
-    ensures done { HasCleanDisk (state S.Store conn.new) → IsJustOpened (state S.Store conn.old) → (all : List Kept) → ShowsList (state S.Store conn.old).now all → W.Work.is_so_far work.old all
-        → IfOk result (λ is_done. (now : List Kept) × Keeps (state S.Store conn.new) now × W.Work.is_so_far work.old now × W.Work.stands_at work.new now
-        × (IsTrue is_done → W.Work.is_whole work.old now) × (is_done ≡ false → length now ≡ length all + stretches)) }
-    ensures many { HasCleanDisk (state S.Store conn.new) → IsJustOpened (state S.Store conn.old) → (all : List Kept) → ShowsList (state S.Store conn.old).now all → W.Work.is_so_far work.old all
-        → IfErr result (λ e. e ≡ TooMany → HasEachNumber (W.Work.is_so_far work.old)) }
-    ensures so_far { IsSame (W.Work.is_so_far work.old) (W.Work.is_so_far work.new) }
-    ensures whole { IsSame (W.Work.is_whole work.old) (W.Work.is_whole work.new) }
+    ensures done { HasCleanDisk (state S.Store conn.new) → IsJustOpened (state S.Store conn.old) → (all : List Kept) → ShowsList (state S.Store conn.old).now all → W.DurableWork.is_so_far work.old all
+        → IfOk result (λ is_done. (now : List Kept) × Keeps (state S.Store conn.new) now × W.DurableWork.is_so_far work.old now × W.DurableWork.stands_at work.new now
+        × (IsTrue is_done → W.DurableWork.is_whole work.old now) × (is_done ≡ false → length now ≡ length all + stretches)) }
+    ensures many { HasCleanDisk (state S.Store conn.new) → IsJustOpened (state S.Store conn.old) → (all : List Kept) → ShowsList (state S.Store conn.old).now all → W.DurableWork.is_so_far work.old all
+        → IfErr result (λ e. e ≡ TooMany → HasEachNumber (W.DurableWork.is_so_far work.old)) }
+    ensures so_far { IsSame (W.DurableWork.is_so_far work.old) (W.DurableWork.is_so_far work.new) }
+    ensures whole { IsSame (W.DurableWork.is_whole work.old) (W.DurableWork.is_whole work.new) }
     ensures clean { doubt (state S.Store conn.old).is_clean ≤ doubt (state S.Store conn.new).is_clean }
-    ensures crash { HasCleanDisk (state S.Store conn.new) → IsJustOpened (state S.Store conn.old) → (all : List Kept) → ShowsList (state S.Store conn.old).now all → W.Work.is_so_far work.old all
-        → (db : _) → (state S.Store conn.new).may_leave db → IsOfARun (W.Work.is_so_far work.old) db }
+    ensures crash { HasCleanDisk (state S.Store conn.new) → IsJustOpened (state S.Store conn.old) → (all : List Kept) → ShowsList (state S.Store conn.old).now all → W.DurableWork.is_so_far work.old all
+        → (db : _) → (state S.Store conn.new).may_leave db → IsOfARun (W.DurableWork.is_so_far work.old) db }
 {
     let done = match begin(alloc, conn) {
         Ok(done) => done,
@@ -91,7 +91,7 @@ pub fn run_durably<R: Threads + Wait + Sync, W: Work, S: Alter>(
         return Err(RunError::TooMany);
     };
     if let Err(error) = work.restart(alloc, &done) {
-        return Err(RunError::Work(error));
+        return Err(RunError::DurableWork(error));
     }
     'stretches: for _ in 0..stretches {
         if !advance(rt, alloc, conn, work, &mut count)? {

@@ -1,9 +1,9 @@
 //! The machine stops, and what it leaves.
 
-ghost use Rattle.std.specs.Prelude.{◌≡◌, ◌&&◌, ◌||◌, not, Bool, false, true, List, IfSome, IsTrue};
+ghost use Rattle.std.specs.Prelude.{◌≡◌, ◌&&◌, ◌||◌, not, Bool, false, true, IfSome, IsTrue};
 ghost use Rattle.jb_durable.specs.Files.{HoldsRun, HoldsWhole, IsOfARun, Leaves, LeavesImage, has_store};
-ghost use Rattle.jb_durable.specs.Watching.{AreGiven, file_of};
-ghost use Rattle.jb_durable.specs.Watched.{disk_of, has_written, is_log_of};
+ghost use Rattle.jb_durable.specs.Watching.{AreGiven};
+ghost use Rattle.jb_durable.specs.Watched.{disk_of, has_written};
 ghost use Rattle.sqlite.specs.Files.{IsCleanLeft, file_state};
 ghost use Rattle.sqlite.specs.State.{HasCleanDisk};
 ghost use Rattle.sqlite_trees.specs.Tree.{Trees};

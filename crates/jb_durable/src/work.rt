@@ -10,7 +10,7 @@ use std::sync::Wait;
 use std::thread::Threads;
 
 /// Work that is done a stretch at a time, and stays in memory between stretches. It goes on from its checkpoints alone.
-pub trait Work {
+pub trait DurableWork {
     type Error: Drop;
 
     /// These are the checkpoints of a run so far.

@@ -12,14 +12,14 @@ use Rattle.jb_saved.specs.SavedRows.{SavedRows}
 use Rattle.jb_saved.specs.declared.place.SavedPlace.{SavedPlace}
 use Rattle.jb_records.specs.declared.step.RecordsStep.{RecordsStep}
 use Rattle.jb_records.specs.Function.{Function}
-use Rattle.jb_records.specs.Shares.{AreWhole, IsSoFar}
+use Rattle.jb_records.specs.Shares.{AreAtTheirEnds, IsSoFar}
 use Rattle.jb_records.specs.Stretches.{BeginsBehind, BeginsEmpty, HasGoneOn, RunState, StandsOver, grown}
 use Rattle.std.specs.Prelude.{slice_get}
 use Rattle.jb_store.specs.declared.checkpoint.Checkpoint.{Checkpoint}
 use Rattle.jb_store.specs.Checkpoints.{Kept, kept}
 use Rattle.jb_durable_records.specs.Coding.{AreCodable, IsCodingOf, coded}
 use Rattle.jb_durable_records.specs.Checkpoints.{AreCoded, AreStretches, IsOf, IsRunSoFar, IsWholeRun, grown_by, no_results}
-use Rattle.jb_durable_records.specs.Work.{GoesOnBehind, HasBegun, IsAfter, IsBehind, IsUnderway, StandsAt}
+use Rattle.jb_durable_records.specs.Work.{GoesOnBehind, HasBegun, IsAfter, IsBehind, IsUnderway, RunStandsAt}
 use Rattle.jb_durable_records.specs.declared.place.Stage.{Stage}
 use Rattle.jb_durable_records.proofs.Growing.{empty_shares, one_more}
 use Rattle.jb_durable_records.proofs.Telling.{whole_after}
@@ -36,7 +36,7 @@ ok_once x y e = cc
 pub begun_rows : (text : List ℕ) (s : RunState) (id : List ℕ) (shares : List (List (List ℕ))) (held : SavedRows) → BeginsBehind id text shares s → answer_of (tree_of text) ≡ Ok held → s.setup.rows ≡ map restarted held.rows
 begun_rows text s id shares held behind read = let same = ok_once behind.held held (sym behind.read ∙ read) in behind.rows ∙ ap rows_restarted same
 
-pub whole_before : (rows : List Row) → AreWhole (map restarted rows) → AreWhole rows
+pub whole_before : (rows : List Row) → AreAtTheirEnds (map restarted rows) → AreAtTheirEnds rows
 whole_before [] whole = tt
 whole_before (row ∷ rows) whole = (finished_by (is_failed row.state) row refl whole.0, whole_before rows whole.1)
 
@@ -46,8 +46,8 @@ mapped_length (row ∷ rows) = let more = mapped_length rows in omega (arith, mo
 
 -- where nothing waits again, the rows of the text are whole
 pub told_behind : (text : List ℕ) (s : RunState) (id : List ℕ) (shares : List (List (List ℕ))) (held : SavedRows) (rows : List Row) → BeginsBehind id text shares s → answer_of (tree_of text) ≡ Ok held → rows ≡ held.rows
-    → AreWhole s.setup.rows → AreWhole rows
-told_behind text s id shares held rows behind read rows_are whole = subst AreWhole (sym rows_are) (whole_before held.rows (subst AreWhole (begun_rows text s id shares held behind read) whole))
+    → AreAtTheirEnds s.setup.rows → AreAtTheirEnds rows
+told_behind text s id shares held rows behind read rows_are whole = subst AreAtTheirEnds (sym rows_are) (whole_before held.rows (subst AreAtTheirEnds (begun_rows text s id shares held behind read) whole))
 
 -- ---- a run that begins
 
@@ -91,9 +91,9 @@ module _ (f : Function) (step : RecordsStep) (records : List (List ℕ)) (first 
       (subst (λ (r : List Row). IsSoFar f records r (grown_by (no_results (length r)) all.news)) same_rows all.so_far))
 
   -- behind a whole run's nothing waits
-  pub whole_again : (s : RunState) → BeginsBehind step.id last.saved results s → AreWhole all.held.rows → AreWhole s.setup.rows
+  pub whole_again : (s : RunState) → BeginsBehind step.id last.saved results s → AreAtTheirEnds all.held.rows → AreAtTheirEnds s.setup.rows
   whole_again s behind whole =
-      subst AreWhole (sym (begun_rows last.saved s step.id results held behind read ∙ ap (map restarted) (sym rows_are))) (whole_after rows (subst AreWhole same_rows whole))
+      subst AreAtTheirEnds (sym (begun_rows last.saved s step.id results held behind read ∙ ap (map restarted) (sym rows_are))) (whole_after rows (subst AreAtTheirEnds same_rows whole))
 
   pub taken : (s : RunState) → BeginsBehind step.id last.saved results s → StandsOver f records s → IsUnderway f step records s rows (first ∷ later)
   taken s behind stands =
@@ -119,7 +119,7 @@ module _ (f : Function) (step : RecordsStep) (records : List (List ℕ)) (first 
           so_far = subst (λ (x : List (List (List ℕ))). IsSoFar f records rows x) (sym behind.shares_are)
               (subst (λ (r : List Row). IsSoFar f records r results) (sym rows_are) so_far_then);
           number = count;
-          whole = λ whole. whole_before rows (subst AreWhole waits whole);
+          whole = λ whole. whole_before rows (subst AreAtTheirEnds waits whole);
         };
       }
 
@@ -151,7 +151,7 @@ module _ (f : Function) (records : List (List ℕ)) (later : List Kept) (s t : R
     };
     so_far = gone.so_far;
     number = lengths;
-    whole = λ whole. whole_before rows (subst AreWhole waits whole);
+    whole = λ whole. whole_before rows (subst AreAtTheirEnds waits whole);
   }
 
 -- ---- what the checkpoints are
@@ -173,9 +173,9 @@ module _ (f : Function) (records : List (List ℕ)) (before : List Kept) (last :
         (subst (λ (x : List (List (List ℕ))). IsSoFar f records rows x) (after.behind.shares ∙ ap (λ n. grown_by (no_results n) after.behind.news) same) after.so_far);
   }
 
-  pub whole_stretches : AreWhole s.setup.rows → (all : AreStretches f records (before ++ last ∷ [])) × AreWhole all.held.rows
+  pub whole_stretches : AreAtTheirEnds s.setup.rows → (all : AreStretches f records (before ++ last ∷ [])) × AreAtTheirEnds all.held.rows
   unfolding stretches
-  whole_stretches whole = (stretches, subst AreWhole (sym after.rows_are) (after.whole whole))
+  whole_stretches whole = (stretches, subst AreAtTheirEnds (sym after.rows_are) (after.whole whole))
 
 -- ---- one checkpoint more
 
@@ -203,14 +203,14 @@ module _ (f : Function) (step : RecordsStep) (records : List (List ℕ)) where
   next_underway s t earlier rows next all goes at =
       after_all at.first (at.before ++ at.last ∷ []) all next t rows at.all_are at.of (goes f records (at.before ++ at.last ∷ []) at.after.behind)
 
-  pub whole_underway : (s : RunState) (rows : List Row) (all : List Kept) → IsUnderway f step records s rows all → AreWhole s.setup.rows → IsWholeRun f step records all
+  pub whole_underway : (s : RunState) (rows : List Row) (all : List Kept) → IsUnderway f step records s rows all → AreAtTheirEnds s.setup.rows → IsWholeRun f step records all
   whole_underway s rows all at whole =
       subst (IsWholeRun f step records) (sym at.all_are) (at.of, whole_stretches f records at.before at.last s rows at.after whole)
 
 -- ---- what a call answers
 
-pub stands_as : (f : Function) (step : RecordsStep) (records : List (List ℕ)) (a b : Stage) (s : RunState) (rows : List Row) (all : List Kept) → a ≡ b → StandsAt f step records a s rows all → StandsAt f step records b s rows all
-stands_as f step records a b s rows all same at = subst (λ (x : Stage). StandsAt f step records x s rows all) same at
+pub stands_as : (f : Function) (step : RecordsStep) (records : List (List ℕ)) (a b : Stage) (s : RunState) (rows : List Row) (all : List Kept) → a ≡ b → RunStandsAt f step records a s rows all → RunStandsAt f step records b s rows all
+stands_as f step records a b s rows all same at = subst (λ (x : Stage). RunStandsAt f step records x s rows all) same at
 
 pub both_ok : {T E : Type 0} (r : Result T E) (P Q R : T → Type 0) → ((x : T) → P x → Q x → R x) → IfOk r P → IfOk r Q → IfOk r R
 both_ok (Ok x) P Q R to p q = to x p q

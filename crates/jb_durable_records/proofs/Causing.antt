@@ -4,7 +4,7 @@ use Rattle.sqlite_disk.specs.Disk.{MoreFaults}
 use Rattle.sqlite.specs.State.{State}
 use Rattle.jb_job.specs.Reading.{tree_of}
 use Rattle.jb_base.specs.Causes.{IsCause}
-use Rattle.jb_saved.specs.Reading.{answer_of, cause_of}
+use Rattle.jb_saved.specs.Reading.{answer_of, saved_cause}
 use Rattle.jb_saved.specs.SavedRows.{SavedRows}
 use Rattle.jb_saved.specs.declared.error.StepError.{StepError}
 use Rattle.jb_saved.specs.declared.error.StepError.TheVariants as error
@@ -46,7 +46,7 @@ step_fault step records text results (error.Saved place) c = c
 step_fault step records text results error.Memory c = c
 
 -- the last text isn't read
-pub unread : (step : RecordsStep) (records : ℕ) (text : List ℕ) (e : StepError) → IsCause (cause_of e) (answer_of (tree_of text)) → IsStepFault step records (Some (text, [])) e
+pub unread : (step : RecordsStep) (records : ℕ) (text : List ℕ) (e : StepError) → IsCause (saved_cause e) (answer_of (tree_of text)) → IsStepFault step records (Some (text, [])) e
 unread step records text (error.Plan fault) c = absurd c
 unread step records text (error.Mapper class) c = absurd c
 unread step records text (error.Reducer class) c = absurd c

@@ -2,7 +2,7 @@
 use Rattle.std.proofs.Common.{ℕ, ◌≡◌, ◌⊎◌, inl, inr, ◌<◌, ◌≤◌, ◌+◌, ◌^◌, List, [], ◌∷◌, ◌++◌, length, get_or, set, flat_map, refl, sym, ap, subst, ◌∙◌, append_assoc, arith, length-append}
 use Rattle.std.proofs.lemmas.List.{append-nil}
 use Rattle.std.proofs.lemmas.Grind.{flat_map-append}
-use Rattle.jb_durable_records.specs.Coding.{coded_number, coded_string, coded_strings, coded_list, coded, first_grown, IsShort, IsCodable, IsCodingOf, AreRead, IsRead, AreListsRead}
+use Rattle.jb_durable_records.specs.Coding.{coded_number, coded_string, coded_strings, coded_list, coded, first_grown, IsShort, IsCodable, IsCodingOf, AreRead, IsListRead, AreListsRead}
 use Rattle.jb_durable_records.specs.declared.coding.CodingError.{CodingError}
 use Rattle.jb_durable_records.specs.declared.coding.CodingError.TheVariants.{Damaged, Memory}
 use Rattle.jb_records.specs.Stretches.{grown}
@@ -41,7 +41,7 @@ read_no_more before after bytes rest n count so fewer none more later codable nu
 -- ---- a list
 
 pub list_read : (before after : List (List ℕ)) (bytes rest later : List ℕ) (count : ℕ) → count < 2 ^ 32 → bytes ≡ coded_number count ++ rest → AreRead before after rest later count
-    → IsRead before after bytes later
+    → IsListRead before after bytes later
 list_read before after bytes rest later count few number so = record {
   list = so.strings;
   codable = record { few = omega (arith, so.number, few); short = so.short };
@@ -80,7 +80,7 @@ pub lists_none : (before : List (List (List ℕ))) (bytes : List ℕ) → AreLis
 lists_none before bytes = record { lists = []; number = refl; codable = tt; put = sym (none_grown before); left = refl }
 
 pub lists_more : (before after now : List (List (List ℕ))) (bytes rest later : List ℕ) (n : ℕ) (own list : List (List ℕ)) → AreListsRead before after bytes rest n → n < length before
-    → own ≡ get_or after n [] → IsRead own list rest later → now ≡ set after n list → AreListsRead before now bytes later (n + 1)
+    → own ≡ get_or after n [] → IsListRead own list rest later → now ≡ set after n list → AreListsRead before now bytes later (n + 1)
 lists_more before after now bytes rest later n own list so fewer at next is =
     let few : length so.lists < length before = omega (arith, so.number, fewer) in
     record {

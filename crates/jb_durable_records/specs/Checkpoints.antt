@@ -6,7 +6,7 @@ use Rattle.jb_saved.specs.Reading.{answer_of}
 use Rattle.jb_saved.specs.SavedRows.{SavedRows}
 use Rattle.jb_records.specs.declared.step.RecordsStep.{RecordsStep}
 use Rattle.jb_records.specs.Function.{Function, all_results}
-use Rattle.jb_records.specs.Shares.{AreWhole, IsSoFar, joined}
+use Rattle.jb_records.specs.Shares.{AreAtTheirEnds, IsSoFar, joined}
 use Rattle.jb_records.specs.Stretches.{grown}
 use Rattle.jb_store.specs.Checkpoints.{Kept}
 use Rattle.jb_durable_records.specs.Coding.{IsCodingOf}
@@ -58,7 +58,7 @@ IsRunSoFar f step records (first ∷ later) = IsOf step records first × ((later
 -- THOSE OF A WHOLE RUN: each partition is at the end of its range
 abbrev pub IsWholeRun : Function → RecordsStep → (records : List (List ℕ)) → List Kept → Type 0
 IsWholeRun f step records [] = ⊥
-IsWholeRun f step records (first ∷ later) = IsOf step records first × ((all : AreStretches f records later) × AreWhole all.held.rows)
+IsWholeRun f step records (first ∷ later) = IsOf step records first × ((all : AreStretches f records later) × AreAtTheirEnds all.held.rows)
 
 -- THEY HAVE ALL RESULTS: what is new in each of them, put together and the partitions one behind the other, are the results of all
 -- records, each once and in order

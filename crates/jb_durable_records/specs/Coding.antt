@@ -54,7 +54,7 @@ pub record AreRead (before after : List (List ℕ)) (bytes rest : List ℕ) (cou
   pub left : bytes ≡ coded_strings strings ++ rest
 
 -- a list was read, and put behind the other one
-pub record IsRead (before after : List (List ℕ)) (bytes rest : List ℕ) : Type 0 where
+pub record IsListRead (before after : List (List ℕ)) (bytes rest : List ℕ) : Type 0 where
   pub list : List (List ℕ)
   pub codable : IsCodable list
   pub put : after ≡ before ++ list

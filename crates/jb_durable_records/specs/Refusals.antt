@@ -81,16 +81,16 @@ abbrev pub IsCauseAfter : Function → RecordsStep → (records : List (List ℕ
 IsCauseAfter f step records later text fault.Results = HaveOtherResults later text
 IsCauseAfter f step records later text e = IsCauseOf f step records (Some (text, [])) e
 
-pub record IsUnbegunBehind (f : Function) (step : RecordsStep) (records : List (List ℕ)) (later : List Kept) (why : RecordsStepError) : Type 0 where
+pub record IsRunUnbegunBehind (f : Function) (step : RecordsStep) (records : List (List ℕ)) (later : List Kept) (why : RecordsStepError) : Type 0 where
   pub before : List Kept
   pub last : Kept
   pub last_is : later ≡ before ++ last ∷ []
   pub cause : IsCauseAfter f step records later last.saved why
 
 -- it isn't begun: anew where no stretch is kept, else behind those that are
-abbrev pub IsUnbegun : Function → RecordsStep → (records : List (List ℕ)) → List Kept → RecordsStepError → Type 0
-IsUnbegun f step records [] why = IsCauseOf f step records None why
-IsUnbegun f step records (first ∷ later) why = ((later ≡ []) × IsCauseOf f step records None why) ⊎ IsUnbegunBehind f step records later why
+abbrev pub IsRunUnbegun : Function → RecordsStep → (records : List (List ℕ)) → List Kept → RecordsStepError → Type 0
+IsRunUnbegun f step records [] why = IsCauseOf f step records None why
+IsRunUnbegun f step records (first ∷ later) why = ((later ≡ []) × IsCauseOf f step records None why) ⊎ IsRunUnbegunBehind f step records later why
 
 -- why a run isn't taken up
 abbrev pub IsTakenCause : Function → RecordsStep → (records : List (List ℕ)) → List Kept → DurableError → Type 0
@@ -99,7 +99,7 @@ IsTakenCause f step records all OtherJob = IsOtherJob step records all
 IsTakenCause f step records all OtherRecords = IsOverOthers step records all
 IsTakenCause f step records all Damaged = IsDamaged all
 IsTakenCause f step records all TooLong = IsCodable records → ⊥
-IsTakenCause f step records all (Step why) = IsUnbegun f step records all why
+IsTakenCause f step records all (Step why) = IsRunUnbegun f step records all why
 IsTakenCause f step records all TooMany = ⊥
 IsTakenCause f step records all Memory = ⊤
 
@@ -147,7 +147,7 @@ pub record HasALongOne (f : Function) (step : RecordsStep) (records : List (List
   pub long : IsTooLong next
 
 -- a run so far has each number that a checkpoint may have
-pub record HasEachNumber (f : Function) (step : RecordsStep) (records : List (List ℕ)) : Type 0 where
+pub record RunHasEachNumber (f : Function) (step : RecordsStep) (records : List (List ℕ)) : Type 0 where
   pub all : List Kept
   pub so_far : IsRunSoFar f step records all
   pub full : 2 ^ 32 - 1 ≤ length all
@@ -163,7 +163,7 @@ IsUntaken f step records old new all e = IsTakenCause f step records all e
 -- why a run that was taken up has no end: a stretch has no checkpoint, the file doesn't take it, or there is no number for it
 abbrev pub IsGoneCause : Function → RecordsStep → (records : List (List ℕ)) → (old new : State) → DurableError → Type 0
 IsGoneCause f step records old new (Store e) = IsFileCause old new (HasALongOne f step records) e
-IsGoneCause f step records old new TooMany = HasEachNumber f step records
+IsGoneCause f step records old new TooMany = RunHasEachNumber f step records
 IsGoneCause f step records old new e = IsStretchCause f records e
 
 -- WHY A RUN SO FAR HAS NO END
@@ -173,6 +173,6 @@ IsCauseOfNoEnd f step records old new all OtherJob = ⊥
 IsCauseOfNoEnd f step records old new all OtherRecords = ⊥
 IsCauseOfNoEnd f step records old new all Damaged = ⊥
 IsCauseOfNoEnd f step records old new all TooLong = (IsCodable records → ⊥) ⊎ HaveNoCoding f records
-IsCauseOfNoEnd f step records old new all (Step why) = IsUnbegun f step records all why ⊎ IsBrokenOff why
-IsCauseOfNoEnd f step records old new all TooMany = HasEachNumber f step records
+IsCauseOfNoEnd f step records old new all (Step why) = IsRunUnbegun f step records all why ⊎ IsBrokenOff why
+IsCauseOfNoEnd f step records old new all TooMany = RunHasEachNumber f step records
 IsCauseOfNoEnd f step records old new all Memory = ⊤

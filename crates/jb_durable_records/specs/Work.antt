@@ -8,7 +8,7 @@ use Rattle.jb_saved.specs.SavedRows.{SavedRows}
 use Rattle.jb_step.specs.Statuses.{status_of}
 use Rattle.jb_records.specs.declared.step.RecordsStep.{RecordsStep}
 use Rattle.jb_records.specs.Function.{Function}
-use Rattle.jb_records.specs.Shares.{AreWhole, IsSoFar}
+use Rattle.jb_records.specs.Shares.{AreAtTheirEnds, IsSoFar}
 use Rattle.jb_records.specs.Stretches.{RunState, StandsOver}
 use Rattle.jb_store.specs.Checkpoints.{Kept, kept}
 use Rattle.sqlite.specs.State.{State}
@@ -39,7 +39,7 @@ pub record IsAfter (f : Function) (records : List (List ℕ)) (before : List Kep
   pub behind : IsBehind f records (before ++ last ∷ []) s
   pub so_far : IsSoFar f records rows s.shares
   pub number : length s.setup.rows ≡ length rows
-  pub whole : AreWhole s.setup.rows → AreWhole rows
+  pub whole : AreAtTheirEnds s.setup.rows → AreAtTheirEnds rows
 
 -- some stretch is kept
 pub record IsUnderway (f : Function) (step : RecordsStep) (records : List (List ℕ)) (s : RunState) (rows : List Row) (all : List Kept) : Type 0 where
@@ -51,10 +51,10 @@ pub record IsUnderway (f : Function) (step : RecordsStep) (records : List (List 
   pub after : IsAfter f records before last s rows
 
 -- WHERE THE WORK STANDS
-abbrev pub StandsAt : Function → RecordsStep → (records : List (List ℕ)) → Stage → RunState → List Row → List Kept → Type 0
-StandsAt f step records (Blank first) s rows all = (all ≡ []) × IsOf step records (kept first) × IsBehind f records [] s
-StandsAt f step records Begun s rows all = HasBegun f step records s all
-StandsAt f step records Underway s rows all = IsUnderway f step records s rows all
+abbrev pub RunStandsAt : Function → RecordsStep → (records : List (List ℕ)) → Stage → RunState → List Row → List Kept → Type 0
+RunStandsAt f step records (Blank first) s rows all = (all ≡ []) × IsOf step records (kept first) × IsBehind f records [] s
+RunStandsAt f step records Begun s rows all = HasBegun f step records s all
+RunStandsAt f step records Underway s rows all = IsUnderway f step records s rows all
 
 -- ---- what its rows tell
 
@@ -62,13 +62,13 @@ StandsAt f step records Underway s rows all = IsUnderway f step records s rows a
 pub record IsTold (has_failed : Bool) (stage : Stage) (s : RunState) (rows : List Row) : Type 0 where
   pub failed : IsTrue has_failed → status_of rows false ≡ Failed
   pub kept : IsTrue has_failed → stage ≡ Underway
-  pub whole : AreWhole s.setup.rows → AreWhole rows
+  pub whole : AreAtTheirEnds s.setup.rows → AreAtTheirEnds rows
 
 -- nothing is left to be run, and that is kept
-pub record IsDone (has_failed : Bool) (stage : Stage) (s : RunState) : Type 0 where
+pub record IsRunDone (has_failed : Bool) (stage : Stage) (s : RunState) : Type 0 where
   pub well : has_failed ≡ false
   pub kept : stage ≡ Underway
-  pub whole : AreWhole s.setup.rows
+  pub whole : AreAtTheirEnds s.setup.rows
 
 -- ---- one stretch
 
@@ -83,5 +83,5 @@ GoesOnBehind s t rows next =
 pub record IsAtRest (f : Function) (step : RecordsStep) (records : List (List ℕ)) (s : State) (stage : Stage) (run : RunState) (rows : List Row) (count : ℕ) (all : List Kept) : Type 0 where
   pub keeps : Keeps s all
   pub so_far : IsRunSoFar f step records all
-  pub place : StandsAt f step records stage run rows all
+  pub place : RunStandsAt f step records stage run rows all
   pub number : count ≡ length all

@@ -1,12 +1,12 @@
 //! Lives of a process that runs a step over records, each ended by a crash, and the last one.
 
-ghost use Rattle.std.specs.Prelude.{◌≡◌, ◌≤◌, false, List, drop, IfOk, IfSome, IsTrue};
+ghost use Rattle.std.specs.Prelude.{◌≡◌, ◌≤◌, List, drop, IfOk, IfSome, IsTrue};
 ghost use Rattle.std.specs.Arc.{arc_value};
 ghost use Rattle.sqlite.specs.Files.{file_state};
 ghost use Rattle.sqlite.specs.Held.{state};
 ghost use Rattle.sqlite.specs.State.{HasCleanDisk};
 ghost use Rattle.sqlite_trees.specs.View.{doubt};
-ghost use Rattle.jb_store.specs.Checkpoints.{Has, Kept, ShowsList};
+ghost use Rattle.jb_store.specs.Checkpoints.{Has, Kept};
 ghost use Rattle.jb_store.specs.Connections.{IsJustOpened, Keeps};
 ghost use Rattle.jb_durable.specs.Files.{HoldsRunOrNone, IsOfARun, Leaves};
 ghost use Rattle.jb_durable.specs.Lives.{IsLifeOver};
@@ -21,9 +21,8 @@ use crate::onlooker::Onlooker;
 use crate::pace::Pace;
 use crate::run::{Pause, run, taken_from};
 use jb_base::PackedList;
-use jb_durable::{Given, LastLife, Life, open_watched, stop_watched};
+use jb_durable::{Given, LastLife, Life, open_own, open_watched, stop_watched};
 use jb_records::{RecordFunction, RecordsStep};
-use jb_store::takes;
 use sqlite::{Alter, Connection, Options};
 use sqlite_disk::{Crash, Files};
 use std::alloc::Global;
@@ -178,13 +177,10 @@ fn through_crashes<
         is_sure = life.sure_after(is_sure)?;
         left = life.files;
     }
-    let mut conn = match Connection::open_files(alloc, left, options) {
+    let mut conn = match open_own(alloc, left, options) {
         Ok(conn) => conn,
         Err(_) => return None,
     };
-    if !takes(&conn) {
-        return None;
-    }
     match lived(
         rt, alloc, &mut conn, step, function, records, stretches, pace, onlooker,
     ) {

@@ -1,6 +1,6 @@
 //! How long a stretch is.
 
-ghost use Rattle.std.specs.Prelude.{◌≡◌, ◌≤◌};
+ghost use Rattle.std.specs.Prelude.{◌≡◌, ◌≤◌, max};
 
 use std::time::{Clock, Duration, Instant};
 
@@ -19,7 +19,10 @@ pub trait Pace {
 pub struct Rounds(pub u64);
 
 impl Pace for Rounds {
-    fn begin(&mut self) -> u64 {
+    fn begin(&mut self) -> u64
+        ensures rounds { result ≡ max self.old.0 1 }
+        ensures some { 1 ≤ result }
+    {
         self.0.max(1)
     }
 
@@ -71,7 +74,12 @@ impl<C: Clock> ASecond<C> {
 }
 
 impl<C: Clock> Pace for ASecond<C> {
-    fn begin(&mut self) -> u64 {
+    ghost use Rattle.jb_durable_records.specs.Pacing.{rounds_of};
+
+    fn begin(&mut self) -> u64
+        ensures rounds { result ≡ rounds_of self.old }
+        ensures some { 1 ≤ result }
+    {
         self.begun = Instant::now(&self.clock).ok();
         self.rounds
     }

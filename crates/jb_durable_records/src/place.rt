@@ -3,13 +3,13 @@
 ghost use Rattle.std.specs.Prelude.{◌≡◌, List, ℕ, IfErr, IfOk, MatchResult, None};
 ghost use Rattle.jb_records.specs.declared.step.RecordsStep.{RecordsStep as StepOfRecords};
 ghost use Rattle.jb_records.specs.Function.{Function};
-ghost use Rattle.jb_records.specs.Shares.{AreWhole};
+ghost use Rattle.jb_records.specs.Shares.{AreAtTheirEnds};
 ghost use Rattle.jb_records.specs.Stretches.{StandsOver};
 ghost use Rattle.jb_store.specs.Checkpoints.{Kept, kept};
 ghost use Rattle.jb_durable.specs.Works.{GoesOn};
 ghost use Rattle.jb_durable_records.specs.Checkpoints.{IsRunSoFar, IsWholeRun};
 ghost use Rattle.jb_durable_records.specs.Refusals.{IsOfAStretch, IsStretchCause};
-ghost use Rattle.jb_durable_records.specs.Work.{GoesOnBehind, IsDone, IsTold, StandsAt};
+ghost use Rattle.jb_durable_records.specs.Work.{GoesOnBehind, IsRunDone, IsTold, RunStandsAt};
 ghost use Rattle.jb_durable_records.specs.declared.place.Stage.TheVariants.{Underway};
 
 use crate::coding::coding_of;
@@ -85,16 +85,16 @@ impl<F: RecordFunction + Drop + 'static> Place<F> {
         rounds: u64,
     ) -> Result<(Place<F>, Option<Checkpoint>), DurableError>
         ensures on { (f : Function) (step : StepOfRecords) (records : List (List ℕ)) (all : List Kept)
-            → StandsAt f step records self.stage (⟦<RecordsRun<F> as Standing>⟧.standing self.run) self.rows.items all
+            → RunStandsAt f step records self.stage (⟦<RecordsRun<F> as Standing>⟧.standing self.run) self.rows.items all
             → IfOk result (λ r. GoesOn (IsRunSoFar f step records) (IsWholeRun f step records)
-            (StandsAt f step records r.0.stage (⟦<RecordsRun<F> as Standing>⟧.standing r.0.run) r.0.rows.items) all r.1) }
+            (RunStandsAt f step records r.0.stage (⟦<RecordsRun<F> as Standing>⟧.standing r.0.run) r.0.rows.items) all r.1) }
         ensures own { IfErr result IsOfAStretch }
         ensures why { (f : Function) (step : StepOfRecords) (records : List (List ℕ)) (all : List Kept)
-            → StandsAt f step records self.stage (⟦<RecordsRun<F> as Standing>⟧.standing self.run) self.rows.items all → IfErr result (IsStretchCause f records) }
-        ensures whole { IfOk result (λ r. r.1 ≡ None → AreWhole (⟦<RecordsRun<F> as Standing>⟧.standing r.0.run).setup.rows) }
+            → RunStandsAt f step records self.stage (⟦<RecordsRun<F> as Standing>⟧.standing self.run) self.rows.items all → IfErr result (IsStretchCause f records) }
+        ensures whole { IfOk result (λ r. r.1 ≡ None → AreAtTheirEnds (⟦<RecordsRun<F> as Standing>⟧.standing r.0.run).setup.rows) }
         ensures settled { IfOk result (λ r. r.1 ≡ None → r.0.stage ≡ Underway) }
         ensures told { IsTold self.has_failed self.stage (⟦<RecordsRun<F> as Standing>⟧.standing self.run) self.rows.items → IfOk result (λ r. IsTold r.0.has_failed r.0.stage (⟦<RecordsRun<F> as Standing>⟧.standing r.0.run) r.0.rows.items) }
-        ensures again { IsDone self.has_failed self.stage (⟦<RecordsRun<F> as Standing>⟧.standing self.run) → MatchResult result (λ r. r.1 ≡ None) (λ e. ⊥) }
+        ensures again { IsRunDone self.has_failed self.stage (⟦<RecordsRun<F> as Standing>⟧.standing self.run) → MatchResult result (λ r. r.1 ≡ None) (λ e. ⊥) }
     {
         let Place {
             run,

@@ -1,7 +1,7 @@
 //! Bytes as lists of strings.
 
 ghost use Rattle.std.specs.Prelude.{◌≡◌, ◌<◌, ◌^◌, ◌++◌, ◌⊎◌, [], None, length, IfErr, IfOk, IfSome, MatchOption, OnOk};
-ghost use Rattle.jb_durable_records.specs.Coding.{AreListsRead, AreRead, IsCodable, IsCodingOf, IsRead, IsShort, coded_list, coded_number, coded_string, coded_strings};
+ghost use Rattle.jb_durable_records.specs.Coding.{AreListsRead, AreRead, IsCodable, IsCodingOf, IsListRead, IsShort, coded_list, coded_number, coded_string, coded_strings};
 ghost use Rattle.jb_records.specs.Stretches.{grown};
 ghost use Rattle.jb_durable_records.specs.declared.coding.CodingError.TheVariants.{Damaged, Memory};
 
@@ -50,7 +50,7 @@ fn read_strings<'a>(
 
 /// Reads a list, puts its strings behind the others, and answers the bytes that are left.
 fn read_list<'a>(bytes: &'a [u8], list: &mut PackedList) -> Result<&'a [u8], CodingError>
-    ensures read { IfOk result (λ rest. IsRead list.old list.new bytes.now rest.now) }
+    ensures read { IfOk result (λ rest. IsListRead list.old list.new bytes.now rest.now) }
     ensures why { IfErr result (λ e. (e ≡ Memory) ⊎ (e ≡ Damaged) × ((more : _) (rest : _) → IsCodable more → bytes.now ≡ coded_list more ++ rest → ⊥)) }
 {
     let Some((count, rest)) = read_number(bytes) else {

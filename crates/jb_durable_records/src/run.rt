@@ -1,6 +1,6 @@
 //! Stretch after stretch, each kept before the next begins.
 
-ghost use Rattle.std.specs.Prelude.{◌≡◌, ◌≢◌, ◌≤◌, ◌⊎◌, ◌+◌, ℕ, List, IfErr, IfOk, IsTrue, MatchResult, OnOk, false, true};
+ghost use Rattle.std.specs.Prelude.{◌≡◌, ◌≤◌, ◌⊎◌, ◌+◌, ℕ, List, IfErr, IfOk, IsTrue, MatchResult, OnOk, false, true};
 ghost use Rattle.std.specs.Arc.{arc_value};
 ghost use Rattle.sqlite.specs.Held.{state};
 ghost use Rattle.sqlite.specs.State.{HasCleanDisk};
@@ -10,13 +10,13 @@ ghost use Rattle.jb_collect.specs.declared.calls.Status.TheVariants.{Completed, 
 ghost use Rattle.jb_step.specs.Statuses.{status_of};
 ghost use Rattle.jb_records.specs.declared.step.RecordsStep.{RecordsStep as StepOfRecords};
 ghost use Rattle.jb_records.specs.Function.{Function, all_results};
-ghost use Rattle.jb_records.specs.Shares.{AreWhole, IsSoFar, joined};
+ghost use Rattle.jb_records.specs.Shares.{AreAtTheirEnds, IsSoFar, joined};
 ghost use Rattle.jb_store.specs.Checkpoints.{Has, Kept, ShowsList};
 ghost use Rattle.jb_store.specs.Connections.{IsJustOpened, Keeps};
 ghost use Rattle.jb_durable.specs.Files.{IsOfARun};
 ghost use Rattle.jb_durable_records.specs.Checkpoints.{IsRunSoFar, IsWholeRun};
 ghost use Rattle.jb_durable_records.specs.Refusals.{IsCauseOfNoEnd, IsDamaged, IsGoneCause, IsOfAStretch, IsOtherJob, IsOverOthers, IsUntaken, OtherRun};
-ghost use Rattle.jb_durable_records.specs.Work.{IsAtRest, IsDone, IsTold};
+ghost use Rattle.jb_durable_records.specs.Work.{IsAtRest, IsRunDone, IsTold};
 ghost use Rattle.jb_durable_records.specs.declared.error.DurableError.TheVariants.{Damaged, OtherJob, OtherRecords, TooMany};
 ghost use Rattle.jb_durable_records.specs.declared.run.Pause.TheVariants.{Failed as Failing, Stretches, Whole};
 ghost use Rattle.jb_durable_records.specs.declared.place.Stage.TheVariants.{Underway};
@@ -83,7 +83,7 @@ pub(crate) fn taken_from<F: RecordFunction + Drop, S: Alter>(
         (state S.Store conn.new) r.0.stage (⟦<RecordsRun<F> as Standing>⟧.standing r.0.run) r.0.rows.items r.1 all) }
     ensures told { IfOk result (λ r. IsTold r.0.has_failed r.0.stage (⟦<RecordsRun<F> as Standing>⟧.standing r.0.run) r.0.rows.items) }
     ensures done { HasCleanDisk (state S.Store conn.new) → IsJustOpened (state S.Store conn.old) → (all : List Kept) → ShowsList (state S.Store conn.old).now all
-        → IsWholeRun (F.function (arc_value function.now)) step.now records.now all → IfOk result (λ r. IsDone r.0.has_failed r.0.stage (⟦<RecordsRun<F> as Standing>⟧.standing r.0.run)) }
+        → IsWholeRun (F.function (arc_value function.now)) step.now records.now all → IfOk result (λ r. IsRunDone r.0.has_failed r.0.stage (⟦<RecordsRun<F> as Standing>⟧.standing r.0.run)) }
     ensures left { HasCleanDisk (state S.Store conn.new) → IsJustOpened (state S.Store conn.old) → (all : List Kept) → ShowsList (state S.Store conn.old).now all → (db : _) → (state S.Store conn.new).may_leave db → Has db all }
     ensures own { HasCleanDisk (state S.Store conn.new) → IsJustOpened (state S.Store conn.old) → (all : List Kept) → ShowsList (state S.Store conn.old).now all
         → OnOk result (OtherRun step.now records.now all → ⊥) }
@@ -133,9 +133,9 @@ fn advance<F: RecordFunction + Drop + 'static, R: Threads + Wait + Sync, S: Alte
     ensures counts { (state S.Store conn.old).faults ≤ (state S.Store conn.new).faults }
     ensures shut { HasCleanDisk (state S.Store conn.new) → IsTrue (state S.Store conn.old).is_open
         → IsTrue (state S.Store conn.new).is_open ⊎ MoreFaults (state S.Store conn.old).faults (state S.Store conn.new).faults }
-    ensures whole { IfOk result (λ r. r.1 ≡ false → AreWhole (⟦<RecordsRun<F> as Standing>⟧.standing r.0.run).setup.rows) }
+    ensures whole { IfOk result (λ r. r.1 ≡ false → AreAtTheirEnds (⟦<RecordsRun<F> as Standing>⟧.standing r.0.run).setup.rows) }
     ensures told { IsTold place.has_failed place.stage (⟦<RecordsRun<F> as Standing>⟧.standing place.run) place.rows.items → IfOk result (λ r. IsTold r.0.has_failed r.0.stage (⟦<RecordsRun<F> as Standing>⟧.standing r.0.run) r.0.rows.items) }
-    ensures again { IsDone place.has_failed place.stage (⟦<RecordsRun<F> as Standing>⟧.standing place.run) → MatchResult result (λ r. r.1 ≡ false) (λ e. ⊥) × (conn.new ≡ conn.old) }
+    ensures again { IsRunDone place.has_failed place.stage (⟦<RecordsRun<F> as Standing>⟧.standing place.run) → MatchResult result (λ r. r.1 ≡ false) (λ e. ⊥) × (conn.new ≡ conn.old) }
     ensures clean { doubt (state S.Store conn.old).is_clean ≤ doubt (state S.Store conn.new).is_clean }
     ensures crash { HasCleanDisk (state S.Store conn.new) → (f : Function) (step : StepOfRecords) (records : List (List ℕ)) (all : List Kept)
         → IsAtRest f step records (state S.Store conn.old) place.stage (⟦<RecordsRun<F> as Standing>⟧.standing place.run) place.rows.items count.old all
@@ -188,10 +188,10 @@ pub(crate) fn run<
         → IfErr result (IsGoneCause f step over (state S.Store conn.old) (state S.Store conn.new)) }
     ensures counts { (state S.Store conn.old).faults ≤ (state S.Store conn.new).faults }
     ensures settled { IfOk result (λ r. r.1 ≡ Whole → r.0.stage ≡ Underway) }
-    ensures whole { IfOk result (λ r. r.1 ≡ Whole → AreWhole (⟦<RecordsRun<F> as Standing>⟧.standing r.0.run).setup.rows) }
+    ensures whole { IfOk result (λ r. r.1 ≡ Whole → AreAtTheirEnds (⟦<RecordsRun<F> as Standing>⟧.standing r.0.run).setup.rows) }
     ensures told { IsTold place.has_failed place.stage (⟦<RecordsRun<F> as Standing>⟧.standing place.run) place.rows.items → IfOk result (λ r. IsTold r.0.has_failed r.0.stage (⟦<RecordsRun<F> as Standing>⟧.standing r.0.run) r.0.rows.items) }
     ensures failed { IfOk result (λ r. r.1 ≡ Failing → IsTrue r.0.has_failed) }
-    ensures again { IsDone place.has_failed place.stage (⟦<RecordsRun<F> as Standing>⟧.standing place.run) → 1 ≤ stretches → MatchResult result (λ r. r.1 ≡ Whole) (λ e. ⊥) × (conn.new ≡ conn.old) }
+    ensures again { IsRunDone place.has_failed place.stage (⟦<RecordsRun<F> as Standing>⟧.standing place.run) → 1 ≤ stretches → MatchResult result (λ r. r.1 ≡ Whole) (λ e. ⊥) × (conn.new ≡ conn.old) }
     ensures clean { doubt (state S.Store conn.old).is_clean ≤ doubt (state S.Store conn.new).is_clean }
     ensures crash { HasCleanDisk (state S.Store conn.new) → (f : Function) (step : StepOfRecords) (over : List (List ℕ)) (all : List Kept)
         → IsAtRest f step over (state S.Store conn.old) place.stage (⟦<RecordsRun<F> as Standing>⟧.standing place.run) place.rows.items count all
@@ -225,7 +225,7 @@ fn ended<F: RecordFunction + Drop>(
     ensures settled { (pause ≡ Whole → place.stage ≡ Underway) → (pause ≡ Failing → place.stage ≡ Underway) → OnOk result (place.stage ≡ Underway) }
     ensures whole { IfOk result (λ end. end.status ≡ Completed → pause ≡ Whole) }
     ensures status { IfOk result (λ end. (end.status ≡ Completed) ⊎ (end.status ≡ Failed)) }
-    ensures told { IsTold place.has_failed place.stage (⟦<RecordsRun<F> as Standing>⟧.standing place.run) place.rows.items → (pause ≡ Whole → AreWhole (⟦<RecordsRun<F> as Standing>⟧.standing place.run).setup.rows) → (pause ≡ Failing → IsTrue place.has_failed)
+    ensures told { IsTold place.has_failed place.stage (⟦<RecordsRun<F> as Standing>⟧.standing place.run) place.rows.items → (pause ≡ Whole → AreAtTheirEnds (⟦<RecordsRun<F> as Standing>⟧.standing place.run).setup.rows) → (pause ≡ Failing → IsTrue place.has_failed)
         → IfOk result (λ end. end.status ≡ status_of end.rows.items false) }
     ensures again { pause ≡ Whole → MatchResult result (λ end. end.status ≡ Completed) (λ e. ⊥) }
     ensures own { IfErr result IsOfAStretch }

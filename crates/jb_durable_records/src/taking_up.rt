@@ -1,17 +1,14 @@
 //! Taking a run up behind its checkpoints.
 
-ghost use Rattle.std.specs.Prelude.{◌≡◌, ◌≢◌, ◌⊎◌, ◌-◌, ◌∷◌, [], ℕ, List, length, map, replicate, slice_get, IfErr, IfOk, Err, None, Ok, OnOk, Some, string_bytes};
+ghost use Rattle.std.specs.Prelude.{◌≡◌, ◌≢◌, ◌⊎◌, ◌-◌, ◌∷◌, [], length, map, slice_get, IfErr, IfOk, Err, None, Ok, OnOk, Some};
 ghost use Rattle.std.specs.Arc.{arc_value};
-ghost use Rattle.jb_job.specs.Reading.{tree_of};
-ghost use Rattle.jb_saved.specs.Reading.{answer_of};
-ghost use Rattle.jb_saved.specs.SavedRows.{SavedRows};
 ghost use Rattle.jb_records.specs.Causes.{IsCauseOf};
 ghost use Rattle.jb_records.specs.declared.error.RecordsStepError.{RecordsStepError as RecordsStepFault};
 ghost use Rattle.jb_store.specs.Checkpoints.{Kept, kept};
 ghost use Rattle.jb_durable_records.specs.Coding.{IsCodable};
 ghost use Rattle.jb_durable_records.specs.Checkpoints.{AreCoded, AreStretches, IsOf, IsRunSoFar, IsWholeRun, grown_by, no_results};
 ghost use Rattle.jb_durable_records.specs.Refusals.{IsOfOwn, IsOtherJob, IsOverOthers, IsTakenCause, OtherRun};
-ghost use Rattle.jb_durable_records.specs.Work.{IsBehind, IsDone, IsTold, IsUnderway, StandsAt};
+ghost use Rattle.jb_durable_records.specs.Work.{IsBehind, IsRunDone, IsTold, IsUnderway, RunStandsAt};
 ghost use Rattle.jb_durable_records.specs.declared.error.DurableError.TheVariants.{Damaged, Memory, OtherJob, OtherRecords, Step, TooLong};
 ghost use Rattle.jb_durable_records.specs.declared.place.Stage.TheVariants.{Underway};
 
@@ -140,7 +137,7 @@ fn behind<F: RecordFunction + Drop>(
         → IfOk result (λ place. IsUnderway (F.function (arc_value function.now)) step.now records.now (⟦<RecordsRun<F> as Standing>⟧.standing place.run) place.rows.items (first ∷ map kept later.now)) }
     ensures stage { IfOk result (λ place. place.stage ≡ Underway) }
     ensures told { IfOk result (λ place. IsTold place.has_failed place.stage (⟦<RecordsRun<F> as Standing>⟧.standing place.run) place.rows.items) }
-    ensures done { (first : Kept) → IsWholeRun (F.function (arc_value function.now)) step.now records.now (first ∷ map kept later.now) → IfOk result (λ place. IsDone place.has_failed place.stage (⟦<RecordsRun<F> as Standing>⟧.standing place.run)) }
+    ensures done { (first : Kept) → IsWholeRun (F.function (arc_value function.now)) step.now records.now (first ∷ map kept later.now) → IfOk result (λ place. IsRunDone place.has_failed place.stage (⟦<RecordsRun<F> as Standing>⟧.standing place.run)) }
     ensures why { IfErr result IsOfOwn }
     ensures cause { (first : Kept) → IfErr result (IsTakenCause (F.function (arc_value function.now)) step.now records.now (first ∷ map kept later.now)) }
 {
@@ -175,9 +172,9 @@ pub(crate) fn taken_up<F: RecordFunction + Drop>(
     done: &[Checkpoint],
 ) -> Result<Place<F>, DurableError>
     ensures stands { IsRunSoFar (F.function (arc_value function.now)) step.now records.now (map kept done.now)
-        → IfOk result (λ place. StandsAt (F.function (arc_value function.now)) step.now records.now place.stage (⟦<RecordsRun<F> as Standing>⟧.standing place.run) place.rows.items (map kept done.now)) }
+        → IfOk result (λ place. RunStandsAt (F.function (arc_value function.now)) step.now records.now place.stage (⟦<RecordsRun<F> as Standing>⟧.standing place.run) place.rows.items (map kept done.now)) }
     ensures told { IfOk result (λ place. IsTold place.has_failed place.stage (⟦<RecordsRun<F> as Standing>⟧.standing place.run) place.rows.items) }
-    ensures done { IsWholeRun (F.function (arc_value function.now)) step.now records.now (map kept done.now) → IfOk result (λ place. IsDone place.has_failed place.stage (⟦<RecordsRun<F> as Standing>⟧.standing place.run)) }
+    ensures done { IsWholeRun (F.function (arc_value function.now)) step.now records.now (map kept done.now) → IfOk result (λ place. IsRunDone place.has_failed place.stage (⟦<RecordsRun<F> as Standing>⟧.standing place.run)) }
     ensures own { OnOk result (OtherRun step.now records.now (map kept done.now) → ⊥) }
     ensures other_job { IfErr result (λ e. e ≡ OtherJob → IsOtherJob step.now records.now (map kept done.now)) }
     ensures other_records { IfErr result (λ e. e ≡ OtherRecords → IsOverOthers step.now records.now (map kept done.now)) }

@@ -1,10 +1,10 @@
 //! Work that goes on from its checkpoints, whatever call of the disk a life ends at.
 
-use crate::files::{closed, crashed, listed, new_files, opened};
-use jb_durable::{LastLife, Work, run_durably, work_through_crashes};
+use crate::files::{closed, crashed, ended, listed, new_files, opened};
+use jb_durable::{DurableWork, LastLife, run_durably, work_through_crashes};
 use jb_store::{Checkpoint, StoreError};
-use sqlite::{Alter, Connection, Files, Options};
-use sqlite_disk::{Crash, Fuse, Memory};
+use sqlite::{Connection, FileStore, Files, Options};
+use sqlite_disk::{Crash, Disk, Fuse, Memory};
 use std::alloc::{AllocError, Global};
 use std::process::Abort;
 use std::sync::Wait;
@@ -38,7 +38,7 @@ fn count_from(kept: u32) -> Count {
     }
 }
 
-impl Work for Count {
+impl DurableWork for Count {
     type Error = AllocError;
 
     ghost is_so_far = { λ _ _. Unit {0} };
@@ -74,10 +74,10 @@ impl Work for Count {
 }
 
 /// The work is done after so many stretches at most. It has no clauses, so that the proof of a test doesn't carry those of the call.
-fn is_finished<R: Threads + Wait + Sync, S: Alter>(
+fn is_finished<R: Threads + Wait + Sync, D: Disk + Drop>(
     rt: &R,
     alloc: Global,
-    conn: &mut Connection<S>,
+    conn: &mut Connection<FileStore<D>>,
     work: &mut Count,
     stretches: u32,
 ) -> bool {
@@ -171,7 +171,7 @@ fn assert_answered<R: Threads + Wait + Sync + Abort>(
     let mut work = count_from(kept);
     let lives = [STRETCHES + 1];
     let last = last_life(rt, alloc, files, &mut work, &lives, STRETCHES + 1);
-    let is_done = matches!(&last, Some(LastLife { is_done: true, .. }));
+    let is_done = last.is_some_and(|last| ended(last).1);
     assert!(rt; is_done && !work.has_lost, "{kept} {calls:?}");
 }
 

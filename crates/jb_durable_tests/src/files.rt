@@ -1,7 +1,9 @@
-//! Files in memory, and what they hold. The calls have no clauses, so that the proof of a test doesn't carry what the libraries' show.
+//! Files in memory, and what they hold. The calls have no clauses, so that the proof of a test doesn't carry what the libraries' show; and each
+//! library's call over a connection to files stands in one of them, and so does the connection's end, since each such place is dear to prove.
 
+use jb_durable::LastLife;
 use jb_store::{Checkpoint, StoreError, list};
-use sqlite::{Alter, Connection, FileStore, Files, Options};
+use sqlite::{Connection, FileStore, Files, Options};
 use sqlite_disk::{Crash, Disk, Memory};
 use std::alloc::{AllocError, Global};
 
@@ -39,13 +41,27 @@ pub(crate) fn closed<D: Disk + Drop>(conn: Connection<FileStore<D>>) -> Files<D>
     conn.into_store().close()
 }
 
-/// The list that a connection shows.
-pub(crate) fn listed<S: Alter>(
+/// The checkpoints that a connection shows.
+pub(crate) fn checkpoints<D: Disk + Drop>(
     alloc: Global,
-    conn: &mut Connection<S>,
+    conn: &mut Connection<FileStore<D>>,
+) -> Result<Vec<Checkpoint>, StoreError> {
+    list(alloc, conn)
+}
+
+/// The same as a text.
+pub(crate) fn listed<D: Disk + Drop>(
+    alloc: Global,
+    conn: &mut Connection<FileStore<D>>,
 ) -> Result<String, StoreError> {
-    let all = list(alloc, conn)?;
+    let all = checkpoints(alloc, conn)?;
     Ok(text_of(alloc, &all)?)
+}
+
+/// Whether the last life said that the work is done, and its files.
+pub(crate) fn ended<D: Disk + Drop>(last: LastLife<D>) -> (Files<D>, bool) {
+    let LastLife { conn, is_done } = last;
+    (closed(conn), is_done)
 }
 
 /// Each checkpoint as its text, a colon and its bytes.

@@ -2,16 +2,15 @@
 
 ghost use Rattle.std.specs.Prelude.{[], ◌≤◌, ◌==◌, if◌then◌else◌, length, None, Some};
 
-use crate::files::{crashed, new_files, opened};
+use crate::files::{checkpoints, closed, crashed, ended, new_files, opened};
 use jb_artifacts::Item;
 use jb_base::{ClassId, Name, PackedList, Rules};
 use jb_collect::Status;
-use jb_durable::LastLife;
 use jb_durable_records::{
     DurableEnd, DurableError, Nobody, Rounds, records_through_crashes, run_records_durably,
 };
 use jb_records::{RecordFunction, RecordsStep};
-use jb_store::{Checkpoint, list};
+use jb_store::Checkpoint;
 use sqlite::{Files, Options};
 use sqlite_disk::{Crash, Fuse, Memory};
 use std::alloc::{AllocError, Global};
@@ -127,7 +126,7 @@ fn lived<R: Threads + Wait + Sync, D: Crash + Drop>(
                 Rounds(1),
                 Nobody,
             );
-            (crashed(conn.into_store().close()), end)
+            (crashed(closed(conn)), end)
         }
         Err((error, files)) => (crashed(files), Err(DurableError::Store(error))),
     }
@@ -197,12 +196,55 @@ fn ends<R: Threads + Wait + Sync>(
 fn held(alloc: Global, files: Files<Memory>) -> Result<(Files<Memory>, Vec<Checkpoint>), Fail> {
     match opened(alloc, files) {
         Ok(mut conn) => {
-            let all = list(alloc, &mut conn);
-            let files = conn.into_store().close();
+            let all = checkpoints(alloc, &mut conn);
+            let files = closed(conn);
             Ok((files, all?))
         }
         Err((error, _)) => Err(Fail::from(error)),
     }
+}
+
+/// A run from no file on, which is whole: its files, and their checkpoints.
+fn whole_run<R: Threads + Wait + Sync + Abort>(
+    rt: &R,
+    alloc: Global,
+) -> Result<(Files<Memory>, Vec<Checkpoint>), Fail> {
+    let records = records_of(alloc, b"e")?;
+    let (files, first) = ends(rt, alloc, new_files(alloc), 1, b"e")?;
+    assert!(rt; are_all(&first?, &records));
+    held(alloc, files)
+}
+
+/// The first checkpoint says what the run is of.
+fn assert_says_its_run(rt: &impl Abort, kept: &[Checkpoint]) {
+    assert!(rt; kept.len() > 2);
+    assert_eq!(rt; kept[0].saved.as_str(), FORM);
+    assert_eq!(rt; kept[0].results.as_slice(), DIGEST.as_slice());
+}
+
+/// Over a whole run: it is told again, and another step's and other records are refused.
+fn assert_told_apart<R: Threads + Wait + Sync + Abort>(
+    rt: &R,
+    alloc: Global,
+    files: Files<Memory>,
+) -> Result<Files<Memory>, Fail> {
+    let records = records_of(alloc, b"e")?;
+    let (files, again) = ends(rt, alloc, files, 1, b"e")?;
+    assert!(rt; are_all(&again?, &records));
+    let (files, other) = ends(rt, alloc, files, 2, b"e")?;
+    assert!(rt; matches!(other, Err(DurableError::OtherJob)));
+    let (files, other) = ends(rt, alloc, files, 1, b"f")?;
+    assert!(rt; matches!(other, Err(DurableError::OtherRecords)));
+    Ok(files)
+}
+
+/// A record that can't be read ends a run as failed, in each life.
+fn assert_fails_again<R: Threads + Wait + Sync + Abort>(rt: &R, alloc: Global) -> Result<(), Fail> {
+    let (files, failed) = ends(rt, alloc, new_files(alloc), 1, b"xyz")?;
+    assert!(rt; failed?.status == Status::Failed);
+    let (_, failed) = ends(rt, alloc, files, 1, b"xyz")?;
+    assert!(rt; failed?.status == Status::Failed);
+    Ok(())
 }
 
 /// A run that is whole is told again and adds nothing; another step's and other records are refused; and a record that can't be read
@@ -210,26 +252,12 @@ fn held(alloc: Global, files: Files<Memory>) -> Result<(Files<Memory>, Vec<Check
 #[test]
 fn runs_are_told_apart(rt: HostRuntime) -> Result<(), Fail> {
     let alloc = rt.alloc();
-    let records = records_of(alloc, b"e")?;
-    let (files, first) = ends(&rt, alloc, new_files(alloc), 1, b"e")?;
-    assert!(rt; are_all(&first?, &records));
-    let (files, kept) = held(alloc, files)?;
-    assert!(rt; kept.len() > 2);
-    assert_eq!(rt; kept[0].saved.as_str(), FORM);
-    assert_eq!(rt; kept[0].results.as_slice(), DIGEST.as_slice());
-    let (files, again) = ends(&rt, alloc, files, 1, b"e")?;
-    assert!(rt; are_all(&again?, &records));
-    let (files, other) = ends(&rt, alloc, files, 2, b"e")?;
-    assert!(rt; matches!(other, Err(DurableError::OtherJob)));
-    let (files, other) = ends(&rt, alloc, files, 1, b"f")?;
-    assert!(rt; matches!(other, Err(DurableError::OtherRecords)));
+    let (files, kept) = whole_run(&rt, alloc)?;
+    assert_says_its_run(&rt, kept.as_slice());
+    let files = assert_told_apart(&rt, alloc, files)?;
     let (_, now) = held(alloc, files)?;
     assert_eq!(rt; now.len(), kept.len());
-    let (files, failed) = ends(&rt, alloc, new_files(alloc), 1, b"xyz")?;
-    assert!(rt; failed?.status == Status::Failed);
-    let (_, failed) = ends(&rt, alloc, files, 1, b"xyz")?;
-    assert!(rt; failed?.status == Status::Failed);
-    Ok(())
+    assert_fails_again(&rt, alloc)
 }
 
 /// Three lives of a checkpoint or two that each end in a crash, and one more.
@@ -253,9 +281,9 @@ fn a_step_through_crashes(rt: HostRuntime) -> Result<(), Fail> {
         &[0, 1, 2],
         9,
     );
-    let Some(LastLife { is_done, .. }) = last else {
+    let Some(last) = last else {
         return Err(Fail::from("an open"));
     };
-    assert!(rt; is_done);
+    assert!(rt; ended(last).1);
     Ok(())
 }

@@ -2,7 +2,7 @@
 
 use crate::files::{closed, crashed, listed, new_files, opened, text_of};
 use jb_store::{StoreError, append, append_over_crash, begin};
-use sqlite::{Alter, Connection, Error, FileStore, Files, Options};
+use sqlite::{Connection, Error, FileStore, Files, Options};
 use sqlite_disk::Memory;
 use std::alloc::{AllocError, Global};
 use std::process::Abort;
@@ -72,17 +72,20 @@ const ROWS: [Found; 13] = [
 ];
 
 /// Calls without clauses, so that the proof of a test doesn't carry what it shows.
-fn run<S: Alter>(conn: &mut Connection<S>, sql: &str) -> Result<(), Error> {
+fn run(conn: &mut Connection<FileStore<Memory>>, sql: &str) -> Result<(), Error> {
     conn.execute_batch(sql)
 }
 
 /// The list, and the number of the next checkpoint.
-fn begun<S: Alter>(alloc: Global, conn: &mut Connection<S>) -> Result<(String, u32), StoreError> {
+fn begun(
+    alloc: Global,
+    conn: &mut Connection<FileStore<Memory>>,
+) -> Result<(String, u32), StoreError> {
     let all = begin(alloc, conn)?;
     Ok((text_of(alloc, &all)?, (all.len() % 100) as u32 + 1))
 }
 
-fn added<S: Alter>(conn: &mut Connection<S>, number: u32) -> Result<(), StoreError> {
+fn added(conn: &mut Connection<FileStore<Memory>>, number: u32) -> Result<(), StoreError> {
     append(conn, number, "new", &[7, 8])
 }
 
@@ -103,8 +106,10 @@ fn made_by(alloc: Global, sql: &str) -> Result<Files<Memory>, Fail> {
     let Ok(mut conn) = opened(alloc, new_files(alloc)) else {
         return Err(Fail::from("new files"));
     };
-    run(&mut conn, sql)?;
-    Ok(crashed(closed(conn)))
+    let made = run(&mut conn, sql);
+    let files = crashed(closed(conn));
+    made?;
+    Ok(files)
 }
 
 /// An append, a crash right behind it, and the next open: whether it was told, the list, and what the connection then shows.
@@ -128,6 +133,37 @@ fn added_over_crash(
     Ok((found.was_told, text_of(alloc, &found.checkpoints)?, shown?))
 }
 
+/// An append, and the same number once more.
+fn assert_added(
+    rt: &impl Abort,
+    alloc: Global,
+    conn: &mut Connection<FileStore<Memory>>,
+    list: &str,
+    number: u32,
+) -> Result<(), Fail> {
+    let more = format!(in alloc; "{list}new:[7, 8] ")?;
+    assert!(rt; added(conn, number).is_ok());
+    assert!(rt; matches!(added(conn, number), Err(StoreError::Taken)));
+    assert_eq!(rt; listed(alloc, conn)?.as_str(), more.as_str());
+    Ok(())
+}
+
+/// An append with a crash right behind it.
+fn assert_added_over_crash(
+    rt: &impl Abort,
+    alloc: Global,
+    conn: Connection<FileStore<Memory>>,
+    list: &str,
+    number: u32,
+) -> Result<(), Fail> {
+    let (was_told, found, shown) = added_over_crash(alloc, conn, number)?;
+    let last = format!(in alloc; "{list}new:[7, 8] last:[] ")?;
+    assert!(rt; was_told);
+    assert_eq!(rt; found.as_str(), last.as_str());
+    assert_eq!(rt; shown.as_str(), last.as_str());
+    Ok(())
+}
+
 /// An append, the same number once more, and an append with a crash behind it.
 fn assert_goes_on(
     rt: &impl Abort,
@@ -136,16 +172,13 @@ fn assert_goes_on(
     list: &str,
     number: u32,
 ) -> Result<(), Fail> {
-    let more = format!(in alloc; "{list}new:[7, 8] ")?;
-    assert!(rt; added(&mut conn, number).is_ok());
-    assert!(rt; matches!(added(&mut conn, number), Err(StoreError::Taken)));
-    assert_eq!(rt; listed(alloc, &mut conn)?.as_str(), more.as_str());
-    let last = format!(in alloc; "{more}last:[] ")?;
-    let (was_told, found, shown) = added_over_crash(alloc, conn, number.saturating_add(1))?;
-    assert!(rt; was_told);
-    assert_eq!(rt; found.as_str(), last.as_str());
-    assert_eq!(rt; shown.as_str(), last.as_str());
-    Ok(())
+    match assert_added(rt, alloc, &mut conn, list, number) {
+        Ok(()) => assert_added_over_crash(rt, alloc, conn, list, number.saturating_add(1)),
+        Err(fail) => {
+            let _files = closed(conn);
+            Err(fail)
+        }
+    }
 }
 
 /// Where a database is refused, nothing is written to the log or to the file.
@@ -165,7 +198,10 @@ fn assert_row(rt: &impl Abort, alloc: Global, row: &Found) -> Result<(), Fail> {
             assert!(rt; is_same(&closed(conn), &before), "{}", row.made_by);
             Ok(())
         }
-        _ => Err(Fail::from(row.made_by)),
+        _ => {
+            let _files = closed(conn);
+            Err(Fail::from(row.made_by))
+        }
     }
 }
 

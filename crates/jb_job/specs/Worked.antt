@@ -45,13 +45,13 @@ abbrev pub ClassesRow : Type 0
 ClassesRow = option_map job_at (tree_of classes_text) ≡ Some (Ok (record { id = codes "j"; classes = codes "E" ∷ codes "F" ∷ codes "G" ∷ []; steps = classes_step ∷ [] }))
 
 -- what a text that has a tree is refused for
-abbrev pub IsRefused : List ℕ → Fault → Type 0
-IsRefused text fault = option_map job_at (tree_of text) ≡ Some (Err fault)
+abbrev pub IsTextRefused : List ℕ → Fault → Type 0
+IsTextRefused text fault = option_map job_at (tree_of text) ≡ Some (Err fault)
 
 pub record RefusedRows : Type 0 where
-  pub count : IsRefused (codes "{\"id\":\"j\",\"step\":[{\"chunk\":{\"item-count\":0},\"id\":\"s\"}]}") (out_of_range field.ItemCount)
-  pub listeners : IsRefused (codes "{\"id\":\"j\",\"step\":[{\"chunk\":{\"item-count\":0},\"id\":\"s\",\"listeners\":1}]}") (wrong_shape field.Unknown)
-  pub undeclared : IsRefused (codes "{\"id\":\"j\",\"step\":[{\"chunk\":{\"skippable-exception-classes\":{\"include\":[\"E\"]}},\"id\":\"s\"}]}") unknown_class
+  pub count : IsTextRefused (codes "{\"id\":\"j\",\"step\":[{\"chunk\":{\"item-count\":0},\"id\":\"s\"}]}") (out_of_range field.ItemCount)
+  pub listeners : IsTextRefused (codes "{\"id\":\"j\",\"step\":[{\"chunk\":{\"item-count\":0},\"id\":\"s\",\"listeners\":1}]}") (wrong_shape field.Unknown)
+  pub undeclared : IsTextRefused (codes "{\"id\":\"j\",\"step\":[{\"chunk\":{\"skippable-exception-classes\":{\"include\":[\"E\"]}},\"id\":\"s\"}]}") unknown_class
 
 -- the two jobs
 abbrev pub ranges_job : Job

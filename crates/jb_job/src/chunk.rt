@@ -1,6 +1,6 @@
 //! The object `chunk`: the item count of a step, and its rules of skipping and retrying.
 
-ghost use Rattle.std.specs.Prelude.{◌≡◌, ◌≤◌, IfOk, None};
+ghost use Rattle.std.specs.Prelude.{◌≤◌, IfOk, None};
 ghost use Rattle.std.specs.Option.{ForSome};
 ghost use Rattle.serde_json.specs.View.{view};
 ghost use Rattle.jb_job.specs.Reading.{Gives, GivesExactly, number_at, optional};

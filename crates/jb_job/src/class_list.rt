@@ -1,7 +1,7 @@
 //! The list `exception-classes`: the fault classes that a job declares.
 
 ghost use Rattle.std.specs.Prelude.{◌≡◌, ◌≤◌, ◌+◌, length, map, string_bytes, OnOk, IfOk, IfErr};
-ghost use Rattle.serde_json.specs.View.{view, items_view};
+ghost use Rattle.serde_json.specs.View.{view};
 ghost use Rattle.jb_base.specs.Limits.{max_classes};
 ghost use Rattle.jb_job.specs.Reading.{Gives};
 ghost use Rattle.jb_job.specs.JobRecord.{class_name_at, with_name, distinct, classes_at};

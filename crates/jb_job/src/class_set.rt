@@ -1,7 +1,6 @@
 //! Sets of fault classes: what an include and an exclude list leave.
 
-ghost use Rattle.std.specs.Prelude.{◌≡◌};
-ghost use Rattle.serde_json.specs.View.{view, items_view};
+ghost use Rattle.serde_json.specs.View.{view};
 ghost use Rattle.jb_job.specs.Reading.{Gives, GivesExactly, optional};
 ghost use Rattle.jb_job.specs.JobRecord.{bits_at, names_at, set_at};
 ghost use Rattle.jb_job.specs.declared.field.Field.TheVariants as field;

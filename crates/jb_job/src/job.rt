@@ -31,7 +31,6 @@ impl Spec {
     ghost use Rattle.std.specs.Prelude.{◌≡◌, ◌≤◌, All, IfSome, length, option_map};
     ghost use Rattle.jb_base.specs.Range.{IsNumbered};
     ghost use Rattle.jb_base.specs.Limits.{max_partitions_asked, max_ranges, max_threads_asked};
-    ghost use Rattle.jb_job.specs.Records.{SpecRecord};
 
     /// The values of 1 to 4,096 partitions and at most 4,096 threads; or of at most 4,096 ranges of records numbered to
     /// 10,000,000, which stand for one partition each, beside the number 1.

@@ -1,10 +1,10 @@
 //! The kinds of fields: what a JSON tree gives as a field of each kind, or its first fault.
 
-ghost use Rattle.std.specs.Prelude.{◌≡◌, ◌≤◌, List, [], length, map, string_bytes, Result, Ok, IfOk};
+ghost use Rattle.std.specs.Prelude.{◌≡◌, ◌≤◌, List, length, map, string_bytes, Result, Ok, IfOk};
 ghost use Rattle.serde_json.specs.Data.{Data};
 ghost use Rattle.jb_job.specs.declared.error.JobError.{JobError};
 ghost use Rattle.serde_json.specs.declared.value.Value.{Value};
-ghost use Rattle.std.specs.List.{list_all, list_any};
+ghost use Rattle.std.specs.List.{list_all};
 ghost use Rattle.std.specs.BTreeMap.{keys};
 ghost use Rattle.serde_json.specs.Find.{get};
 ghost use Rattle.serde_json.specs.View.{view, items_view};

@@ -1,6 +1,6 @@
 //! The object `partition`: what a step asks of its partitions.
 
-ghost use Rattle.std.specs.Prelude.{◌≡◌, ◌≤◌, [], All, IfOk, Some, None, false, is_some, length};
+ghost use Rattle.std.specs.Prelude.{◌≡◌, ◌≤◌, All, IfOk, Some, None, false, is_some, length};
 ghost use Rattle.std.specs.Option.{ForSome};
 ghost use Rattle.serde_json.specs.Find.{get};
 ghost use Rattle.serde_json.specs.View.{view, items_view};

@@ -1,6 +1,6 @@
 //! Reading a job record, field by field.
 
-ghost use Rattle.std.specs.Prelude.{◌≡◌, ◌≤◌, [], IfOk, length};
+ghost use Rattle.std.specs.Prelude.{◌≤◌, [], IfOk, length};
 ghost use Rattle.serde_json.specs.View.{view, items_view};
 ghost use Rattle.jb_job.specs.Reading.{Gives, GivesExactly, GivesOfText, each_at, optional, required, text_at, tree_of};
 ghost use Rattle.jb_base.specs.Name.{IsName};

@@ -3,15 +3,13 @@ use Rattle.std.proofs.Common.{◌≡◌, ℕ, zero, suc, Bool, false, List, [], 
 use Rattle.std.proofs.Math.Seq.{drop-nil}
 use Rattle.jb_collect.specs.declared.calls.ReducerCall.{ReducerCall}
 use Rattle.jb_collect.specs.declared.calls.ReducerCall.TheVariants.{Begin, Before, Rollback, After}
-use Rattle.jb_collect.specs.ReducerCalls.{before_failed, calls_after, calls_before, reducer_calls, run_end}
-use Rattle.jb_collect.specs.Taken.{Taken, calls_of, well}
+use Rattle.jb_collect.specs.ReducerCalls.{before_failed, calls_after}
+use Rattle.jb_collect.specs.Taken.{Taken, Grew, calls_of, since, well}
 use Rattle.jb_repo.specs.declared.snapshot.Snapshot.{Snapshot}
 use Rattle.jb_step.specs.Answers.{AreCallsAfter}
-use Rattle.jb_step.specs.Callbacks.{Grew, has_fault, since}
+use Rattle.jb_step.specs.callbacks.Callbacks.{has_fault}
 use Rattle.jb_step.specs.Statuses.{status_of}
 use Rattle.jb_collect.specs.declared.calls.AnalyzerCall.{AnalyzerCall}
-use Rattle.jb_collect.specs.declared.calls.Status.{Status}
-use Rattle.jb_collect.specs.declared.calls.Status.TheVariants as standing
 
 pub well-calls : {C : Type 0} (calls : List C) → calls_of (map well calls) ≡ calls
 well-calls [] = refl
@@ -43,15 +41,8 @@ well-grew old new grew =
 
 -- the calls of a reducer at the end, where it and the analyzer answer each call well
 pub well-after : (snapshot : Snapshot) (heard : List (Taken AnalyzerCall)) (more : List AnalyzerCall) (old new : List ReducerCall) → Grew (map well old) (map well new)
-    → AreCallsAfter snapshot (since heard (map well more)) (since (map well old) (map well new)) → new ≡ old ++ calls_after (run_end (status_of snapshot.rows.items false) false)
+    → AreCallsAfter snapshot (since heard (map well more)) (since (map well old) (map well new)) → new ≡ old ++ calls_after (status_of snapshot.rows.items false) false
 well-after snapshot heard more old new grew after =
     well-grew old new grew
     ∙ ap (λ cs. old ++ cs) (after
-    ∙ ap₂ (λ told before. calls_after (run_end (status_of snapshot.rows.items told) before)) (well-faults (length heard) more) (well-before (length (map {B = Taken ReducerCall} well old)) new))
-
--- all calls of a run that has begun
-pub reducer-calls : (discards : Bool) (s : Status) → calls_before discards ++ calls_after (run_end s false) ≡ reducer_calls discards (run_end s false)
-reducer-calls discards standing.Started = refl
-reducer-calls discards standing.Stopped = refl
-reducer-calls discards standing.Failed = refl
-reducer-calls discards standing.Completed = refl
+    ∙ ap₂ (λ told before. calls_after (status_of snapshot.rows.items told) before) (well-faults (length heard) more) (well-before (length (map {B = Taken ReducerCall} well old)) new))

@@ -15,9 +15,9 @@ use Rattle.clap.specs.declared.parser.matches.SubCommand.{SubCommand}
 use Rattle.clap.specs.declared.error.kind.ErrorKind.{ErrorKind}
 use Rattle.clap.specs.declared.error.kind.ErrorKind.TheVariants.{OutOfMemory}
 use Rattle.jb_program.specs.declared.words.request.Request.{Request}
-use Rattle.jb_program.specs.declared.words.request.Request.TheVariants.{Help, Version, Work}
+use Rattle.jb_program.specs.declared.words.request.Request.TheVariants.{Help, Version, Perform}
 use Rattle.jb_program.specs.declared.words.request.Word.{Word}
-use Rattle.jb_program.specs.CommandLine.{AreTakenAs, AreUnknown, Asks, CanGoOn, CannotGoOn, IsWrongWord, app, line_in, request_in, rounds_in, topic_in, work_in, word_in}
+use Rattle.jb_program.specs.CommandLine.{AreTakenAs, AreUnknown, Asks, CanBeCompleted, CannotGoOn, IsWrongWord, app, line_in, request_in, rounds_of_word, topic_in, work_in, word_in}
 
 -- what the program may be asked is simple, and no argument of it has a rule on another
 pub is_free : is_simple_and_free app ≡ true
@@ -66,13 +66,13 @@ help_is_no_version : (o : Option Word) → option_map (λ word. Help (Some word)
 help_is_no_version None e = cc
 help_is_no_version (Some word) e = cc
 
-limit_is_no_version : (word : Word) (o : Option ℕ) → option_map (λ n. Work (record { word = word; rounds = Some n })) o ≡ Some Version → ⊥
+limit_is_no_version : (word : Word) (o : Option ℕ) → option_map (λ n. Perform (record { word = word; rounds = Some n })) o ≡ Some Version → ⊥
 limit_is_no_version word None e = cc
 limit_is_no_version word (Some n) e = cc
 
 line_is_no_version : (word : Word) (given : Option Text) → line_in word given ≡ Some Version → ⊥
 line_is_no_version word None e = cc
-line_is_no_version word (Some text) e = limit_is_no_version word (rounds_in text) e
+line_is_no_version word (Some text) e = limit_is_no_version word (rounds_of_word text) e
 
 work_is_no_version : (given : Option Text) (o : Option Word) → option_and_then (λ word. line_in word given) o ≡ Some Version → ⊥
 work_is_no_version given None e = cc
@@ -93,7 +93,7 @@ request_is_no_version (Some found) e = either_is_no_version (bytes_eq found.0 (c
 -- what the words ask for where `clap` takes them
 pub taken_asks : (words : List Text) (request : Option Request) → AreTakenAs words request → IfSome request (Asks words)
 taken_asks words None taken = tt
-taken_asks words (Some (Work line)) taken = taken
+taken_asks words (Some (Perform line)) taken = taken
 taken_asks words (Some (Help topic)) taken = inl taken
 taken_asks words (Some Version) taken = absurd (request_is_no_version (subcommand_of app words) taken.1)
 
@@ -114,18 +114,18 @@ texts = map (λ w. w.now)
 
 -- up to each of the first so many words, they can go on
 abbrev pub GoOnUpTo : List Text → ℕ → Type 0
-GoOnUpTo words k = (n : ℕ) → 0 < n → n ≤ k → CanGoOn (take n words)
+GoOnUpTo words k = (n : ℕ) → 0 < n → n ≤ k → CanBeCompleted (take n words)
 
 front-texts : (words front : List (Bor Text)) (n : ℕ) → front ≡ take n words → texts front ≡ take n (texts words)
 front-texts words front n is = ap texts is ∙ sym (take-map (λ w. w.now) n words)
 
-pub goes-on-more : (words front : List (Bor Text)) (k : ℕ) → front ≡ take (k + 1) words → CanGoOn (texts front) → GoOnUpTo (texts words) k → GoOnUpTo (texts words) (k + 1)
+pub goes-on-more : (words front : List (Bor Text)) (k : ℕ) → front ≡ take (k + 1) words → CanBeCompleted (texts front) → GoOnUpTo (texts words) k → GoOnUpTo (texts words) (k + 1)
 goes-on-more words front k is can before n some to = go (cases_lt k n)
   where
-    go : (k < n) ⊎ (n ≤ k) → CanGoOn (take n (texts words))
+    go : (k < n) ⊎ (n ≤ k) → CanBeCompleted (take n (texts words))
     go (inl past) =
         let last : n ≡ k + 1 = omega (arith, past, to) in
-        subst (λ m. CanGoOn (take m (texts words))) (sym last) (subst CanGoOn (front-texts words front (k + 1) is) can)
+        subst (λ m. CanBeCompleted (take m (texts words))) (sym last) (subst CanBeCompleted (front-texts words front (k + 1) is) can)
     go (inr within) = before n some within
 
 pub stuck-up-to : (words front : List (Bor Text)) (n : ℕ) → front ≡ take n words → CannotGoOn (texts front) → CannotGoOn (take n (texts words))

@@ -5,15 +5,15 @@ use Rattle.clap.specs.Words.{Text}
 use Rattle.jb_program.specs.declared.words.request.Line.{Line}
 use Rattle.jb_program.specs.declared.streams.failure.Failure.{Failure}
 use Rattle.jb_program.specs.declared.streams.failure.Failure.TheVariants as failure
-use Rattle.jb_program.specs.declared.words.request.Request.TheVariants.{Work}
+use Rattle.jb_program.specs.declared.words.request.Request.TheVariants.{Perform}
 use Rattle.jb_program.specs.Answer.{IsRefusedBy}
 use Rattle.jb_program.specs.CommandLine.{Asks}
 use Rattle.jb_program.specs.Failures.{HasFailed, IsCutShort}
-use Rattle.jb_program.specs.Refusals.{IsFailure, IsRunFailure}
+use Rattle.jb_program.specs.Refusals.{IsDocumentFailure, IsRunFailure}
 use Rattle.jb_program.specs.Statuses.{failure_code}
 
 -- plan and check fail in no way in which run doesn't
-pub as_run_failure : (e : Failure) → IsFailure e → IsRunFailure e
+pub as_run_failure : (e : Failure) → IsDocumentFailure e → IsRunFailure e
 as_run_failure (failure.Document f) fails = fails
 as_run_failure (failure.Plan f) fails = absurd fails
 as_run_failure (failure.Saved f) fails = absurd fails
@@ -23,8 +23,8 @@ as_run_failure (failure.Repository p) fails = absurd fails
 as_run_failure failure.Stream fails = fails
 as_run_failure (failure.Usage f) fails = absurd fails
 
-pub has_failed : (words : List Text) (line : Line) (input old new : Option (List ℕ)) (e : Failure) → Asks words (Work line)
-    → (failure_code e ≡ 3 → IfSome input (IsRefusedBy line.word line.rounds e)) → IsRunFailure e → (e ≢ failure.Stream → Keeps old new) → IsCutShort (Work line) input old new
+pub has_failed : (words : List Text) (line : Line) (input old new : Option (List ℕ)) (e : Failure) → Asks words (Perform line)
+    → (failure_code e ≡ 3 → IfSome input (IsRefusedBy line.word line.rounds e)) → IsRunFailure e → (e ≢ failure.Stream → Keeps old new) → IsCutShort (Perform line) input old new
     → HasFailed (Some words) input old new e
 has_failed words line input old new (failure.Document f) asks refused fails silent cut = (line, asks, refused refl, silent (λ same. cc))
 has_failed words line input old new (failure.Plan f) asks refused fails silent cut = (line, asks, refused refl, silent (λ same. cc))
@@ -32,7 +32,7 @@ has_failed words line input old new (failure.Saved f) asks refused fails silent 
 has_failed words line input old new failure.Memory asks refused fails silent cut = silent (λ same. cc)
 has_failed words line input old new failure.Workers asks refused fails silent cut = silent (λ same. cc)
 has_failed words line input old new (failure.Repository p) asks refused fails silent cut = silent (λ same. cc)
-has_failed words line input old new failure.Stream asks refused fails silent cut = (Work line, asks, cut)
+has_failed words line input old new failure.Stream asks refused fails silent cut = (Perform line, asks, cut)
 has_failed words line input old new (failure.Usage f) asks refused fails silent cut = absurd fails
 
 -- what follows of a failure

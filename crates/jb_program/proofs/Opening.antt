@@ -17,13 +17,13 @@ use Rattle.jb_rules.specs.Sound.{IsSoundRow}
 use Rattle.jb_rules.specs.States.{is_failed}
 use Rattle.jb_rules.specs.declared.row.Row.{Row}
 use Rattle.jb_rules.specs.declared.row.RowState.TheVariants as state
-use Rattle.jb_saved.specs.GoingOn.{restarted, fault_if, is_past}
+use Rattle.jb_saved.specs.GoingOn.{restarted, fault_if, ends_past}
 use Rattle.jb_saved.specs.declared.place.SavedPlace.TheVariants.{Step, Records}
-use Rattle.jb_step.specs.Setup.{IsSetup, Setup, fresh_rows, opening_rows, saved_faults}
-use Rattle.jb_documents.specs.ResumeFields.{Texts, held_at, holds}
+use Rattle.jb_step.specs.preparing.Setup.{IsSetup, Setup, fresh_rows, opening_rows, saved_faults}
+use Rattle.jb_documents.specs.ResumeFields.{WrittenTexts, held_at, holds}
 use Rattle.jb_documents.specs.declared.restart.resume.Resume.{Resume}
 use Rattle.jb_program.specs.PartitionRun.{held_by, records_in}
-use Rattle.jb_program.specs.StepRun.{AreHeld, gone_on_from, outputs_of, saved_of, setup_with}
+use Rattle.jb_program.specs.StepRun.{AreHeld, gone_on_from, outputs_of, rows_saved, setup_with}
 
 -- a row waits or is finished, its records are there, and its writer holds what it committed
 pub record IsOpening (records : ℕ) (outputs : List (List (List ℕ))) (partition : ℕ) (row : Row) : Type 0 where
@@ -66,15 +66,15 @@ restarted-by : (failed : Bool) (row : Row) → ((cond failed (dropped_row row) r
 restarted-by true row = (refl, refl)
 restarted-by false row = (refl, refl)
 
-restarted-below : (records : ℕ) (rows : List Row) → is_past records rows ≡ false → (i : ℕ) (row : Row) → slice_get (map restarted rows) i ≡ Some row → row.hi ≤ records
+restarted-below : (records : ℕ) (rows : List Row) → ends_past records rows ≡ false → (i : ℕ) (row : Row) → slice_get (map restarted rows) i ≡ Some row → row.hi ≤ records
 restarted-below records [] past i row is = absurd (cc is)
 restarted-below records (r ∷ rows) past zero row is =
     let same : restarted r ≡ row = cc in
-    let first : nat_lt records r.hi ≡ false = (or_parts (nat_lt records r.hi) (is_past records rows) past).0 in
+    let first : nat_lt records r.hi ≡ false = (or_parts (nat_lt records r.hi) (ends_past records rows) past).0 in
     let below : r.hi ≤ records = grind (arith, nat_tests, first) in
     let kept = (restarted-by (is_failed r.state) r).0 in
     subst (λ (one : Row). one.hi ≤ records) same (omega (arith, below, kept))
-restarted-below records (r ∷ rows) past (suc i) row is = restarted-below records rows (or_parts (nat_lt records r.hi) (is_past records rows) past).1 i row is
+restarted-below records (r ∷ rows) past (suc i) row is = restarted-below records rows (or_parts (nat_lt records r.hi) (ends_past records rows) past).1 i row is
 
 not-past : (step past : Bool) → fault_if step Step ++ fault_if past Records ≡ [] → past ≡ false
 not-past true past is = absurd (cc is)
@@ -83,21 +83,21 @@ not-past false false is = refl
 
 -- what a step goes on from, if its plan doesn't discard it: none of its rows ends past the last record, and it is held
 abbrev IsKept : (records : ℕ) → Option Resume → Type 0
-IsKept records kept = IfSome kept (λ resume. (is_past records resume.saved.rows ≡ false) × AreHeld resume)
+IsKept records kept = IfSome kept (λ resume. (ends_past records resume.saved.rows ≡ false) × AreHeld resume)
 
-kept-of : (step : StepRecord) (records : ℕ) (replace : Bool) (resume : Option Resume) → saved_faults step records replace (saved_of resume) ≡ [] → IfSome resume AreHeld → IsKept records (gone_on_from replace resume)
+kept-of : (step : StepRecord) (records : ℕ) (replace : Bool) (resume : Option Resume) → saved_faults step records replace (rows_saved resume) ≡ [] → IfSome resume AreHeld → IsKept records (gone_on_from replace resume)
 kept-of step records true resume accepted held = tt
 kept-of step records false None accepted held = tt
-kept-of step records false (Some resume) accepted held = (not-past (not (bytes_eq resume.saved.step step.id)) (is_past records resume.saved.rows) accepted, held)
+kept-of step records false (Some resume) accepted held = (not-past (not (bytes_eq resume.saved.step step.id)) (ends_past records resume.saved.rows) accepted, held)
 
 below-by : (records : ℕ) (plan : PartitionPlan) (kept : Option Resume) → IsRunnable records plan → IsKept records kept
-    → (i : ℕ) (row : Row) → slice_get (opening_rows plan.ranges (saved_of kept)) i ≡ Some row → row.hi ≤ records
+    → (i : ℕ) (row : Row) → slice_get (opening_rows plan.ranges (rows_saved kept)) i ≡ Some row → row.hi ≤ records
 below-by records plan None runnable is i row at = (fresh-below records plan.ranges runnable.within i row at).0
 below-by records plan (Some resume) runnable is i row at = restarted-below records resume.saved.rows is.0 i row at
 
 -- ---- each writer holds what was committed
 
-held-if : (long all : Bool) (outputs : List Texts) → ◌≡◌ {A = Read (List Texts)} (cond long (cond all (Ok outputs) (Err (out_of_range field.Outputs))) (Err (wrong_shape field.Outputs))) (Ok outputs) → (long ≡ true) × (all ≡ true)
+held-if : (long all : Bool) (outputs : List WrittenTexts) → ◌≡◌ {A = Read (List WrittenTexts)} (cond long (cond all (Ok outputs) (Err (out_of_range field.Outputs))) (Err (wrong_shape field.Outputs))) (Ok outputs) → (long ≡ true) × (all ≡ true)
 held-if true true outputs is = (refl, refl)
 held-if true false outputs is = absurd (cc is)
 held-if false all outputs is = absurd (cc is)
@@ -106,7 +106,7 @@ are-held : (resume : Resume) → AreHeld resume → ((length resume.outputs == l
 unfolding held_at
 are-held resume held = held-if (length resume.outputs == length resume.saved.rows) (list_all holds (zip resume.outputs resume.saved.rows)) resume.outputs held
 
-restarted-served : (outputs : List Texts) (rows : List Row) → length outputs ≡ length rows → list_all holds (zip outputs rows) ≡ true
+restarted-served : (outputs : List WrittenTexts) (rows : List Row) → length outputs ≡ length rows → list_all holds (zip outputs rows) ≡ true
     → (i : ℕ) (row : Row) → slice_get (map restarted rows) i ≡ Some row → row.written ≤ length (held_by outputs i)
 restarted-served outputs [] long all i row is = absurd (cc is)
 restarted-served [] (r ∷ rows) long all i row is = absurd (omega (arith, long))
@@ -120,7 +120,7 @@ restarted-served (texts ∷ outputs) (r ∷ rows) long all (suc i) row is =
     restarted-served outputs rows (omega (arith, long)) (and_parts (holds (texts, r)) (list_all holds (zip outputs rows)) all).1 i row is
 
 served-by : (records : ℕ) (plan : PartitionPlan) (kept : Option Resume) → IsRunnable records plan → IsKept records kept
-    → (i : ℕ) (row : Row) → slice_get (opening_rows plan.ranges (saved_of kept)) i ≡ Some row → row.written ≤ length (held_by (outputs_of kept) i)
+    → (i : ℕ) (row : Row) → slice_get (opening_rows plan.ranges (rows_saved kept)) i ≡ Some row → row.written ≤ length (held_by (outputs_of kept) i)
 served-by records plan None runnable is i row at =
     let none = (fresh-below records plan.ranges runnable.within i row at).1 in
     omega (arith, none)
@@ -135,8 +135,8 @@ served-by records plan (Some resume) runnable is i row at =
 -- what a step was prepared with: its plan can be run, and nothing is wrong with the rows that it goes on from or discards
 pub record IsPreparedWith (step : StepRecord) (records : ℕ) (plan : PartitionPlan) (resume : Option Resume) (s : Setup) : Type 0 where
   pub runnable : IsRunnable records plan
-  pub accepted : saved_faults step records plan.replace (saved_of resume) ≡ []
-  pub is : s ≡ setup_with step plan (saved_of (gone_on_from plan.replace resume))
+  pub accepted : saved_faults step records plan.replace (rows_saved resume) ≡ []
+  pub is : s ≡ setup_with step plan (rows_saved (gone_on_from plan.replace resume))
   pub setup : IsSetup s
   pub held : IfSome resume AreHeld
 
@@ -144,9 +144,9 @@ pub opening : (step : StepRecord) (records : ℕ) (plan : PartitionPlan) (resume
 opening step records plan resume s given =
     let kept : Option Resume = gone_on_from plan.replace resume in
     let is = kept-of step records plan.replace resume given.accepted given.held in
-    let rows : s.rows ≡ opening_rows plan.ranges (saved_of kept) = ap (λ (t : Setup). t.rows) given.is in
+    let rows : s.rows ≡ opening_rows plan.ranges (rows_saved kept) = ap (λ (t : Setup). t.rows) given.is in
     from-places records (outputs_of kept) 0 s.rows (λ i row at.
-    let there : slice_get (opening_rows plan.ranges (saved_of kept)) i ≡ Some row = subst (λ (rs : List Row). slice_get rs i ≡ Some row) rows at in
+    let there : slice_get (opening_rows plan.ranges (rows_saved kept)) i ≡ Some row = subst (λ (rs : List Row). slice_get rs i ≡ Some row) rows at in
     let sound = (given.setup.openable.idle i row at).0 in
     let from = sound.placed.at_from in
     let to = sound.placed.at_to in

@@ -12,8 +12,8 @@ use Rattle.jb_program.specs.contracts.run.shared_reader.SharedReaderItemReader.T
 
 abbrev pub own_work : PackedArtifacts SharedReader PrefixProcessor ListWriter CountCollector → ArtifactsMeaning
 own_work own = record {
-  reader = (reader_of.ghosts).reader own.reader;
-  processor = (processor_of.ghosts).processor own.processor;
-  writer = (writer_of.ghosts).writer own.writer;
-  collector = (collector_of.ghosts).collected own.collector;
+  reader = (reader_of.ghosts).reader own.inner.reader;
+  processor = (processor_of.ghosts).processor own.inner.processor;
+  writer = (writer_of.ghosts).writer own.inner.writer;
+  collector = (collector_of.ghosts).collected own.inner.collector;
 }

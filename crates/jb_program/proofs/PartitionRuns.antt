@@ -12,19 +12,17 @@ use Rattle.jb_rules.specs.States.{has_ended, is_finished}
 use Rattle.jb_rules.specs.declared.row.Row.{Row}
 use Rattle.jb_artifacts.specs.Meaning.{ArtifactsMeaning}
 use Rattle.jb_chunk.specs.Alone.{IsAlone, IsOnTheWay, IsRunOf}
-use Rattle.jb_chunk.specs.Attempt.{AttemptEnd, after_repeats, again_of, end_of, ending_by}
-use Rattle.jb_chunk.specs.declared.chunk_end.ChunkEnd.{ChunkEnd}
-use Rattle.jb_chunk.specs.declared.chunk_end.ChunkEnd.TheVariants as end
+use Rattle.jb_chunk.specs.Attempt.{AttemptEnd}
 use Rattle.jb_chunk.specs.Standing.{HasItemCount, IsReady, TaskState, started}
 use Rattle.jb_repo.specs.declared.snapshot.Snapshot.{Snapshot}
 use Rattle.jb_step.specs.Answers.{tasks_left}
-use Rattle.jb_step.specs.Setup.{Setup, row_now, rows_now}
+use Rattle.jb_step.specs.preparing.Setup.{Setup, row_now, rows_now}
 use Rattle.jb_step.specs.Alone.{AreOnTheWay}
 use Rattle.jb_documents.specs.declared.run.step_data.StepData.{StepData}
 use Rattle.jb_texts.specs.Report.{PartitionReport}
 use Rattle.jb_program.specs.declared.run.settings.StepSettings.{StepSettings}
 use Rattle.jb_program.specs.JobRun.{settings_of}
-use Rattle.jb_program.specs.inside.Below.{LawsBelow}
+use Rattle.jb_program.specs.inside.Below.{LawsOfTheCratesBelow}
 use Rattle.jb_program.specs.PartitionRun.{ArePartitionRuns, IsPartitionRun, begun_with, held_by, report_of, work_for}
 use Rattle.jb_program.specs.StepRun.{committed_of, outputs_in, partitions_left}
 use Rattle.jb_program.proofs.Opening.{AreOpening, IsOpening}
@@ -54,7 +52,7 @@ first-ready settings records outputs p row kept is =
     }
 
 -- wherever its own attempts lead it, that is what it leaves by itself
-pub leaves : LawsBelow → (settings : StepSettings) (records : List (List ℕ)) (outputs : List (List (List ℕ))) (p : ℕ) (row : Row) (left : TaskState) → AreKept settings → IsOpening (length records) outputs p row
+pub leaves : LawsOfTheCratesBelow → (settings : StepSettings) (records : List (List ℕ)) (outputs : List (List (List ℕ))) (p : ℕ) (row : Row) (left : TaskState) → AreKept settings → IsOpening (length records) outputs p row
     → IsOnTheWay (begun_with settings records outputs p row) left → IsPartitionRun (begun_with settings records outputs p row) (report_of left)
 leaves below settings records outputs p row left kept is way =
     let begun = begun_with settings records outputs p row in
@@ -70,14 +68,9 @@ leaves below settings records outputs p row left kept is way =
 
 -- ---- an attempt leaves the partition's number as it is
 
-partition-by : (t : TaskState) (again : ℕ) (e : ChunkEnd) → (ending_by t again e).task.partition ≡ t.partition
-partition-by t again (end.Committed delta) = refl
-partition-by t again (end.Rolled class) = refl
-partition-by t again (end.Failed class) = refl
-
 same-number : (t s : TaskState) (attempts : List AttemptEnd) → IsRunOf t attempts s → s.partition ≡ t.partition
 same-number t s [] run = ap (λ (u : TaskState). u.partition) run
-same-number t s (e ∷ es) run = same-number e.task s es run.2 ∙ ap (λ (f : AttemptEnd). f.task.partition) run.1 ∙ partition-by (after_repeats t) (again_of t) (end_of (after_repeats t))
+same-number t s (e ∷ es) run = same-number e.task s es run.2 ∙ ap (λ (f : AttemptEnd). f.task.partition) run.1
 
 -- ---- all partitions
 
@@ -154,7 +147,7 @@ Runs step supply outputs s snapshot k rows ns =
     → ArePartitionRuns (begun_with (settings_of step supply) supply.records outputs) k rows (reports_from outputs (tasks_left s snapshot left) left k rows)
 
 -- one partition more, which was finished before
-none-more : LawsBelow → (step : StepRecord) (supply : StepData) (outputs : List (List (List ℕ))) (s : Setup) (snapshot : Snapshot) (k : ℕ) (row : Row) (rows : List Row) → AreKept (settings_of step supply)
+none-more : LawsOfTheCratesBelow → (step : StepRecord) (supply : StepData) (outputs : List (List (List ℕ))) (s : Setup) (snapshot : Snapshot) (k : ℕ) (row : Row) (rows : List Row) → AreKept (settings_of step supply)
     → IsOpening (length supply.records) outputs k row → Runs step supply outputs s snapshot (k + 1) rows (open_from (k + 1) rows) → Runs step supply outputs s snapshot k (row ∷ rows) (open_from (k + 1) rows)
 none-more below step supply outputs s snapshot k row rows kept opens rest left way =
     let settings = settings_of step supply in
@@ -169,7 +162,7 @@ none-more below step supply outputs s snapshot k row rows kept opens rest left w
     )
 
 -- one partition more, which was run
-one-more : LawsBelow → (step : StepRecord) (supply : StepData) (outputs : List (List (List ℕ))) (s : Setup) (snapshot : Snapshot) (k : ℕ) (row : Row) (rows : List Row) → AreKept (settings_of step supply)
+one-more : LawsOfTheCratesBelow → (step : StepRecord) (supply : StepData) (outputs : List (List (List ℕ))) (s : Setup) (snapshot : Snapshot) (k : ℕ) (row : Row) (rows : List Row) → AreKept (settings_of step supply)
     → IsOpening (length supply.records) outputs k row → Runs step supply outputs s snapshot (k + 1) rows (open_from (k + 1) rows) → Runs step supply outputs s snapshot k (row ∷ rows) ((k, row) ∷ open_from (k + 1) rows)
 one-more below step supply outputs s snapshot k row rows kept opens rest [] way = absurd way
 one-more below step supply outputs s snapshot k row rows kept opens rest (a ∷ left) way =
@@ -189,14 +182,14 @@ one-more below step supply outputs s snapshot k row rows kept opens rest (a ∷ 
       subst (λ (others : List PartitionReport). ArePartitionRuns (begun_with settings supply.records outputs) (k + 1) rows others) (sym (rest-from outputs s snapshot a left (k + 1) rows before)) (rest left way.1),
     )
 
-next : LawsBelow → (step : StepRecord) (supply : StepData) (outputs : List (List (List ℕ))) (s : Setup) (snapshot : Snapshot) (k : ℕ) (row : Row) (rows : List Row) (finished : Bool) → AreKept (settings_of step supply)
+next : LawsOfTheCratesBelow → (step : StepRecord) (supply : StepData) (outputs : List (List (List ℕ))) (s : Setup) (snapshot : Snapshot) (k : ℕ) (row : Row) (rows : List Row) (finished : Bool) → AreKept (settings_of step supply)
     → IsOpening (length supply.records) outputs k row → is_finished row.state ≡ finished → Runs step supply outputs s snapshot (k + 1) rows (open_from (k + 1) rows) → Runs step supply outputs s snapshot k (row ∷ rows) (open_from k (row ∷ rows))
 next below step supply outputs s snapshot k row rows true kept opens is rest =
     subst (λ ns. Runs step supply outputs s snapshot k (row ∷ rows) ns) (sym (open-none k row rows is)) (none-more below step supply outputs s snapshot k row rows kept opens rest)
 next below step supply outputs s snapshot k row rows false kept opens is rest =
     subst (λ ns. Runs step supply outputs s snapshot k (row ∷ rows) ns) (sym (open-more k row rows is)) (one-more below step supply outputs s snapshot k row rows kept opens rest)
 
-runs-from : LawsBelow → (step : StepRecord) (supply : StepData) (outputs : List (List (List ℕ))) (s : Setup) (snapshot : Snapshot) (k : ℕ) (rows : List Row) → AreKept (settings_of step supply)
+runs-from : LawsOfTheCratesBelow → (step : StepRecord) (supply : StepData) (outputs : List (List (List ℕ))) (s : Setup) (snapshot : Snapshot) (k : ℕ) (rows : List Row) → AreKept (settings_of step supply)
     → AreOpening (length supply.records) outputs k rows → Runs step supply outputs s snapshot k rows (open_from k rows)
 runs-from below step supply outputs s snapshot k [] kept opens = λ left way. refl
 runs-from below step supply outputs s snapshot k (row ∷ rows) kept opens =
@@ -210,7 +203,7 @@ left-from outputs table left k [] = refl
 left-from outputs table left k (row ∷ rows) = ap (λ others. report_at outputs table left (k, row) ∷ others) (left-from outputs table left (k + 1) rows)
 
 -- each partition left what it leaves by itself
-pub partition-runs : LawsBelow → (step : StepRecord) (supply : StepData) (outputs : List (List (List ℕ))) (s : Setup) (snapshot : Snapshot) (left : List (ℕ × ArtifactsMeaning)) → AreKept (settings_of step supply)
+pub partition-runs : LawsOfTheCratesBelow → (step : StepRecord) (supply : StepData) (outputs : List (List (List ℕ))) (s : Setup) (snapshot : Snapshot) (left : List (ℕ × ArtifactsMeaning)) → AreKept (settings_of step supply)
     → AreOpening (length supply.records) outputs 0 s.rows → AreOnTheWay (tasks_of step supply outputs (open_from 0 s.rows)) (tasks_left s snapshot left)
     → snapshot.rows.items ≡ rows_now s.rows (tasks_left s snapshot left)
     → ArePartitionRuns (begun_with (settings_of step supply) supply.records outputs) 0 s.rows (partitions_left outputs snapshot.rows.items left)

@@ -9,9 +9,9 @@ use Rattle.jb_mapper.specs.EvenCover.{even_ranges}
 use Rattle.jb_mapper.specs.Mapping.{even, fixed}
 use Rattle.jb_collect.specs.declared.calls.ReducerCall.{ReducerCall}
 use Rattle.jb_collect.specs.declared.calls.ReducerCall.TheVariants.{Begin}
-use Rattle.jb_collect.specs.Taken.{Taken, calls_of, faulted, well}
-use Rattle.jb_step.specs.Prepare.{CanDiscard, IsFaultedRollback, IsRefusal}
-use Rattle.jb_step.specs.Callbacks.{Grew, has_fault, since}
+use Rattle.jb_collect.specs.Taken.{Taken, Grew, calls_of, faulted, since, well}
+use Rattle.jb_step.specs.preparing.Prepare.{CanDiscard, IsFaultedRollback, IsPrepareRefusal}
+use Rattle.jb_step.specs.callbacks.Callbacks.{has_fault}
 use Rattle.jb_saved.specs.SavedRows.{SavedRows}
 use Rattle.jb_saved.specs.declared.place.SavedPlace.{SavedPlace}
 use Rattle.jb_saved.specs.declared.error.StepError.{StepError}
@@ -37,7 +37,7 @@ own-plan spec records own threads replace some same-threads same-replace =
 
 -- only the plan and the saved rows may be refused, where there is memory
 pub other-refusal : (step : StepRecord) (records : ℕ) (mapped : Result PartitionPlan ClassId) (saved : Option SavedRows) (plan : PartitionPlan) (before : List (Taken ReducerCall)) (new : List ReducerCall) (e : StepError) → Grew before (map well new) → mapped ≡ Ok plan
-    → IsRefusal step records mapped saved (since before (map well new)) e → ((fault : PlanError) → e ≡ error.Plan fault → ⊥) → ((place : SavedPlace) → e ≡ error.Saved place → ⊥) → (e ≡ error.Memory → ⊥) → ⊥
+    → IsPrepareRefusal step records mapped saved (since before (map well new)) e → ((fault : PlanError) → e ≡ error.Plan fault → ⊥) → ((place : SavedPlace) → e ≡ error.Saved place → ⊥) → (e ≡ error.Memory → ⊥) → ⊥
 other-refusal step records mapped saved plan before new (error.Plan fault) grew maps is plans places memory = plans fault refl
 other-refusal step records mapped saved plan before new (error.Mapper class) grew maps is plans places memory = cc
 other-refusal step records mapped saved plan before new (error.Reducer class) grew maps is plans places memory =

@@ -4,12 +4,11 @@ use Rattle.jb_artifacts.specs.Meaning.{ArtifactsMeaning}
 use Rattle.jb_collect.specs.declared.calls.AnalyzerCall.{AnalyzerCall}
 use Rattle.jb_collect.specs.declared.calls.ReducerCall.{ReducerCall}
 use Rattle.jb_collect.specs.declared.calls.Status.{Status}
-use Rattle.jb_collect.specs.Taken.{Taken, well}
+use Rattle.jb_collect.specs.Taken.{Taken, since, well}
 use Rattle.jb_repo.specs.declared.snapshot.Snapshot.{Snapshot}
 use Rattle.jb_cert.specs.declared.notes.PlanNote.{PlanNote}
 use Rattle.jb_step.specs.Answers.{IsStatus, StepRun}
-use Rattle.jb_step.specs.Callbacks.{since}
-use Rattle.jb_step.specs.Setup.{Setup}
+use Rattle.jb_step.specs.preparing.Setup.{Setup}
 use Rattle.jb_step.specs.Statuses.{status_of}
 use Rattle.jb_program.proofs.Callbacks.{well-faults}
 

@@ -12,15 +12,15 @@ use Rattle.jb_chunk.specs.Standing.{TaskState}
 use Rattle.jb_collect.specs.declared.calls.AnalyzerCall.{AnalyzerCall}
 use Rattle.jb_collect.specs.declared.calls.ReducerCall.{ReducerCall}
 use Rattle.jb_collect.specs.declared.calls.Status.{Status}
-use Rattle.jb_collect.specs.ReducerCalls.{calls_after, calls_before, run_end}
+use Rattle.jb_collect.specs.ReducerCalls.{calls_after, calls_before}
 use Rattle.jb_collect.specs.Taken.{calls_of, well}
 use Rattle.jb_repo.specs.declared.snapshot.Snapshot.{Snapshot}
 use Rattle.jb_saved.specs.SavedRows.{SavedRows}
 use Rattle.jb_cert.specs.declared.notes.PlanNote.{PlanNote}
 use Rattle.jb_step.specs.Answers.{IsRunOfStep, tasks_left}
 use Rattle.jb_step.specs.Headline.{Headline}
-use Rattle.jb_step.specs.Prepare.{DoFit}
-use Rattle.jb_step.specs.Setup.{IsSetup, Setup, discards, first_tasks, gone_on, row_now, rows_now, saved_faults}
+use Rattle.jb_step.specs.preparing.Prepare.{DoFit}
+use Rattle.jb_step.specs.preparing.Setup.{IsSetup, Setup, discards, first_tasks, gone_on, row_now, rows_now, saved_faults}
 use Rattle.jb_step.specs.Statuses.{status_of}
 use Rattle.jb_step.specs.Alone.{AreOnTheWay}
 use Rattle.jb_documents.specs.declared.restart.resume.Resume.{Resume}
@@ -28,11 +28,11 @@ use Rattle.jb_documents.specs.declared.run.step_data.StepData.{StepData}
 use Rattle.jb_program.specs.declared.run.settings.StepSettings.{StepSettings}
 use Rattle.jb_program.specs.declared.streams.failure.Failure.{Failure}
 use Rattle.jb_program.specs.declared.streams.failure.Failure.TheVariants as failure
-use Rattle.jb_program.specs.inside.Below.{LawsBelow}
+use Rattle.jb_program.specs.inside.Below.{LawsOfTheCratesBelow}
 use Rattle.jb_program.specs.JobRun.{IsStepRefused, IsStepRun, kept_of, plan_for, plan_of_step, settings_of, setup_of, works_of}
-use Rattle.jb_program.specs.Refusals.{IsBroken}
-use Rattle.jb_program.specs.StepRun.{AreHeld, IsNotBegun, gone_on_from, outputs_of, partitions_left, saved_of, setup_with, works_for}
-use Rattle.jb_program.proofs.Callbacks.{reducer-calls, well-calls}
+use Rattle.jb_program.specs.Refusals.{IsBreakOff}
+use Rattle.jb_program.specs.StepRun.{AreHeld, IsNotBegun, gone_on_from, outputs_of, partitions_left, rows_saved, setup_with, works_for}
+use Rattle.jb_program.proofs.Callbacks.{well-calls}
 use Rattle.jb_program.proofs.Opening.{AreOpening, IsPreparedWith, opening, within-rows}
 use Rattle.jb_program.proofs.PartitionRuns.{AreKept, partition-runs}
 use Rattle.jb_program.proofs.Rounds.{run_with}
@@ -41,11 +41,11 @@ use Rattle.jb_program.proofs.Unfinished.{works-fit}
 -- ---- what a step begins with
 
 -- the rows that are kept are those of what is kept
-kept-rows : (replace : Bool) (resume : Option Resume) → gone_on replace (saved_of resume) ≡ saved_of (gone_on_from replace resume)
+kept-rows : (replace : Bool) (resume : Option Resume) → gone_on replace (rows_saved resume) ≡ rows_saved (gone_on_from replace resume)
 kept-rows true resume = refl
 kept-rows false resume = refl
 
-pub prepared-with : (step : StepRecord) (count : ℕ) (resume : Option Resume) (saved : Option SavedRows) (prepared : Setup) → saved ≡ saved_of resume → IsRunnable count (plan_for step.spec count)
+pub prepared-with : (step : StepRecord) (count : ℕ) (resume : Option Resume) (saved : Option SavedRows) (prepared : Setup) → saved ≡ rows_saved resume → IsRunnable count (plan_for step.spec count)
     → saved_faults step count step.spec.replace saved ≡ [] → prepared ≡ setup_with step (plan_for step.spec count) (gone_on step.spec.replace saved) → IsSetup prepared → IfSome resume AreHeld → IsPreparedWith step count (plan_for step.spec count) resume prepared
 prepared-with step count resume saved prepared same runnable accepted is setup held = record {
   runnable = runnable;
@@ -95,12 +95,12 @@ few-rows prepared table rows setup are =
 -- ---- its report
 
 -- the report that is written has the partitions, plans, calls and status of a run
-pub step-run : LawsBelow → (step : StepRecord) (supply : StepData) (round_limit : Option ℕ) (resume : Option Resume) (count : ℕ) (prepared : Setup) (records : List (List ℕ)) (outputs : List (List (List ℕ))) (settings : StepSettings)
+pub step-run : LawsOfTheCratesBelow → (step : StepRecord) (supply : StepData) (round_limit : Option ℕ) (resume : Option Resume) (count : ℕ) (prepared : Setup) (records : List (List ℕ)) (outputs : List (List (List ℕ))) (settings : StepSettings)
     (works : List ArtifactsMeaning) (snapshot : Snapshot) (left : List (ℕ × ArtifactsMeaning)) (id : List ℕ) (status : Status) (plans : List PlanNote) (heard silent listened : List AnalyzerCall) (reducer begun recorded : List ReducerCall)
     → AreGiven step resume count prepared records outputs → records ≡ supply.records → settings ≡ settings_of step supply → AreKept settings → works ≡ works_for settings records outputs prepared.rows
     → silent ≡ [] → IsRunOfStep (run_with prepared works round_limit (map well silent) (map well listened) plans snapshot left)
     → Headline (run_with prepared works round_limit (map well silent) (map well listened) plans snapshot left) → AreOnTheWay (first_tasks prepared works) (tasks_left prepared snapshot left)
-    → status ≡ status_of snapshot.rows.items false → begun ≡ calls_before (discards step.spec.replace (saved_of resume)) → recorded ≡ begun ++ calls_after (run_end (status_of snapshot.rows.items false) false)
+    → status ≡ status_of snapshot.rows.items false → begun ≡ calls_before (discards step.spec.replace (rows_saved resume)) → recorded ≡ begun ++ calls_after (status_of snapshot.rows.items false) false
     → id ≡ step.id → heard ≡ calls_of (map well listened) → reducer ≡ calls_of (map well recorded)
     → IsStepRun step supply round_limit resume (record { id = id; status = status; partitions = partitions_left outputs snapshot.rows.items left; heard = heard; plans = plans; reducer = reducer })
 step-run below step supply round_limit resume count prepared records outputs settings works snapshot left id status plans heard silent listened reducer begun recorded given records-are settings-are kept are quiet run headline way stands begins calls id-is heard-is reducer-is =
@@ -132,8 +132,7 @@ step-run below step supply round_limit resume count prepared records outputs set
         partitions = sym whole;
         status = stands;
         reducer =
-            reducer-is ∙ well-calls recorded ∙ calls ∙ ap (λ cs. cs ++ calls_after (run_end (status_of snapshot.rows.items false) false)) begins
-            ∙ reducer-calls (discards step.spec.replace (saved_of resume)) (status_of snapshot.rows.items false);
+            reducer-is ∙ well-calls recorded ∙ calls ∙ ap (λ cs. cs ++ calls_after (status_of snapshot.rows.items false) false) begins;
       };
     }
 
@@ -144,8 +143,8 @@ pub handed-on : (r : Result Status Failure) (e : Failure) (P : Failure → Type 
 handed-on (Ok status) e P is holds = tt
 handed-on (Err one) e P is holds = subst P (sym is) holds
 
-pub refused : (step : StepRecord) (supply : StepData) (resume : Option Resume) (saved : Option SavedRows) (count : ℕ) (e : Failure) → count ≡ length supply.records → saved ≡ saved_of resume
-    → (e ≡ failure.Memory) ⊎ IsNotBegun step count (plan_for step.spec count) saved e → IsBroken e ⊎ IsStepRefused step supply resume e
-refused step supply resume saved count e counted same (inl memory) = inl (subst IsBroken (sym memory) tt)
+pub refused : (step : StepRecord) (supply : StepData) (resume : Option Resume) (saved : Option SavedRows) (count : ℕ) (e : Failure) → count ≡ length supply.records → saved ≡ rows_saved resume
+    → (e ≡ failure.Memory) ⊎ IsNotBegun step count (plan_for step.spec count) saved e → IsBreakOff e ⊎ IsStepRefused step supply resume e
+refused step supply resume saved count e counted same (inl memory) = inl (subst IsBreakOff (sym memory) tt)
 refused step supply resume saved count e counted same (inr first) =
-    inr (subst (λ n. IsNotBegun step n (plan_for step.spec n) (saved_of resume) e) counted (subst (λ (rows : Option SavedRows). IsNotBegun step count (plan_for step.spec count) rows e) same first))
+    inr (subst (λ n. IsNotBegun step n (plan_for step.spec n) (rows_saved resume) e) counted (subst (λ (rows : Option SavedRows). IsNotBegun step count (plan_for step.spec count) rows e) same first))

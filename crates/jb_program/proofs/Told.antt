@@ -17,7 +17,7 @@ use Rattle.jb_collect.specs.declared.calls.Status.{Status}
 use Rattle.jb_saved.specs.SavedTree.{tokens_of}
 use Rattle.jb_step.specs.Answers.{given_back}
 use Rattle.jb_cert.specs.declared.notes.PlanNote.{PlanNote}
-use Rattle.jb_texts.specs.Report.{PartitionReport, texts_tree}
+use Rattle.jb_texts.specs.Report.{PartitionReport, results_tree}
 use Rattle.jb_texts.specs.ReportTokens.{outputs_tokens, step_head, step_tail, step_tokens}
 use Rattle.jb_program.specs.StepRun.{committed_of, outputs_in, partitions_left}
 use Rattle.jb_program.specs.inside.Written.{lists_left, outputs_by, written_at}
@@ -118,11 +118,11 @@ by-writer before (Some left) = refl
 
 -- the outputs of a partition, of all that came back
 abbrev pub outputs_at : (outputs : List (List (List ℕ))) → List (ℕ × ArtifactsMeaning) → ℕ × Row → List Token
-outputs_at outputs left n = tokens_of (texts_tree (outputs_in (committed_of outputs n) (find (λ one. one.0 == n.0) left)))
+outputs_at outputs left n = tokens_of (results_tree (outputs_in (committed_of outputs n) (find (λ one. one.0 == n.0) left)))
 
 -- they are those of the writers
 written-left : (outputs : List (List (List ℕ))) (left : List (ℕ × ArtifactsMeaning)) (n : ℕ × Row) → written_at outputs (lists_left left) n ≡ outputs_at outputs left n
-written-left outputs left n = ap (λ outs. tokens_of (texts_tree outs))
+written-left outputs left n = ap (λ outs. tokens_of (results_tree outs))
     (sym (ap (outputs_by (committed_of outputs n)) (find-mapped (λ (work : ArtifactsMeaning). work.writer.written) left n.0)) ∙ by-writer (committed_of outputs n) (find (λ one. one.0 == n.0) left))
 
 -- of all partitions

@@ -6,7 +6,7 @@ use Rattle.jb_rules.specs.Rows.{range_of}
 use Rattle.jb_rules.specs.States.{is_finished}
 use Rattle.jb_rules.specs.declared.row.Row.{Row}
 use Rattle.jb_artifacts.specs.Meaning.{Fits, ArtifactsMeaning}
-use Rattle.jb_step.specs.Prepare.{FitRows}
+use Rattle.jb_step.specs.preparing.Prepare.{FitRows}
 use Rattle.jb_program.specs.declared.run.settings.StepSettings.{StepSettings}
 use Rattle.jb_program.specs.PartitionRun.{work_for}
 use Rattle.jb_program.proofs.Opening.{AreOpening, IsOpening, counted}

@@ -3,11 +3,11 @@ use Rattle.std.proofs.Common.{◌≡◌, List, [], ◌∷◌, Some, None, arith,
 use Rattle.clap.specs.Words.{Text}
 use Rattle.clap.specs.declared.error.kind.ErrorKind.TheVariants.{UnknownArgument}
 use Rattle.clap.proofs.OnLiterals.{clap_on_literals}
-use Rattle.jb_program.specs.declared.words.request.Request.TheVariants.{Help, Version, Work}
+use Rattle.jb_program.specs.declared.words.request.Request.TheVariants.{Help, Version, Perform}
 use Rattle.jb_program.specs.declared.words.request.Word.TheVariants.{Run, Restart, Plan, Check}
-use Rattle.jb_program.specs.CommandLine.{AreUnknown, Asks, CanGoOn, IsWrongWord}
+use Rattle.jb_program.specs.CommandLine.{AreUnknown, Asks, CanBeCompleted, IsWrongWord}
 
-a_word : Asks (codes "check" ∷ []) (Work (record { word = Check; rounds = None }))
+a_word : Asks (codes "check" ∷ []) (Perform (record { word = Check; rounds = None }))
 unfolding clap_on_literals
 a_word = (refl, refl)
 
@@ -43,7 +43,7 @@ a_word_twice : AreUnknown (codes "run" ∷ codes "run" ∷ [])
 unfolding clap_on_literals
 a_word_twice = inr (UnknownArgument, inl refl, (λ e. cc), (λ e. cc))
 
-a_number_of_rounds : Asks (codes "restart" ∷ codes "--rounds" ∷ codes "1" ∷ []) (Work (record { word = Restart; rounds = Some 1 }))
+a_number_of_rounds : Asks (codes "restart" ∷ codes "--rounds" ∷ codes "1" ∷ []) (Perform (record { word = Restart; rounds = Some 1 }))
 unfolding clap_on_literals
 a_number_of_rounds = (refl, refl)
 
@@ -62,6 +62,6 @@ the_option = record {
   place = 1;
   is_there = refl;
   before = λ n some to. let one : n ≡ 1 = omega (arith, some, to) in
-      subst (λ m. CanGoOn (take m rounds_line)) (sym one) (Work (record { word = Plan; rounds = None }), inl (refl, refl));
+      subst (λ m. CanBeCompleted (take m rounds_line)) (sym one) (Perform (record { word = Plan; rounds = None }), inl (refl, refl));
   up_to = inl (inr (UnknownArgument, inl refl, (λ e. cc), (λ e. cc)), inr (UnknownArgument, inl refl, (λ e. cc), (λ e. cc)));
 }

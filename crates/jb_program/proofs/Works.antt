@@ -10,7 +10,7 @@ use Rattle.jb_artifacts.specs.Meaning.{ArtifactsMeaning}
 use Rattle.jb_plan.specs.Plans.{IsWithin}
 use Rattle.jb_rules.specs.Rows.{range_of}
 use Rattle.jb_rules.specs.declared.row.Row.{Row}
-use Rattle.jb_step.specs.Setup.{needs, unfinished}
+use Rattle.jb_step.specs.preparing.Setup.{needs, unfinished}
 use Rattle.jb_program.specs.declared.run.settings.StepSettings.{StepSettings}
 use Rattle.jb_program.specs.PartitionRun.{work_for}
 

@@ -8,7 +8,7 @@ use Rattle.jb_documents.specs.PlanDocument.{IsRefusedLoad}
 use Rattle.jb_documents.specs.CheckDocument.{IsRefusedClaim}
 use Rattle.jb_texts.specs.Front.{AppendsFront}
 use Rattle.jb_program.specs.declared.words.request.Request.{Request}
-use Rattle.jb_program.specs.declared.words.request.Request.TheVariants.{Help, Version, Work}
+use Rattle.jb_program.specs.declared.words.request.Request.TheVariants.{Help, Version, Perform}
 use Rattle.jb_program.specs.declared.words.request.Word.{Word}
 use Rattle.jb_program.specs.declared.words.request.Word.TheVariants.{Run, Restart, Plan, Check}
 use Rattle.jb_program.specs.Help.{help_text, version_text}
@@ -16,44 +16,44 @@ use Rattle.jb_program.specs.RunWord.{IsRefusedPlan, IsRun, IsRunFront}
 use Rattle.jb_program.specs.RestartWord.{IsRefusedRestartStep, IsRefusedSaved, IsRestarted, IsRestartFront}
 use Rattle.jb_program.specs.PlanWord.{IsPlanned, IsPlanFront}
 use Rattle.jb_program.specs.CheckWord.{IsCheckAnswer, IsCheckFront}
-use Rattle.jb_program.specs.Refusals.{IsFault}
+use Rattle.jb_program.specs.Refusals.{IsDocumentFault}
 use Rattle.jb_program.specs.declared.streams.failure.Failure.{Failure}
 use Rattle.jb_program.specs.declared.streams.failure.Failure.TheVariants as failure
 
 -- The writer holds what the word makes of the document, and the status is the answer's.
-abbrev pub IsWorkAnswer : Word → (round_limit : Option ℕ) → (input old new : Option (List ℕ)) → (status : ℕ) → Type 0
-IsWorkAnswer Run round_limit input old new status = (status < 3) × IsRun round_limit input old new status
-IsWorkAnswer Restart round_limit input old new status = (status < 3) × IsRestarted round_limit input old new status
-IsWorkAnswer Plan round_limit input old new status = (status ≡ 0) × IsPlanned input old new
-IsWorkAnswer Check round_limit input old new status = (status < 2) × IsCheckAnswer input old new status
+abbrev pub IsPerformedAnswer : Word → (round_limit : Option ℕ) → (input old new : Option (List ℕ)) → (status : ℕ) → Type 0
+IsPerformedAnswer Run round_limit input old new status = (status < 3) × IsRun round_limit input old new status
+IsPerformedAnswer Restart round_limit input old new status = (status < 3) × IsRestarted round_limit input old new status
+IsPerformedAnswer Plan round_limit input old new status = (status ≡ 0) × IsPlanned input old new
+IsPerformedAnswer Check round_limit input old new status = (status < 2) × IsCheckAnswer input old new status
 
 -- The writer holds the answer: what a word makes of the document, or what the program says of itself, with status 0.
 abbrev pub IsAnswer : Request → (input old new : Option (List ℕ)) → (status : ℕ) → Type 0
-IsAnswer (Work line) input old new status = IsWorkAnswer line.word line.rounds input old new status
+IsAnswer (Perform line) input old new status = IsPerformedAnswer line.word line.rounds input old new status
 IsAnswer (Help topic) input old new status = (status ≡ 0) × Appends old new (help_text topic)
 IsAnswer Version input old new status = (status ≡ 0) × Appends old new version_text
 
 -- The writer holds the front of what the word makes of the document: nothing of it, some of its bytes, or all.
-abbrev pub IsWorkFront : Word → (round_limit : Option ℕ) → (input old new : Option (List ℕ)) → Type 0
-IsWorkFront Run round_limit input old new = IsRunFront round_limit input old new
-IsWorkFront Restart round_limit input old new = IsRestartFront round_limit input old new
-IsWorkFront Plan round_limit input old new = IsPlanFront input old new
-IsWorkFront Check round_limit input old new = IsCheckFront input old new
+abbrev pub IsPerformedFront : Word → (round_limit : Option ℕ) → (input old new : Option (List ℕ)) → Type 0
+IsPerformedFront Run round_limit input old new = IsRunFront round_limit input old new
+IsPerformedFront Restart round_limit input old new = IsRestartFront round_limit input old new
+IsPerformedFront Plan round_limit input old new = IsPlanFront input old new
+IsPerformedFront Check round_limit input old new = IsCheckFront input old new
 
 -- The same of any answer.
 abbrev pub IsAnswerFront : Request → (input old new : Option (List ℕ)) → Type 0
-IsAnswerFront (Work line) input old new = IsWorkFront line.word line.rounds input old new
+IsAnswerFront (Perform line) input old new = IsPerformedFront line.word line.rounds input old new
 IsAnswerFront (Help topic) input old new = AppendsFront old new (help_text topic)
 IsAnswerFront Version input old new = AppendsFront old new version_text
 
 -- The bytes are refused by this line, and the failure names why: their first fault, the first refused plan of a job, or what is
 -- refused of the saved rows.
 abbrev pub IsRefusedBy : Word → (round_limit : Option ℕ) → Failure → List ℕ → Type 0
-IsRefusedBy Run round_limit (failure.Document fault) bytes = IsFault fault × IsRefusedDocument fault bytes
+IsRefusedBy Run round_limit (failure.Document fault) bytes = IsDocumentFault fault × IsRefusedDocument fault bytes
 IsRefusedBy Run round_limit (failure.Plan fault) bytes = IsRefusedPlan round_limit fault bytes
-IsRefusedBy Restart round_limit (failure.Document fault) bytes = IsFault fault × IsRefusedRestart (restart_fault.Document fault) bytes
+IsRefusedBy Restart round_limit (failure.Document fault) bytes = IsDocumentFault fault × IsRefusedRestart (restart_fault.Document fault) bytes
 IsRefusedBy Restart round_limit (failure.Plan fault) bytes = IsRefusedRestartStep round_limit (failure.Plan fault) bytes
 IsRefusedBy Restart round_limit (failure.Saved place) bytes = IsRefusedSaved round_limit place bytes
-IsRefusedBy Plan round_limit (failure.Document fault) bytes = IsFault fault × IsRefusedLoad fault bytes
-IsRefusedBy Check round_limit (failure.Document fault) bytes = IsFault fault × IsRefusedClaim fault bytes
+IsRefusedBy Plan round_limit (failure.Document fault) bytes = IsDocumentFault fault × IsRefusedLoad fault bytes
+IsRefusedBy Check round_limit (failure.Document fault) bytes = IsDocumentFault fault × IsRefusedClaim fault bytes
 IsRefusedBy _ _ _ bytes = ⊥

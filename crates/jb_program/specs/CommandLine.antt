@@ -10,7 +10,7 @@ use Rattle.jb_base.specs.Limits.{max_rounds}
 use Rattle.jb_program.specs.declared.words.fault.UsageFault.{UsageFault}
 use Rattle.jb_program.specs.declared.words.fault.UsageFault.TheVariants as usage
 use Rattle.jb_program.specs.declared.words.request.Request.{Request}
-use Rattle.jb_program.specs.declared.words.request.Request.TheVariants.{Help, Version, Work}
+use Rattle.jb_program.specs.declared.words.request.Request.TheVariants.{Help, Version, Perform}
 use Rattle.jb_program.specs.declared.words.request.Word.{Word}
 use Rattle.jb_program.specs.declared.words.request.Word.TheVariants.{Run, Restart, Plan, Check}
 
@@ -55,16 +55,16 @@ rounds_from n [] = if nat_le n max_rounds then Some n else None
 rounds_from n (digit ∷ digits) = if is_ascii_digit digit then rounds_from (n * 10 + (digit - 48)) digits else None
 
 -- a number of rounds: one decimal digit or more
-abbrev pub rounds_in : Text → Option ℕ
-rounds_in [] = None
-rounds_in (digit ∷ digits) = rounds_from 0 (digit ∷ digits)
+abbrev pub rounds_of_word : Text → Option ℕ
+rounds_of_word [] = None
+rounds_of_word (digit ∷ digits) = rounds_from 0 (digit ∷ digits)
 
 -- ---- what they ask for
 
 -- a word by itself, or with its number of rounds
 abbrev pub line_in : Word → (given : Option Text) → Option Request
-line_in word None = Some (Work (record { word = word; rounds = None }))
-line_in word (Some text) = option_map (λ n. Work (record { word = word; rounds = Some n })) (rounds_in text)
+line_in word None = Some (Perform (record { word = word; rounds = None }))
+line_in word (Some text) = option_map (λ n. Perform (record { word = word; rounds = Some n })) (rounds_of_word text)
 
 -- a word's name, and the number of rounds that is given
 abbrev pub work_in : Text → (given : Option Text) → Option Request
@@ -95,7 +95,7 @@ topic_at words = option_and_then word_in (slice_get words 0)
 
 -- What the words ask for: the word that `clap` takes; the help, by its option or by the word `help`; the version, by its option.
 abbrev pub Asks : List Text → Request → Type 0
-Asks words (Work line) = AreTakenAs words (Some (Work line))
+Asks words (Perform line) = AreTakenAs words (Some (Perform line))
 Asks words (Help topic) = AreTakenAs words (Some (Help topic)) ⊎ (EndIn words DisplayHelp × (topic ≡ topic_at words))
 Asks words Version = EndIn words DisplayVersion
 
@@ -106,8 +106,8 @@ AreUnknown words = AreTakenAs words None ⊎ ((kind : ErrorKind) × EndIn words 
 -- ---- which word is wrong
 
 -- They ask for something, or would if a number stood behind them.
-abbrev pub CanGoOn : List Text → Type 0
-CanGoOn words = (request : Request) × (Asks words request ⊎ Asks (words ++ codes "0" ∷ []) request)
+abbrev pub CanBeCompleted : List Text → Type 0
+CanBeCompleted words = (request : Request) × (Asks words request ⊎ Asks (words ++ codes "0" ∷ []) request)
 
 -- They ask for nothing, whether or not a number stands behind them.
 abbrev pub CannotGoOn : List Text → Type 0
@@ -119,7 +119,7 @@ pub record IsWrongWord (words : List Text) (word : Text) : Type 0 where
   pub unknown : AreUnknown words
   pub place : ℕ
   pub is_there : slice_get words place ≡ Some word
-  pub before : (n : ℕ) → 0 < n → n ≤ place → CanGoOn (take n words)
+  pub before : (n : ℕ) → 0 < n → n ≤ place → CanBeCompleted (take n words)
   pub up_to : CannotGoOn (take (place + 1) words) ⊎ (place + 1 ≡ length words)
 
 -- what is wrong with the words of the process; there are none to speak of where one is no text

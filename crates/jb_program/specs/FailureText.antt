@@ -9,15 +9,15 @@ use Rattle.jb_program.specs.declared.streams.failure.Failure.{Failure}
 use Rattle.jb_program.specs.declared.streams.failure.Failure.TheVariants as failure
 
 -- the first fault of the document, of a step's partition plan, or of the saved rows
-unfoldable pub refusal : List ℕ → List ℕ
-refusal fault = codes "refused: " ++ (fault ++ 10 ∷ [])
+unfoldable pub refusal_line : List ℕ → List ℕ
+refusal_line fault = codes "refused: " ++ (fault ++ 10 ∷ [])
 
 -- one line, and one more where the words are wrong
 abbrev pub failure_text : Failure → List ℕ
 failure_text (failure.Usage fault) = usage_text fault
-failure_text (failure.Document fault) = refusal (fault_text fault)
-failure_text (failure.Plan error) = refusal (error_text error)
-failure_text (failure.Saved place) = refusal (restart_fault_text (Saved place))
+failure_text (failure.Document fault) = refusal_line (fault_text fault)
+failure_text (failure.Plan error) = refusal_line (error_text error)
+failure_text (failure.Saved place) = refusal_line (restart_fault_text (Saved place))
 failure_text failure.Memory = codes "no memory\n"
 failure_text failure.Workers = codes "no worker\n"
 failure_text (failure.Repository partition) = codes "repository " ++ (decimal partition ++ 10 ∷ [])

@@ -5,7 +5,7 @@ use Rattle.clap.specs.Words.{Text}
 use Rattle.jb_texts.specs.Front.{AppendsFront}
 use Rattle.jb_program.specs.declared.words.request.Line.{Line}
 use Rattle.jb_program.specs.declared.words.request.Request.{Request}
-use Rattle.jb_program.specs.declared.words.request.Request.TheVariants.{Work}
+use Rattle.jb_program.specs.declared.words.request.Request.TheVariants.{Perform}
 use Rattle.jb_program.specs.declared.streams.failure.Failure.{Failure}
 use Rattle.jb_program.specs.declared.streams.failure.Failure.TheVariants as failure
 use Rattle.jb_program.specs.Answer.{IsAnswerFront, IsRefusedBy}
@@ -22,20 +22,20 @@ abbrev pub IsCutShort : Request → (input old new : Option (List ℕ)) → Type
 IsCutShort request input old new = Keeps old new ⊎ IsAnswerFront request input old new
 
 -- A word refuses the bytes, and nothing is written.
-abbrev pub IsRefused : (words : Option (List Text)) → (input old new : Option (List ℕ)) → Failure → Type 0
-IsRefused words input old new e = (line : Line) × IsAsked words (Work line) × IfSome input (IsRefusedBy line.word line.rounds e) × Keeps old new
+abbrev pub IsWordRefused : (words : Option (List Text)) → (input old new : Option (List ℕ)) → Failure → Type 0
+IsWordRefused words input old new e = (line : Line) × IsAsked words (Perform line) × IfSome input (IsRefusedBy line.word line.rounds e) × Keeps old new
 
 -- Why there is no answer. Only where a stream failed may the writer hold anything, and that is the front of the answer.
 abbrev pub HasFailed : (words : Option (List Text)) → (input old new : Option (List ℕ)) → Failure → Type 0
 HasFailed words input old new (failure.Usage fault) = IsWrong fault words × Keeps old new
-HasFailed words input old new (failure.Document fault) = IsRefused words input old new (failure.Document fault)
-HasFailed words input old new (failure.Plan error) = IsRefused words input old new (failure.Plan error)
-HasFailed words input old new (failure.Saved place) = IsRefused words input old new (failure.Saved place)
+HasFailed words input old new (failure.Document fault) = IsWordRefused words input old new (failure.Document fault)
+HasFailed words input old new (failure.Plan error) = IsWordRefused words input old new (failure.Plan error)
+HasFailed words input old new (failure.Saved place) = IsWordRefused words input old new (failure.Saved place)
 HasFailed words input old new failure.Memory = Keeps old new
 HasFailed words input old new failure.Workers = Keeps old new
 HasFailed words input old new (failure.Repository partition) = Keeps old new
 HasFailed words input old new failure.Stream = (request : Request) × IsAsked words request × IsCutShort request input old new
 
 -- The failure is told, and the status is its own; where a stream fails then, the front of its text may be there, and nothing else.
-abbrev pub IsTold : Failure → (old new : Option (List ℕ)) → (status : ℕ) → Type 0
-IsTold e old new status = (Appends old new (failure_text e) × (status ≡ failure_code e)) ⊎ (AppendsFront old new (failure_text e) × (status ≡ failure_code failure.Stream))
+abbrev pub IsFailureTold : Failure → (old new : Option (List ℕ)) → (status : ℕ) → Type 0
+IsFailureTold e old new status = (Appends old new (failure_text e) × (status ≡ failure_code e)) ⊎ (AppendsFront old new (failure_text e) × (status ≡ failure_code failure.Stream))

@@ -14,12 +14,12 @@ use Rattle.jb_documents.specs.declared.restart.resume.Resume.{Resume}
 use Rattle.jb_artifacts.specs.Meaning.{ArtifactsMeaning}
 use Rattle.jb_collect.specs.declared.calls.Status.{Status}
 use Rattle.jb_collect.specs.declared.calls.Status.TheVariants.{Completed}
-use Rattle.jb_step.specs.Setup.{Setup, discards, saved_faults}
+use Rattle.jb_step.specs.preparing.Setup.{Setup, discards, saved_faults}
 use Rattle.jb_texts.specs.Report.{Report, StepReport}
 use Rattle.jb_program.specs.declared.run.settings.StepSettings.{StepSettings}
 use Rattle.jb_program.specs.declared.streams.failure.Failure.{Failure}
 use Rattle.jb_program.specs.PartitionRun.{ArePartitionRuns, begun_with}
-use Rattle.jb_program.specs.StepRun.{IsNotBegun, IsToldOf, gone_on_from, outputs_of, saved_of, setup_with, works_for}
+use Rattle.jb_program.specs.StepRun.{IsNotBegun, IsToldOf, gone_on_from, outputs_of, rows_saved, setup_with, works_for}
 
 -- ---- a step
 
@@ -46,7 +46,7 @@ kept_of step resume = gone_on_from step.spec.replace resume
 
 -- what it begins with, anew or from what the run before left
 abbrev pub setup_of : StepRecord → StepData → Option Resume → Setup
-setup_of step supply resume = setup_with step (plan_of_step step supply) (saved_of (kept_of step resume))
+setup_of step supply resume = setup_with step (plan_of_step step supply) (rows_saved (kept_of step resume))
 
 -- what the partitions work with that aren't finished
 abbrev pub works_of : StepRecord → StepData → Option Resume → List ArtifactsMeaning
@@ -56,14 +56,14 @@ works_of step supply resume = works_for (settings_of step supply) supply.records
 -- partition left what it leaves by itself, and the plans, what was heard, the reducer's calls and the status are the run's.
 pub record IsStepRun (step : StepRecord) (supply : StepData) (round_limit : Option ℕ) (resume : Option Resume) (report : StepReport) : Type 0 where
   pub runnable : IsRunnable (length supply.records) (plan_of_step step supply)
-  pub accepted : saved_faults step (length supply.records) step.spec.replace (saved_of resume) ≡ []
+  pub accepted : saved_faults step (length supply.records) step.spec.replace (rows_saved resume) ≡ []
   pub id : report.id ≡ step.id
   pub partitions : ArePartitionRuns (begun_with (settings_of step supply) supply.records (outputs_of (kept_of step resume))) 0 (setup_of step supply resume).rows report.partitions
-  pub told : IsToldOf (discards step.spec.replace (saved_of resume)) (setup_of step supply resume) (works_of step supply resume) (outputs_of (kept_of step resume)) round_limit report
+  pub told : IsToldOf (discards step.spec.replace (rows_saved resume)) (setup_of step supply resume) (works_of step supply resume) (outputs_of (kept_of step resume)) round_limit report
 
 -- The step is refused: its plan, or else what it would go on from, for the first fault.
 abbrev pub IsStepRefused : StepRecord → StepData → Option Resume → Failure → Type 0
-IsStepRefused step supply resume e = IsNotBegun step (length supply.records) (plan_of_step step supply) (saved_of resume) e
+IsStepRefused step supply resume e = IsNotBegun step (length supply.records) (plan_of_step step supply) (rows_saved resume) e
 
 -- ---- the steps
 
@@ -93,7 +93,7 @@ status_in (Some report) = report.status
 -- The job's status is that of its last step that ran.
 pub record IsJobRun (document : Document) (round_limit : Option ℕ) (report : Report) : Type 0 where
   pub job : report.job ≡ document.job.id
-  pub steps : AreStepRuns (zip document.job.steps document.steps) round_limit None report.steps
+  pub steps : AreStepRuns (zip document.job.steps document.step_data) round_limit None report.steps
   pub ended : report.status ≡ status_in (slice_get report.steps (length report.steps - 1))
 
 -- ---- its restart
@@ -111,10 +111,10 @@ done_before document = earlier document.resume.saved.step document.job.steps
 -- before left, and the later ones run as ever.
 pub record IsRestartRun (document : RestartDocument) (round_limit : Option ℕ) (report : Report) : Type 0 where
   pub job : report.job ≡ document.job.id
-  pub steps : AreStepRuns (drop (done_before document) (zip document.job.steps document.steps)) round_limit (Some document.resume) report.steps
+  pub steps : AreStepRuns (drop (done_before document) (zip document.job.steps document.step_data)) round_limit (Some document.resume) report.steps
   pub ended : report.status ≡ status_in (slice_get report.steps (length report.steps - 1))
 
 -- A step that comes to its turn is refused so.
 abbrev pub IsRestartRefused : RestartDocument → (round_limit : Option ℕ) → Failure → Type 0
 IsRestartRefused document round_limit e =
-    IsRefusedAtStep (drop (done_before document) (zip document.job.steps document.steps)) round_limit (Some document.resume) e
+    IsRefusedAtStep (drop (done_before document) (zip document.job.steps document.step_data)) round_limit (Some document.resume) e

@@ -8,16 +8,16 @@ use Rattle.jb_program.specs.declared.streams.failure.Failure.{Failure}
 use Rattle.jb_program.specs.declared.streams.failure.Failure.TheVariants as failure
 
 -- want of memory is no fault of a document
-abbrev pub IsFault : JobError → Type 0
-IsFault fault.Memory = ⊥
-IsFault _ = Unit
+abbrev pub IsDocumentFault : JobError → Type 0
+IsDocumentFault fault.Memory = ⊥
+IsDocumentFault _ = Unit
 
 -- a run that breaks off: there is no memory, a worker can't be started, or the repository isn't the step's own
-abbrev pub IsBroken : Failure → Type 0
-IsBroken failure.Memory = Unit
-IsBroken failure.Workers = Unit
-IsBroken (failure.Repository _) = Unit
-IsBroken _ = ⊥
+abbrev pub IsBreakOff : Failure → Type 0
+IsBreakOff failure.Memory = Unit
+IsBreakOff failure.Workers = Unit
+IsBreakOff (failure.Repository _) = Unit
+IsBreakOff _ = ⊥
 
 -- the failure that a run tells of its step's error; the program's own artifacts and callbacks have no other
 abbrev pub IsFailureOf : StepError → Failure → Type 0
@@ -27,11 +27,11 @@ IsFailureOf error.Memory e = e ≡ failure.Memory
 IsFailureOf _ e = ⊥
 
 -- plan and check: a fault of the document, want of memory, or a failing stream
-abbrev pub IsFailure : Failure → Type 0
-IsFailure (failure.Document fault) = IsFault fault
-IsFailure failure.Memory = Unit
-IsFailure failure.Stream = Unit
-IsFailure _ = ⊥
+abbrev pub IsDocumentFailure : Failure → Type 0
+IsDocumentFailure (failure.Document fault) = IsDocumentFault fault
+IsDocumentFailure failure.Memory = Unit
+IsDocumentFailure failure.Stream = Unit
+IsDocumentFailure _ = ⊥
 
 -- run and restart: also a fault of a step's partition plan or of the saved rows, a worker that can't be started, or a
 -- repository that isn't the step's own
@@ -40,4 +40,4 @@ IsRunFailure (failure.Plan _) = Unit
 IsRunFailure (failure.Saved _) = Unit
 IsRunFailure failure.Workers = Unit
 IsRunFailure (failure.Repository _) = Unit
-IsRunFailure e = IsFailure e
+IsRunFailure e = IsDocumentFailure e

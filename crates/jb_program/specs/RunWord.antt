@@ -32,4 +32,4 @@ IsRunFront round_limit input old new = (report : Report) × AppendsFront old new
 pub record IsRefusedPlan (round_limit : Option ℕ) (fault : PlanError) (bytes : List ℕ) : Type 0 where
   pub document : Document
   pub read : IsDocument bytes document
-  pub refused : IsRefusedAtStep (zip document.job.steps document.steps) round_limit None (failure.Plan fault)
+  pub refused : IsRefusedAtStep (zip document.job.steps document.step_data) round_limit None (failure.Plan fault)

@@ -10,12 +10,12 @@ use Rattle.jb_plan.specs.declared.plan.PartitionPlan.{PartitionPlan}
 use Rattle.jb_rules.specs.declared.row.Row.{Row}
 use Rattle.jb_artifacts.specs.Meaning.{ArtifactsMeaning}
 use Rattle.jb_repo.specs.declared.snapshot.Snapshot.{Snapshot}
-use Rattle.jb_collect.specs.ReducerCalls.{reducer_calls, run_end}
+use Rattle.jb_collect.specs.ReducerCalls.{reducer_calls}
 use Rattle.jb_collect.specs.Taken.{well}
 use Rattle.jb_saved.specs.SavedRows.{SavedRows}
 use Rattle.jb_step.specs.Answers.{IsRunOfStep, StepRun}
 use Rattle.jb_step.specs.Headline.{Headline}
-use Rattle.jb_step.specs.Setup.{Setup, opening_rows, saved_faults, unfinished}
+use Rattle.jb_step.specs.preparing.Setup.{Setup, opening_rows, saved_faults, unfinished}
 use Rattle.jb_step.specs.Statuses.{status_of}
 use Rattle.jb_documents.specs.ResumeFields.{held_at}
 use Rattle.jb_documents.specs.declared.restart.resume.Resume.{Resume}
@@ -28,9 +28,9 @@ use Rattle.jb_program.specs.PartitionRun.{held_by, work_for}
 -- ---- what it goes on from
 
 -- the rows that the run before left, if there was one
-abbrev pub saved_of : Option Resume → Option SavedRows
-saved_of None = None
-saved_of (Some resume) = Some resume.saved
+abbrev pub rows_saved : Option Resume → Option SavedRows
+rows_saved None = None
+rows_saved (Some resume) = Some resume.saved
 
 -- what a step goes on from: nothing where its plan discards it
 abbrev pub gone_on_from : (replace : Bool) → Option Resume → Option Resume
@@ -109,4 +109,4 @@ pub record IsToldOf (discards : Bool) (s : Setup) (works : List ArtifactsMeaning
   pub headline : Headline (run_told s works round_limit report snapshot left)
   pub partitions : report.partitions ≡ partitions_left outputs snapshot.rows.items left
   pub status : report.status ≡ status_of snapshot.rows.items false
-  pub reducer : report.reducer ≡ reducer_calls discards (run_end (status_of snapshot.rows.items false) false)
+  pub reducer : report.reducer ≡ reducer_calls true discards (status_of snapshot.rows.items false) false

@@ -4,7 +4,7 @@ ghost use Rattle.std.specs.Prelude.{◌≡◌, ◌<◌, ◌≤◌, map, Some, If
 ghost use Rattle.std.specs.Io.KnownBytes.{Keeps};
 ghost use Rattle.jb_program.specs.declared.words.request.Request.{Request};
 ghost use Rattle.jb_program.specs.Answer.{IsAnswer};
-ghost use Rattle.jb_program.specs.Failures.{HasFailed, IsAsked, IsTold};
+ghost use Rattle.jb_program.specs.Failures.{HasFailed, IsAsked, IsFailureTold};
 ghost use Rattle.jb_program.specs.ProcessWords.{process_words};
 ghost use Rattle.jb_program.specs.Statuses.{failure_code};
 
@@ -36,7 +36,7 @@ fn answer_words<'a, T: Threads + Wait + Sync, R: Read, W: Write>(
     match request {
         Request::Help(topic) => write_help(topic, writer),
         Request::Version => write_version(writer),
-        Request::Work(line) => match line.word {
+        Request::Perform(line) => match line.word {
             Word::Run => run(rt, alloc, line.rounds, reader, writer),
             Word::Restart => restart(rt, alloc, line.rounds, reader, writer),
             Word::Plan => run_plan(alloc, reader, writer),
@@ -77,7 +77,7 @@ fn told(failure: &Failure, written: io::Result<()>) -> u8
 fn status_of<F: Write>(answer: Result<u8, Failure>, fault_writer: &mut F) -> u8
     ensures answered { IfOk answer (λ status. result ≡ status) }
     ensures quiet { OnOk answer (Keeps (F.contents fault_writer.old) (F.contents fault_writer.new)) }
-    ensures failed { IfErr answer (λ failure. IsTold failure (F.contents fault_writer.old) (F.contents fault_writer.new) result) }
+    ensures failed { IfErr answer (λ failure. IsFailureTold failure (F.contents fault_writer.old) (F.contents fault_writer.new) result) }
 {
     match answer {
         Ok(status) => status,
@@ -107,7 +107,7 @@ pub fn perform<T: Threads + Wait + Sync, R: Read, W: Write, F: Write>(
     ensures answered { result < 3 → (request : Request) × IsAsked (process_words args) request × IsAnswer request (R.remaining reader.old) (W.contents writer.old) (W.contents writer.new) result }
     ensures status { result ≤ 5 }
     ensures quiet { result < 3 → Keeps (F.contents fault_writer.old) (F.contents fault_writer.new) }
-    ensures failed { 3 ≤ result → (failure : Failure) × HasFailed (process_words args) (R.remaining reader.old) (W.contents writer.old) (W.contents writer.new) failure × IsTold failure (F.contents fault_writer.old) (F.contents fault_writer.new) result }
+    ensures failed { 3 ≤ result → (failure : Failure) × HasFailed (process_words args) (R.remaining reader.old) (W.contents writer.old) (W.contents writer.new) failure × IsFailureTold failure (F.contents fault_writer.old) (F.contents fault_writer.new) result }
 {
     let answer = answer(rt, alloc, args, reader, writer);
     status_of(answer, fault_writer)

@@ -15,8 +15,8 @@ abbrev pub AreFieldsOf : (text : List ℕ) → List Fields → Type 0
 AreFieldsOf text records = AreRecords default_config st.StartRecord (strip_bom text) records
 
 -- the line of CSV of a record
-unfoldable pub row_of : Fields → List ℕ
-row_of fields = row_text default_writer fields
+unfoldable pub csv_row : Fields → List ℕ
+csv_row fields = row_text default_writer fields
 
 -- the fields of the text's first record, if it has one
 unfoldable pub first_fields : (text : List ℕ) → Option Fields
@@ -30,13 +30,13 @@ HasWidthOf records fields = length fields ≡ length (slice_index_or records 0 [
 pub record AreRowsOf (text : List ℕ) (rows : List (List ℕ)) : Type 0 where
   pub records : List Fields
   pub read : AreFieldsOf text records
-  pub are : rows ≡ map row_of records
+  pub are : rows ≡ map csv_row records
 
 -- the rows of a text whose records have as many fields each
 pub record AreEvenRowsOf (text : List ℕ) (rows : List (List ℕ)) : Type 0 where
   pub records : List Fields
   pub read : AreFieldsOf text records
-  pub are : rows ≡ map row_of records
+  pub are : rows ≡ map csv_row records
   pub even : AreAll (HasWidthOf records) records
 
 -- the text's record of this number is the first one that has more fields or fewer than its first record

@@ -2,7 +2,7 @@
 
 ghost use Rattle.std.specs.Prelude.{◌≡◌, map, option_map, IfOk, MatchOption};
 ghost use Rattle.csv.specs.Records.{fields_of};
-ghost use Rattle.jb_ready.specs.Csv.{AreEvenRowsOf, AreRowsOf, BeginsIn, HasWidthOf, IsUnevenAt, first_fields, row_of};
+ghost use Rattle.jb_ready.specs.Csv.{AreEvenRowsOf, AreRowsOf, BeginsIn, HasWidthOf, IsUnevenAt, first_fields, csv_row};
 ghost use Rattle.jb_ready.specs.Refused.{AreAll, IfRefused, IsFirstRefused};
 
 use crate::csv_lines::line_of;
@@ -66,7 +66,7 @@ pub fn first_record_of(alloc: Global, text: &[u8]) -> Result<Option<ByteRecord>,
 
 /// The record as a line of CSV with its end.
 pub fn row_of(alloc: Global, row: &ByteRecord) -> Result<Vec<u8>, AllocError>
-    ensures { IfOk result (λ bytes. bytes.items ≡ row_of (fields_of row.now)) }
+    ensures { IfOk result (λ bytes. bytes.items ≡ csv_row (fields_of row.now)) }
 {
     let mut writer = WriterBuilder::new().from_writer(Vec::new(alloc));
     let Ok(()) = writer.write_byte_record(row) else {
@@ -93,7 +93,7 @@ fn first_uneven(records: &[ByteRecord]) -> Option<u64>
 
 /// The lines of these records.
 fn rows_of(alloc: Global, records: &[ByteRecord]) -> Result<PackedList, AllocError>
-    ensures { IfOk result (λ rows. rows ≡ map row_of (map fields_of records.now)) }
+    ensures { IfOk result (λ rows. rows ≡ map csv_row (map fields_of records.now)) }
 {
     let mut rows = PackedList::new(alloc);
     for row in records {

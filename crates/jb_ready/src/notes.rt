@@ -1,6 +1,6 @@
 //! What artifacts that note their faults have noted.
 
-ghost use Rattle.std.specs.Prelude.{◌≡◌, [], ℕ};
+ghost use Rattle.std.specs.Prelude.{◌≡◌, []};
 ghost use Rattle.jb_ready.specs.Notes.{HasLost, HasNoted, NotesCall};
 
 use jb_base::{ArtifactError, ClassId};

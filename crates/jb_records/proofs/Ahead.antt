@@ -6,15 +6,15 @@ use Rattle.jb_base.specs.Pairwise.{Pairwise}
 use Rattle.jb_rules.specs.declared.row.Row.{Row}
 use Rattle.jb_rules.specs.declared.row.RowState.TheVariants as state
 use Rattle.jb_rules.specs.States.{is_running}
-use Rattle.jb_chunk.specs.declared.chunk_end.ChunkEnd.{ChunkEnd}
-use Rattle.jb_chunk.specs.declared.chunk_end.ChunkEnd.TheVariants.{Committed, Rolled, Failed}
+use Rattle.jb_chunk.specs.declared.outcome.Outcome.{Outcome}
+use Rattle.jb_chunk.specs.declared.outcome.Outcome.TheVariants.{Committed, Rolled, Failed, NoMemory}
 use Rattle.jb_chunk.specs.Alone.{IsOnTheWay, IsRunOf}
 use Rattle.jb_chunk.specs.Attempt.{AttemptEnd, again_of, block_of, end_of, ending_by}
 use Rattle.jb_chunk.specs.Laws.{RepeatsAreRetries, TasksStandAtCheckpoints, WaysJoin}
 use Rattle.jb_chunk.specs.Standing.{IsReady, TaskState}
 use Rattle.jb_step.specs.Alone.{AreOnTheWay}
-use Rattle.jb_step.specs.PlanLaws.{AreTasksOf}
-use Rattle.jb_step.specs.Setup.{Setup, row_now}
+use Rattle.jb_step.specs.rounds.PlanLaws.{AreTasksOf}
+use Rattle.jb_step.specs.preparing.Setup.{Setup, row_now}
 use Rattle.jb_records.specs.Runs.{PartsStay}
 use Rattle.jb_records.proofs.Going.{repeated-task, same-task, way-on}
 
@@ -40,10 +40,11 @@ ended-still : (b : Bool) → is_running (cond b state.Finished state.Waiting) �
 ended-still true = refl
 ended-still false = refl
 
-attempt-ahead : (t : TaskState) (again : ℕ) (e : ChunkEnd) → t.row.at ≤ (block_of t).hi → IsAhead t.row (ending_by t again e).task.row
+attempt-ahead : (t : TaskState) (again : ℕ) (e : Outcome) → t.row.at ≤ (block_of t).hi → IsAhead t.row (ending_by t again e).task.row
 attempt-ahead t again (Committed delta) le = record { lo = refl; hi = refl; at = le; still = λ _. ended-still ((block_of t).hi == t.row.hi) }
 attempt-ahead t again (Rolled class) le = record { lo = refl; hi = refl; at = omega arith; still = λ e. e }
 attempt-ahead t again (Failed class) le = record { lo = refl; hi = refl; at = omega arith; still = λ e. refl }
+attempt-ahead t again NoMemory le = record { lo = refl; hi = refl; at = omega arith; still = λ e. e }
 
 repeats-ahead : (t : TaskState) → IsAhead t.row (repeated-task t).row
 repeats-ahead t = record { lo = refl; hi = refl; at = omega arith; still = λ e. e }

@@ -15,9 +15,9 @@ use Rattle.jb_rules.specs.States.{is_failed, is_finished}
 use Rattle.jb_saved.specs.GoingOn.{restarted, rows_restarted}
 use Rattle.jb_saved.specs.Reading.{answer_of}
 use Rattle.jb_saved.specs.SavedRows.{SavedRows}
-use Rattle.jb_step.specs.Setup.{IsSetup, Setup, needs, unfinished}
+use Rattle.jb_step.specs.preparing.Setup.{IsSetup, Setup, needs, unfinished}
 use Rattle.jb_records.specs.Function.{Function}
-use Rattle.jb_records.specs.Shares.{AreNumbered, AreWhole, IsSoFar, newer_share, newer_shares}
+use Rattle.jb_records.specs.Shares.{AreNumbered, AreAtTheirEnds, IsSoFar, newer_share, newer_shares}
 use Rattle.jb_records.specs.Steps.{AreFirstWorks, AreWorks}
 use Rattle.jb_records.specs.Stretches.{RunState, StandsOver, numbers_in, works_in}
 use Rattle.jb_records.specs.inside.Kept.{IsKept}
@@ -124,7 +124,7 @@ finished-is state.Finished e = refl
 finished-is state.Failed e = let none : ⊥ = cc in absurd none
 
 -- a row that waits again isn't at the end of its range
-pub whole-before : (rows : List Row) → AreWhole (map restarted rows) → AreWhole rows
+pub whole-before : (rows : List Row) → AreAtTheirEnds (map restarted rows) → AreAtTheirEnds rows
 whole-before [] whole = tt
 whole-before (row ∷ rows) whole = (finished-is row.state (sym (finished-again row) ∙ ap is_finished whole.0), whole-before rows whole.1)
 
@@ -132,7 +132,7 @@ none-left : (b : Bool) (k : ℕ) (row : Row) (ns : List (ℕ × Row)) → is_fin
 none-left true k row ns is none = (finished-is row.state is, none)
 none-left false k row ns is none = let never : ⊥ = cc in absurd never
 
-whole-from : (k : ℕ) (rows : List Row) → map (λ n. n.0) (left-of (enumerate_from k rows)) ≡ [] → AreWhole rows
+whole-from : (k : ℕ) (rows : List Row) → map (λ n. n.0) (left-of (enumerate_from k rows)) ≡ [] → AreAtTheirEnds rows
 whole-from k [] none = tt
 whole-from k (row ∷ rows) none =
     let parts = none-left (is_finished row.state) k row (left-of (enumerate_from (k + 1) rows)) refl none in
@@ -142,11 +142,11 @@ left-none : (b : Bool) (n : ℕ × Row) (ns : List (ℕ × Row)) → b ≡ true 
 left-none true n ns is none = none
 left-none false n ns is none = let never : ⊥ = cc in absurd never
 
-none-from : (k : ℕ) (rows : List Row) → AreWhole rows → left-of (enumerate_from k rows) ≡ []
+none-from : (k : ℕ) (rows : List Row) → AreAtTheirEnds rows → left-of (enumerate_from k rows) ≡ []
 none-from k [] whole = refl
 none-from k (row ∷ rows) whole = left-none (is_finished row.state) (k, row) (left-of (enumerate_from (k + 1) rows)) (ap is_finished whole.0) (none-from (k + 1) rows whole.1)
 
-pub whole-where-none : (rows : List Row) → (needs rows ≡ []) ↔ AreWhole rows
+pub whole-where-none : (rows : List Row) → (needs rows ≡ []) ↔ AreAtTheirEnds rows
 whole-where-none rows = (whole-from 0 rows, λ whole. ap (map (λ n. n.0)) (none-from 0 rows whole))
 
 -- the rows that wait again have as many results
@@ -166,7 +166,7 @@ none-by false [] e = let none : ⊥ = grind (arith, nat_tests) in absurd none
 none-by true (n ∷ ns) e = let none : ⊥ = grind (arith, nat_tests) in absurd none
 none-by false (n ∷ ns) e = (λ h. absurd cc, λ h. absurd cc)
 
-pub whole-test : (b : Bool) (ns : List ℕ) (rows : List Row) → ns ≡ needs rows → b ≡ (length ns == 0) → IsTrue b ↔ AreWhole rows
+pub whole-test : (b : Bool) (ns : List ℕ) (rows : List Row) → ns ≡ needs rows → b ≡ (length ns == 0) → IsTrue b ↔ AreAtTheirEnds rows
 whole-test b ns rows named e =
     let one = none-by b ns e in
     let all = whole-where-none rows in

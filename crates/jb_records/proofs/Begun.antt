@@ -5,7 +5,7 @@ use Rattle.std.specs.List.{enumerate_from}
 use Rattle.jb_rules.specs.declared.row.Row.{Row}
 use Rattle.jb_rules.specs.States.{is_finished}
 use Rattle.jb_artifacts.specs.Meaning.{ArtifactsMeaning}
-use Rattle.jb_step.specs.Setup.{unfinished, needs}
+use Rattle.jb_step.specs.preparing.Setup.{unfinished, needs}
 use Rattle.jb_base.specs.Rules.{RulesRecord}
 use Rattle.jb_records.specs.Function.{Function}
 use Rattle.jb_records.specs.Steps.{AreFirstWorks, AreWorks, AreWorksOf}

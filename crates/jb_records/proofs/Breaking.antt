@@ -15,7 +15,7 @@ use Rattle.jb_saved.specs.declared.error.StepError.TheVariants as error
 use Rattle.jb_saved.specs.declared.place.SavedPlace.{SavedPlace}
 use Rattle.jb_saved.specs.declared.place.SavedPlace.TheVariants as place
 use Rattle.jb_saved.specs.Answers.{RefusesRunning}
-use Rattle.jb_saved.specs.GoingOn.{fault_if, is_past, step_faults}
+use Rattle.jb_saved.specs.GoingOn.{fault_if, ends_past, step_faults}
 use Rattle.jb_saved.specs.SavedRows.{SavedRows}
 use Rattle.jb_step.specs.Answers.{IsRunError}
 use Rattle.jb_records.specs.declared.error.RecordsStepError.{RecordsStepError}
@@ -68,16 +68,16 @@ no-fault-if : (holds : Bool) (fault : SavedPlace) → holds ≡ false → fault_
 no-fault-if true fault none = let never : ⊥ = cc in absurd never
 no-fault-if false fault none = refl
 
-no-faults : (step : List ℕ) (count : ℕ) (held : SavedRows) → held.step ≡ step → is_past count held.rows ≡ false → step_faults step count held ≡ []
+no-faults : (step : List ℕ) (count : ℕ) (held : SavedRows) → held.step ≡ step → ends_past count held.rows ≡ false → step_faults step count held ≡ []
 no-faults step count held own past =
-    ap₂ (λ (some more : List SavedPlace). some ++ more) (no-fault-if (not (bytes_eq held.step step)) place.Step (ap not ((bytes_eq-Decides held.step step).1 own))) (no-fault-if (is_past count held.rows) place.Records past)
+    ap₂ (λ (some more : List SavedPlace). some ++ more) (no-fault-if (not (bytes_eq held.step step)) place.Step (ap not ((bytes_eq-Decides held.step step).1 own))) (no-fault-if (ends_past count held.rows) place.Records past)
 
 no-place : (fault : SavedPlace) (faults : List SavedPlace) → faults ≡ [] → slice_get faults 0 ≡ Some fault → ⊥
 no-place fault [] none is = cc
 no-place fault (first ∷ faults) none is = cc
 
 -- and the step is prepared from them
-pub unprepared-again : (step : RecordsStep) (count : ℕ) (held : SavedRows) (e : RecordsStepError) → count ≤ max_records → IsRunnable count (even_partitions step count) → held.step ≡ step.id → is_past count held.rows ≡ false
+pub unprepared-again : (step : RecordsStep) (count : ℕ) (held : SavedRows) (e : RecordsStepError) → count ≤ max_records → IsRunnable count (even_partitions step count) → held.step ≡ step.id → ends_past count held.rows ≡ false
     → IsUnpreparedFor step count (Some held) e → IsBrokenOff e
 unprepared-again step count held Records few can own past is = omega (arith, few, is)
 unprepared-again step count held Results few can own past is = is

@@ -13,18 +13,18 @@ use Rattle.jb_artifacts.specs.Meaning.{ArtifactsMeaning, Fits}
 use Rattle.jb_rules.specs.declared.row.Row.{Row}
 use Rattle.jb_rules.specs.Rows.{dropped_row, fresh_row, range_of}
 use Rattle.jb_rules.specs.States.{is_failed, is_finished}
-use Rattle.jb_saved.specs.GoingOn.{fault_if, is_past, restarted}
+use Rattle.jb_saved.specs.GoingOn.{fault_if, ends_past, restarted}
 use Rattle.jb_saved.specs.SavedRows.{SavedRows}
 use Rattle.jb_saved.specs.declared.place.SavedPlace.TheVariants.{Step, Records}
-use Rattle.jb_step.specs.Prepare.{DoFit, FitRows}
-use Rattle.jb_step.specs.Setup.{Setup, fresh_rows, gone_on, needs, opening_rows, saved_faults, unfinished}
+use Rattle.jb_step.specs.preparing.Prepare.{DoFit, FitRows}
+use Rattle.jb_step.specs.preparing.Setup.{Setup, fresh_rows, gone_on, needs, opening_rows, saved_faults, unfinished}
 use Rattle.jb_records.specs.declared.step.RecordsStep.{RecordsStep}
 use Rattle.jb_records.specs.Function.{Function}
-use Rattle.jb_records.specs.Made.{IsBegun, step_record}
+use Rattle.jb_records.specs.Made.{IsStepBegun, step_record}
 use Rattle.jb_records.specs.Shares.{AreNumbered}
 use Rattle.jb_records.specs.Steps.{AreFirstWorks, AreWorks, IsWorkFor}
 use Rattle.jb_records.specs.Works.{own_records}
-use Rattle.jb_records.specs.inside.Calls.{CanBegin, HasOwn, HaveOwn}
+use Rattle.jb_records.specs.inside.Calls.{CanBeginOver, HasOwn, HaveOwn}
 use Rattle.jb_records.proofs.Begun.{works-at-first}
 
 -- ---- NO ROW ENDS PAST THE LAST RECORD
@@ -40,15 +40,15 @@ restarted-hi : (failed : Bool) (row : Row) → (cond failed (dropped_row row) ro
 restarted-hi true row = refl
 restarted-hi false row = refl
 
-restarted-below : (records : ℕ) (rows : List Row) → is_past records rows ≡ false → (i : ℕ) (row : Row) → slice_get (map restarted rows) i ≡ Some row → row.hi ≤ records
+restarted-below : (records : ℕ) (rows : List Row) → ends_past records rows ≡ false → (i : ℕ) (row : Row) → slice_get (map restarted rows) i ≡ Some row → row.hi ≤ records
 restarted-below records [] past i row is = absurd (cc is)
 restarted-below records (r ∷ rows) past zero row is =
     let same : restarted r ≡ row = cc in
-    let first : nat_lt records r.hi ≡ false = (or_parts (nat_lt records r.hi) (is_past records rows) past).0 in
+    let first : nat_lt records r.hi ≡ false = (or_parts (nat_lt records r.hi) (ends_past records rows) past).0 in
     let below : r.hi ≤ records = grind (arith, nat_tests, first) in
     let kept = restarted-hi (is_failed r.state) r in
     subst (λ (one : Row). one.hi ≤ records) same (omega (arith, below, kept))
-restarted-below records (r ∷ rows) past (suc i) row is = restarted-below records rows (or_parts (nat_lt records r.hi) (is_past records rows) past).1 i row is
+restarted-below records (r ∷ rows) past (suc i) row is = restarted-below records rows (or_parts (nat_lt records r.hi) (ends_past records rows) past).1 i row is
 
 not-past : (step past : Bool) → fault_if step Step ++ fault_if past Records ≡ [] → past ≡ false
 not-past true past is = absurd (cc is)
@@ -60,9 +60,9 @@ opening-below : (step : StepRecord) (records : ℕ) (ranges : List Range) (repla
 opening-below step records ranges true saved within accepted i row at = fresh-below records ranges within i row at
 opening-below step records ranges false None within accepted i row at = fresh-below records ranges within i row at
 opening-below step records ranges false (Some held) within accepted i row at =
-    restarted-below records held.rows (not-past (not (bytes_eq held.step step.id)) (is_past records held.rows) accepted) i row at
+    restarted-below records held.rows (not-past (not (bytes_eq held.step step.id)) (ends_past records held.rows) accepted) i row at
 
-pub can-begin : (step : RecordsStep) (records : ℕ) (saved : Option SavedRows) (earlier : List (List ℕ)) (s : Setup) (shares : List (List (List ℕ))) → IsBegun step records saved earlier s shares → CanBegin records s.rows shares
+pub can-begin : (step : RecordsStep) (records : ℕ) (saved : Option SavedRows) (earlier : List (List ℕ)) (s : Setup) (shares : List (List (List ℕ))) → IsStepBegun step records saved earlier s shares → CanBeginOver records s.rows shares
 can-begin step records saved earlier s shares begun =
     let its = begun.prepared in record {
       within = λ p row at.
@@ -103,12 +103,12 @@ module _ (records : ℕ) (all : List Row) (given : List (List (List ℕ))) where
   own-named [] owns = tt
   own-named (n ∷ ns) owns = ((n.1, owns.0), own-named ns owns.1)
 
-  pub own-all : CanBegin records all given → AllByRecursion (HasOwn records all given) (unfinished all)
+  pub own-all : CanBeginOver records all given → AllByRecursion (HasOwn records all given) (unfinished all)
   own-all can =
       own-from 0 all given can.within can.numbered (λ i row get. let e : i ≡ 0 + i = omega arith in subst (λ m. slice_get all m ≡ Some row) e get)
       (λ i x get. let e : i ≡ 0 + i = omega arith in subst (λ m. slice_get given m ≡ Some x) e get)
 
-  pub have-own : (ps : List ℕ) → ps ≡ needs all → CanBegin records all given → HaveOwn records all given ps
+  pub have-own : (ps : List ℕ) → ps ≡ needs all → CanBeginOver records all given → HaveOwn records all given ps
   have-own ps is can = subst (HaveOwn records all given) (sym is) (own-named (unfinished all) (own-all can))
 
 -- ---- SO WHAT THEY WORK WITH FITS THEM
@@ -137,8 +137,8 @@ module _ (f : Function) (rules : RulesRecord) (records : List (List ℕ)) (rows 
   all-fit (n ∷ ns) [] owns are = absurd are
   all-fit (n ∷ ns) (w ∷ ws) owns are = (fit-one n w owns.0 are.0, all-fit ns ws owns.1 are.1)
 
-pub works-fit : (f : Function) (rules : RulesRecord) (records : List (List ℕ)) (s : Setup) (shares : List (List (List ℕ))) (ws : List ArtifactsMeaning) → CanBegin (length records) s.rows shares → AreWorks f rules records shares (unfinished s.rows) ws → DoFit s ws
+pub works-fit : (f : Function) (rules : RulesRecord) (records : List (List ℕ)) (s : Setup) (shares : List (List (List ℕ))) (ws : List ArtifactsMeaning) → CanBeginOver (length records) s.rows shares → AreWorks f rules records shares (unfinished s.rows) ws → DoFit s ws
 works-fit f rules records s shares ws can are = all-fit f rules records s.rows shares (unfinished s.rows) ws (own-all (length records) s.rows shares can) are
 
-pub first-works-fit : (f : Function) (rules : RulesRecord) (records : List (List ℕ)) (s : Setup) (shares : List (List (List ℕ))) (ws : List ArtifactsMeaning) → CanBegin (length records) s.rows shares → AreFirstWorks f rules records shares (unfinished s.rows) ws → DoFit s ws
+pub first-works-fit : (f : Function) (rules : RulesRecord) (records : List (List ℕ)) (s : Setup) (shares : List (List (List ℕ))) (ws : List ArtifactsMeaning) → CanBeginOver (length records) s.rows shares → AreFirstWorks f rules records shares (unfinished s.rows) ws → DoFit s ws
 first-works-fit f rules records s shares ws can are = works-fit f rules records s shares ws can (works-at-first f rules records shares (unfinished s.rows) ws are)

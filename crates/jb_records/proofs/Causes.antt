@@ -8,7 +8,7 @@ use Rattle.jb_base.specs.declared.class.ClassId.{ClassId}
 use Rattle.jb_base.specs.declared.range.Range.{Range}
 use Rattle.jb_base.specs.Rules.{RulesRecord}
 use Rattle.jb_collect.specs.declared.calls.ReducerCall.{ReducerCall}
-use Rattle.jb_collect.specs.Taken.{Taken, faulted, well}
+use Rattle.jb_collect.specs.Taken.{Taken, faulted, since, well}
 use Rattle.jb_collect.specs.declared.calls.ReducerCall.TheVariants.{Begin}
 use Rattle.jb_base.specs.Causes.{IsCause}
 use Rattle.jb_job.specs.Reading.{tree_of}
@@ -20,12 +20,12 @@ use Rattle.jb_rules.specs.States.{is_failed}
 use Rattle.jb_saved.specs.declared.error.StepError.{StepError}
 use Rattle.jb_saved.specs.declared.error.StepError.TheVariants as error
 use Rattle.jb_saved.specs.GoingOn.{restarted}
-use Rattle.jb_saved.specs.Reading.{answer_of, cause_of}
+use Rattle.jb_saved.specs.Reading.{answer_of, saved_cause}
 use Rattle.jb_saved.specs.SavedRows.{SavedRows}
 use Rattle.jb_step.specs.Answers.{IsRunError}
-use Rattle.jb_step.specs.Callbacks.{has_fault, since}
-use Rattle.jb_step.specs.Prepare.{CanDiscard, IsFaultedRollback, IsPreparation, IsRefusal}
-use Rattle.jb_step.specs.Setup.{Setup, fresh_rows, gone_on, opening_rows, saved_faults}
+use Rattle.jb_step.specs.callbacks.Callbacks.{has_fault}
+use Rattle.jb_step.specs.preparing.Prepare.{CanDiscard, IsFaultedRollback, IsPreparation, IsPrepareRefusal}
+use Rattle.jb_step.specs.preparing.Setup.{Setup, fresh_rows, gone_on, opening_rows, saved_faults}
 use Rattle.jb_records.specs.Causes.{HasSkippedTry, IsCauseOf, written_in}
 use Rattle.jb_records.specs.declared.error.RecordsStepError.{RecordsStepError}
 use Rattle.jb_records.specs.declared.error.RecordsStepError.TheVariants.{Memory, Records, Results, SkippedTry, Step}
@@ -33,7 +33,7 @@ use Rattle.jb_records.specs.declared.step.RecordsStep.{RecordsStep}
 use Rattle.jb_records.specs.Function.{Function}
 use Rattle.jb_records.specs.Made.{even_partitions, step_record}
 use Rattle.jb_records.specs.Works.{AreNeverSkipped, own_records, record_of}
-use Rattle.jb_records.specs.inside.Calls.{IsTryRefused, IsUnbegun, IsUnbegunBehind, IsUnended, IsUnprepared, IsUnpreparedFor, written_by}
+use Rattle.jb_records.specs.inside.Calls.{IsTryRefused, IsUnbegun, IsUnbegunBehind, HasNoEnd, IsUnprepared, IsUnpreparedFor, written_by}
 use Rattle.jb_records.specs.Shares.{AreNumbered, joined}
 use Rattle.jb_records.proofs.Calling.{own-length}
 use Rattle.jb_records.proofs.Steps.{well-faults}
@@ -59,7 +59,7 @@ no-fault step records mapped saved before new class (inl at_begin) = let none : 
 no-fault step records mapped saved before new class (inr later) = let none : false ≡ true = sym (well-faults (length before) new) ∙ ap has_fault later.1.calls in cc
 
 pub unprepared : (step : StepRecord) (records : ℕ) (mapped : Result PartitionPlan ClassId) (plan : PartitionPlan) (saved : Option SavedRows) (before : List (Taken ReducerCall)) (new : List ReducerCall) (e : StepError) → mapped ≡ Ok plan → plan.replace ≡ false
-    → IsRefusal step records mapped saved (since before (map well new)) e → IsUnprepared step records plan saved (Step e)
+    → IsPrepareRefusal step records mapped saved (since before (map well new)) e → IsUnprepared step records plan saved (Step e)
 unprepared step records mapped plan saved before new (error.Plan fault) maps kept is =
     subst (λ (p : PartitionPlan). IsUnprepared step records p saved (Step (error.Plan fault))) (plan-is plan is.0 (sym maps ∙ is.1)) is.2
 unprepared step records mapped plan saved before new (error.Mapper class) maps kept is = absurd (no-plan plan class (sym maps ∙ is))
@@ -195,14 +195,14 @@ refused-own f rules records row Memory order below is = is
 
 -- ---- THE STEP THAT WAS BEGUN HAS NO END
 
-pub unended : (f : Function) (rules : RulesRecord) (records : List (List ℕ)) (e : RecordsStepError) → IsTryRefused f rules 0 records e → IsUnended f rules records e
+pub unended : (f : Function) (rules : RulesRecord) (records : List (List ℕ)) (e : RecordsStepError) → IsTryRefused f rules 0 records e → HasNoEnd f rules records e
 unended f rules records Records is = is
 unended f rules records Results is = is
 unended f rules records SkippedTry is = is
 unended f rules records (Step why) is = absurd is
 unended f rules records Memory is = is
 
-pub broken-off : (f : Function) (rules : RulesRecord) (records : List (List ℕ)) (e : StepError) → IsRunError e → (e ≡ error.WrongArtifacts → ⊥) → IsUnended f rules records (Step e)
+pub broken-off : (f : Function) (rules : RulesRecord) (records : List (List ℕ)) (e : StepError) → IsRunError e → (e ≡ error.WrongArtifacts → ⊥) → HasNoEnd f rules records (Step e)
 broken-off f rules records (error.Plan fault) is fits = is
 broken-off f rules records (error.Mapper class) is fits = is
 broken-off f rules records (error.Reducer class) is fits = is
@@ -249,7 +249,7 @@ begun-behind-refused step records text results held (Step error.Memory) read is 
 begun-behind-refused step records text results held Memory read is = is
 
 -- the text has no rows
-pub text-refused : (step : RecordsStep) (records : ℕ) (text : List ℕ) (results : List (List ℕ)) (e : StepError) → IsCause (cause_of e) (answer_of (tree_of text)) → IsUnbegunBehind step records (Some (text, results)) (Step e)
+pub text-refused : (step : RecordsStep) (records : ℕ) (text : List ℕ) (results : List (List ℕ)) (e : StepError) → IsCause (saved_cause e) (answer_of (tree_of text)) → IsUnbegunBehind step records (Some (text, results)) (Step e)
 text-refused step records text results (error.Plan fault) is = absurd is
 text-refused step records text results (error.Mapper class) is = absurd is
 text-refused step records text results (error.Reducer class) is = absurd is
@@ -267,7 +267,7 @@ why-unbegun f step records earlier SkippedTry is = absurd is
 why-unbegun f step records earlier (Step why) is = is
 why-unbegun f step records earlier Memory is = is
 
-pub why-unended : (f : Function) (step : RecordsStep) (rules : RulesRecord) (records : List (List ℕ)) (earlier : Taken-over) (e : RecordsStepError) → rules ≡ step.rules → IsUnended f rules records e → IsCauseOf f step records earlier e
+pub why-unended : (f : Function) (step : RecordsStep) (rules : RulesRecord) (records : List (List ℕ)) (earlier : Taken-over) (e : RecordsStepError) → rules ≡ step.rules → HasNoEnd f rules records e → IsCauseOf f step records earlier e
 why-unended f step rules records earlier Records same is = absurd is
 why-unended f step rules records earlier Results same is = absurd is
 why-unended f step rules records earlier SkippedTry same is = subst (λ (r : RulesRecord). HasSkippedTry f r 0 records) same is

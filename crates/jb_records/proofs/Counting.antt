@@ -20,18 +20,18 @@ use Rattle.jb_chunk.specs.Block.{count_of, entry, entry_by}
 use Rattle.jb_chunk.specs.Entries.{is_read_fault}
 use Rattle.jb_chunk.specs.Laws.{RepeatsAreRetries, TasksStandAtCheckpoints, WaysJoin}
 use Rattle.jb_chunk.specs.Standing.{IsReady, TaskState}
-use Rattle.jb_chunk.specs.declared.chunk_end.ChunkEnd.{ChunkEnd}
-use Rattle.jb_chunk.specs.declared.chunk_end.ChunkEnd.TheVariants.{Committed, Rolled, Failed}
+use Rattle.jb_chunk.specs.declared.outcome.Outcome.{Outcome}
+use Rattle.jb_chunk.specs.declared.outcome.Outcome.TheVariants.{Committed, Rolled, Failed, NoMemory}
 use Rattle.jb_chunk.proofs.SettlingRecord.{numbers-split}
 use Rattle.jb_step.specs.Alone.{AreOnTheWay}
 use Rattle.jb_step.specs.Answers.{IsRunOfStep, StepRun, tasks_left}
-use Rattle.jb_step.specs.PlanLaws.{AreTasksOf, BeginsWithRows, BeginsWithTable}
-use Rattle.jb_step.specs.Prepare.{DoFit}
-use Rattle.jb_step.specs.Setup.{IsSetup, Setup, first_tasks, fresh_rows, row_now, rows_now, unfinished}
+use Rattle.jb_step.specs.rounds.PlanLaws.{AreTasksOf, BeginsWithRows, BeginsWithTable}
+use Rattle.jb_step.specs.preparing.Prepare.{DoFit}
+use Rattle.jb_step.specs.preparing.Setup.{IsSetup, Setup, first_tasks, fresh_rows, row_now, rows_now, unfinished}
 use Rattle.jb_records.specs.Function.{Function}
 use Rattle.jb_records.specs.Runs.{HasResults, PartsStay, ResultsGoOn}
 use Rattle.jb_records.specs.Shares.{IsSoFar}
-use Rattle.jb_records.specs.Skips.{AreCounted, IsCounted, NewRowsAreCounted, SkipsAreCounted, skip_by, skips_between}
+use Rattle.jb_records.specs.Skips.{AreCounted, AreSkipsCounted, NewRowsAreCounted, SkipsAreCounted, skip_by, skips_between}
 use Rattle.jb_records.specs.Steps.{AreWorks, BeginsAnew}
 use Rattle.jb_records.specs.Works.{IsWork, own_records, record_of}
 use Rattle.jb_records.proofs.Going.{Commits, HasBlock, all-written, repeated-task, repeats-have, same-task, way-on, whole_counts}
@@ -45,8 +45,7 @@ use Rattle.jb_records.proofs.Steps.{HaveResults, all-begun}
 fault-by : (refusal fault : Option ClassId) (answer : Option (List ℕ)) → is_read_fault (entry_by refusal fault answer) ≡ is_some refusal
 fault-by (Some class) fault answer = refl
 fault-by None (Some class) answer = refl
-fault-by None None None = refl
-fault-by None None (Some text) = refl
+fault-by None None answer = refl
 
 read-fault : (f : Function) (first : ℕ) (records : List (List ℕ)) (rules : RulesRecord) (w : ArtifactsMeaning) (k : ℕ) → IsWork f rules first records w
     → first ≤ k → k < first + length records → is_read_fault (entry w k) ≡ is_some (f.refusal (record_of first records k))
@@ -118,7 +117,7 @@ counts-join f records row between now first later =
     let all = sym (length-append (skips_between f records row.at between.at) (skips_between f records between.at now.at)) ∙ ap length (skips-join f records row.at between.at now.at from to) in
     record { counted = omega (arith, one, other, all); on = omega (arith, from, to) }
 
-attempt-counts : (f : Function) (records : List (List ℕ)) (t : TaskState) (again : ℕ) (e : ChunkEnd) → end_of t ≡ e → HasBlock t → HasResults f records t → Counts f records t.row (ending_by t again e).task.row
+attempt-counts : (f : Function) (records : List (List ℕ)) (t : TaskState) (again : ℕ) (e : Outcome) → end_of t ≡ e → HasBlock t → HasResults f records t → Counts f records t.row (ending_by t again e).task.row
 attempt-counts f records t again (Committed delta) is block has =
     let lt = block.0 in
     let commits = subst Commits (sym is) tt in
@@ -127,9 +126,10 @@ attempt-counts f records t again (Committed delta) is block has =
       counted = ap (λ n. t.row.counts.read_skip + n) (block-counted f records t (block_of t).hi has block.1);
       on = omega (arith, lt);
     } in
-    subst (λ (e : ChunkEnd). Counts f records t.row (ending_by t again e).task.row) same whole
+    subst (λ (e : Outcome). Counts f records t.row (ending_by t again e).task.row) same whole
 attempt-counts f records t again (Rolled class) is block has = same-counts f records t.row _ refl refl
 attempt-counts f records t again (Failed class) is block has = same-counts f records t.row _ refl refl
+attempt-counts f records t again NoMemory is block has = same-counts f records t.row _ refl refl
 
 run-counts : TasksStandAtCheckpoints → WaysJoin → RepeatsAreRetries → ResultsGoOn → (f : Function) (records : List (List ℕ)) (start : TaskState) → IsReady start → HasResults f records start
     → (es : List AttemptEnd) (t s : TaskState) → IsOnTheWay start t → IsRunOf t es s → Counts f records t.row s.row
@@ -149,7 +149,7 @@ run-counts stand join law goes f records start ready begun (e ∷ es) t s way ru
 
 -- a row that is counted is still so
 abbrev Stays : Function → List (List ℕ) → Row → Row → Type 0
-Stays f records row now = IsCounted f records row → IsCounted f records now
+Stays f records row now = AreSkipsCounted f records row → AreSkipsCounted f records now
 
 task-stays : (f : Function) (records : List (List ℕ)) (t x : TaskState) → t.row.lo ≤ t.row.at → x.row.lo ≡ t.row.lo → Counts f records t.row x.row → Stays f records t.row x.row
 task-stays f records t x from lo more is =

@@ -1,12 +1,12 @@
 -- A partition's results, attempt by attempt.
-use Rattle.std.proofs.Common.{◌≡◌, ℕ, zero, suc, ◌+◌, ◌-◌, ◌≤◌, ◌<◌, ◌++◌, Bool, true, false, not, cond, List, [], ◌∷◌, length, Option, Some, None, is_some, refl, ap, sym, ◌∙◌, subst, arith}
+use Rattle.std.proofs.Common.{◌≡◌, ℕ, zero, suc, ◌+◌, ◌-◌, ◌≤◌, ◌<◌, ◌++◌, Bool, true, false, not, cond, List, [], ◌∷◌, length, take, Option, Some, None, is_some, refl, ap, sym, ◌∙◌, subst, arith}
 use Rattle.std.specs.Prelude.{◌==◌, ◌&&◌, nat_le, nat_lt}
 use Rattle.std.specs.List.{filter_map, range_with_len, cons_option}
 use Rattle.std.proofs.lemmas.List.Elements.{filter_map-append}
 use Rattle.std.proofs.lemmas.Bool.Decides.{nat_tests}
 use Rattle.jb_base.specs.declared.class.ClassId.{ClassId}
 use Rattle.jb_base.specs.Rules.{RulesRecord}
-use Rattle.jb_rules.specs.Decide.{choice_by, has_class, is_below, retry_for, retry_open}
+use Rattle.jb_rules.specs.Decide.{has_class, is_below}
 use Rattle.jb_rules.specs.declared.choice.Choice.{Choice}
 use Rattle.jb_rules.specs.declared.choice.Choice.TheVariants.{Skip, Retry, Again, Fail}
 use Rattle.jb_rules.specs.declared.counts.Counts.{Counts}
@@ -17,20 +17,22 @@ use Rattle.jb_artifacts.specs.declared.faults.FaultPlan.{FaultPlan}
 use Rattle.jb_artifacts.specs.declared.faults.FaultPlan.TheVariants.{Sound, Bad, Shaky}
 use Rattle.jb_artifacts.specs.Faults.{FaultTable, live, used, used_at, is_live}
 use Rattle.jb_artifacts.specs.Reader.{record_at}
-use Rattle.jb_artifacts.specs.Writer.{Numbered, texts_of, failing, fault_of, write_fault, used_for}
+use Rattle.jb_artifacts.specs.Writer.{Writer, Numbered, texts_of, failing, fault_of, write_fault, used_for}
 use Rattle.jb_artifacts.specs.Meaning.{ArtifactsMeaning}
-use Rattle.jb_chunk.specs.declared.chunk_end.ChunkEnd.{ChunkEnd}
-use Rattle.jb_chunk.specs.declared.chunk_end.ChunkEnd.TheVariants.{Committed, Rolled, Failed}
+use Rattle.jb_chunk.specs.declared.outcome.Outcome.{Outcome}
+use Rattle.jb_chunk.specs.declared.outcome.Outcome.TheVariants.{Committed, Rolled, Failed, NoMemory}
 use Rattle.jb_chunk.specs.Alone.{IsOnTheWay, IsRunOf}
-use Rattle.jb_chunk.specs.Attempt.{AttemptEnd, attempt_of, block_of, results_of, settled_at, fault_at, skips_at, counts_of, end_of, end_at, end_by, work_left, ending_by, after_repeats, all_repeated, again_of, called_again, repeated, repeated_work, repeated_up_to, asks_repeat}
+use Rattle.jb_chunk.specs.Attempt.{AttemptEnd, attempt_of, block_of, results_of, settled_at, fault_at, skips_at, counts_of, end_of, end_at, end_by, work_used, ending_by, after_repeats, all_repeated, again_of, called_again, repeated, repeated_work, repeated_up_to, asks_repeat}
 use Rattle.jb_chunk.specs.Block.{entry, entry_by, results, settles, settling, stops, is_skip, choice_at, skips_before, used_between}
-use Rattle.jb_chunk.specs.Entries.{Entry, ReadFault, ProcessFault, Filtered, Answered, fault_in, text_in, numbered}
+use Rattle.jb_chunk.specs.Entries.{Entry, ReadFault, ProcessFault, Processed, fault_in, text_in, numbered}
 use Rattle.jb_chunk.specs.Laws.{RepeatsAreRetries, TasksStandAtCheckpoints, WaysJoin}
-use Rattle.jb_chunk.specs.Standing.{IsReady, TaskState}
+use Rattle.jb_chunk.specs.Standing.{IsReady, TaskState, at_checkpoint}
 use Rattle.jb_chunk.proofs.AddedCounts.{settling-stops}
+use Rattle.jb_chunk.proofs.ChunkRepeats.{choice_by}
 use Rattle.jb_chunk.proofs.RecordRepeats.{unfound}
 use Rattle.jb_chunk.proofs.SettlingRecord.{numbers-split}
-use Rattle.jb_chunk.proofs.WorkLeft.{read_end, write_plans, work_as, left-as}
+use Rattle.jb_chunk.proofs.WorkUsed.{read_end, write_plans, more_written, used-as}
+use Rattle.jb_chunk.proofs.WrittenResults.{take-front, whole-kept, whole-written}
 use Rattle.jb_ready.specs.Checks.{checked_plans, plan_by}
 use Rattle.jb_ready.proofs.Refusals.{check-decides}
 use Rattle.jb_records.specs.Function.{Function, result_by, result_of}
@@ -83,19 +85,17 @@ module _ (f : Function) (rules : RulesRecord) (first : ℕ) (records : List (Lis
   write-plans t (Some j) is k = is k
   write-plans t None is k = writes-used t.work.writer.faults (failing t.work.writer.faults (results_of t)) is k
 
-  -- what an attempt leaves is what the partition works with
-  work-by : (t : TaskState) (settled : Option ℕ) (place : ℕ) (written : List (List ℕ)) → IsWork f rules first records t.work → IsWork f rules first records (work_as t settled place written)
-  work-by t settled place written is = record {
-    first_is = is.first_is;
-    records_are = is.records_are;
-    reads = reads-used (λ _. true) t.work.reader.faults t.row.at (read_end t settled) is.reads;
-    answers = is.answers;
-    tries = tries-used (λ k. not (is_live t.work.reader.faults k)) t.work.processor.faults t.row.at (read_end t settled) is.tries;
-    writes = write-plans t settled is.writes;
-  }
-
-  work-left : (t : TaskState) (place : ℕ) (written : List (List ℕ)) → IsWork f rules first records t.work → IsWork f rules first records (work_left t place written)
-  work-left t place written is = subst (IsWork f rules first records) (sym (left-as t place written)) (work-by t (settled_at t) place written is)
+  -- what a chunk used, opened somewhere, is what the partition works with
+  work-opened : (t : TaskState) (row : Row) → IsWork f rules first records t.work → IsWork f rules first records (at_checkpoint row (work_used t (settled_at t)))
+  work-opened t row is =
+      subst (λ w. IsWork f rules first records (at_checkpoint row w)) (sym (used-as t (settled_at t))) (record {
+        first_is = is.first_is;
+        records_are = is.records_are;
+        reads = reads-used (λ _. true) t.work.reader.faults t.row.at (read_end t (settled_at t)) is.reads;
+        answers = is.answers;
+        tries = tries-used (λ k. not (is_live t.work.reader.faults k)) t.work.processor.faults t.row.at (read_end t (settled_at t)) is.tries;
+        writes = write-plans t (settled_at t) is.writes;
+      })
 
   -- ---- CALLS THAT ARE REPEATED IN PLACE
 
@@ -121,11 +121,7 @@ module _ (f : Function) (rules : RulesRecord) (first : ℕ) (records : List (Lis
     work = record { first_is = is.first_is; records_are = is.records_are; reads = is.reads; answers = is.answers; tries = tries-at w.processor.faults k is.tries; writes = is.writes };
     written = refl;
   }
-  call-kept w k Filtered is = record {
-    work = record { first_is = is.first_is; records_are = is.records_are; reads = is.reads; answers = is.answers; tries = tries-at w.processor.faults k is.tries; writes = is.writes };
-    written = refl;
-  }
-  call-kept w k (Answered text) is = record {
+  call-kept w k (Processed answer) is = record {
     work = record { first_is = is.first_is; records_are = is.records_are; reads = is.reads; answers = is.answers; tries = tries-at w.processor.faults k is.tries; writes = is.writes };
     written = refl;
   }
@@ -160,22 +156,17 @@ never : true ≡ false → ⊥
 never e = cc
 
 -- a fault that may not be skipped isn't
-no-skip : (again : Bool) → is_skip (cond again Again Retry) ≡ false
-no-skip true = refl
-no-skip false = refl
-
-retry-choice : (retried : Choice) (retrying retry : Bool) → is_skip retried ≡ false → is_skip (choice_by retried retrying false retry) ≡ false
-retry-choice retried false true e = e
-retry-choice retried false false e = refl
-retry-choice retried true true e = e
-retry-choice retried true false e = refl
+no-skip : (again retrying opened : Bool) → is_skip (choice_by again retrying false opened) ≡ false
+no-skip again retrying false = refl
+no-skip true retrying true = refl
+no-skip false retrying true = refl
 
 never-stops : (rules : RulesRecord) (row : Row) (class : ClassId) (skips : ℕ) → has_class rules.skippable class ≡ false → stops rules row (Some class) skips ≡ true
 never-stops rules row class skips none =
+    let again = has_class rules.no_rollback class in
     let retrying = nat_lt row.at row.redo in
-    let retry = retry_open rules class row.retries in
-    ap (λ (b : Bool). not (is_skip (choice_by (retry_for rules class) retrying (b && is_below rules.skip_limit skips) retry))) none
-    ∙ ap not (retry-choice (retry_for rules class) retrying retry (no-skip (has_class rules.no_rollback class)))
+    let opened = has_class rules.retryable class && nat_lt row.retries rules.retry_limit in
+    ap (λ (b : Bool). not (is_skip (choice_by again retrying (b && is_below rules.skip_limit skips) opened))) none ∙ ap not (no-skip again retrying opened)
 
 class-or : ClassId → Option ClassId → ClassId
 class-or d None = d
@@ -194,8 +185,7 @@ live-never rules (Shaky (c ∷ later)) class is e = ap (has_class rules.skippabl
 -- the process call of a record that doesn't settle its block doesn't fail
 text-by : (rules : RulesRecord) (row : Row) (skips : ℕ) (plan : FaultPlan) (fault : Option ClassId) (answer : Option (List ℕ)) → IsNeverSkipped rules plan → live plan ≡ fault
     → stops rules row (fault_in (entry_by None fault answer)) skips ≡ false → text_in (entry_by None fault answer) ≡ answer
-text-by rules row skips plan None None is e idle = refl
-text-by rules row skips plan None (Some text) is e idle = refl
+text-by rules row skips plan None answer is e idle = refl
 text-by rules row skips plan (Some class) answer is e idle = absurd (never (sym (never-stops rules row class skips (live-never rules plan class is e)) ∙ idle))
 
 entry-by : (rules : RulesRecord) (row : Row) (skips : ℕ) (tries : FaultPlan) (refusal : Option ClassId) (answer : Option (List ℕ)) → IsNeverSkipped rules tries
@@ -252,10 +242,9 @@ results-join f first records lo at hi from to =
 -- ---- HOW A BLOCK ENDS
 
 -- a fault that settles a block isn't skipped, and its block isn't committed
-abbrev pub Commits : ChunkEnd → Type 0
+abbrev pub Commits : Outcome → Type 0
 Commits (Committed delta) = Unit {0}
-Commits (Rolled class) = ⊥
-Commits (Failed class) = ⊥
+Commits _ = ⊥
 
 end-fails : (skipped : Counts) (class : ClassId) (choice : Choice) → not (is_skip choice) ≡ true → Commits (end_by skipped class choice) → ⊥
 end-fails skipped class Skip h e = never (sym h)
@@ -281,21 +270,31 @@ sound-failing : (plans : FaultTable) (rs : Numbered) → ((k : ℕ) → plans k 
 sound-failing plans [] is = refl
 sound-failing plans (r ∷ rs) is = ap (λ (p : FaultPlan). cond (is_some (live p)) (Some r) (failing plans rs)) (is r.0) ∙ sound-failing plans rs is
 
+sound-write : (t : TaskState) → ((k : ℕ) → t.work.writer.faults k ≡ Sound) → write_fault t.work.writer (results_of t) ≡ None
+sound-write t is = ap (fault_of t.work.writer.faults) (sound-failing t.work.writer.faults (results_of t) is)
+
 -- all that is committed is written
 abbrev pub whole_counts : TaskState → Counts
 whole_counts t = counts_of t (length (results_of t)) 0
 
 pub all-written : (t : TaskState) → ((k : ℕ) → t.work.writer.faults k ≡ Sound) → Commits (end_of t) → end_of t ≡ Committed (whole_counts t)
 unfolding end_of
-all-written t is e =
-    let sound : write_fault t.work.writer (results_of t) ≡ None = ap (fault_of t.work.writer.faults) (sound-failing t.work.writer.faults (results_of t) is) in
-    ap (λ s. end_at t (fault_at t s) (skips_at t s)) (commit-none t e) ∙ ap (λ f. end_at t f (skips_at t None)) sound
+all-written t is e = ap (λ s. end_at t (fault_at t s) (skips_at t s)) (commit-none t e) ∙ ap (λ f. end_at t f (skips_at t None)) (sound-write t is)
 
 -- ---- ATTEMPT BY ATTEMPT
 
-written-kept : (t : TaskState) (place : ℕ) (written : List (List ℕ)) → (work_left t place written).writer.written ≡ written
-unfolding work_left
-written-kept t place written = refl
+-- behind what was written
+written-behind : (t : TaskState) → settled_at t ≡ None → ((k : ℕ) → t.work.writer.faults k ≡ Sound) → length t.work.writer.written ≡ t.row.written
+    → take (t.row.written + length (results_of t)) (work_used t (settled_at t)).writer.written ≡ t.work.writer.written ++ texts_of (results_of t)
+unfolding work_used
+written-behind t none is number =
+    ap (λ s. take (t.row.written + length (results_of t)) (work_used t s).writer.written) none
+    ∙ ap (λ (w : Writer). w.written) (whole-kept t.work.writer (results_of t) t.row.written number (sound-write t is))
+    ∙ whole-written t.work.writer (results_of t) (sound-write t is)
+
+-- what was written stays where nothing is committed
+written-back : (t : TaskState) → length t.work.writer.written ≡ t.row.written → take t.row.written (work_used t (settled_at t)).writer.written ≡ t.work.writer.written
+written-back t number = ap (λ (w : ArtifactsMeaning). take t.row.written w.writer.written) (used-as t (settled_at t)) ∙ take-front t.work.writer.written (more_written t (settled_at t)) t.row.written number
 
 -- a row that is finished stands at the end of its range
 pub ends-at : (b : Bool) (at hi : ℕ) → (at == hi) ≡ b → cond b state.Finished state.Waiting ≡ state.Finished → at ≡ hi
@@ -322,37 +321,45 @@ attempt-written f records t again none block has number =
     let le : t.row.at ≤ (block_of t).hi = omega (arith, lt) in
     let below : (block_of t).hi ≤ t.row.lo + length own = omega (arith, last, served) in
     record {
-      work = work-left f t.rules t.row.lo own t hi (t.work.writer.written ++ texts_of (results_of t)) has.work;
+      work = work-opened f t.rules t.row.lo own t (ending_by t again (Committed (whole_counts t))).task.row has.work;
       from = omega (arith, from, lt);
       served = has.served;
-      results = written-kept t hi (t.work.writer.written ++ texts_of (results_of t))
+      results = written-behind t none has.work.writes has.number
           ∙ (λ i. has.results i ++ block-results f t.row.lo own t has.work from below none i) ∙ results-join f t.row.lo own t.row.lo t.row.at hi from le;
       number = number;
       whole = ends-at (hi == t.row.hi) hi t.row.hi refl;
     }
 
-attempt-by : (f : Function) (records : List (List ℕ)) (t : TaskState) (again : ℕ) (e : ChunkEnd) → end_of t ≡ e → HasBlock t → HasResults f records t → IsNumbered (ending_by t again e).task
+attempt-by : (f : Function) (records : List (List ℕ)) (t : TaskState) (again : ℕ) (e : Outcome) → end_of t ≡ e → HasBlock t → HasResults f records t → IsNumbered (ending_by t again e).task
     → HasResults f records (ending_by t again e).task
 attempt-by f records t again (Committed delta) is block has number =
     let commits = subst Commits (sym is) tt in
     let same : Committed (whole_counts t) ≡ Committed delta = sym (all-written t has.work.writes commits) ∙ is in
-    let left = attempt-written f records t again (commit-none t commits) block has (subst (λ (e : ChunkEnd). IsNumbered (ending_by t again e).task) (sym same) number) in
-    subst (λ (e : ChunkEnd). HasResults f records (ending_by t again e).task) same left
+    let left = attempt-written f records t again (commit-none t commits) block has (subst (λ (e : Outcome). IsNumbered (ending_by t again e).task) (sym same) number) in
+    subst (λ (e : Outcome). HasResults f records (ending_by t again e).task) same left
 attempt-by f records t again (Rolled class) is block has number = record {
-  work = work-left f t.rules t.row.lo (own_records records t.row) t t.row.at t.work.writer.written has.work;
+  work = work-opened f t.rules t.row.lo (own_records records t.row) t (ending_by t again (Rolled class)).task.row has.work;
   from = has.from;
   served = has.served;
-  results = written-kept t t.row.at t.work.writer.written ∙ has.results;
+  results = written-back t has.number ∙ has.results;
   number = number;
   whole = has.whole;
 }
 attempt-by f records t again (Failed class) is block has number = record {
-  work = work-left f t.rules t.row.lo (own_records records t.row) t t.row.at t.work.writer.written has.work;
+  work = work-opened f t.rules t.row.lo (own_records records t.row) t (ending_by t again (Failed class)).task.row has.work;
   from = has.from;
   served = has.served;
-  results = written-kept t t.row.at t.work.writer.written ∙ has.results;
+  results = written-back t has.number ∙ has.results;
   number = number;
   whole = λ e. absurd cc;
+}
+attempt-by f records t again NoMemory is block has number = record {
+  work = work-opened f t.rules t.row.lo (own_records records t.row) t (ending_by t again NoMemory).task.row has.work;
+  from = has.from;
+  served = has.served;
+  results = written-back t has.number ∙ has.results;
+  number = number;
+  whole = has.whole;
 }
 
 -- the task after the repeats of its next block: of its row they are retries
@@ -397,10 +404,11 @@ results-go stand join law f records t s ready has way = run-results stand join l
 
 -- ---- THE PARTITION AND ITS RANGE
 
-part-by : (t : TaskState) (again : ℕ) (e : ChunkEnd) → IsSamePart t (ending_by t again e).task
+part-by : (t : TaskState) (again : ℕ) (e : Outcome) → IsSamePart t (ending_by t again e).task
 part-by t again (Committed delta) = record { partition = refl; lo = refl; hi = refl }
 part-by t again (Rolled class) = record { partition = refl; lo = refl; hi = refl }
 part-by t again (Failed class) = record { partition = refl; lo = refl; hi = refl }
+part-by t again NoMemory = record { partition = refl; lo = refl; hi = refl }
 
 part-joins : (t u s : TaskState) → IsSamePart t u → IsSamePart u s → IsSamePart t s
 part-joins t u s first later = record { partition = later.partition ∙ first.partition; lo = later.lo ∙ first.lo; hi = later.hi ∙ first.hi }

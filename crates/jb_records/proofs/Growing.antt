@@ -9,7 +9,7 @@ use Rattle.jb_base.specs.Pairwise.{Pairwise}
 use Rattle.jb_rules.specs.declared.row.Row.{Row}
 use Rattle.jb_rules.specs.States.{is_finished}
 use Rattle.jb_artifacts.specs.Meaning.{ArtifactsMeaning}
-use Rattle.jb_step.specs.Setup.{Setup}
+use Rattle.jb_step.specs.preparing.Setup.{Setup}
 use Rattle.jb_records.specs.Function.{Function}
 use Rattle.jb_records.specs.Shares.{AreShares, IsShare, results_so_far}
 use Rattle.jb_records.specs.Stretches.{grown, numbers_in}

@@ -6,7 +6,7 @@ use Rattle.std.specs.List.{filter_map, range_with_len, cons_option, enumerate_fr
 use Rattle.jb_rules.specs.declared.row.Row.{Row}
 use Rattle.jb_records.specs.Function.{Function, all_results, result_of}
 use Rattle.jb_records.specs.Works.{record_of, own_records, results_between}
-use Rattle.jb_records.specs.Shares.{AreShares, AreInOrder, AreWhole, SharesJoin, joined, results_so_far}
+use Rattle.jb_records.specs.Shares.{AreShares, AreRowsInOrder, AreAtTheirEnds, SharesJoin, joined, results_so_far}
 use Rattle.jb_records.proofs.Going.{results-join}
 
 -- what agrees on a range of numbers gives the same list
@@ -46,7 +46,7 @@ share-whole f records row whole order =
     ∙ same-on (λ k. result_of f k (record_of row.lo own k)) (λ k. result_of f k (record_of 0 records k)) (row.hi - row.lo) row.lo
     (λ k from to. ap (result_of f k) (own-record records row.lo row.hi k from (omega (arith, order, to))))
 
-order-rises : (from to : ℕ) (rows : List Row) → AreInOrder from to rows → from ≤ to
+order-rises : (from to : ℕ) (rows : List Row) → AreRowsInOrder from to rows → from ≤ to
 order-rises from to [] order = omega (arith, order)
 order-rises from to (row ∷ rows) order = let here = order.1 in let later = order-rises row.hi to rows order.2 in omega (arith, here, later)
 
@@ -56,8 +56,8 @@ no-results f records from to same =
     let none : to - from ≡ 0 = omega (arith, same) in
     ap (λ n. filter_map (λ k. result_of f k (record_of 0 records k)) (range_with_len from n)) (sym none)
 
-shares-join : (f : Function) (records : List (List ℕ)) (from to : ℕ) (rows : List Row) (shares : List (List (List ℕ))) → AreInOrder from to rows
-    → AreShares f records rows shares → AreWhole rows → joined shares ≡ results_between f 0 records from to
+shares-join : (f : Function) (records : List (List ℕ)) (from to : ℕ) (rows : List Row) (shares : List (List (List ℕ))) → AreRowsInOrder from to rows
+    → AreShares f records rows shares → AreAtTheirEnds rows → joined shares ≡ results_between f 0 records from to
 shares-join f records from to [] [] order are whole = no-results f records from to order
 shares-join f records from to [] (share ∷ shares) order are whole = absurd are
 shares-join f records from to (row ∷ rows) [] order are whole = absurd are

@@ -13,7 +13,7 @@ use Rattle.jb_rules.specs.States.{is_failed, is_finished}
 use Rattle.jb_artifacts.specs.Meaning.{ArtifactsMeaning}
 use Rattle.jb_chunk.specs.Standing.{TaskState}
 use Rattle.jb_saved.specs.GoingOn.{restarted}
-use Rattle.jb_step.specs.Setup.{Setup}
+use Rattle.jb_step.specs.preparing.Setup.{Setup}
 use Rattle.jb_records.specs.Function.{Function}
 use Rattle.jb_records.specs.Shares.{AreShares, IsShare, newer_share, newer_shares, results_so_far}
 use Rattle.jb_records.specs.Steps.{AreWorks, IsWorkFor}

@@ -12,7 +12,7 @@ use Rattle.jb_saved.specs.SavedRows.{SavedRows}
 use Rattle.jb_saved.specs.declared.place.SavedPlace.{SavedPlace}
 use Rattle.jb_records.specs.Earlier.{IsOfStoppedRun, IsStoppedRun}
 use Rattle.jb_records.specs.Function.{Function}
-use Rattle.jb_records.specs.Shares.{AreInOrder, AreNumbered, AreShares, IsShare, IsSoFar, joined}
+use Rattle.jb_records.specs.Shares.{AreRowsInOrder, AreNumbered, AreShares, IsShare, IsSoFar, joined}
 
 -- ---- ROWS THAT GO ON
 
@@ -26,11 +26,11 @@ shares-again f records [] (share ∷ shares) are = absurd are
 shares-again f records (row ∷ rows) [] are = absurd are
 shares-again f records (row ∷ rows) (share ∷ shares) are = (share-again f records (is_failed row.state) row share are.0, shares-again f records rows shares are.1)
 
-first-again : (from to : ℕ) (b : Bool) (row : Row) (rows : List Row) → row.lo ≡ from → from ≤ row.hi → AreInOrder row.hi to rows → AreInOrder from to (cond b (dropped_row row) row ∷ rows)
+first-again : (from to : ℕ) (b : Bool) (row : Row) (rows : List Row) → row.lo ≡ from → from ≤ row.hi → AreRowsInOrder row.hi to rows → AreRowsInOrder from to (cond b (dropped_row row) row ∷ rows)
 first-again from to true row rows lo hi order = (lo, hi, order)
 first-again from to false row rows lo hi order = (lo, hi, order)
 
-order-again : (from to : ℕ) (rows : List Row) → AreInOrder from to rows → AreInOrder from to (map restarted rows)
+order-again : (from to : ℕ) (rows : List Row) → AreRowsInOrder from to rows → AreRowsInOrder from to (map restarted rows)
 order-again from to [] order = order
 order-again from to (row ∷ rows) order = first-again from to (is_failed row.state) row (map restarted rows) order.0 order.1 (order-again row.hi to rows order.2)
 

@@ -11,7 +11,7 @@ use Rattle.jb_chunk.specs.Standing.{TaskState}
 use Rattle.jb_repo.specs.declared.snapshot.Snapshot.{Snapshot}
 use Rattle.jb_step.specs.Alone.{AreOnTheWay}
 use Rattle.jb_step.specs.Answers.{tasks_left}
-use Rattle.jb_step.specs.Setup.{Setup, row_now}
+use Rattle.jb_step.specs.preparing.Setup.{Setup, row_now}
 use Rattle.jb_records.specs.Runs.{PartsStay}
 use Rattle.jb_records.specs.Stretches.{numbers_in}
 use Rattle.jb_records.proofs.Steps.{left-of}

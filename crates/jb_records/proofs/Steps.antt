@@ -17,17 +17,17 @@ use Rattle.jb_collect.specs.declared.calls.AnalyzerCall.{AnalyzerCall}
 use Rattle.jb_collect.specs.declared.calls.ReducerCall.{ReducerCall}
 use Rattle.jb_collect.specs.declared.calls.Status.{Status}
 use Rattle.jb_collect.specs.declared.calls.Status.TheVariants as status
-use Rattle.jb_collect.specs.Taken.{Taken, well}
-use Rattle.jb_step.specs.Callbacks.{has_fault, since}
+use Rattle.jb_collect.specs.Taken.{Taken, since, well}
+use Rattle.jb_step.specs.callbacks.Callbacks.{has_fault}
 use Rattle.jb_step.specs.Answers.{IsRunOfStep, IsStatus, StepRun, tasks_left}
 use Rattle.jb_step.specs.Statuses.{status_of}
-use Rattle.jb_step.specs.PlanLaws.{AreTasksOf, BeginsWithRows, BeginsWithTable}
-use Rattle.jb_step.specs.Prepare.{DoFit}
-use Rattle.jb_step.specs.Setup.{IsSetup, Setup, first_tasks, fresh_rows, row_now, rows_now, unfinished}
+use Rattle.jb_step.specs.rounds.PlanLaws.{AreTasksOf, BeginsWithRows, BeginsWithTable}
+use Rattle.jb_step.specs.preparing.Prepare.{DoFit}
+use Rattle.jb_step.specs.preparing.Setup.{IsSetup, Setup, first_tasks, fresh_rows, row_now, rows_now, unfinished}
 use Rattle.jb_step.specs.Alone.{AreOnTheWay}
 use Rattle.jb_records.specs.Function.{Function, result_of}
 use Rattle.jb_records.specs.Runs.{HasResults, PartsStay, ResultsGoOn}
-use Rattle.jb_records.specs.Shares.{AreInOrder, AreNumbered, AreRangesOf, AreShares, AreWhole, IsShare, IsSoFar, NewStepsBegin, newer_share, newer_shares}
+use Rattle.jb_records.specs.Shares.{AreRowsInOrder, AreNumbered, AreRangesOf, AreShares, AreAtTheirEnds, IsShare, IsSoFar, NewStepsBegin, newer_share, newer_shares}
 use Rattle.jb_records.specs.Steps.{AreWorks, BeginsAnew, StepsKeepResults}
 use Rattle.jb_records.specs.Works.{IsWork, own_records, record_of, results_between}
 use Rattle.jb_records.proofs.Going.{ends-at}
@@ -138,13 +138,13 @@ range-kept law (t ∷ ts) (x ∷ xs) p row ways =
     subst (λ q. IsSameRange (cond (nat_eq t.partition p) t.row (row_now ts p row)) (cond (nat_eq q p) x.row (row_now xs p row))) (sym same.partition) now
 
 order-kept : PartsStay → (ts now : List TaskState) (k from to : ℕ) (rows : List Row) → AreOnTheWay ts now
-    → AreInOrder from to (map (λ n. row_now ts n.0 n.1) (enumerate_from k rows)) → AreInOrder from to (map (λ n. row_now now n.0 n.1) (enumerate_from k rows))
+    → AreRowsInOrder from to (map (λ n. row_now ts n.0 n.1) (enumerate_from k rows)) → AreRowsInOrder from to (map (λ n. row_now now n.0 n.1) (enumerate_from k rows))
 order-kept law ts now k from to [] ways order = order
 order-kept law ts now k from to (row ∷ rows) ways order =
     let same = range-kept law ts now k row ways in (
       same.lo ∙ order.0,
       subst (λ hi. from ≤ hi) (sym same.hi) order.1,
-      subst (λ hi. AreInOrder hi to (map (λ n. row_now now n.0 n.1) (enumerate_from (k + 1) rows))) (sym same.hi)
+      subst (λ hi. AreRowsInOrder hi to (map (λ n. row_now now n.0 n.1) (enumerate_from (k + 1) rows))) (sym same.hi)
           (order-kept law ts now (k + 1) (row_now ts k row).hi to rows ways order.2),
     )
 
@@ -157,9 +157,9 @@ shares-kept law parts begins same f records shares s works snapshot left is fit 
     let now = tasks_left s snapshot left in
     let begun = all-begun f records shares s 0 s.rows shares works so-far.each (λ i share get. let e : i ≡ 0 + i = omega arith in subst (λ m. slice_get shares m ≡ Some share) e get) are ready in
     let have : HaveResults f records now = kept-by law f records s ts now ready begun ways in
-    let order : AreInOrder 0 (length records) (rows_now s.rows ts) = subst (AreInOrder 0 (length records)) (sym (same s works fit)) so-far.order in
+    let order : AreRowsInOrder 0 (length records) (rows_now s.rows ts) = subst (AreRowsInOrder 0 (length records)) (sym (same s works fit)) so-far.order in
     record {
-      order = subst (AreInOrder 0 (length records)) (sym rows) (order-kept parts ts now 0 0 (length records) s.rows ways order);
+      order = subst (AreRowsInOrder 0 (length records)) (sym rows) (order-kept parts ts now 0 0 (length records) s.rows ways order);
       each = subst (λ (x : List Row). AreShares f records x (newer_shares left shares)) (sym rows) (newer-all f records s snapshot left 0 s.rows shares have so-far.each);
     }
 
@@ -188,7 +188,7 @@ new-shares f records [] (share ∷ shares) are = absurd are
 new-shares f records (r ∷ rs) [] are = absurd are
 new-shares f records (r ∷ rs) (share ∷ shares) are = (new-share f records r share are.0, new-shares f records rs shares are.1)
 
-new-order : (from to : ℕ) (ranges : List Range) → AreRangesOf from to ranges → AreInOrder from to (fresh_rows ranges)
+new-order : (from to : ℕ) (ranges : List Range) → AreRangesOf from to ranges → AreRowsInOrder from to (fresh_rows ranges)
 new-order from to [] order = order
 new-order from to (r ∷ rs) order = (order.0, order.1, new-order r.hi to rs order.2)
 
@@ -214,7 +214,7 @@ finished-is (state.Running lane) e = absurd cc
 finished-is state.Finished e = refl
 finished-is state.Failed e = absurd cc
 
-whole-if : (rows : List Row) → list_any (λ row. not (is_finished row.state)) rows ≡ false → AreWhole rows
+whole-if : (rows : List Row) → list_any (λ row. not (is_finished row.state)) rows ≡ false → AreAtTheirEnds rows
 whole-if [] e = tt
 whole-if (row ∷ rows) e =
     let parts = or_parts (not (is_finished row.state)) (list_any (λ row. not (is_finished row.state)) rows) e in
@@ -226,7 +226,7 @@ completed-by false true e = absurd cc
 completed-by false false e = refl
 
 -- where the step is completed, each partition is finished
-pub completed-whole : (rows : List Row) (failed : Bool) → status_of rows failed ≡ status.Completed → AreWhole rows
+pub completed-whole : (rows : List Row) (failed : Bool) → status_of rows failed ≡ status.Completed → AreAtTheirEnds rows
 completed-whole rows failed e =
     whole-if rows (completed-by (failed || list_any (λ row. is_failed row.state) rows) (list_any (λ row. not (is_finished row.state)) rows) e)
 

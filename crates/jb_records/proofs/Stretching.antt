@@ -10,17 +10,17 @@ use Rattle.jb_rules.specs.declared.row.Row.{Row}
 use Rattle.jb_rules.specs.States.{is_running}
 use Rattle.jb_chunk.specs.Standing.{TaskState}
 use Rattle.jb_saved.specs.Answers.{first_running}
-use Rattle.jb_saved.specs.GoingOn.{is_past, restarted, rows_restarted}
+use Rattle.jb_saved.specs.GoingOn.{ends_past, restarted, rows_restarted}
 use Rattle.jb_saved.specs.SavedRows.{SavedRows}
 use Rattle.jb_step.specs.Answers.{tasks_left}
-use Rattle.jb_step.specs.PlanLaws.{AreTasksOf, BeginsWithRows, BeginsWithTable}
-use Rattle.jb_step.specs.Setup.{Setup, first_tasks, needs, rows_now, unfinished}
+use Rattle.jb_step.specs.rounds.PlanLaws.{AreTasksOf, BeginsWithRows, BeginsWithTable}
+use Rattle.jb_step.specs.preparing.Setup.{Setup, first_tasks, needs, rows_now, unfinished}
 use Rattle.jb_records.specs.Function.{Function}
 use Rattle.jb_records.specs.Runs.{PartsStay, ResultsGoOn}
-use Rattle.jb_records.specs.Shares.{AreInOrder, IsSoFar, newer_shares}
+use Rattle.jb_records.specs.Shares.{AreRowsInOrder, IsSoFar, newer_shares}
 use Rattle.jb_records.specs.Steps.{AreWorks, StepsKeepResults}
 use Rattle.jb_records.specs.Stretches.{HasGoneOn, IsStretchMade, RunState, StandsOver, numbers_in, works_in}
-use Rattle.jb_records.specs.inside.Calls.{CanBegin}
+use Rattle.jb_records.specs.inside.Calls.{CanBeginOver}
 use Rattle.jb_records.specs.inside.Kept.{IsGoingOn, IsRanOver, RowsAreSaved, StretchesGoOn, WorksFit, is_done, is_left, news_from}
 use Rattle.jb_records.proofs.Ahead.{GoAhead, IsAhead, rows-ahead}
 use Rattle.jb_records.proofs.Calling.{works-fit}
@@ -32,14 +32,14 @@ use Rattle.jb_records.proofs.Steps.{HaveResults, all-begun, kept-by}
 
 -- ---- WHERE IT STANDS, ITS PARTITIONS HAVE THEIR RECORDS
 
-below-last : (from to : ℕ) (rows : List Row) → AreInOrder from to rows → from ≤ to
+below-last : (from to : ℕ) (rows : List Row) → AreRowsInOrder from to rows → from ≤ to
 below-last from to [] order = omega (arith, order)
 below-last from to (row ∷ rows) order =
     let le = order.1 in
     let rest = below-last row.hi to rows order.2 in
     omega (arith, le, rest)
 
-order-within : (from to : ℕ) (rows : List Row) → AreInOrder from to rows → (p : ℕ) (row : Row) → slice_get rows p ≡ Some row → (row.lo ≤ row.hi) × (row.hi ≤ to)
+order-within : (from to : ℕ) (rows : List Row) → AreRowsInOrder from to rows → (p : ℕ) (row : Row) → slice_get rows p ≡ Some row → (row.lo ≤ row.hi) × (row.hi ≤ to)
 order-within from to [] order p row at = absurd (cc at)
 order-within from to (r ∷ rows) order zero row at =
     let same : r ≡ row = cc in
@@ -49,7 +49,7 @@ order-within from to (r ∷ rows) order zero row at =
     subst (λ (one : Row). (one.lo ≤ one.hi) × (one.hi ≤ to)) same (omega (arith, lo, le), omega (arith, rest))
 order-within from to (r ∷ rows) order (suc p) row at = order-within r.hi to rows order.2 p row at
 
-pub can-go-on : (f : Function) (records : List (List ℕ)) (rows : List Row) (shares : List (List (List ℕ))) → IsSoFar f records rows shares → CanBegin (length records) rows shares
+pub can-go-on : (f : Function) (records : List (List ℕ)) (rows : List Row) (shares : List (List (List ℕ))) → IsSoFar f records rows shares → CanBeginOver (length records) rows shares
 can-go-on f records rows shares so = record {
   within = order-within 0 (length records) rows so.order;
   numbered = numbered-so f records rows shares so.each;
@@ -69,13 +69,13 @@ none-running (old ∷ olds) (new ∷ news) ahead still =
     let rest = none-running olds news ahead.1 (λ i r get. still (suc i) r get) in
     grind (arith, here, rest)
 
-none-past : (from to : ℕ) (rows : List Row) → AreInOrder from to rows → is_past to rows ≡ false
+none-past : (from to : ℕ) (rows : List Row) → AreRowsInOrder from to rows → ends_past to rows ≡ false
 none-past from to [] order = refl
 none-past from to (row ∷ rows) order =
     let last = below-last row.hi to rows order.2 in
     let here : nat_lt to row.hi ≡ false = grind (arith, nat_tests) in
     let rest = none-past row.hi to rows order.2 in
-    ap (λ (b : Bool). b || is_past to rows) here ∙ rest
+    ap (λ (b : Bool). b || ends_past to rows) here ∙ rest
 
 -- ---- A STRETCH
 
@@ -119,10 +119,10 @@ module _ (going : ResultsGoOn) (parts : PartsStay) (begins : BeginsWithTable) (s
     here : {A : Type 0} (xs : List A) (i : ℕ) (x : A) → slice_get xs i ≡ Some x → slice_get xs (0 + i) ≡ Some x
     here xs i x get = let e : i ≡ 0 + i = omega arith in subst (λ m. slice_get xs m ≡ Some x) e get
 
-    saved : (first_running snapshot.rows.items ≡ None) × (is_past before.records snapshot.rows.items ≡ false)
+    saved : (first_running snapshot.rows.items ≡ None) × (ends_past before.records snapshot.rows.items ≡ false)
     saved = (
       none-running before.setup.rows snapshot.rows.items aheads (λ i row get. (stands.setup.openable.idle i row get).1),
-      subst (λ n. is_past n snapshot.rows.items ≡ false) (sym stands.number) (none-past 0 (length records) snapshot.rows.items so-far.order),
+      subst (λ n. ends_past n snapshot.rows.items ≡ false) (sym stands.number) (none-past 0 (length records) snapshot.rows.items so-far.order),
     )
 
     module _ (after : RunState) (results : List (List (List ℕ))) (held : before.shares ≡ newer_shares before.works results)

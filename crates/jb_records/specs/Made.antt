@@ -10,9 +10,9 @@ use Rattle.jb_saved.specs.SavedRows.{SavedRows}
 use Rattle.jb_step.specs.Alone.{AreOnTheWay}
 use Rattle.jb_step.specs.Answers.{StepRun, tasks_after, tasks_before}
 use Rattle.jb_step.specs.Headline.{Headline}
-use Rattle.jb_step.specs.Prepare.{IsPreparation}
-use Rattle.jb_step.specs.Setup.{IsSetup, Setup, unfinished}
-use Rattle.jb_step.specs.StepRuns.{IsAnswered}
+use Rattle.jb_step.specs.preparing.Prepare.{IsPreparation}
+use Rattle.jb_step.specs.preparing.Setup.{IsSetup, Setup, unfinished}
+use Rattle.jb_step.specs.restarts.StepRuns.{IsAnswered}
 use Rattle.jb_records.specs.declared.step.RecordsStep.{RecordsStep}
 use Rattle.jb_records.specs.Function.{Function}
 use Rattle.jb_records.specs.Shares.{AreNumbered, joined, newer_shares}
@@ -34,7 +34,7 @@ even_partitions step records = record { ranges = even_ranges records step.partit
 
 -- The step was prepared: with its item count, its rules, its threads, and the rows of its ranges, or the saved ones, of which the
 -- failed ones wait again. Each partition has as many of the earlier results as its row says, one partition behind the other.
-pub record IsBegun (step : RecordsStep) (records : ℕ) (saved : Option SavedRows) (earlier : List (List ℕ)) (s : Setup) (shares : List (List (List ℕ))) : Type 0 where
+pub record IsStepBegun (step : RecordsStep) (records : ℕ) (saved : Option SavedRows) (earlier : List (List ℕ)) (s : Setup) (shares : List (List (List ℕ))) : Type 0 where
   pub prepared : IsPreparation (step_record step) records (Ok (even_partitions step records)) saved s
   pub setup : IsSetup s
   pub numbered : AreNumbered s.rows shares
@@ -49,7 +49,7 @@ pub record IsBegunBehind (step : RecordsStep) (records : ℕ) (earlier : Option 
   pub saved : Option SavedRows
   pub results : List (List ℕ)
   pub takes_over : TakesOver earlier saved results
-  pub begun : IsBegun step records saved results s shares
+  pub begun : IsStepBegun step records saved results s shares
 
 -- ---- WHAT WAS RUN
 

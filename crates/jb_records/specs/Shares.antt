@@ -6,7 +6,7 @@ use Rattle.jb_artifacts.specs.Meaning.{ArtifactsMeaning}
 use Rattle.jb_base.specs.declared.range.Range.{Range}
 use Rattle.jb_rules.specs.declared.row.Row.{Row}
 use Rattle.jb_rules.specs.declared.row.RowState.TheVariants.{Finished}
-use Rattle.jb_step.specs.Setup.{fresh_rows}
+use Rattle.jb_step.specs.preparing.Setup.{fresh_rows}
 use Rattle.jb_records.specs.Function.{Function, all_results}
 use Rattle.jb_records.specs.Works.{own_records, results_between}
 
@@ -24,9 +24,9 @@ abbrev pub AreShares : Function → (records : List (List ℕ)) → List Row →
 AreShares f records rows shares = Pairwise (IsShare f records) rows shares
 
 -- the ranges follow one another
-abbrev pub AreInOrder : (from to : ℕ) → List Row → Type 0
-AreInOrder from to [] = from ≡ to
-AreInOrder from to (row ∷ rows) = (row.lo ≡ from) × (from ≤ row.hi) × AreInOrder row.hi to rows
+abbrev pub AreRowsInOrder : (from to : ℕ) → List Row → Type 0
+AreRowsInOrder from to [] = from ≡ to
+AreRowsInOrder from to (row ∷ rows) = (row.lo ≡ from) × (from ≤ row.hi) × AreRowsInOrder row.hi to rows
 
 abbrev pub AreRangesOf : (from to : ℕ) → List Range → Type 0
 AreRangesOf from to [] = from ≡ to
@@ -38,12 +38,12 @@ AreNumbered rows shares = Pairwise (λ (row : Row) share. length share ≡ row.w
 
 -- HOW FAR A STEP OVER RECORDS IS: the ranges are those of all records in their order, and each partition has its share
 pub record IsSoFar (f : Function) (records : List (List ℕ)) (rows : List Row) (shares : List (List (List ℕ))) : Type 0 where
-  pub order : AreInOrder 0 (length records) rows
+  pub order : AreRowsInOrder 0 (length records) rows
   pub each : AreShares f records rows shares
 
 -- each partition is at the end of its range
-abbrev pub AreWhole : List Row → Type 0
-AreWhole rows = AllByRecursion (λ row. row.state ≡ Finished) rows
+abbrev pub AreAtTheirEnds : List Row → Type 0
+AreAtTheirEnds rows = AllByRecursion (λ row. row.state ≡ Finished) rows
 
 -- the shares, one behind the other
 abbrev pub joined : (shares : List (List (List ℕ))) → List (List ℕ)
@@ -59,7 +59,7 @@ newer_shares left shares = map (λ n. newer_share left n.0 n.1) (enumerate_from 
 
 -- THE LAW: once all partitions are finished, the shares joined are the results of all records
 abbrev pub SharesJoin : Type 0
-SharesJoin = (f : Function) (records : List (List ℕ)) (rows : List Row) (shares : List (List (List ℕ))) → IsSoFar f records rows shares → AreWhole rows → joined shares ≡ all_results f records
+SharesJoin = (f : Function) (records : List (List ℕ)) (rows : List Row) (shares : List (List (List ℕ))) → IsSoFar f records rows shares → AreAtTheirEnds rows → joined shares ≡ all_results f records
 
 -- THE LAW: a step that begins anew is so far, with no result
 abbrev pub NewStepsBegin : Type 0

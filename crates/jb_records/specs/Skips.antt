@@ -9,8 +9,8 @@ use Rattle.jb_repo.specs.declared.snapshot.Snapshot.{Snapshot}
 use Rattle.jb_rules.specs.declared.row.Row.{Row}
 use Rattle.jb_step.specs.Alone.{AreOnTheWay}
 use Rattle.jb_step.specs.Answers.{tasks_left}
-use Rattle.jb_step.specs.Prepare.{DoFit}
-use Rattle.jb_step.specs.Setup.{IsSetup, Setup, first_tasks, fresh_rows, rows_now, unfinished}
+use Rattle.jb_step.specs.preparing.Prepare.{DoFit}
+use Rattle.jb_step.specs.preparing.Setup.{IsSetup, Setup, first_tasks, fresh_rows, rows_now, unfinished}
 use Rattle.jb_records.specs.Function.{Function}
 use Rattle.jb_records.specs.Shares.{IsSoFar}
 use Rattle.jb_records.specs.Steps.{AreWorks}
@@ -32,11 +32,11 @@ skipped_of f records rows = flat_map (λ row. skips_between f records row.lo row
 -- ---- AS MANY AS ARE COUNTED
 
 -- the row counts as many records as skipped at their read
-abbrev pub IsCounted : Function → (records : List (List ℕ)) → Row → Type 0
-IsCounted f records row = row.counts.read_skip ≡ length (skips_between f records row.lo row.at)
+abbrev pub AreSkipsCounted : Function → (records : List (List ℕ)) → Row → Type 0
+AreSkipsCounted f records row = row.counts.read_skip ≡ length (skips_between f records row.lo row.at)
 
 abbrev pub AreCounted : Function → (records : List (List ℕ)) → List Row → Type 0
-AreCounted f records rows = AllByRecursion (IsCounted f records) rows
+AreCounted f records rows = AllByRecursion (AreSkipsCounted f records) rows
 
 -- THE LAW: where a run of the step ends, its rows count the skipped records, if they did when it began
 abbrev pub SkipsAreCounted : Type 0

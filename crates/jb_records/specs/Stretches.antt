@@ -12,12 +12,12 @@ use Rattle.jb_saved.specs.SavedRows.{SavedRows}
 use Rattle.jb_step.specs.Alone.{AreOnTheWay}
 use Rattle.jb_step.specs.Answers.{StepRun, tasks_after, tasks_before}
 use Rattle.jb_step.specs.Headline.{Headline}
-use Rattle.jb_step.specs.Setup.{IsSetup, Setup, needs, unfinished}
-use Rattle.jb_step.specs.StepRuns.{IsAnswered}
+use Rattle.jb_step.specs.preparing.Setup.{IsSetup, Setup, needs, unfinished}
+use Rattle.jb_step.specs.restarts.StepRuns.{IsAnswered}
 use Rattle.jb_records.specs.declared.error.RecordsStepError.{RecordsStepError}
 use Rattle.jb_records.specs.declared.error.RecordsStepError.TheVariants.{Memory, Step}
 use Rattle.jb_records.specs.Function.{Function}
-use Rattle.jb_records.specs.Shares.{AreNumbered, AreWhole, IsSoFar, joined}
+use Rattle.jb_records.specs.Shares.{AreNumbered, AreAtTheirEnds, IsSoFar, joined}
 use Rattle.jb_records.specs.Steps.{AreWorks}
 
 -- ---- WHERE A RUN STANDS
@@ -63,7 +63,7 @@ pub record BeginsBehind (step text : List ℕ) (shares : List (List (List ℕ)))
   pub rows : s.setup.rows ≡ rows_restarted held
   pub shares_are : s.shares ≡ shares
   pub numbered : AreNumbered held.rows shares
-  pub whole : AreWhole s.setup.rows → AreWhole held.rows
+  pub whole : AreAtTheirEnds s.setup.rows → AreAtTheirEnds held.rows
 
 -- ---- WHAT A STRETCH DOES
 

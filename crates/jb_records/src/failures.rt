@@ -1,13 +1,13 @@
 //! With which fault each failed partition failed.
 
-ghost use Rattle.std.specs.Prelude.{◌≡◌, ◌+◌, ◌<◌, ◌^◌, filter, length, IfOk, IfSome};
+ghost use Rattle.std.specs.Prelude.{◌+◌, ◌<◌, ◌^◌, filter, length, IfOk, IfSome};
 ghost use Rattle.std.specs.List.{enumerate_from};
 ghost use Rattle.jb_base.specs.Pairwise.{Pairwise};
 ghost use Rattle.jb_rules.specs.States.{is_failed};
 ghost use Rattle.jb_records.specs.Failures.{AreFailures, IsFailure, IsFaultIn, IsFaultOf};
 
 use crate::function::RecordFunction;
-use crate::works::Works;
+use crate::works::RecordsArtifacts;
 use jb_artifacts::record_of;
 use jb_base::{ClassId, PackedList};
 use jb_ready::Note;
@@ -33,10 +33,13 @@ fn later_of(read: Option<&Note>, tried: Option<&Note>) -> Option<Note> {
 }
 
 /// The fault that the partition of this number met last, if all of its faults were noted.
-fn noted_of<F: RecordFunction>(works: &[(u32, Works<F>)], partition: u32) -> Option<Note> {
+fn noted_of<F: RecordFunction>(
+    works: &[(u32, RecordsArtifacts<F>)],
+    partition: u32,
+) -> Option<Note> {
     for one in works {
         if one.0 == partition {
-            let artifacts = one.1.artifacts();
+            let artifacts = &one.1.artifacts().inner;
             let (reads, tries) = (&artifacts.reader.notes, &artifacts.processor.notes);
             if reads.lost() > 0 || tries.lost() > 0 {
                 return None;
@@ -101,7 +104,7 @@ fn failures_from<F: RecordFunction>(
     records: &PackedList,
     partition: u32,
     rows: &[Row],
-    works: &[(u32, Works<F>)],
+    works: &[(u32, RecordsArtifacts<F>)],
 ) -> Result<Vec<Failure>, AllocError>
     requires { partition + length rows.now < 2 ^ 32 }
     ensures { IfOk result (λ failures. Pairwise (IsFailure (F.function function.now) records.now)
@@ -124,7 +127,7 @@ pub(crate) fn failures_of<F: RecordFunction>(
     function: &F,
     records: &PackedList,
     rows: &[Row],
-    works: &[(u32, Works<F>)],
+    works: &[(u32, RecordsArtifacts<F>)],
 ) -> Result<Vec<Failure>, AllocError>
     requires { length rows.now < 2 ^ 32 }
     ensures { IfOk result (λ failures. AreFailures (F.function function.now) records.now rows.now failures.items) }

@@ -5,14 +5,14 @@ ghost use Rattle.jb_base.specs.Limits.{max_records};
 ghost use Rattle.jb_mapper.specs.EvenCover.{even_ranges};
 ghost use Rattle.jb_mapper.specs.Mapping.{even};
 ghost use Rattle.jb_collect.specs.declared.calls.Status.TheVariants.{Completed};
-ghost use Rattle.jb_step.specs.Prepare.{IsPreparation};
-ghost use Rattle.jb_step.specs.Setup.{IsSetup};
+ghost use Rattle.jb_step.specs.preparing.Prepare.{IsPreparation};
+ghost use Rattle.jb_step.specs.preparing.Setup.{IsSetup};
 ghost use Rattle.jb_step.specs.Statuses.{status_of};
 ghost use Rattle.jb_records.specs.Earlier.{IsStoppedRun};
 ghost use Rattle.jb_records.specs.Failures.{AreFailures};
 ghost use Rattle.jb_records.specs.Function.{Function, all_results};
-ghost use Rattle.jb_records.specs.inside.Calls.{CanBegin, IsUnbegun, IsUnbegunWith, IsUnended, IsUnprepared, IsUnpreparedFor};
-ghost use Rattle.jb_records.specs.Made.{IsBegun, IsRunMade, even_partitions, step_record};
+ghost use Rattle.jb_records.specs.inside.Calls.{CanBeginOver, IsUnbegun, IsUnbegunWith, HasNoEnd, IsUnprepared, IsUnpreparedFor};
+ghost use Rattle.jb_records.specs.Made.{IsStepBegun, IsRunMade, even_partitions, step_record};
 ghost use Rattle.jb_saved.specs.GoingOn.{rows_restarted};
 ghost use Rattle.jb_records.specs.Shares.{AreNumbered, IsSoFar, joined};
 ghost use Rattle.jb_records.specs.Skips.{AreCounted};
@@ -25,7 +25,7 @@ use crate::function::RecordFunction;
 use crate::laws::{skips_are_counted, steps_keep_results};
 use crate::shares::{are_numbered, put_back, shares_of};
 use crate::step::RecordsStep;
-use crate::works::{Works, all_works};
+use crate::works::{RecordsArtifacts, all_works};
 use jb_base::{MAX_RECORDS, Name, PackedList, Rules};
 use jb_chunk::Task;
 use jb_collect::{FaultlessAnalyzer, FaultlessReducer};
@@ -63,7 +63,7 @@ impl RecordsJob {
         earlier: &PackedList,
     ) -> Result<RecordsJob, RecordsStepError>
         ensures why { IfErr result (IsUnbegun step.now (length records.now) saved (length earlier.now)) }
-        ensures begun { IfOk result (λ job. IsBegun step.now (length records.now) saved earlier.now job.prepared job.results.items) }
+        ensures begun { IfOk result (λ job. IsStepBegun step.now (length records.now) saved earlier.now job.prepared job.results.items) }
         ensures few { OnOk result (length records.now ≤ max_records) }
         ensures new { saved ≡ None → IfOk result (λ job. (f : Function) → IsSoFar f records.now job.prepared.rows job.results.items) }
         ensures counted { saved ≡ None → IfOk result (λ job. (f : Function) → AreCounted f records.now job.prepared.rows) }
@@ -95,7 +95,7 @@ impl RecordsJob {
         results: Vec<PackedList>,
     ) -> Result<RecordsJob, RecordsStepError>
         ensures why { IfErr result (IsUnbegunWith step.now (length records.now) saved results.items) }
-        ensures begun { IfOk result (λ job. IsBegun step.now (length records.now) (Some saved) (joined results.items) job.prepared job.results.items) }
+        ensures begun { IfOk result (λ job. IsStepBegun step.now (length records.now) (Some saved) (joined results.items) job.prepared job.results.items) }
         ensures few { OnOk result (length records.now ≤ max_records) }
         ensures rows { IfOk result (λ job. job.prepared.rows ≡ rows_restarted saved) }
         ensures results { IfOk result (λ job. job.results.items ≡ results.items) }
@@ -134,8 +134,8 @@ impl RecordsJob {
         records: &PackedList,
         rounds: Option<u64>,
     ) -> Result<RecordsEnd, RecordsStepError>
-        requires { CanBegin (length records.now) self.prepared.rows self.results.items }
-        ensures why { IfErr result (IsUnended (F.function function) self.prepared.rules records.now) }
+        requires { CanBeginOver (length records.now) self.prepared.rows self.results.items }
+        ensures why { IfErr result (HasNoEnd (F.function function) self.prepared.rules records.now) }
         ensures made { IfOk result (λ end. IsRunMade (F.function function) records.now rounds self.prepared self.results.items end.snapshot end.results.items) }
         ensures status { IfOk result (λ end. end.status ≡ status_of end.snapshot.rows.items false) }
         ensures failures { IfOk result (λ end. AreFailures (F.function function) records.now end.snapshot.rows.items end.failures.items) }
@@ -157,7 +157,7 @@ impl RecordsJob {
         let function = Arc::new(alloc, function)?;
         let works = all_works(alloc, &function, &rules, records, &prepared, &results)?;
         let analyzer = FaultlessAnalyzer::new(alloc);
-        let (end, _, _) = run_pooled_step::<Task<Works<F>>, L, NoGate, R>(
+        let (end, _, _) = run_pooled_step::<Task<RecordsArtifacts<F>>, L, NoGate, R>(
             rt, alloc, desk, prepared, works, analyzer, reducer, rounds, &NoGate,
         );
         let end = end?;

@@ -8,12 +8,12 @@ ghost use Rattle.jb_plan.specs.Plans.{IsRunnable};
 ghost use Rattle.jb_saved.specs.Reading.{answer_of};
 ghost use Rattle.jb_saved.specs.SavedRows.{SavedRows};
 ghost use Rattle.jb_step.specs.Answers.{given_back};
-ghost use Rattle.jb_step.specs.Setup.{IsSetup};
+ghost use Rattle.jb_step.specs.preparing.Setup.{IsSetup};
 ghost use Rattle.jb_records.specs.Causes.{IsCauseBehind, IsCauseOf};
 ghost use Rattle.jb_records.specs.Made.{even_partitions};
-ghost use Rattle.jb_records.specs.Shares.{AreWhole, IsSoFar, newer_shares};
+ghost use Rattle.jb_records.specs.Shares.{AreAtTheirEnds, IsSoFar, newer_shares};
 ghost use Rattle.jb_records.specs.Stretches.{BeginsBehind, BeginsEmpty, RunState, StandsOver};
-ghost use Rattle.jb_records.specs.inside.Calls.{CanBegin, IsTryRefused};
+ghost use Rattle.jb_records.specs.inside.Calls.{CanBeginOver, IsTryRefused};
 ghost use Rattle.jb_records.specs.inside.Kept.{IsKept};
 
 use crate::error::RecordsStepError;
@@ -22,7 +22,7 @@ use crate::job::RecordsJob;
 use crate::shares::put_back;
 use crate::step::RecordsStep;
 use crate::stretch_end::numbered;
-use crate::works::{Works, all_works};
+use crate::works::{RecordsArtifacts, all_works};
 use jb_artifacts::Meaning;
 use jb_base::PackedList;
 use jb_collect::FaultlessReducer;
@@ -45,7 +45,7 @@ pub struct RecordsRun<F> {
     pub(crate) reducer: FaultlessReducer,
     /// Those of the finished partitions; what an unfinished one has is in its writer.
     pub(crate) results: Vec<PackedList>,
-    pub(crate) works: Vec<(u32, Works<F>)>,
+    pub(crate) works: Vec<(u32, RecordsArtifacts<F>)>,
     ghost few: { count ≤ max_records },
     ghost runnable: { IsRunnable count (even_partitions step count) },
     ghost few_rows: { length prepared.rows ≤ max_partitions },
@@ -57,8 +57,8 @@ impl<F: RecordFunction + Drop> Standing for RecordsRun<F> {
       step = run.step.id;
       records = run.count;
       setup = run.prepared;
-      works = given_back ⟦<Works<F> as Meaning>⟧.meaning run.works.items;
-      shares = newer_shares (given_back ⟦<Works<F> as Meaning>⟧.meaning run.works.items) run.results.items;
+      works = given_back ⟦<RecordsArtifacts<F> as Meaning>⟧.meaning run.works.items;
+      shares = newer_shares (given_back ⟦<RecordsArtifacts<F> as Meaning>⟧.meaning run.works.items) run.results.items;
     } };
 }
 
@@ -113,7 +113,7 @@ impl<F: RecordFunction + Drop> RecordsRun<F> {
         job: RecordsJob,
     ) -> Result<RecordsRun<F>, RecordsStepError>
         requires few { length records.now ≤ max_records }
-        requires can { CanBegin (length records.now) job.prepared.rows job.results.items }
+        requires can { CanBeginOver (length records.now) job.prepared.rows job.results.items }
         requires runnable { IsRunnable (length records.now) (even_partitions step.now (length records.now)) }
         requires setup { IsSetup job.prepared }
         requires same_rules { job.prepared.rules ≡ step.now.rules }
@@ -140,7 +140,7 @@ impl<F: RecordFunction + Drop> RecordsRun<F> {
 
     /// Whether each partition is at the end of its range. Then nothing is left to be run.
     pub fn is_whole(&self) -> bool
-        ensures { IsTrue result ↔ AreWhole (⟦<RecordsRun<F> as Standing>⟧.standing self.now).setup.rows }
+        ensures { IsTrue result ↔ AreAtTheirEnds (⟦<RecordsRun<F> as Standing>⟧.standing self.now).setup.rows }
     {
         self.prepared.needs().is_empty()
     }

@@ -1,6 +1,6 @@
 //! The results of each partition: taken from an earlier run's, and put in their places.
 
-ghost use Rattle.std.specs.Prelude.{◌≡◌, ◌≤◌, ◌⊎◌, ◌↔◌, drop, length, take, IfErr, IfOk, IsTrue, OnOk};
+ghost use Rattle.std.specs.Prelude.{◌≡◌, ◌≤◌, ◌⊎◌, ◌↔◌, length, IfErr, IfOk, IsTrue};
 ghost use Rattle.jb_base.specs.Limits.{max_partitions};
 ghost use Rattle.jb_step.specs.Answers.{given_back};
 ghost use Rattle.jb_records.specs.Causes.{written_in};
@@ -9,7 +9,7 @@ ghost use Rattle.jb_records.specs.Shares.{AreNumbered, joined, newer_shares};
 
 use crate::error::RecordsStepError;
 use crate::function::RecordFunction;
-use crate::works::Works;
+use crate::works::RecordsArtifacts;
 use jb_artifacts::Meaning;
 use jb_base::{MAX_PARTITIONS, PackedList};
 use jb_rules::Row;
@@ -61,13 +61,16 @@ pub(crate) fn are_numbered(rows: &[Row], shares: &[PackedList]) -> bool
 }
 
 // Puts the results that came back in the places of their partitions.
-fn put_all<F: RecordFunction + Drop>(works: &mut Vec<(u32, Works<F>)>, shares: &mut [PackedList])
-    ensures { shares.new ≡ newer_shares (given_back ⟦<Works<F> as Meaning>⟧.meaning works.old.items) shares.old }
+fn put_all<F: RecordFunction + Drop>(
+    works: &mut Vec<(u32, RecordsArtifacts<F>)>,
+    shares: &mut [PackedList],
+)
+    ensures { shares.new ≡ newer_shares (given_back ⟦<RecordsArtifacts<F> as Meaning>⟧.meaning works.old.items) shares.old }
 {
     if let Some((partition, last)) = works.pop() {
         let index = partition as usize;
         if index < shares.len() {
-            shares[index] = last.into_artifacts().writer.into_written();
+            shares[index] = last.into_artifacts().inner.writer.into_written();
         }
         put_all(works, shares);
     }
@@ -75,10 +78,10 @@ fn put_all<F: RecordFunction + Drop>(works: &mut Vec<(u32, Works<F>)>, shares: &
 
 /// The shares with the results that came back in the places of their partitions.
 pub(crate) fn put_back<F: RecordFunction + Drop>(
-    works: Vec<(u32, Works<F>)>,
+    works: Vec<(u32, RecordsArtifacts<F>)>,
     shares: Vec<PackedList>,
 ) -> Vec<PackedList>
-    ensures { result.items ≡ newer_shares (given_back ⟦<Works<F> as Meaning>⟧.meaning works.items) shares.items }
+    ensures { result.items ≡ newer_shares (given_back ⟦<RecordsArtifacts<F> as Meaning>⟧.meaning works.items) shares.items }
 {
     let mut works = works;
     let mut shares = shares;

@@ -6,15 +6,15 @@ ghost use Rattle.jb_collect.specs.declared.calls.Status.TheVariants.{Completed};
 ghost use Rattle.jb_job.specs.Reading.{tree_of};
 ghost use Rattle.jb_plan.specs.Plans.{IsRunnable};
 ghost use Rattle.jb_saved.specs.Answers.{first_running};
-ghost use Rattle.jb_saved.specs.GoingOn.{is_past};
+ghost use Rattle.jb_saved.specs.GoingOn.{ends_past};
 ghost use Rattle.jb_saved.specs.Reading.{answer_of};
 ghost use Rattle.jb_step.specs.Answers.{given_back};
-ghost use Rattle.jb_step.specs.Prepare.{DoFit};
+ghost use Rattle.jb_step.specs.preparing.Prepare.{DoFit};
 ghost use Rattle.jb_step.specs.Statuses.{status_of};
 ghost use Rattle.jb_records.specs.Failures.{AreFailures};
 ghost use Rattle.jb_records.specs.Function.{Function};
 ghost use Rattle.jb_records.specs.Made.{even_partitions};
-ghost use Rattle.jb_records.specs.Shares.{AreWhole};
+ghost use Rattle.jb_records.specs.Shares.{AreAtTheirEnds};
 ghost use Rattle.jb_records.specs.Skips.{skipped_of};
 ghost use Rattle.jb_records.specs.Stretches.{HasGoneOn, IsBrokenOff, IsStretchMade, StandsOver};
 ghost use Rattle.jb_records.specs.inside.Kept.{IsGoingOn, IsRanOver, IsRunBroken};
@@ -30,7 +30,7 @@ use crate::shares::put_back;
 use crate::skips::skipped_of;
 use crate::step::RecordsStep;
 use crate::stretch_end::{parted, unnumbered};
-use crate::works::Works;
+use crate::works::RecordsArtifacts;
 use jb_artifacts::Meaning;
 use jb_base::{MAX_PARTS, PackedList};
 use jb_chunk::Task;
@@ -82,19 +82,19 @@ fn ran<
     blank: Blank,
     prepared: Prepared,
     reducer: FaultlessReducer,
-    works: Vec<Works<F>>,
+    works: Vec<RecordsArtifacts<F>>,
     rounds: Option<u64>,
-) -> Result<StepEnd<Works<F>>, RecordsStepError>
+) -> Result<StepEnd<RecordsArtifacts<F>>, RecordsStepError>
     requires name { blank.name ≡ L.name }
     requires parts { blank.parts ≡ L.parts }
     requires all { blank.parts ≡ max_parts }
-    ensures ran { IfOk result (λ end. IsRanOver prepared (map ⟦<Works<F> as Meaning>⟧.meaning works.items) rounds end.snapshot (given_back ⟦<Works<F> as Meaning>⟧.meaning end.artifacts.items)) }
+    ensures ran { IfOk result (λ end. IsRanOver prepared (map ⟦<RecordsArtifacts<F> as Meaning>⟧.meaning works.items) rounds end.snapshot (given_back ⟦<RecordsArtifacts<F> as Meaning>⟧.meaning end.artifacts.items)) }
     ensures status { IfOk result (λ end. end.status ≡ status_of end.snapshot.rows.items false) }
-    ensures why { IfErr result (IsRunBroken (DoFit prepared (map ⟦<Works<F> as Meaning>⟧.meaning works.items))) }
+    ensures why { IfErr result (IsRunBroken (DoFit prepared (map ⟦<RecordsArtifacts<F> as Meaning>⟧.meaning works.items))) }
 {
     let desk = prepared.desk::<L>(alloc, blank)?;
     let analyzer = FaultlessAnalyzer::new(alloc);
-    let (end, _, _) = run_pooled_step::<Task<Works<F>>, L, NoGate, R>(
+    let (end, _, _) = run_pooled_step::<Task<RecordsArtifacts<F>>, L, NoGate, R>(
         rt, alloc, &desk, prepared, works, analyzer, reducer, rounds, &NoGate,
     );
     let end = end?;
@@ -108,13 +108,13 @@ fn going_on<F: RecordFunction + Drop>(
     count: u64,
     snapshot: &Snapshot,
     results: Vec<PackedList>,
-    works: Vec<(u32, Works<F>)>,
+    works: Vec<(u32, RecordsArtifacts<F>)>,
 ) -> Result<(RecordsRun<F>, String), RecordsStepError>
     requires few { count ≤ max_records }
     requires runnable { IsRunnable count (even_partitions step count) }
     ensures text { IfOk result (λ r. answer_of (tree_of (string_bytes r.1)) ≡ Ok (record { step = step.id; rows = snapshot.now.rows.items })) }
-    ensures state { IfOk result (λ r. IsGoingOn step.id count step.rules snapshot.now.rows.items (given_back ⟦<Works<F> as Meaning>⟧.meaning works.items) results.items (⟦<RecordsRun<F> as Standing>⟧.standing r.0)) }
-    ensures why { first_running snapshot.now.rows.items ≡ None → is_past count snapshot.now.rows.items ≡ false → IfErr result IsBrokenOff }
+    ensures state { IfOk result (λ r. IsGoingOn step.id count step.rules snapshot.now.rows.items (given_back ⟦<RecordsArtifacts<F> as Meaning>⟧.meaning works.items) results.items (⟦<RecordsRun<F> as Standing>⟧.standing r.0)) }
+    ensures why { first_running snapshot.now.rows.items ≡ None → ends_past count snapshot.now.rows.items ≡ false → IfErr result IsBrokenOff }
 {
     answers_are_computed();
     let saved = Saved::of(alloc, step.id.as_str(), snapshot)?;
@@ -147,7 +147,7 @@ impl<F: RecordFunction + Drop + 'static> RecordsRun<F> {
     ) -> Result<(RecordsRun<F>, Stretch), RecordsStepError>
         ensures saved { IfOk result (λ r. answer_of (tree_of (string_bytes r.1.saved)) ≡ Ok (record { step = (⟦<RecordsRun<F> as Standing>⟧.standing self).step; rows = r.1.snapshot.rows.items })) }
         ensures status { IfOk result (λ r. r.1.status ≡ status_of r.1.snapshot.rows.items false) }
-        ensures whole { IfOk result (λ r. r.1.status ≡ Completed → AreWhole r.1.snapshot.rows.items) }
+        ensures whole { IfOk result (λ r. r.1.status ≡ Completed → AreAtTheirEnds r.1.snapshot.rows.items) }
         ensures made { IfOk result (λ r. IsStretchMade rounds (⟦<RecordsRun<F> as Standing>⟧.standing self) r.1.snapshot (⟦<RecordsRun<F> as Standing>⟧.standing r.0)) }
         ensures goes_on { (f : Function) (records : List (List ℕ)) → StandsOver f records (⟦<RecordsRun<F> as Standing>⟧.standing self) →
             IfOk result (λ r. HasGoneOn f records (⟦<RecordsRun<F> as Standing>⟧.standing self) (⟦<RecordsRun<F> as Standing>⟧.standing r.0) r.1.snapshot.rows.items r.1.results.items) }

@@ -3,13 +3,13 @@
 ghost use Rattle.std.specs.Prelude.{◌≡◌, false, length, option_map, None, IfErr, IfOk, IfSome};
 ghost use Rattle.jb_base.specs.Limits.{max_parts};
 ghost use Rattle.jb_collect.specs.declared.calls.Status.TheVariants.{Completed};
-ghost use Rattle.jb_step.specs.Setup.{IsSetup};
+ghost use Rattle.jb_step.specs.preparing.Setup.{IsSetup};
 ghost use Rattle.jb_step.specs.Statuses.{status_of};
 ghost use Rattle.jb_records.specs.Earlier.{IsOfStoppedRun};
 ghost use Rattle.jb_records.specs.Failures.{AreFailures};
 ghost use Rattle.jb_records.specs.Function.{all_results};
 ghost use Rattle.jb_records.specs.Causes.{IsCauseOf};
-ghost use Rattle.jb_records.specs.inside.Calls.{CanBegin, IsUnended};
+ghost use Rattle.jb_records.specs.inside.Calls.{CanBeginOver, HasNoEnd};
 ghost use Rattle.jb_records.specs.Made.{IsRecordsRun, IsRunMade};
 ghost use Rattle.jb_records.specs.Shares.{IsSoFar, joined};
 ghost use Rattle.jb_records.specs.Skips.{AreCounted};
@@ -83,8 +83,8 @@ fn run_on<
     requires name { blank.name ≡ L.name }
     requires parts { blank.parts ≡ L.parts }
     requires all { blank.parts ≡ max_parts }
-    requires can { CanBegin (length records.now) job.prepared.rows job.results.items }
-    ensures why { IfErr result (IsUnended (F.function function) job.prepared.rules records.now) }
+    requires can { CanBeginOver (length records.now) job.prepared.rows job.results.items }
+    ensures why { IfErr result (HasNoEnd (F.function function) job.prepared.rules records.now) }
     ensures made { IfOk result (λ end. IsRunMade (F.function function) records.now rounds job.prepared job.results.items end.snapshot end.results.items) }
     ensures status { IfOk result (λ end. end.status ≡ status_of end.snapshot.rows.items false) }
     ensures failures { IfOk result (λ end. AreFailures (F.function function) records.now end.snapshot.rows.items end.failures.items) }

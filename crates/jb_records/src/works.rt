@@ -6,8 +6,8 @@ ghost use Rattle.jb_artifacts.specs.declared.faults.FaultPlan.TheVariants.{Sound
 ghost use Rattle.jb_artifacts.specs.Faults.{plans_of, with_plan};
 ghost use Rattle.jb_plan.specs.Plans.{IsWithin};
 ghost use Rattle.jb_rules.specs.Rows.{range_of};
-ghost use Rattle.jb_step.specs.Setup.{unfinished};
-ghost use Rattle.jb_records.specs.inside.Calls.{CanBegin, HaveOwn, IsTryRefused};
+ghost use Rattle.jb_step.specs.preparing.Setup.{unfinished};
+ghost use Rattle.jb_records.specs.inside.Calls.{CanBeginOver, HaveOwn, IsTryRefused};
 ghost use Rattle.jb_records.specs.Steps.{AreFirstWorks, AreWorksOf};
 ghost use Rattle.jb_records.specs.Works.{AreNeverSkipped, IsFirstWork, IsNeverSkipped, own_records, plan_of, tries_plan};
 
@@ -15,7 +15,8 @@ use crate::error::RecordsStepError;
 use crate::function::RecordFunction;
 use crate::shared::Shared;
 use jb_artifacts::{
-    CountCollector, FaultList, FaultPlan, FaultPlans, ListWriter, Meaning, PackedArtifacts,
+    ArtifactsOf, CountCollector, FaultList, FaultPlan, FaultPlans, ListWriter, Meaning,
+    PackedArtifacts,
 };
 use jb_base::{ClassId, PackedList, Rules};
 use jb_chunk::BoxedArtifacts;
@@ -26,7 +27,7 @@ use std::alloc::{AllocError, Global};
 use std::sync::Arc;
 
 /// What a partition works with: its records are lent, and the results of a chunk packed. The faults that it meets are noted.
-pub type Works<F> = BoxedArtifacts<
+pub type RecordsArtifacts<F> = BoxedArtifacts<
     PackedArtifacts<
         NotingReader<CheckedReader<Shared<F>>>,
         NotingProcessor<AnswerProcessor<Shared<F>>>,
@@ -102,11 +103,11 @@ fn works_of<F: RecordFunction + Drop>(
     records: &PackedList,
     row: &Row,
     results: &PackedList,
-) -> Result<Works<F>, RecordsStepError>
+) -> Result<RecordsArtifacts<F>, RecordsStepError>
     requires { IsWithin (length records.now) (range_of row.now) }
     ensures why { IfErr result (IsTryRefused (F.function (arc_value function.now)) rules.now 0 records.now) }
-    ensures work { IfOk result (λ works. IsFirstWork (F.function (arc_value function.now)) rules.now row.now.lo (own_records records.now row.now) (⟦<Works<F> as Meaning>⟧.meaning works)) }
-    ensures results { IfOk result (λ works. (⟦<Works<F> as Meaning>⟧.meaning works).writer.written ≡ results.now) }
+    ensures work { IfOk result (λ works. IsFirstWork (F.function (arc_value function.now)) rules.now row.now.lo (own_records records.now row.now) (⟦<RecordsArtifacts<F> as Meaning>⟧.meaning works)) }
+    ensures results { IfOk result (λ works. (⟦<RecordsArtifacts<F> as Meaning>⟧.meaning works).writer.written ≡ results.now) }
 {
     let own = records.part(alloc, row.lo as usize, row.hi as usize)?;
     let tries = tries_of(alloc, &**function, rules, row.lo, &own)?;
@@ -114,7 +115,7 @@ fn works_of<F: RecordFunction + Drop>(
         Ok(reader) => reader,
         Err(_) => unreachable!(),
     };
-    let artifacts = PackedArtifacts {
+    let inner = ArtifactsOf {
         reader: NotingReader {
             inner: reader,
             notes: Notes::new(alloc),
@@ -129,7 +130,7 @@ fn works_of<F: RecordFunction + Drop>(
         writer: ListWriter::new(copy_of(alloc, results)?, FaultPlans::new(alloc)),
         collector: CountCollector::new(alloc),
     };
-    let works = BoxedArtifacts::new(alloc, artifacts)?;
+    let works = BoxedArtifacts::new(alloc, PackedArtifacts { inner })?;
     Ok(works)
 }
 
@@ -142,10 +143,10 @@ fn works_for<F: RecordFunction + Drop>(
     prepared: &Prepared,
     shares: &[PackedList],
     partitions: &[u32],
-) -> Result<Vec<Works<F>>, RecordsStepError>
+) -> Result<Vec<RecordsArtifacts<F>>, RecordsStepError>
     requires { HaveOwn (length records.now) prepared.now.rows shares.now partitions.now }
     ensures why { IfErr result (IsTryRefused (F.function (arc_value function.now)) rules.now 0 records.now) }
-    ensures works { IfOk result (λ all. AreWorksOf (F.function (arc_value function.now)) rules.now records.now shares.now prepared.now.rows partitions.now (map ⟦<Works<F> as Meaning>⟧.meaning all.items)) }
+    ensures works { IfOk result (λ all. AreWorksOf (F.function (arc_value function.now)) rules.now records.now shares.now prepared.now.rows partitions.now (map ⟦<RecordsArtifacts<F> as Meaning>⟧.meaning all.items)) }
 {
     let Some((partition, others)) = partitions.split_first() else {
         return Ok(Vec::new(alloc));
@@ -170,10 +171,10 @@ pub(crate) fn all_works<F: RecordFunction + Drop>(
     records: &PackedList,
     prepared: &Prepared,
     shares: &[PackedList],
-) -> Result<Vec<Works<F>>, RecordsStepError>
-    requires { CanBegin (length records.now) prepared.now.rows shares.now }
+) -> Result<Vec<RecordsArtifacts<F>>, RecordsStepError>
+    requires { CanBeginOver (length records.now) prepared.now.rows shares.now }
     ensures why { IfErr result (IsTryRefused (F.function (arc_value function.now)) rules.now 0 records.now) }
-    ensures works { IfOk result (λ all. AreFirstWorks (F.function (arc_value function.now)) rules.now records.now shares.now (unfinished prepared.now.rows) (map ⟦<Works<F> as Meaning>⟧.meaning all.items)) }
+    ensures works { IfOk result (λ all. AreFirstWorks (F.function (arc_value function.now)) rules.now records.now shares.now (unfinished prepared.now.rows) (map ⟦<RecordsArtifacts<F> as Meaning>⟧.meaning all.items)) }
 {
     let all = works_for(
         alloc,

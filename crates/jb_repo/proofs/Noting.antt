@@ -6,13 +6,13 @@ use Rattle.jb_rules.specs.declared.row.RowState.TheVariants.{Finished}
 use Rattle.jb_rules.specs.Counts.{plus_counts, no_counts, SumsFit}
 use Rattle.jb_repo.specs.declared.events.Event.{Event}
 use Rattle.jb_repo.specs.declared.events.Event.TheVariants.{Plan, Begin, Commit, Roll, Fail, Drop, Round, Stop}
-use Rattle.jb_repo.specs.History.{own, partition_of, is_some_of, number, since, running}
+use Rattle.jb_repo.specs.History.{own, partition_of, is_some_of, number, events_since, running}
 use Rattle.jb_repo.specs.Rows.{rows_from, gain, gains, replayed_row, total_counts}
 use Rattle.jb_repo.specs.Table.{Journal, Accepted, refusal, after, rows_of}
 use Rattle.jb_repo.specs.Openable.{IsOpenable}
-use Rattle.jb_repo.specs.inside.Below.{LawsBelow}
+use Rattle.jb_repo.specs.inside.Below.{LawsOfRowsBelow}
 use Rattle.jb_repo.specs.inside.Fit.{CountsFit}
-use Rattle.jb_repo.specs.inside.Projection.{IsWithin}
+use Rattle.jb_repo.specs.inside.Projection.{IsInPlace}
 use Rattle.jb_repo.proofs.RowLemmas.{own-yes, own-no, rows_from-none, rows_from-before, plus_counts-swap, plus_counts-zero, plus_counts_assoc}
 use Rattle.jb_repo.proofs.Consistent.{row_eq_opening}
 use Rattle.jb_repo.proofs.Opened.{still_openable}
@@ -45,11 +45,11 @@ number-few test (e ∷ past) =
     let t = number-few test past in
     elim (test e) as (λ b. cond b 1 0 + number test past ≤ suc (length past)) [ true ↦ omega (arith, t) | false ↦ omega (arith, t) ]
 
-pub since-few : (test : Event → Bool) (past : List Event) → length (since test past) ≤ length past
+pub since-few : (test : Event → Bool) (past : List Event) → length (events_since test past) ≤ length past
 since-few test [] = omega arith
 since-few test (e ∷ past) =
     let t = since-few test past in
-    elim (test e) as (λ b. length (cond b [] (e ∷ since test past)) ≤ suc (length past)) [ true ↦ omega arith | false ↦ omega (arith, t) ]
+    elim (test e) as (λ b. length (cond b [] (e ∷ events_since test past)) ≤ suc (length past)) [ true ↦ omega arith | false ↦ omega (arith, t) ]
 
 pub own-few : (p : ℕ) (past : List Event) → length (own p past) ≤ length past
 own-few p [] = omega arith
@@ -99,7 +99,7 @@ module _ (j : Journal) (ready : IsOpenable j) (ok : Accepted j) (e : Event) (pas
   totals_after = totals-about (partition_of e j.past) refl
 
   -- they fit their words
-  pub sums_fit : LawsBelow → SumsFit (total_counts (rows_of j)) (gain e)
+  pub sums_fit : LawsOfRowsBelow → SumsFit (total_counts (rows_of j)) (gain e)
   sums_fit laws =
       let table = is_table laws (after j e) (still_openable j (e ∷ j.past) j.room ready) (passes, ok) in
       let fit = totals_fit (rows_of (after j e)) table.few_rows table.sound in
@@ -111,7 +111,7 @@ module _ (j : Journal) (ready : IsOpenable j) (ok : Accepted j) (e : Event) (pas
 within-lane : (j : Journal) → IsOpenable j → (l : ℕ) → l < j.threads → l < max_threads
 within-lane j ready l lt = omega (arith, lt, ready.few_threads)
 
-pub within : (j : Journal) → IsOpenable j → (e : Event) → refusal j e ≡ None → IsWithin e
+pub within : (j : Journal) → IsOpenable j → (e : Event) → refusal j e ≡ None → IsInPlace e
 within j ready (Plan n k) passes = record { lane = tt; partition = tt }
 within j ready (Begin l p) passes =
     let b = begin_passes j l p passes in

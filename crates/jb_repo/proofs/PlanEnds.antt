@@ -4,13 +4,13 @@ use Rattle.std.proofs.lemmas.Bool.{or_parts, or_right}
 use Rattle.std.proofs.Math.Bool.{and-false}
 use Rattle.jb_repo.specs.declared.events.Event.{Event}
 use Rattle.jb_repo.specs.declared.events.Event.TheVariants.{Plan, Begin, Commit, Roll, Fail, Drop, Round, Stop}
-use Rattle.jb_repo.specs.History.{some, since, is_plan, ends_plan, is_closed, is_plan_open}
+use Rattle.jb_repo.specs.History.{some, events_since, is_plan, ends_plan, is_closed, is_plan_open}
 use Rattle.jb_repo.specs.Table.{Journal, refusal, AcceptedPast}
 use Rattle.jb_repo.specs.Laws.{goes_on, EndsPlan}
 use Rattle.jb_repo.proofs.Consistent.{at_past}
 use Rattle.jb_repo.proofs.Passing.{begin_passes, round_passes}
 
-since-later : (later past : List Event) → some is_plan later ≡ false → since is_plan (later ++ past) ≡ later ++ since is_plan past
+since-later : (later past : List Event) → some is_plan later ≡ false → events_since is_plan (later ++ past) ≡ later ++ events_since is_plan past
 since-later [] past none = refl
 since-later (e ∷ later) past none =
     let f = or_parts (is_plan e) (some is_plan later) none in
@@ -33,15 +33,15 @@ closed-by e between past ends =
     rw stands refl
 
 module _ (e : Event) (between past : List Event) (no_plan : is_plan e ≡ false) (ends : ends_plan e ≡ true) (none : some is_plan between ≡ false) where
-  since-plan : (later : List Event) → some is_plan later ≡ false → since is_plan (later ++ Round ∷ (between ++ e ∷ past)) ≡ later ++ Round ∷ (between ++ e ∷ since is_plan past)
+  since-plan : (later : List Event) → some is_plan later ≡ false → events_since is_plan (later ++ Round ∷ (between ++ e ∷ past)) ≡ later ++ Round ∷ (between ++ e ∷ events_since is_plan past)
   since-plan later silent =
-      let here : since is_plan (e ∷ past) ≡ e ∷ since is_plan past = rw no_plan refl in
+      let here : events_since is_plan (e ∷ past) ≡ e ∷ events_since is_plan past = rw no_plan refl in
       since-later later (Round ∷ (between ++ e ∷ past)) silent
       ∙ ap (λ (x : List Event). later ++ Round ∷ x) (since-later between (e ∷ past) none ∙ ap (λ (x : List Event). between ++ x) here)
 
   shut : (later : List Event) → some is_plan later ≡ false → is_plan_open (later ++ Round ∷ (between ++ e ∷ past)) ≡ false
   shut later silent =
-      let c = closed-later later (Round ∷ (between ++ e ∷ since is_plan past)) (closed-by e between (since is_plan past) ends) in
+      let c = closed-later later (Round ∷ (between ++ e ∷ events_since is_plan past)) (closed-by e between (events_since is_plan past) ends) in
       let closed = ap is_closed (since-plan later silent) ∙ c in
       rw closed (and-false _)
 

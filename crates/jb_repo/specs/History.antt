@@ -39,9 +39,9 @@ is_outcome (Fail lane class again) = true
 is_outcome (Drop lane) = true
 is_outcome _ = false
 
-abbrev pub is_commit : Event → Bool
-is_commit (Commit lane delta written again) = true
-is_commit _ = false
+abbrev pub is_commit_event : Event → Bool
+is_commit_event (Commit lane delta written again) = true
+is_commit_event _ = false
 
 abbrev pub is_round : Event → Bool
 is_round Round = true
@@ -70,9 +70,9 @@ number test [] = 0
 number test (e ∷ past) = (if test e then 1 else 0) + number test past
 
 -- the events after the last one that passes the test
-abbrev pub since : (Event → Bool) → List Event → List Event
-since test [] = []
-since test (e ∷ past) = if test e then [] else e ∷ since test past
+abbrev pub events_since : (Event → Bool) → List Event → List Event
+events_since test [] = []
+events_since test (e ∷ past) = if test e then [] else e ∷ events_since test past
 
 -- the last event that passes the test
 abbrev pub last : (Event → Bool) → List Event → Option Event
@@ -108,10 +108,10 @@ begins_partition partition e = is_some_of (begun_by e) partition
 
 -- A lane or a partition is marked if a Begin names it after the last Round
 abbrev pub is_lane_marked : ℕ → List Event → Bool
-is_lane_marked lane past = some (begins_lane lane) (since is_round past)
+is_lane_marked lane past = some (begins_lane lane) (events_since is_round past)
 
 abbrev pub is_partition_marked : ℕ → List Event → Bool
-is_partition_marked partition past = some (begins_partition partition) (since is_round past)
+is_partition_marked partition past = some (begins_partition partition) (events_since is_round past)
 
 -- PLANS
 
@@ -131,7 +131,7 @@ planned_rounds past = rounds_in (last is_plan past)
 
 -- A plan is open if after the last Plan stand fewer Rounds than it has, and no Round after a Roll, Fail, Drop or Stop
 abbrev pub is_plan_open : List Event → Bool
-is_plan_open past = nat_lt (number is_round (since is_plan past)) (planned_rounds past) && not (is_closed (since is_plan past))
+is_plan_open past = nat_lt (number is_round (events_since is_plan past)) (planned_rounds past) && not (is_closed (events_since is_plan past))
 
 abbrev pub is_stopping : List Event → Bool
 is_stopping past = some is_stop past

@@ -20,7 +20,7 @@ use Rattle.jb_base.specs.declared.range.Range.{Range}
 use Rattle.jb_cert.specs.Load.{IsWithinLimits}
 use Rattle.jb_cert.specs.Lawful.{IsLeastNumber}
 use Rattle.jb_cert.specs.Certificates.{Holds}
-use Rattle.jb_repo.specs.History.{owner, own, partition_of, is_some_of, some, number, is_begin, is_commit, is_outcome, is_plan, is_plan_open, is_round, is_stop, is_stopping}
+use Rattle.jb_repo.specs.History.{owner, own, partition_of, is_some_of, some, number, is_begin, is_commit_event, is_outcome, is_plan, is_plan_open, is_round, is_stop, is_stopping}
 use Rattle.jb_repo.specs.Rows.{replayed_row, at_after, remaining, total_counts}
 use Rattle.jb_repo.specs.Table.{Journal, refusal, after, rows_of, row_of, reserved}
 use Rattle.jb_repo.specs.Openable.{IsOpenable, IsReplayable, opened_journal}
@@ -179,7 +179,7 @@ BadCommitsAreRefused =
 abbrev pub CommitsAreCounted : Type 0
 CommitsAreCounted =
     (j : Journal) → IsReplayable j
-    → (total_counts (rows_of j)).commit ≡ (total_counts j.opening).commit + number is_commit j.past
+    → (total_counts (rows_of j)).commit ≡ (total_counts j.opening).commit + number is_commit_event j.past
 
 -- ORDER
 

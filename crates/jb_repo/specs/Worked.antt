@@ -33,14 +33,14 @@ begins =
     Plan 2 FullLoad ∷ Plan 1 (Longest 0) ∷ Begin 0 0 ∷ Begin 1 0 ∷ Begin 0 1 ∷ Begin 2 1 ∷ Begin 1 2 ∷ Begin 1 1 ∷ Round ∷ []
 
 -- both commits, in either order
-abbrev pub commits : (first second : ℕ) → List Event
-commits first second = Commit first (delta_of two_records) 1 0 ∷ Commit first (delta_of two_records) 2 0 ∷ Commit second (delta_of two_records) 2 0 ∷ []
+abbrev pub both_commits : (first second : ℕ) → List Event
+both_commits first second = Commit first (delta_of two_records) 1 0 ∷ Commit first (delta_of two_records) 2 0 ∷ Commit second (delta_of two_records) 2 0 ∷ []
 
 abbrev pub ends : List Event
 ends = Commit 0 (delta_of two_records) 2 0 ∷ Round ∷ Round ∷ Stop ∷ Plan 0 Nothing ∷ []
 
 abbrev pub walk : (first second : ℕ) → List Event
-walk first second = begins ++ commits first second ++ ends
+walk first second = begins ++ both_commits first second ++ ends
 
 -- the answers to the walk, whichever commit comes first
 abbrev pub answered : List (Option Refused)
@@ -71,8 +71,8 @@ one_failed rolled failed = Plan 1 (Longest 0) ∷ Begin 0 0 ∷ Begin 1 1 ∷ Ro
 -- PLANS THAT ARE ENDED WITH ROUNDS LEFT
 
 -- two partitions of four records each, two threads, chunks of two items: two rounds
-abbrev pub two_rounds : Journal
-two_rounds = opened_journal (fresh 0 4 ∷ fresh 4 8 ∷ []) 2 2
+abbrev pub two_rounds_past : Journal
+two_rounds_past = opened_journal (fresh 0 4 ∷ fresh 4 8 ∷ []) 2 2
 
 -- the other chunk of the first round is ended by `ends`; then the next round
 abbrev pub ended_at_first : List Event → List Event
@@ -148,11 +148,11 @@ journal_after j (e ∷ events) = journal_after (if is_none (refusal j e) then af
 
 -- A plan of two rounds that is ended in its first one, and a plan of three that is ended in its second; a Commit ends neither
 pub record EndedPlans : Type 0 where
-  pub rolled : (class : ClassId) → table_answers two_rounds (ended_at_first (Roll 0 class 0 ∷ [])) ≡ no_further 6
-  pub failed : (class : ClassId) → table_answers two_rounds (ended_at_first (Fail 0 class 0 ∷ [])) ≡ no_further 6
-  pub dropped : table_answers two_rounds (ended_at_first (Drop 0 ∷ [])) ≡ no_further 6
-  pub stopped : table_answers two_rounds (ended_at_first (Commit 0 (delta_of two_records) 2 0 ∷ Stop ∷ [])) ≡ stopping 7
-  pub committed : table_answers two_rounds (ended_at_first (Commit 0 (delta_of two_records) 2 0 ∷ [])) ≡ further 7
+  pub rolled : (class : ClassId) → table_answers two_rounds_past (ended_at_first (Roll 0 class 0 ∷ [])) ≡ no_further 6
+  pub failed : (class : ClassId) → table_answers two_rounds_past (ended_at_first (Fail 0 class 0 ∷ [])) ≡ no_further 6
+  pub dropped : table_answers two_rounds_past (ended_at_first (Drop 0 ∷ [])) ≡ no_further 6
+  pub stopped : table_answers two_rounds_past (ended_at_first (Commit 0 (delta_of two_records) 2 0 ∷ Stop ∷ [])) ≡ stopping 7
+  pub committed : table_answers two_rounds_past (ended_at_first (Commit 0 (delta_of two_records) 2 0 ∷ [])) ≡ further 7
   pub later_rolled : (class : ClassId) → table_answers three_rounds (ended_at_second (Roll 1 class 0 ∷ [])) ≡ no_further 11
   pub later_failed : (class : ClassId) → table_answers three_rounds (ended_at_second (Fail 1 class 0 ∷ [])) ≡ no_further 11
   pub later_dropped : table_answers three_rounds (ended_at_second (Drop 1 ∷ [])) ≡ no_further 11

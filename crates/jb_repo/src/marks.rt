@@ -3,7 +3,7 @@
 ghost use Rattle.std.specs.Prelude.{◌≡◌, ◌<◌, List, [], ◌∷◌};
 ghost use Rattle.jb_base.specs.Limits.{max_partitions, max_threads};
 ghost use Rattle.jb_repo.specs.History.{is_lane_marked, is_partition_marked};
-ghost use Rattle.jb_repo.specs.inside.Projection.{ShowMarks, IsWithin};
+ghost use Rattle.jb_repo.specs.inside.Projection.{ShowMarks, IsInPlace};
 
 use crate::events::Event;
 use crate::owners::LANES;
@@ -45,7 +45,7 @@ impl Marks {
 
     /// One more event: a Begin marks its lane and its partition, a Round takes all marks away.
     pub fn note(&mut self, event: Event)
-        requires { IsWithin event }
+        requires { IsInPlace event }
         ensures { (past : List Event) → ShowMarks self.old past → ShowMarks self.new (event ∷ past) }
     {
         match event {

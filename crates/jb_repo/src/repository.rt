@@ -1,6 +1,6 @@
 //! The repository: the opening rows, the history, and what the history says now.
 
-ghost use Rattle.std.specs.Prelude.{◌≡◌, ◌+◌, ◌<◌, ◌≤◌, ◌++◌, ◌∷◌, [], None, reverse, IsTrue, OnOk, OnErr, IfOk, IfErr, vec_len, vec_capacity};
+ghost use Rattle.std.specs.Prelude.{◌≡◌, ◌+◌, ◌<◌, ◌≤◌, ◌++◌, ◌∷◌, [], None, reverse, OnOk, OnErr, IfOk, IfErr, vec_len, vec_capacity};
 ghost use Rattle.jb_repo.specs.Rows.{total_counts};
 ghost use Rattle.jb_repo.specs.Table.{refusal, after, with_room, rows_of, own_events, failure};
 ghost use Rattle.jb_repo.specs.Answers.{IsRefusal, HasPlaces, places_of, needed};

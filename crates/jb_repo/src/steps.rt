@@ -1,6 +1,6 @@
 //! What an event of a partition changes in its row.
 
-ghost use Rattle.std.specs.Prelude.{◌≡◌, ◌<◌, ◌≤◌};
+ghost use Rattle.std.specs.Prelude.{◌≡◌, ◌≤◌};
 ghost use Rattle.jb_base.specs.Limits.{max_item_count};
 ghost use Rattle.jb_rules.specs.Sound.{IsSoundRow};
 ghost use Rattle.jb_repo.specs.inside.Steps.{CanStep};

@@ -4,7 +4,7 @@ use Rattle.std.specs.List.Sorted.{IsNonDecreasing, IsPartitionPoint}
 use Rattle.std.proofs.lemmas.List.{get_or_default}
 use Rattle.std.proofs.lemmas.Bool.{cases_lt}
 use Rattle.std.proofs.lemmas.List.Sums.{sum_by-cons, sum_by-take-le}
-use Rattle.jb_cert.specs.WrapAround.{start_of, partition_at_place, chunk_at_place, pair_at_place}
+use Rattle.jb_cert.specs.WrapAround.{first_place, partition_at_place, chunk_at_place, pair_at_place}
 use Rattle.jb_cert.specs.Lawful.{Pair}
 use Rattle.jb_cert.specs.Laws.{PlacesLieRound}
 use Rattle.jb_cert.proofs.EndToEnd.{start_of-next}
@@ -25,14 +25,14 @@ pub length-starts_from : (start : ℕ) (ns : List ℕ) → length (starts_from s
 length-starts_from start [] = refl
 length-starts_from start (n ∷ ns) = omega (arith, length-starts_from (start + n) ns)
 
-pub get_or-starts_from : (start : ℕ) (ns : List ℕ) (p : ℕ) → p ≤ length ns → get_or (starts_from start ns) p 0 ≡ start + start_of ns p
+pub get_or-starts_from : (start : ℕ) (ns : List ℕ) (p : ℕ) → p ≤ length ns → get_or (starts_from start ns) p 0 ≡ start + first_place ns p
 get_or-starts_from start [] zero within = sym (add-zero start)
 get_or-starts_from start [] (suc p) within = absurd (omega arith)
 get_or-starts_from start (n ∷ ns) zero within = sym (add-zero start)
 get_or-starts_from start (n ∷ ns) (suc p) within =
     omega (arith, get_or-starts_from (start + n) ns p (omega arith), sum_by-cons (λ x. x) n (take p ns))
 
-start_of-rises : (ns : List ℕ) (i j : ℕ) → i ≤ j → start_of ns i ≤ start_of ns j
+start_of-rises : (ns : List ℕ) (i j : ℕ) → i ≤ j → first_place ns i ≤ first_place ns j
 start_of-rises ns i j order =
     omega (arith, sum_by-take-le (λ x. x) (take j ns) i, ap sum (take-take i j ns order))
 
@@ -69,18 +69,18 @@ between_from_point starts place i point bound some from until =
 -- what that says of the counts
 pub record IsFound (starts : List ℕ) (place p : ℕ) : Type 0 where
   pub known : p < length (counts_between starts)
-  pub from : start_of (counts_between starts) p ≤ place
-  pub until : place < start_of (counts_between starts) p + slice_index (counts_between starts) p
-  pub end : start_of (counts_between starts) p + slice_index (counts_between starts) p ≤ sum (counts_between starts)
-  pub start_is : slice_index starts p ≡ start_of (counts_between starts) p
+  pub from : first_place (counts_between starts) p ≤ place
+  pub until : place < first_place (counts_between starts) p + slice_index (counts_between starts) p
+  pub end : first_place (counts_between starts) p + slice_index (counts_between starts) p ≤ sum (counts_between starts)
+  pub start_is : slice_index starts p ≡ first_place (counts_between starts) p
   pub count_is : slice_index starts (p + 1) ≡ slice_index starts p + slice_index (counts_between starts) p
 
-found_with : (counts starts : List ℕ) (place p : ℕ) → starts ≡ starts_from 0 counts → LiesBetween starts place p → (p < length counts) × (slice_index starts p ≡ start_of counts p) × (slice_index starts (p + 1) ≡ start_of counts p + slice_index counts p)
+found_with : (counts starts : List ℕ) (place p : ℕ) → starts ≡ starts_from 0 counts → LiesBetween starts place p → (p < length counts) × (slice_index starts p ≡ first_place counts p) × (slice_index starts (p + 1) ≡ first_place counts p + slice_index counts p)
 found_with counts starts place p is between =
     let long : length starts ≡ length counts + 1 = ap length is ∙ length-starts_from 0 counts in
     let known : p < length counts = omega (arith, between.known, long) in
-    let at : (q : ℕ) → q ≤ length counts → slice_index starts q ≡ start_of counts q =
-    λ q within. ap (λ (xs : List ℕ). slice_index xs q) is ∙ get_or-starts_from 0 counts q within ∙ zero-add (start_of counts q) in
+    let at : (q : ℕ) → q ≤ length counts → slice_index starts q ≡ first_place counts q =
+    λ q within. ap (λ (xs : List ℕ). slice_index xs q) is ∙ get_or-starts_from 0 counts q within ∙ zero-add (first_place counts q) in
     (known, at p (omega arith), at (p + 1) (omega arith) ∙ start_of-next counts p known)
 
 pub found : (starts : List ℕ) (place p : ℕ) → starts ≡ starts_from 0 (counts_between starts) → LiesBetween starts place p → IsFound starts place p
@@ -101,9 +101,9 @@ last_start starts is =
     let counts : List ℕ = counts_between starts in
     let long : length starts ≡ length counts + 1 = ap length is ∙ length-starts_from 0 counts in
     let last : length starts - 1 ≡ length counts = omega (arith, long) in
-    let at : (q : ℕ) → q ≤ length counts → slice_index starts q ≡ start_of counts q =
-    λ q within. ap (λ (xs : List ℕ). slice_index xs q) is ∙ get_or-starts_from 0 counts q within ∙ zero-add (start_of counts q) in
-    let whole : start_of counts (length counts) ≡ sum counts = ap sum (take_all (length counts) counts (le_refl (length counts))) in
+    let at : (q : ℕ) → q ≤ length counts → slice_index starts q ≡ first_place counts q =
+    λ q within. ap (λ (xs : List ℕ). slice_index xs q) is ∙ get_or-starts_from 0 counts q within ∙ zero-add (first_place counts q) in
+    let whole : first_place counts (length counts) ≡ sum counts = ap sum (take_all (length counts) counts (le_refl (length counts))) in
     (omega (arith, long), ap (slice_index starts) last ∙ at (length counts) (omega arith) ∙ whole, at 0 (omega arith))
 
 -- one more count
@@ -131,10 +131,10 @@ pair_found law starts place p rounds chunk is between chunk_is =
     let within : place < sum counts = omega (arith, at.until, at.end) in
     let partition : partition_at_place counts place ≡ p = law counts p place at.known at.from at.until in
     let count : slice_index starts (p + 1) - slice_index starts p ≡ slice_index counts p = omega (arith, at.count_is) in
-    let chunk' : chunk ≡ chunk_at_place rounds (start_of counts p) (slice_index counts p) place =
+    let chunk' : chunk ≡ chunk_at_place rounds (first_place counts p) (slice_index counts p) place =
     chunk_is ∙ ap₂ (λ (s n : ℕ). chunk_at_place rounds s n place) at.start_is count in
     rw (lt-ltb place (sum counts) within)
-    (subst (λ (q : ℕ). IsPairAt (p, chunk) (q, chunk_at_place rounds (start_of counts q) (slice_index counts q) place)) (sym partition) (ap (with_partition p) chunk'))
+    (subst (λ (q : ℕ). IsPairAt (p, chunk) (q, chunk_at_place rounds (first_place counts q) (slice_index counts q) place)) (sym partition) (ap (with_partition p) chunk'))
 
 pub none_past : (counts : List ℕ) (rounds place : ℕ) → sum counts ≤ place → None ≡ cond (ltb place (sum counts)) (Some (pair_at_place counts rounds place)) None
 none_past counts rounds place past = rw (le-ltb place (sum counts) past) refl

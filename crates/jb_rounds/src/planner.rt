@@ -2,7 +2,7 @@
 ghost use Rattle.std.specs.Prelude.{◌≡◌, IfOk, length, map};
 ghost use Rattle.jb_cert.specs.Load.{IsWithinLimits, mcnaughton};
 ghost use Rattle.jb_cert.specs.Certificates.{Holds, bound_certificate};
-ghost use Rattle.jb_cert.specs.Plans.{StandsForLeast, rounds_of};
+ghost use Rattle.jb_cert.specs.Plans.{StandsForLeast, plan_rounds};
 ghost use Rattle.jb_cert.specs.WrapAround.{wrapped_rounds};
 
 use crate::cursor::RoundCursor;
@@ -16,11 +16,11 @@ use std::alloc::{AllocError, Global};
 /// work is in proportion to the chunks. The only error is want of memory.
 pub fn plan(alloc: Global, counts: &[u64], threads: u32) -> Result<(Plan, Certificate), AllocError>
     requires { IsWithinLimits counts.now threads }
-    ensures slots { IfOk result (λ made. rounds_of made.0 ≡ wrapped_rounds counts.now threads) }
-    ensures least { IfOk result (λ made. StandsForLeast counts.now threads (rounds_of made.0)) }
+    ensures slots { IfOk result (λ made. plan_rounds made.0 ≡ wrapped_rounds counts.now threads) }
+    ensures least { IfOk result (λ made. StandsForLeast counts.now threads (plan_rounds made.0)) }
     ensures rounds { IfOk result (λ made. length made.0.rounds.items ≡ mcnaughton counts.now threads) }
     ensures certificate { IfOk result (λ made. made.1 ≡ bound_certificate counts.now threads) }
-    ensures certified { IfOk result (λ made. Holds counts.now threads (length (rounds_of made.0)) made.1) }
+    ensures certified { IfOk result (λ made. Holds counts.now threads (length (plan_rounds made.0)) made.1) }
 {
     bound_is_least();
     wrap_around_is_least();

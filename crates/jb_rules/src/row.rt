@@ -1,6 +1,6 @@
 //! How a partition stands, and the rules that each row keeps.
 
-ghost use Rattle.std.specs.Prelude.{◌≡◌, ◌↔◌, ◌≤◌, IsTrue};
+ghost use Rattle.std.specs.Prelude.{◌≡◌, ◌↔◌, IsTrue};
 ghost use Rattle.jb_rules.specs.Rows.{fresh_row, range_of};
 ghost use Rattle.jb_rules.specs.Laws.{RowsAreTested, UnfinishedRowsGoOn};
 ghost use Rattle.jb_rules.specs.RowTest.{is_sound};

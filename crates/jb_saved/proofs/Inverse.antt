@@ -17,13 +17,13 @@ use Rattle.jb_rules.specs.Numbers.{numbers_of, row_of_numbers, state_name, state
 use Rattle.std.specs.List.{list_all, list_any}
 use Rattle.jb_saved.specs.declared.place.SavedPlace.{SavedPlace}
 use Rattle.jb_saved.specs.declared.place.SavedPlace.TheVariants.{Version}
-use Rattle.jb_saved.specs.Answers.{IsAnswer}
+use Rattle.jb_saved.specs.Answers.{IsSavedAnswer}
 use Rattle.jb_saved.specs.Reading.{saved_at}
 use Rattle.jb_saved.specs.Laws.{IsSavedTree}
 use Rattle.jb_saved.proofs.Unfit.{answer-computed}
 use Rattle.jb_saved.specs.SavedRows.{SavedRows}
 use Rattle.jb_saved.specs.SavedTree.{number_tree, is_known, listed, CanHold, row_tree_in, rows_tree_in}
-use Rattle.jb_saved.specs.SavedForm.{◌>>=◌, row_parts, row_of, rows_from, rows_of, saved_keys, keyed, step_of, saved_of, version_of, shaped, form_by, form_at}
+use Rattle.jb_saved.specs.SavedForm.{◌>>=◌, row_parts, row_of_tree, rows_from_trees, rows_of_tree, saved_keys, keyed, step_of, saved_of_tree, version_of, saved_shaped, form_by, saved_form_at}
 
 whole-is : (d : Data) (n : ℕ) → whole_number d ≡ Some n → d ≡ number_tree n
 whole-is null n e = cc
@@ -127,8 +127,8 @@ row-array make n ds r is =
     )
 
 -- a row was read of its own tree alone, and of a version that can hold it
-pub row-tree : NumbersMakeRows → (n : ℕ) (d : Data) (r : Row) → row_of n d ≡ Some r → (d ≡ row_tree_in n r) × (n ≡ 1 → r.in_place ≡ 0)
-unfolding row_of
+pub row-tree : NumbersMakeRows → (n : ℕ) (d : Data) (r : Row) → row_of_tree n d ≡ Some r → (d ≡ row_tree_in n r) × (n ≡ 1 → r.in_place ≡ 0)
+unfolding row_of_tree
 row-tree make n null r is = absurd cc
 row-tree make n (boolean b) r is = absurd cc
 row-tree make n (number m) r is = absurd cc
@@ -136,8 +136,8 @@ row-tree make n (string s) r is = absurd cc
 row-tree make n (array ds) r is = row-array make n ds r is
 row-tree make n (object ms) r is = absurd cc
 
-rows-by : NumbersMakeRows → (n : ℕ) (o : Option Row) (d : Data) (ds : Items) (done rows : List Row) → row_of n d ≡ o → (o >>= λ row. rows_from n (done ++ row ∷ []) ds) ≡ Some rows
-    → (row : Row) × (d ≡ row_tree_in n row) × (n ≡ 1 → row.in_place ≡ 0) × (rows_from n (done ++ row ∷ []) ds ≡ Some rows)
+rows-by : NumbersMakeRows → (n : ℕ) (o : Option Row) (d : Data) (ds : Items) (done rows : List Row) → row_of_tree n d ≡ o → (o >>= λ row. rows_from_trees n (done ++ row ∷ []) ds) ≡ Some rows
+    → (row : Row) × (d ≡ row_tree_in n row) × (n ≡ 1 → row.in_place ≡ 0) × (rows_from_trees n (done ++ row ∷ []) ds ≡ Some rows)
 rows-by make n None d ds done rows e is = absurd cc
 rows-by make n (Some row) d ds done rows e is = let tree = row-tree make n d row e in (row, tree.0, tree.1, is)
 
@@ -152,11 +152,11 @@ no-row : (n : ℕ) → CanHold n []
 no-row n one i r is = absurd cc
 
 -- and so were rows
-pub rows-trees : NumbersMakeRows → (n : ℕ) (ds : Items) (done rows : List Row) → rows_from n done ds ≡ Some rows
+pub rows-trees : NumbersMakeRows → (n : ℕ) (ds : Items) (done rows : List Row) → rows_from_trees n done ds ≡ Some rows
     → (rest : List Row) × (rows ≡ done ++ rest) × (ds ≡ items_of (map (row_tree_in n) rest)) × CanHold n rest
 rows-trees make n no_items done rows is = ([], sym (rows-is done rows is) ∙ sym (append-nil done), refl, no-row n)
 rows-trees make n (item d ds) done rows is =
-    let one = rows-by make n (row_of n d) d ds done rows refl is in
+    let one = rows-by make n (row_of_tree n d) d ds done rows refl is in
     let more = rows-trees make n ds (done ++ one.0 ∷ []) rows one.3 in
     (one.0 ∷ more.0, more.1 ∙ append_assoc done (one.0 ∷ []) more.0, ap₂ item one.1 more.2, one-more n one.0 more.0 one.2 more.3)
 
@@ -169,14 +169,14 @@ pair step rows = record { step = step; rows = rows }
 abbrev AreTrees : ℕ → Data → List Row → Type 0
 AreTrees n d rows = (d ≡ rows_tree_in n rows) × CanHold n rows
 
-rows-when : NumbersMakeRows → (n : ℕ) (b : Bool) (ds : Items) (rows : List Row) → cond b (rows_from n [] ds) None ≡ Some rows → AreTrees n (array ds) rows
+rows-when : NumbersMakeRows → (n : ℕ) (b : Bool) (ds : Items) (rows : List Row) → cond b (rows_from_trees n [] ds) None ≡ Some rows → AreTrees n (array ds) rows
 rows-when make n true ds rows is =
     let trees = rows-trees make n ds [] rows is in
     subst (λ (rs : List Row). AreTrees n (array ds) rs) (sym trees.1) (ap array trees.2, trees.3)
 rows-when make n false ds rows is = absurd cc
 
-rows-tree-is : NumbersMakeRows → (n : ℕ) (d : Data) (rows : List Row) → rows_of n d ≡ Some rows → AreTrees n d rows
-unfolding rows_of
+rows-tree-is : NumbersMakeRows → (n : ℕ) (d : Data) (rows : List Row) → rows_of_tree n d ≡ Some rows → AreTrees n d rows
+unfolding rows_of_tree
 rows-tree-is make n null rows is = absurd cc
 rows-tree-is make n (boolean b) rows is = absurd cc
 rows-tree-is make n (number m) rows is = absurd cc
@@ -197,7 +197,7 @@ step-is (string s) id is = ap string (id-when (nat_le 1 (length s) && nat_le (le
 step-is (array ds) id is = absurd cc
 step-is (object ms) id is = absurd cc
 
-rows-held : NumbersMakeRows → (n : ℕ) (o : Option Data) (rows : List Row) → (o >>= rows_of n) ≡ Some rows → (o ≡ Some (rows_tree_in n rows)) × CanHold n rows
+rows-held : NumbersMakeRows → (n : ℕ) (o : Option Data) (rows : List Row) → (o >>= rows_of_tree n) ≡ Some rows → (o ≡ Some (rows_tree_in n rows)) × CanHold n rows
 rows-held make n None rows is = absurd cc
 rows-held make n (Some d) rows is = let trees = rows-tree-is make n d rows is in (ap Some trees.0, trees.1)
 
@@ -235,12 +235,12 @@ abbrev Holds : ℕ → Data → SavedRows → Type 0
 Holds n d s = (keyed d ≡ Some d) × (find.get (codes "rows") d ≡ Some (rows_tree_in n s.rows)) × (find.get (codes "step") d ≡ Some (string s.step)) × CanHold n s.rows
 
 saved-by : NumbersMakeRows → (n : ℕ) (k : Option Data) (d : Data) (s : SavedRows) → keyed d ≡ k
-    → (k >>= λ object. (find.get (codes "rows") object >>= rows_of n) >>= λ rows. (find.get (codes "step") object >>= step_of) >>= λ step. Some (pair step rows)) ≡ Some s
+    → (k >>= λ object. (find.get (codes "rows") object >>= rows_of_tree n) >>= λ rows. (find.get (codes "step") object >>= step_of) >>= λ step. Some (pair step rows)) ≡ Some s
     → Holds n d s
 saved-by make n None d s e is = absurd cc
 saved-by make n (Some x) d s e is =
     let same = keyed-self d x e in
-    let parts = pair-of (find.get (codes "rows") x >>= rows_of n) (find.get (codes "step") x >>= step_of) s is in
+    let parts = pair-of (find.get (codes "rows") x >>= rows_of_tree n) (find.get (codes "step") x >>= step_of) s is in
     let rows = rows-held make n (find.get (codes "rows") x) s.rows parts.0 in (
       e ∙ ap Some (sym same),
       ap (λ (y : Data). find.get (codes "rows") y) same ∙ rows.0,
@@ -248,24 +248,24 @@ saved-by make n (Some x) d s e is =
       rows.1,
     )
 
-saved-parts : NumbersMakeRows → (n : ℕ) (d : Data) (s : SavedRows) → saved_of n d ≡ Some s → Holds n d s
-unfolding saved_of
+saved-parts : NumbersMakeRows → (n : ℕ) (d : Data) (s : SavedRows) → saved_of_tree n d ≡ Some s → Holds n d s
+unfolding saved_of_tree
 saved-parts make n d s is = saved-by make n (keyed d) d s refl is
 
-shaped-is : (o : Option SavedRows) (s : SavedRows) → shaped o ≡ Ok s → o ≡ Some s
+shaped-is : (o : Option SavedRows) (s : SavedRows) → saved_shaped o ≡ Ok s → o ≡ Some s
 shaped-is None s is = absurd cc
 shaped-is (Some t) s is = cc
 
-known-when : (b : Bool) (o : Option SavedRows) (s : SavedRows) → cond b (shaped o) (Err Version) ≡ Ok s → (b ≡ true) × (o ≡ Some s)
+known-when : (b : Bool) (o : Option SavedRows) (s : SavedRows) → cond b (saved_shaped o) (Err Version) ≡ Ok s → (b ≡ true) × (o ≡ Some s)
 known-when true o s is = (refl, shaped-is o s is)
 known-when false o s is = absurd cc
 
-form-parts : (v : Option ℕ) (d : Data) (s : SavedRows) → form_by v d ≡ Ok s → (n : ℕ) × (v ≡ Some n) × (is_known n ≡ true) × (saved_of n d ≡ Some s)
+form-parts : (v : Option ℕ) (d : Data) (s : SavedRows) → form_by v d ≡ Ok s → (n : ℕ) × (v ≡ Some n) × (is_known n ≡ true) × (saved_of_tree n d ≡ Some s)
 form-parts None d s is = absurd cc
-form-parts (Some n) d s is = let both = known-when (is_known n) (saved_of n d) s is in (n, refl, both.0, both.1)
+form-parts (Some n) d s is = let both = known-when (is_known n) (saved_of_tree n d) s is in (n, refl, both.0, both.1)
 
-form-tree : NumbersMakeRows → (d : Data) (s : SavedRows) → form_at d ≡ Ok s → (n : ℕ) × IsSavedTree n d s
-unfolding form_at
+form-tree : NumbersMakeRows → (d : Data) (s : SavedRows) → saved_form_at d ≡ Ok s → (n : ℕ) × IsSavedTree n d s
+unfolding saved_form_at
 form-tree make d s is =
     let form = form-parts (version_of d) d s is in
     let n = form.0 in
@@ -275,4 +275,4 @@ form-tree make d s is =
     )
 
 pub only-saved : RowsAreTested → NumbersMakeRows → (d : Data) (s : SavedRows) → saved_at d ≡ Ok s → (n : ℕ) × IsSavedTree n d s
-only-saved law make d s is = form-tree make d s (subst (λ (a : Result SavedRows SavedPlace). IsAnswer (Some d) a) is (answer-computed law (Some d))).0
+only-saved law make d s is = form-tree make d s (subst (λ (a : Result SavedRows SavedPlace). IsSavedAnswer (Some d) a) is (answer-computed law (Some d))).0

@@ -10,7 +10,7 @@ use Rattle.jb_job.specs.Reading.{whole_number}
 use Rattle.jb_rules.specs.declared.row.Row.{Row}
 use Rattle.jb_rules.specs.declared.row.RowState.{RowState}
 use Rattle.jb_rules.specs.Numbers.{row_of_numbers}
-use Rattle.jb_saved.specs.SavedForm.{◌>>=◌, row_parts, row_of}
+use Rattle.jb_saved.specs.SavedForm.{◌>>=◌, row_parts, row_of_tree}
 use Rattle.jb_saved.specs.SavedTree.{listed}
 use Rattle.jb_saved.specs.inside.Forms.{padded, whole_numbers, state_in, row_from}
 
@@ -155,20 +155,20 @@ abbrev row-in : ℕ → Option Items → Option Row
 row-in n items = items >>= λ ds. row_parts (listed n) ds >>= λ parts. Some (row_of_numbers parts.0 parts.1)
 
 in-items : (n : ℕ) (d : Data) (vs members : List Value) (name : Value) → find.as_array d ≡ Some (items_view vs) → vs ≡ members ++ name ∷ []
-    → row_of n d ≡ (row_parts (listed n) (items_of (map view members ++ view name ∷ [])) >>= λ parts. Some (row_of_numbers parts.0 parts.1))
-unfolding row_of
+    → row_of_tree n d ≡ (row_parts (listed n) (items_of (map view members ++ view name ∷ [])) >>= λ parts. Some (row_of_numbers parts.0 parts.1))
+unfolding row_of_tree
 in-items n d vs members name is whole =
     ap (row-in n) (is ∙ ap (λ (xs : List Value). Some (items_view xs)) whole ∙ ap (λ (ds : List Data). Some (items_of ds)) (map-append view members (name ∷ [])))
 
 pub row-of-list : (n : ℕ) (d : Data) (vs members : List Value) (name : Value) → find.as_array d ≡ Some (items_view vs) → vs ≡ members ++ name ∷ []
-    → length members ≡ listed n → row_of n d ≡ row_from (map view members) (view name)
+    → length members ≡ listed n → row_of_tree n d ≡ row_from (map view members) (view name)
 row-of-list n d vs members name is whole len =
     in-items n d vs members name is whole
     ∙ ap (λ (o : Option (List ℕ × RowState)). o >>= λ parts. Some (row_of_numbers parts.0 parts.1)) (parts-of (listed n) (map view members) (view name) (length-map members view ∙ len))
     ∙ both (whole_numbers (map view members)) (state_in (view name))
 
 pub row-of-another : (n : ℕ) (d : Data) (vs members : List Value) (name : Value) → find.as_array d ≡ Some (items_view vs) → vs ≡ members ++ name ∷ []
-    → length members ≢ listed n → row_of n d ≡ None
+    → length members ≢ listed n → row_of_tree n d ≡ None
 row-of-another n d vs members name is whole other =
     in-items n d vs members name is whole
     ∙ ap (λ (o : Option (List ℕ × RowState)). o >>= λ parts. Some (row_of_numbers parts.0 parts.1)) (other-length (listed n) (map view members) (view name) (λ len. other (sym (length-map members view) ∙ len)))

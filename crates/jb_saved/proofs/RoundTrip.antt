@@ -20,9 +20,9 @@ use Rattle.jb_saved.specs.SavedRows.{SavedRows, IsSaved}
 use Rattle.jb_saved.specs.Laws.{IsSavedTree}
 use Rattle.jb_saved.specs.SavedTree.{number_tree, CanHold, row_tree_in, rows_tree_in, saved_tree}
 use Rattle.jb_saved.specs.inside.Forms.{AreStill}
-use Rattle.jb_saved.specs.SavedForm.{◌>>=◌, row_parts, row_of, rows_from, rows_of, keyed, step_of, saved_of, form_at}
+use Rattle.jb_saved.specs.SavedForm.{◌>>=◌, row_parts, row_of_tree, rows_from_trees, rows_of_tree, keyed, step_of, saved_of_tree, saved_form_at}
 use Rattle.jb_base.specs.Limits.{max_name, max_partitions}
-use Rattle.jb_saved.specs.Answers.{AllFit, IsFirstUnfit, form_of, IsAnswer}
+use Rattle.jb_saved.specs.Answers.{AllFit, IsFirstUnfit, saved_form_of, IsSavedAnswer}
 use Rattle.jb_saved.specs.Reading.{GivesSaved}
 use Rattle.jb_repo.proofs.Ranges.{apart_of}
 
@@ -52,8 +52,8 @@ is-one : (n : ℕ) → (n == 1) ≡ true → n ≡ 1
 is-one n e = grind (arith, nat_tests)
 
 -- a row is read back of its tree, in each version that can hold it
-row-back : (n : ℕ) (r : Row) → is_running r.state ≡ false → (n ≡ 1 → r.in_place ≡ 0) → row_of n (row_tree_in n r) ≡ Some r
-unfolding row_of
+row-back : (n : ℕ) (r : Row) → is_running r.state ≡ false → (n ≡ 1 → r.in_place ≡ 0) → row_of_tree n (row_tree_in n r) ≡ Some r
+unfolding row_of_tree
 row-back n r still none = row-by-back (n == 1) r still (λ e. none (is-one n e))
 
 still-tail : (r : Row) (rows : List Row) → AreStill (r ∷ rows) → AreStill rows
@@ -62,10 +62,10 @@ still-tail r rows still i s is = still (suc i) s is
 held-tail : (n : ℕ) (r : Row) (rows : List Row) → CanHold n (r ∷ rows) → CanHold n rows
 held-tail n r rows held one i s is = held one (suc i) s is
 
-pub rows-back : (n : ℕ) (done rows : List Row) → AreStill rows → CanHold n rows → rows_from n done (items_of (map (row_tree_in n) rows)) ≡ Some (done ++ rows)
+pub rows-back : (n : ℕ) (done rows : List Row) → AreStill rows → CanHold n rows → rows_from_trees n done (items_of (map (row_tree_in n) rows)) ≡ Some (done ++ rows)
 rows-back n done [] still held = ap Some (sym (append-nil done))
 rows-back n done (r ∷ rows) still held =
-    ap (λ (o : Option Row). o >>= λ row. rows_from n (done ++ row ∷ []) (items_of (map (row_tree_in n) rows))) (row-back n r (still zero r refl) (λ one. held one zero r refl))
+    ap (λ (o : Option Row). o >>= λ row. rows_from_trees n (done ++ row ∷ []) (items_of (map (row_tree_in n) rows))) (row-back n r (still zero r refl) (λ one. held one zero r refl))
     ∙ rows-back n (done ++ r ∷ []) rows (still-tail r rows still) (held-tail n r rows held)
     ∙ ap Some (append_assoc done (r ∷ []) rows)
 
@@ -73,8 +73,8 @@ items-len : (n : ℕ) (rows : List Row) → items_len (items_of (map (row_tree_i
 items-len n [] = refl
 items-len n (r ∷ rows) = ap suc (items-len n rows)
 
-rows-of-back : (n : ℕ) (s : SavedRows) → IsSaved s → CanHold n s.rows → rows_of n (rows_tree_in n s.rows) ≡ Some s.rows
-unfolding rows_of
+rows-of-back : (n : ℕ) (s : SavedRows) → IsSaved s → CanHold n s.rows → rows_of_tree n (rows_tree_in n s.rows) ≡ Some s.rows
+unfolding rows_of_tree
 rows-of-back n s kept held =
     let len = items-len n s.rows in
     let count = within 1 (items_len (items_of (map (row_tree_in n) s.rows))) max_partitions (subst (λ m. 1 ≤ m) (sym len) kept.some_rows) (subst (λ m. m ≤ max_partitions) (sym len) kept.few_rows) in
@@ -85,8 +85,8 @@ unfolding step_of
 step-of-back s kept = rw (within 1 (length s.step) max_name kept.named.some kept.named.short) refl
 
 -- an object that holds what a saved one holds is read as the saved rows
-pub object-back : (n : ℕ) (d : Data) (s : SavedRows) → IsSavedTree n d s → IsSaved s → form_at d ≡ Ok s
-unfolding form_at saved_of
+pub object-back : (n : ℕ) (d : Data) (s : SavedRows) → IsSavedTree n d s → IsSaved s → saved_form_at d ≡ Ok s
+unfolding saved_form_at saved_of_tree
 object-back n d s tree kept = rw (tree.version, tree.known, tree.keys, tree.rows, tree.step, rows-of-back n s kept tree.holds, step-of-back s kept) refl
 
 two-holds : (rows : List Row) → CanHold 2 rows
@@ -101,14 +101,14 @@ tree-is s = record { known = refl; holds = two-holds s.rows; keys = refl; rows =
 pub all-fit : (s : SavedRows) → IsSaved s → AllFit s.rows
 all-fit s kept i lt r is = ((kept.idle i r is).0, λ k t below has. apart_of s.rows kept.disjoint k i t r below has is)
 
-pub answer-back : (n : ℕ) (d : Data) (s : SavedRows) → IsSavedTree n d s → IsSaved s → IsAnswer (Some d) (Ok s)
+pub answer-back : (n : ℕ) (d : Data) (s : SavedRows) → IsSavedTree n d s → IsSaved s → IsSavedAnswer (Some d) (Ok s)
 answer-back n d s tree kept = (object-back n d s tree kept, all-fit s kept)
 
-pub written-back : (s : SavedRows) → IsSaved s → IsAnswer (Some (saved_tree s)) (Ok s)
+pub written-back : (s : SavedRows) → IsSaved s → IsSavedAnswer (Some (saved_tree s)) (Ok s)
 written-back s kept = answer-back 2 (saved_tree s) s (tree-is s) kept
 
 -- an answer that is a fault: of the form, or of a row
-err-cases : (tree : Option Data) (p : SavedPlace) → IsAnswer tree (Err p) → (form_of tree ≡ Err p) ⊎ ((i : ℕ) × (s : SavedRows) × (p ≡ Rows i) × (form_of tree ≡ Ok s) × IsFirstUnfit s.rows i)
+err-cases : (tree : Option Data) (p : SavedPlace) → IsSavedAnswer tree (Err p) → (saved_form_of tree ≡ Err p) ⊎ ((i : ℕ) × (s : SavedRows) × (p ≡ Rows i) × (saved_form_of tree ≡ Ok s) × IsFirstUnfit s.rows i)
 err-cases tree NotJson a = inl a
 err-cases tree Shape a = inl a
 err-cases tree Version a = inl a
@@ -131,11 +131,11 @@ no-unfit form s t i a fit b bad =
     let same = ok-is form s t a b in
     bad.unfit (subst (λ (u : SavedRows). AllFit u.rows) same fit i bad.here)
 
-ok-err : (tree : Option Data) (s : SavedRows) (p : SavedPlace) → IsAnswer tree (Ok s) → IsAnswer tree (Err p) → ⊥
+ok-err : (tree : Option Data) (s : SavedRows) (p : SavedPlace) → IsSavedAnswer tree (Ok s) → IsSavedAnswer tree (Err p) → ⊥
 ok-err tree s p a b =
     elim (err-cases tree p b) [
-      | inl form ↦ not-both (form_of tree) s p a.0 form
-      | inr bad ↦ no-unfit (form_of tree) s bad.1 bad.0 a.0 a.1 bad.3 bad.4
+      | inl form ↦ not-both (saved_form_of tree) s p a.0 form
+      | inr bad ↦ no-unfit (saved_form_of tree) s bad.1 bad.0 a.0 a.1 bad.3 bad.4
     ]
 
 first-one : (rows : List Row) (i j : ℕ) → IsFirstUnfit rows i → IsFirstUnfit rows j → i ≡ j
@@ -151,22 +151,22 @@ first-one rows i j a b =
 same-row : (form : Answer) (s t : SavedRows) (i j : ℕ) → form ≡ Ok s → form ≡ Ok t → IsFirstUnfit s.rows i → IsFirstUnfit t.rows j → i ≡ j
 same-row form s t i j a b x y = first-one t.rows i j (subst (λ (u : SavedRows). IsFirstUnfit u.rows i) (ok-is form s t a b) x) y
 
-err-err : (tree : Option Data) (p q : SavedPlace) → IsAnswer tree (Err p) → IsAnswer tree (Err q) → p ≡ q
+err-err : (tree : Option Data) (p q : SavedPlace) → IsSavedAnswer tree (Err p) → IsSavedAnswer tree (Err q) → p ≡ q
 err-err tree p q a b =
     elim (err-cases tree p a) [
       | inl form ↦ elim (err-cases tree q b) [
         | inl other ↦ cc
-        | inr bad ↦ absurd (not-both (form_of tree) bad.1 p bad.3 form)
+        | inr bad ↦ absurd (not-both (saved_form_of tree) bad.1 p bad.3 form)
       ]
       | inr bad ↦ elim (err-cases tree q b) [
-        | inl form ↦ absurd (not-both (form_of tree) bad.1 q bad.3 form)
-        | inr other ↦ bad.2 ∙ ap Rows (same-row (form_of tree) bad.1 other.1 bad.0 other.0 bad.3 other.3 bad.4 other.4) ∙ sym other.2
+        | inl form ↦ absurd (not-both (saved_form_of tree) bad.1 q bad.3 form)
+        | inr other ↦ bad.2 ∙ ap Rows (same-row (saved_form_of tree) bad.1 other.1 bad.0 other.0 bad.3 other.3 bad.4 other.4) ∙ sym other.2
       ]
     ]
 
 -- a text has one answer
-pub one-answer : (tree : Option Data) (a b : Answer) → IsAnswer tree a → IsAnswer tree b → a ≡ b
-one-answer tree (Ok s) (Ok t) a b = ap Ok (ok-is (form_of tree) s t a.0 b.0)
+pub one-answer : (tree : Option Data) (a b : Answer) → IsSavedAnswer tree a → IsSavedAnswer tree b → a ≡ b
+one-answer tree (Ok s) (Ok t) a b = ap Ok (ok-is (saved_form_of tree) s t a.0 b.0)
 one-answer tree (Ok s) (Err q) a b = absurd (ok-err tree s q a b)
 one-answer tree (Err p) (Ok t) a b = absurd (ok-err tree t p b a)
 one-answer tree (Err p) (Err q) a b = ap Err (err-err tree p q a b)

@@ -23,8 +23,8 @@ use Rattle.jb_saved.specs.declared.place.SavedPlace.TheVariants.{Shape, Version}
 use Rattle.jb_saved.specs.SavedRows.{SavedRows, IsSaved}
 use Rattle.jb_saved.specs.Laws.{IsSavedTree}
 use Rattle.jb_saved.specs.SavedTree.{is_known, saved_tree}
-use Rattle.jb_saved.specs.SavedForm.{form_at, form_by, saved_of, shaped, version_of}
-use Rattle.jb_saved.specs.Answers.{IsApartFromEarlier, Fits, AllFit, IsFirstUnfit, IsAnswer}
+use Rattle.jb_saved.specs.SavedForm.{saved_form_at, form_by, saved_of_tree, saved_shaped, version_of}
+use Rattle.jb_saved.specs.Answers.{IsApartFromEarlier, IsFitRow, AllFit, IsFirstUnfit, IsSavedAnswer}
 use Rattle.jb_saved.specs.Reading.{is_unfit, first_unfit, checked_by, checked_rows, saved_at, answer_of}
 use Rattle.jb_saved.proofs.RoundTrip.{one-answer, answer-back, written-back}
 use Rattle.jb_saved.proofs.RowByRow.{past_end, some-row}
@@ -79,13 +79,13 @@ passed rows = prefix_len (fit rows) (enumerate_from 0 rows)
 numbered : (rows : List Row) (i : ℕ) (r : Row) → i < length rows → get_or (enumerate_from 0 rows) i (0, r) ≡ (i, get_or rows i r)
 numbered rows i r lt = get_or-enumerate_from 0 rows i (0, r) lt ∙ ap (λ (n : ℕ). (n, get_or rows i r)) (omega arith)
 
-fits-before : RowsAreTested → (rows : List Row) (i : ℕ) → i < passed rows → i < length rows → Fits rows i
+fits-before : RowsAreTested → (rows : List Row) (i : ℕ) → i < passed rows → i < length rows → IsFitRow rows i
 fits-before law rows i lt within r is =
     let pair = numbered rows i r within ∙ ap (λ (x : Row). (i, x)) (get_or_from_slice_get rows i r r is) in
     let passes = prefix_len_passes (fit rows) (enumerate_from 0 rows) i (0, r) lt in
     fits-from law rows i r (not-true (is_unfit (take i rows) r) (subst (λ (x : ℕ × Row). fit rows x ≡ true) pair passes))
 
-unfit-there : RowsAreTested → (rows : List Row) (d : Row) → passed rows < length rows → Fits rows (passed rows) → ⊥
+unfit-there : RowsAreTested → (rows : List Row) (d : Row) → passed rows < length rows → IsFitRow rows (passed rows) → ⊥
 unfit-there law rows d lt fits =
     let n = passed rows in
     let len = length-enumerate_from 0 rows in
@@ -101,7 +101,7 @@ first-of law rows lt = record {
   unfit = unfit-there law rows (some-row rows (passed rows) lt) lt;
 }
 
-answer-by : RowsAreTested → (d : Data) (s : SavedRows) (b : Bool) → nat_lt (passed s.rows) (length (enumerate_from 0 s.rows)) ≡ b → form_at d ≡ Ok s → IsAnswer (Some d) (checked_by (cond b (Some (passed s.rows)) None) s)
+answer-by : RowsAreTested → (d : Data) (s : SavedRows) (b : Bool) → nat_lt (passed s.rows) (length (enumerate_from 0 s.rows)) ≡ b → saved_form_at d ≡ Ok s → IsSavedAnswer (Some d) (checked_by (cond b (Some (passed s.rows)) None) s)
 answer-by law d s true e form =
     let len = length-enumerate_from 0 s.rows in
     let lt : passed s.rows < length (enumerate_from 0 s.rows) = grind (arith, nat_tests) in
@@ -111,42 +111,42 @@ answer-by law d s false e form =
     let le : length (enumerate_from 0 s.rows) ≤ passed s.rows = grind (arith, nat_tests) in
     (form, λ i lt. fits-before law s.rows i (omega (arith, lt, le, len)) lt)
 
-answer-ok : RowsAreTested → (d : Data) (s : SavedRows) → form_at d ≡ Ok s → IsAnswer (Some d) (checked_by (first_unfit s.rows) s)
+answer-ok : RowsAreTested → (d : Data) (s : SavedRows) → saved_form_at d ≡ Ok s → IsSavedAnswer (Some d) (checked_by (first_unfit s.rows) s)
 unfolding first_unfit
 answer-ok law d s form = answer-by law d s (nat_lt (passed s.rows) (length (enumerate_from 0 s.rows))) refl form
 
 -- a fault of form is Shape or Version
-shaped-err : (o : Option SavedRows) (p : SavedPlace) → shaped o ≡ Err p → p ≡ Shape
+shaped-err : (o : Option SavedRows) (p : SavedPlace) → saved_shaped o ≡ Err p → p ≡ Shape
 shaped-err None p e = cc
 shaped-err (Some s) p e = cc
 
-form-by : (b : Bool) (o : Option SavedRows) (p : SavedPlace) → cond b (shaped o) (Err Version) ≡ Err p → (p ≡ Shape) ⊎ (p ≡ Version)
+form-by : (b : Bool) (o : Option SavedRows) (p : SavedPlace) → cond b (saved_shaped o) (Err Version) ≡ Err p → (p ≡ Shape) ⊎ (p ≡ Version)
 form-by true o p e = inl (shaped-err o p e)
 form-by false o p e = inr cc
 
 form-err : (v : Option ℕ) (d : Data) (p : SavedPlace) → form_by v d ≡ Err p → (p ≡ Shape) ⊎ (p ≡ Version)
 form-err None d p e = inl cc
-form-err (Some n) d p e = form-by (is_known n) (saved_of n d) p e
+form-err (Some n) d p e = form-by (is_known n) (saved_of_tree n d) p e
 
-form-place : (d : Data) (p : SavedPlace) → form_at d ≡ Err p → (p ≡ Shape) ⊎ (p ≡ Version)
-unfolding form_at
+form-place : (d : Data) (p : SavedPlace) → saved_form_at d ≡ Err p → (p ≡ Shape) ⊎ (p ≡ Version)
+unfolding saved_form_at
 form-place d p e = form-err (version_of d) d p e
 
-answer-err : (d : Data) (p : SavedPlace) → form_at d ≡ Err p → IsAnswer (Some d) (Err p)
+answer-err : (d : Data) (p : SavedPlace) → saved_form_at d ≡ Err p → IsSavedAnswer (Some d) (Err p)
 answer-err d p e =
     elim (form-place d p e) [
-      | inl is ↦ subst (λ (q : SavedPlace). IsAnswer (Some d) (Err q)) (sym is) (e ∙ ap (λ (q : SavedPlace). Err q) is)
-      | inr is ↦ subst (λ (q : SavedPlace). IsAnswer (Some d) (Err q)) (sym is) (e ∙ ap (λ (q : SavedPlace). Err q) is)
+      | inl is ↦ subst (λ (q : SavedPlace). IsSavedAnswer (Some d) (Err q)) (sym is) (e ∙ ap (λ (q : SavedPlace). Err q) is)
+      | inr is ↦ subst (λ (q : SavedPlace). IsSavedAnswer (Some d) (Err q)) (sym is) (e ∙ ap (λ (q : SavedPlace). Err q) is)
     ]
 
-answer-at : RowsAreTested → (d : Data) (form : Result SavedRows SavedPlace) → form_at d ≡ form → IsAnswer (Some d) (checked_rows form)
+answer-at : RowsAreTested → (d : Data) (form : Result SavedRows SavedPlace) → saved_form_at d ≡ form → IsSavedAnswer (Some d) (checked_rows form)
 answer-at law d (Ok s) e = answer-ok law d s e
 answer-at law d (Err p) e = answer-err d p e
 
-pub answer-computed : RowsAreTested → (tree : Option Data) → IsAnswer tree (answer_of tree)
+pub answer-computed : RowsAreTested → (tree : Option Data) → IsSavedAnswer tree (answer_of tree)
 unfolding saved_at
 answer-computed law None = refl
-answer-computed law (Some d) = answer-at law d (form_at d) refl
+answer-computed law (Some d) = answer-at law d (saved_form_at d) refl
 
 -- with no first row that doesn't fit, each fits
 pub all-fit : RowsAreTested → (rows : List Row) → first_unfit rows ≡ None → AllFit rows

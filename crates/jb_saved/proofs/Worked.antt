@@ -6,7 +6,7 @@ use Rattle.serde_json.proofs.OnLiterals.{serde_json_on_literals}
 use Rattle.jb_saved.specs.SavedTree.{saved_tree}
 use Rattle.std.specs.Fmt.{digits}
 use Rattle.jb_saved.specs.Worked.{WorkedSaved, stopped}
-use Rattle.jb_saved.specs.SavedForm.{row_of, rows_of, keyed, step_of, saved_of, form_at}
+use Rattle.jb_saved.specs.SavedForm.{row_of_tree, rows_of_tree, keyed, step_of, saved_of_tree, saved_form_at}
 use Rattle.jb_rules.specs.RowTest.{is_sound}
 use Rattle.jb_saved.specs.Reading.{first_unfit, saved_at}
 
@@ -15,7 +15,7 @@ unfolding digits serde_json_on_literals
 written = refl
 
 pub worked : WorkedSaved
-unfolding digits row_of rows_of keyed step_of saved_of form_at is_sound first_unfit saved_at
+unfolding digits row_of_tree rows_of_tree keyed step_of saved_of_tree saved_form_at is_sound first_unfit saved_at
 worked = record {
   text = written;
   read = refl;

@@ -11,36 +11,36 @@ use Rattle.jb_saved.specs.declared.error.StepError.TheVariants as error
 use Rattle.jb_saved.specs.declared.place.SavedPlace.{SavedPlace}
 use Rattle.jb_saved.specs.declared.place.SavedPlace.TheVariants.{NotJson, Rows}
 use Rattle.jb_saved.specs.SavedRows.{SavedRows}
-use Rattle.jb_saved.specs.SavedForm.{form_at}
+use Rattle.jb_saved.specs.SavedForm.{saved_form_at}
 
 -- no record of the i-th row's range belongs to an earlier row's; an empty range has no record
 abbrev pub IsApartFromEarlier : List Row → (i : ℕ) → Row → Type 0
 IsApartFromEarlier rows i r = (k : ℕ) (s : Row) → k < i → slice_get rows k ≡ Some s → HaveNoneInCommon (range_of s) (range_of r)
 
 -- the i-th row keeps the row rules, and its range overlaps no earlier one
-abbrev pub Fits : List Row → (i : ℕ) → Type 0
-Fits rows i = (r : Row) → slice_get rows i ≡ Some r → IsSoundRow r × IsApartFromEarlier rows i r
+abbrev pub IsFitRow : List Row → (i : ℕ) → Type 0
+IsFitRow rows i = (r : Row) → slice_get rows i ≡ Some r → IsSoundRow r × IsApartFromEarlier rows i r
 
 -- each row does
 abbrev pub AllFit : List Row → Type 0
-AllFit rows = (i : ℕ) → i < length rows → Fits rows i
+AllFit rows = (i : ℕ) → i < length rows → IsFitRow rows i
 
 -- the i-th row is the first that doesn't
 pub record IsFirstUnfit (rows : List Row) (i : ℕ) : Type 0 where
   pub here : i < length rows
-  pub earlier : (k : ℕ) → k < i → Fits rows k
-  pub unfit : Fits rows i → ⊥
+  pub earlier : (k : ℕ) → k < i → IsFitRow rows k
+  pub unfit : IsFitRow rows i → ⊥
 
 -- the saved rows of a text's tree by its form; a text without a tree is no JSON
-abbrev pub form_of : Option Data → Result SavedRows SavedPlace
-form_of None = Err NotJson
-form_of (Some d) = form_at d
+abbrev pub saved_form_of : Option Data → Result SavedRows SavedPlace
+saved_form_of None = Err NotJson
+saved_form_of (Some d) = saved_form_at d
 
 -- A text stands for saved rows, or it has a first fault: of its form, else of its rows.
-abbrev pub IsAnswer : Option Data → Result SavedRows SavedPlace → Type 0
-IsAnswer tree (Ok s) = (form_of tree ≡ Ok s) × AllFit s.rows
-IsAnswer tree (Err (Rows i)) = (s : SavedRows) × (form_of tree ≡ Ok s) × IsFirstUnfit s.rows i
-IsAnswer tree (Err place) = form_of tree ≡ Err place
+abbrev pub IsSavedAnswer : Option Data → Result SavedRows SavedPlace → Type 0
+IsSavedAnswer tree (Ok s) = (saved_form_of tree ≡ Ok s) × AllFit s.rows
+IsSavedAnswer tree (Err (Rows i)) = (s : SavedRows) × (saved_form_of tree ≡ Ok s) × IsFirstUnfit s.rows i
+IsSavedAnswer tree (Err place) = saved_form_of tree ≡ Err place
 
 -- ---- saving
 

@@ -25,8 +25,8 @@ abbrev pub AreUnfailed : List Row → Type 0
 AreUnfailed rows = (i : ℕ) (r : Row) → slice_get rows i ≡ Some r → r.state ≢ Failed
 
 -- some row ends past the last record
-abbrev pub is_past : (records : ℕ) → List Row → Bool
-is_past records rows = list_any (λ (r : Row). nat_lt records r.hi) rows
+abbrev pub ends_past : (records : ℕ) → List Row → Bool
+ends_past records rows = list_any (λ (r : Row). nat_lt records r.hi) rows
 
 -- this fault, where the condition holds
 abbrev pub fault_if : Bool → SavedPlace → List SavedPlace
@@ -38,7 +38,7 @@ other_step step s = fault_if (not (bytes_eq s.step step)) Step
 
 -- all faults of saved rows from which a step of this id and so many records goes on, in the order in which they count
 abbrev pub step_faults : (step : List ℕ) → (records : ℕ) → SavedRows → List SavedPlace
-step_faults step records s = other_step step s ++ fault_if (is_past records s.rows) Records
+step_faults step records s = other_step step s ++ fault_if (ends_past records s.rows) Records
 
 -- the first of the faults; memory runs out only where there is none
 abbrev pub Refuses : StepError → List SavedPlace → Type 0

@@ -5,7 +5,7 @@ use Rattle.serde_json.specs.Find.{get}
 use Rattle.serde_json.specs.Read.{read}
 use Rattle.serde_json.specs.Written.{compact_text}
 use Rattle.jb_saved.specs.declared.place.SavedPlace.{SavedPlace}
-use Rattle.jb_saved.specs.Answers.{IsAnswer}
+use Rattle.jb_saved.specs.Answers.{IsSavedAnswer}
 use Rattle.jb_saved.specs.Reading.{answer_of, saved_at}
 use Rattle.jb_saved.specs.SavedForm.{keyed}
 use Rattle.jb_saved.specs.SavedRows.{SavedRows, IsSaved}
@@ -13,11 +13,11 @@ use Rattle.jb_saved.specs.SavedTree.{number_tree, is_known, CanHold, rows_tree_i
 
 -- the answer is the one that the row rules allow: each row before the named one fits, and the named one doesn't
 abbrev pub AnswerIsComputed : Type 0
-AnswerIsComputed = (tree : Option Data) → IsAnswer tree (answer_of tree)
+AnswerIsComputed = (tree : Option Data) → IsSavedAnswer tree (answer_of tree)
 
 -- a text has one answer
 abbrev pub OneAnswer : Type 0
-OneAnswer = (tree : Option Data) (one other : Result SavedRows SavedPlace) → IsAnswer tree one → IsAnswer tree other → one ≡ other
+OneAnswer = (tree : Option Data) (one other : Result SavedRows SavedPlace) → IsSavedAnswer tree one → IsSavedAnswer tree other → one ≡ other
 
 -- the compact text of saved rows has their tree, whatever bytes their id has
 abbrev pub TextIsRead : Type 0

@@ -12,7 +12,7 @@ use Rattle.jb_saved.specs.declared.error.StepError.TheVariants as error
 use Rattle.jb_saved.specs.declared.place.SavedPlace.{SavedPlace}
 use Rattle.jb_saved.specs.declared.place.SavedPlace.TheVariants.{NotJson, Rows}
 use Rattle.jb_saved.specs.SavedRows.{SavedRows}
-use Rattle.jb_saved.specs.SavedForm.{form_at}
+use Rattle.jb_saved.specs.SavedForm.{saved_form_at}
 
 -- some record stands in the row's range and in an earlier one's
 abbrev pub overlaps_some : (earlier : List Row) → Row → Bool
@@ -37,7 +37,7 @@ checked_rows (Err place) = Err place
 
 -- the saved rows that a tree stands for, or its first fault
 unfoldable pub saved_at : Data → Result SavedRows SavedPlace
-saved_at d = checked_rows (form_at d)
+saved_at d = checked_rows (saved_form_at d)
 
 -- the same of a text, by its tree; a text without a tree is no JSON
 abbrev pub answer_of : Option Data → Result SavedRows SavedPlace
@@ -45,11 +45,11 @@ answer_of None = Err NotJson
 answer_of (Some d) = saved_at d
 
 -- what an error says of a saved text
-abbrev pub cause_of : StepError → Cause SavedPlace
-cause_of (error.Saved place) = of_fault place
-cause_of error.Memory = no_memory
-cause_of _ = never
+abbrev pub saved_cause : StepError → Cause SavedPlace
+saved_cause (error.Saved place) = of_fault place
+saved_cause error.Memory = no_memory
+saved_cause _ = never
 
 -- what a function returned is this answer, unless memory ran out
 abbrev pub GivesSaved : Result SavedRows StepError → Result SavedRows SavedPlace → Type 0
-GivesSaved result answer = Answers cause_of (λ s. s) result answer
+GivesSaved result answer = Answers saved_cause (λ s. s) result answer

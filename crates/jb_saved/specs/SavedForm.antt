@@ -30,19 +30,19 @@ row_parts (suc n) (item d ds) = whole_number d >>= λ one. row_parts n ds >>= λ
 row_parts n ds = None
 
 -- the row that a tree stands for in a version; a number that the version doesn't list is 0
-unfoldable pub row_of : (version : ℕ) → Data → Option Row
-row_of n d = find.as_array d >>= λ items. row_parts (listed n) items >>= λ parts. Some (row_of_numbers parts.0 parts.1)
+unfoldable pub row_of_tree : (version : ℕ) → Data → Option Row
+row_of_tree n d = find.as_array d >>= λ items. row_parts (listed n) items >>= λ parts. Some (row_of_numbers parts.0 parts.1)
 
 -- each row after those before it, which are done
-abbrev pub rows_from : (version : ℕ) → List Row → Items → Option (List Row)
-rows_from n done no_items = Some done
-rows_from n done (item d ds) = row_of n d >>= λ row. rows_from n (done ++ row ∷ []) ds
+abbrev pub rows_from_trees : (version : ℕ) → List Row → Items → Option (List Row)
+rows_from_trees n done no_items = Some done
+rows_from_trees n done (item d ds) = row_of_tree n d >>= λ row. rows_from_trees n (done ++ row ∷ []) ds
 
 -- 1 to 1,024 rows
-unfoldable pub rows_of : (version : ℕ) → Data → Option (List Row)
-rows_of n d =
+unfoldable pub rows_of_tree : (version : ℕ) → Data → Option (List Row)
+rows_of_tree n d =
     find.as_array d >>= λ items.
-    if nat_le 1 (items_len items) && nat_le (items_len items) max_partitions then rows_from n [] items else None
+    if nat_le 1 (items_len items) && nat_le (items_len items) max_partitions then rows_from_trees n [] items else None
 
 -- ---- the object
 
@@ -58,10 +58,10 @@ unfoldable pub step_of : Data → Option (List ℕ)
 step_of d = find.as_str d >>= λ id. if nat_le 1 (length id) && nat_le (length id) max_name then Some id else None
 
 -- the whole form but for the version's number
-unfoldable pub saved_of : (version : ℕ) → Data → Option SavedRows
-saved_of n d = do
+unfoldable pub saved_of_tree : (version : ℕ) → Data → Option SavedRows
+saved_of_tree n d = do
   object ← keyed d
-  rows ← find.get (codes "rows") object >>= rows_of n
+  rows ← find.get (codes "rows") object >>= rows_of_tree n
   step ← find.get (codes "step") object >>= step_of
   Some (record { step = step; rows = rows })
 
@@ -69,16 +69,16 @@ saved_of n d = do
 abbrev pub version_of : Data → Option ℕ
 version_of d = find.get (codes "version") d >>= whole_number
 
-abbrev pub shaped : Option SavedRows → Result SavedRows SavedPlace
-shaped None = Err Shape
-shaped (Some s) = Ok s
+abbrev pub saved_shaped : Option SavedRows → Result SavedRows SavedPlace
+saved_shaped None = Err Shape
+saved_shaped (Some s) = Ok s
 
 -- A version that is a number is looked at before the rest of the form, which goes by it.
 abbrev pub form_by : Option ℕ → Data → Result SavedRows SavedPlace
 form_by None d = Err Shape
-form_by (Some n) d = if is_known n then shaped (saved_of n d) else Err Version
+form_by (Some n) d = if is_known n then saved_shaped (saved_of_tree n d) else Err Version
 
 -- the saved rows that a tree stands for by its form, or its first fault of form: Version as soon as the key `version` is
 -- found to hold the number of another version, else Shape
-unfoldable pub form_at : Data → Result SavedRows SavedPlace
-form_at d = form_by (version_of d) d
+unfoldable pub saved_form_at : Data → Result SavedRows SavedPlace
+saved_form_at d = form_by (version_of d) d

@@ -41,13 +41,13 @@ abbrev pub with_repeats : (retries in_place : ℕ) → Row
 with_repeats retries in_place = record (row 0 3 2 0 2 1 Waiting) { retries = retries; in_place = in_place }
 
 -- a failed partition at its checkpoint: records 0 and 3 always fail in processing, one skip
-abbrev pub failed_row : Row
-failed_row = record (row 0 4 2 0 1 1 Failed) {
+abbrev pub saved_failed_row : Row
+saved_failed_row = record (row 0 4 2 0 1 1 Failed) {
   counts = record { read = 2; write = 1; commit = 1; rollback = 1; read_skip = 0; process_skip = 1; filter = 0; write_skip = 0 };
 }
 
 abbrev pub failed : SavedRows
-failed = record { step = codes "s"; rows = failed_row ∷ row 4 6 6 4 2 1 Finished ∷ [] }
+failed = record { step = codes "s"; rows = saved_failed_row ∷ row 4 6 6 4 2 1 Finished ∷ [] }
 
 -- an object of these keys
 abbrev pub keyed_tree : Data → Data → Data → Data
@@ -86,7 +86,7 @@ pub record WorkedSaved : Type 0 where
       saved_at (object (member (codes "rows") (rows_tree stopped.rows) (member (codes "size") (number_tree 3) (member (codes "step") (string (codes "s")) (member (codes "version") (number_tree 2) no_members)))))
       ≡ Err Shape
   -- going on: the failed row waits, and the faults come in their order
-  pub restarted : rows_restarted failed ≡ record failed_row { state = Waiting } ∷ row 4 6 6 4 2 1 Finished ∷ []
+  pub restarted : rows_restarted failed ≡ record saved_failed_row { state = Waiting } ∷ row 4 6 6 4 2 1 Finished ∷ []
   pub faults : step_faults (codes "t") 5 failed ≡ Step ∷ Records ∷ []
   pub none : step_faults (codes "s") 6 failed ≡ []
   pub discarded : other_step (codes "t") failed ≡ Step ∷ []

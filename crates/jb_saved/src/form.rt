@@ -4,7 +4,7 @@ ghost use Rattle.std.specs.Prelude.{◌≡◌, ◌≤◌, [], false, length, map
 ghost use Rattle.std.specs.List.{list_all, list_any};
 ghost use Rattle.std.specs.BTreeMap.{keys};
 ghost use Rattle.serde_json.specs.View.{view, items_view};
-ghost use Rattle.jb_saved.specs.SavedForm.{row_of, rows_from, rows_of, keyed, saved_keys, step_of, version_of, saved_of};
+ghost use Rattle.jb_saved.specs.SavedForm.{row_of_tree, rows_from_trees, rows_of_tree, keyed, saved_keys, step_of, version_of, saved_of_tree};
 ghost use Rattle.jb_saved.specs.SavedTree.{is_known, listed};
 ghost use Rattle.jb_base.specs.Name.{IsName};
 ghost use Rattle.jb_base.specs.Limits.{max_partitions};
@@ -69,9 +69,9 @@ fn row_from(members: &[Value], name: &Value) -> Option<Row>
 }
 
 /// A row: the numbers that the version lists, and a state.
-#[tactic(auto, unfolding(crate::specs::SavedForm::row_of))]
+#[tactic(auto, unfolding(crate::specs::SavedForm::row_of_tree))]
 fn row_of(tree: &Value, version: u64) -> Option<Row>
-    ensures form { result ≡ row_of version (view tree.now) }
+    ensures form { result ≡ row_of_tree version (view tree.now) }
     ensures still { IfSome result (λ row. is_running row.state ≡ false) }
 {
     let (name, members) = tree.as_array()?.split_last()?;
@@ -83,9 +83,9 @@ fn row_of(tree: &Value, version: u64) -> Option<Row>
 }
 
 /// The rows: a list of 1 to 1,024.
-#[tactic(auto, using(crate::proofs::Trees::tree_steps), unfolding(crate::specs::SavedForm::rows_of))]
+#[tactic(auto, using(crate::proofs::Trees::tree_steps), unfolding(crate::specs::SavedForm::rows_of_tree))]
 fn rows_of(alloc: Global, tree: &Value, version: u64) -> Result<Vec<Row>, StepError>
-    ensures form { Finds (λ rows. rows.items) result (rows_of version (view tree.now)) }
+    ensures form { Finds (λ rows. rows.items) result (rows_of_tree version (view tree.now)) }
     ensures some { IfOk result (λ rows. 1 ≤ length rows.items) }
     ensures few { IfOk result (λ rows. length rows.items ≤ max_partitions) }
     ensures still { IfOk result (λ rows. AreStill rows.items) }
@@ -99,7 +99,7 @@ fn rows_of(alloc: Global, tree: &Value, version: u64) -> Result<Vec<Row>, StepEr
 
 /// Each of the list's members as a row.
 fn rows_in(alloc: Global, items: &Vec<Value>, version: u64) -> Result<Vec<Row>, StepError>
-    ensures form { Finds (λ rows. rows.items) result (rows_from version [] (items_view items.now.items)) }
+    ensures form { Finds (λ rows. rows.items) result (rows_from_trees version [] (items_view items.now.items)) }
     ensures count { IfOk result (λ rows. length rows.items ≡ length items.now.items) }
     ensures still { IfOk result (λ rows. AreStill rows.items) }
 {
@@ -158,13 +158,13 @@ pub(crate) fn version_of(tree: &Value) -> Option<u64>
 }
 
 /// The id and the rows of an object of this version, whose row rules aren't looked at.
-#[tactic(auto, unfolding(crate::specs::SavedForm::saved_of))]
+#[tactic(auto, unfolding(crate::specs::SavedForm::saved_of_tree))]
 pub(crate) fn saved_of(
     alloc: Global,
     tree: &Value,
     version: u64,
 ) -> Result<(Name, Vec<Row>), StepError>
-    ensures form { Finds (λ parts. record { step = parts.0; rows = parts.1.items }) result (saved_of version (view tree.now)) }
+    ensures form { Finds (λ parts. record { step = parts.0; rows = parts.1.items }) result (saved_of_tree version (view tree.now)) }
     ensures named { IfOk result (λ parts. IsName parts.0) }
     ensures some { IfOk result (λ parts. 1 ≤ length parts.1.items) }
     ensures few { IfOk result (λ parts. length parts.1.items ≤ max_partitions) }

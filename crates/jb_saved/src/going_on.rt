@@ -1,7 +1,7 @@
 //! Saved rows as a step goes on from them.
 
 ghost use Rattle.std.specs.Prelude.{◌≡◌, [], map, slice_get, OnOk, IfOk, IfErr};
-ghost use Rattle.jb_saved.specs.GoingOn.{restarted, is_past, step_faults, rows_restarted, AreUnfailed, Refuses};
+ghost use Rattle.jb_saved.specs.GoingOn.{restarted, ends_past, step_faults, rows_restarted, AreUnfailed, Refuses};
 ghost use Rattle.jb_saved.specs.SavedRows.{IsSaved};
 
 use crate::error::StepError;
@@ -32,7 +32,7 @@ fn all_restarted(alloc: Global, rows: &[Row]) -> Result<Vec<Row>, AllocError>
 
 /// Whether some row ends past the last record.
 fn is_past(records: u64, rows: &[Row]) -> bool
-    ensures { result ≡ is_past records rows.now }
+    ensures { result ≡ ends_past records rows.now }
 {
     rows.iter().any(|row| records < row.hi)
 }

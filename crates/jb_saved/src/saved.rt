@@ -43,7 +43,7 @@ impl Saved {
     ghost use Rattle.jb_base.specs.Name.{IsName};
     ghost use Rattle.jb_saved.specs.Answers.{first_running, RefusesRunning};
     ghost use Rattle.jb_saved.specs.Reading.{GivesSaved, saved_at};
-    ghost use Rattle.jb_saved.specs.SavedRows.{SavedRows, IsSaved};
+    ghost use Rattle.jb_saved.specs.SavedRows.{IsSaved};
 
     /// The rows of the partitions, by place.
     pub fn rows(&self) -> &[Row]
@@ -66,7 +66,7 @@ impl Saved {
     /// # Errors
     /// `Saved` with the first of: `Version`, where the tree is an object whose version is another number than 1 and 2;
     /// where it is of another form; `Rows`, the first row that breaks a row rule or overlaps an earlier one. And `Memory`.
-    #[tactic(auto, unfolding(crate::specs::SavedForm::form_at, crate::specs::Reading::saved_at))]
+    #[tactic(auto, unfolding(crate::specs::SavedForm::saved_form_at, crate::specs::Reading::saved_at))]
     pub fn of_value(alloc: Global, tree: &Value) -> Result<Saved, StepError>
         ensures { GivesSaved result (saved_at (view tree.now)) }
     {

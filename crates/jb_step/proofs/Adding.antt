@@ -1,88 +1,74 @@
--- Rounds and plans, added to a run.
-use Rattle.std.proofs.Common.{◌≡◌, ◌+◌, ◌<◌, false, List, [], ◌∷◌, ◌++◌, length, drop, take, refl, ap, ap₂, sym, ◌∙◌, subst, lit≤, arith, append_assoc, reverse}
-use Rattle.std.proofs.lemmas.List.{drop_more, reverse-append, reverse-reverse, take-append-drop, take_more}
-use Rattle.std.proofs.lemmas.List.Concat.{flat_map-append}
-use Rattle.std.specs.List.{flat_map}
+-- Rounds and plans, put at the end of those that were run.
+use Rattle.std.proofs.Common.{◌≡◌, false, List, [], ◌∷◌, ◌++◌, append-nil, refl, ap, sym, ◌∙◌, subst, append_assoc, inl, inr}
+use Rattle.std.specs.Prelude.{◌⊎◌, not}
+use Rattle.std.proofs.lemmas.Bool.{or_parts}
+use Rattle.std.proofs.lemmas.Grind.{flat_map-append}
+use Rattle.std.proofs.lemmas.List.Folds.{list_any-append}
 use Rattle.jb_cert.specs.Lawful.{Pair}
+use Rattle.jb_chunk.specs.Attempt.{AttemptEnd}
 use Rattle.jb_chunk.specs.Standing.{TaskState}
-use Rattle.jb_collect.specs.Heard.{heard_of, heard_first}
-use Rattle.jb_step.specs.inside.Adding.{GoesOn, IsRoundMore, Opens, RoundGoesOn, RoundOpens, heard_in_round, next_round, unrun, with_round}
-use Rattle.jb_step.specs.Rounds.{CanRun, CanRunAll, AreQuiet, after_round, after_rounds, attempts_in, attempts_of, last_breaks}
-use Rattle.jb_step.specs.Runs.{PlanRun, table_after, rounds_of, rounds_run, all_attempts}
-use Rattle.jb_step.specs.Setup.{Setup}
+use Rattle.jb_step.specs.rounds.Rounds.{AreRun, CanRun, GoQuietly, after_round, after_rounds, attempts_in, attempts_of, breaks, breaks_in, is_commit}
+use Rattle.jb_step.specs.rounds.Runs.{AreOver, ArePlanRuns, IsOver, IsPlanRun, PlanRun, rounds_of, rounds_run, table_after}
+use Rattle.jb_step.specs.preparing.Setup.{Setup}
 
-pub after_rounds-append : (newer older : List (List Pair)) (ts : List TaskState) → after_rounds (newer ++ older) ts ≡ after_rounds newer (after_rounds older ts)
-after_rounds-append [] older ts = refl
-after_rounds-append (set ∷ newer) older ts = ap (after_round set) (after_rounds-append newer older ts)
+-- ROUNDS
 
--- the quiet rounds before the last one and a quiet last one
-pub quiet-more : (rounds : List (List Pair)) (ts : List TaskState) → AreQuiet (drop 1 rounds) ts → last_breaks rounds ts ≡ false → AreQuiet rounds ts
-quiet-more [] ts quiet last = tt
-quiet-more (set ∷ older) ts quiet last = (quiet, last)
+pub after-append : (one more : List (List Pair)) (ts : List TaskState) → after_rounds (one ++ more) ts ≡ after_rounds more (after_rounds one ts)
+after-append [] more ts = refl
+after-append (set ∷ one) more ts = after-append one more (after_round set ts)
 
--- the next set moves from those that are left to those that were run
-pub sets-more : {X : Type 0} (rounds left : List X) (set : X) → reverse (set ∷ rounds) ++ left ≡ reverse rounds ++ set ∷ left
-sets-more rounds left set = ap (λ xs. xs ++ left) (reverse-append (set ∷ []) rounds) ∙ append_assoc (reverse rounds) (set ∷ []) left
+pub attempts-append : (one more : List (List Pair)) (ts : List TaskState) → attempts_of (one ++ more) ts ≡ attempts_of one ts ++ attempts_of more (after_rounds one ts)
+attempts-append [] more ts = refl
+attempts-append (set ∷ one) more ts =
+    ap (λ es. attempts_in set ts ++ es) (attempts-append one more (after_round set ts))
+    ∙ sym (append_assoc (attempts_in set ts) (attempts_of one (after_round set ts)) (attempts_of more (after_rounds one (after_round set ts))))
 
--- the next round is behind those that were run, and before the others
-pub run-more : (plan : PlanRun) → plan.ran < length plan.rounds → rounds_run (with_round plan) ≡ next_round plan ∷ rounds_run plan
-run-more plan lt = ap reverse (take_more plan.rounds plan.ran [] lt) ∙ reverse-append (take plan.ran plan.rounds) (next_round plan ∷ [])
+breaks-append : (es fs : List AttemptEnd) → breaks_in (es ++ fs) ≡ false → (breaks_in es ≡ false) × (breaks_in fs ≡ false)
+breaks-append es fs quiet = or_parts (breaks_in es) (breaks_in fs) (sym (list_any-append (λ (e : AttemptEnd). not (is_commit e.outcome)) es fs) ∙ quiet)
 
-pub parted : (plan : PlanRun) → plan.ran < length plan.rounds → plan.rounds ≡ reverse (rounds_run plan) ++ next_round plan ∷ drop (plan.ran + 1) plan.rounds
-parted plan lt =
-    sym (take-append-drop plan.ran plan.rounds)
-    ∙ ap₂ ◌++◌ (sym (reverse-reverse (take plan.ran plan.rounds))) (drop_more plan.rounds plan.ran [] lt)
+-- the first of quiet rounds is quiet, and the others are
+pub quiet-parts : (set : List Pair) (later : List (List Pair)) (ts : List TaskState) → GoQuietly (set ∷ later) ts → (breaks set ts ≡ false) × GoQuietly later (after_round set ts)
+quiet-parts set later ts quiet = breaks-append (attempts_in set ts) (attempts_of later (after_round set ts)) quiet
 
-pub goes_on : GoesOn
-goes_on s start plan older runs lt quiet can =
-    let before = table_after older start in
-    let one = runs.2 in
-    let more = sym (run-more plan lt) in (
-      runs.0,
-      runs.1,
-      record {
-        least = one.least;
-        certified = one.certified;
-        some = let few = one.some in omega arith;
-        among = omega (arith, lt);
-        run = subst (λ rounds. CanRunAll rounds before) more (one.run, subst (λ ts. CanRun (next_round plan) ts) (after_rounds-append (rounds_run plan) (rounds_of older) start) can);
-        quiet = subst (λ rounds. AreQuiet (drop 1 rounds) before) more (quiet-more (rounds_run plan) before one.quiet quiet);
-      },
-    )
+pub quiet-both : (set : List Pair) (later : List (List Pair)) (ts : List TaskState) → breaks set ts ≡ false → GoQuietly later (after_round set ts) → GoQuietly (set ∷ later) ts
+quiet-both set later ts one more = list_any-append (λ (e : AttemptEnd). not (is_commit e.outcome)) (attempts_in set ts) (attempts_of later (after_round set ts)) ∙ rw (one, more) refl
 
-pub opens : Opens
-opens s start older certificate rounds runs over some least certified can =
-    let before = table_after older start in
-    let more = sym (run-more (unrun certificate rounds) some) in (
-      runs,
-      over,
-      record {
-        least = least;
-        certified = certified;
-        some = lit≤ tt;
-        among = some;
-        run = subst (λ rounds. CanRunAll rounds before) more (tt, can);
-        quiet = subst (λ rounds. AreQuiet (drop 1 rounds) before) more tt;
-      },
-    )
+-- a round that isn't the last one is quiet
+pub not-last : {set : List Pair} {later : List (List Pair)} {P : Type 0} → (set ∷ later ≡ []) ⊎ P → P
+not-last (inl none) = let never : ⊥ = cc in absurd never
+not-last (inr one) = one
 
-by-round : (s : Setup) (start : List TaskState) (plans more : List PlanRun) (set : List Pair) → rounds_of more ≡ set ∷ rounds_of plans → IsRoundMore s start plans more set
-by-round s start plans more set is =
-    let first = heard_first s.begun_anew s.rows in
-    let attempts : all_attempts more start ≡ all_attempts plans start ++ attempts_in set (table_after plans start) = ap (λ rounds. attempts_of rounds start) is in
-    record {
-      rounds = is;
-      table = ap (λ rounds. after_rounds rounds start) is;
-      attempts = attempts;
-      heard =
-          ap (λ es. first ++ flat_map heard_of es) attempts
-          ∙ ap (λ xs. first ++ xs) (flat_map-append heard_of (all_attempts plans start) (attempts_in set (table_after plans start)))
-          ∙ sym (append_assoc first (flat_map heard_of (all_attempts plans start)) (heard_in_round set (table_after plans start)));
-    }
+-- some rounds are quiet only if the last one is
+pub breaks-more : (rounds : List (List Pair)) (set : List Pair) (ts : List TaskState) → GoQuietly rounds ts → breaks_in (attempts_of (rounds ++ set ∷ []) ts) ≡ breaks set (after_rounds rounds ts)
+breaks-more rounds set ts quiet =
+    ap breaks_in (attempts-append rounds (set ∷ []) ts)
+    ∙ list_any-append (λ (e : AttemptEnd). not (is_commit e.outcome)) (attempts_of rounds ts) (attempts_in set (after_rounds rounds ts) ++ [])
+    ∙ rw (quiet, append-nil (attempts_in set (after_rounds rounds ts))) refl
 
-pub round_goes_on : RoundGoesOn
-round_goes_on s start plan older lt = by-round s start (plan ∷ older) (with_round plan ∷ older) (next_round plan) (ap (λ rounds. rounds ++ rounds_of older) (run-more plan lt))
+-- a round more can be run behind quiet ones
+pub run-more : (rounds : List (List Pair)) (set : List Pair) (ts : List TaskState) → AreRun rounds ts → GoQuietly rounds ts → CanRun set (after_rounds rounds ts) → AreRun (rounds ++ set ∷ []) ts
+run-more [] set ts run quiet can = (can, inl refl, tt)
+run-more (one ∷ rounds) set ts run quiet can =
+    let parts = quiet-parts one rounds ts quiet in
+    (run.0, inr parts.0, run-more rounds set (after_round one ts) run.2 parts.1 can)
 
-pub round_opens : RoundOpens
-round_opens s start older certificate rounds some =
-    by-round s start older (with_round (unrun certificate rounds) ∷ older) (next_round (unrun certificate rounds)) (ap (λ run. run ++ rounds_of older) (run-more (unrun certificate rounds) some))
+-- PLANS
+
+pub rounds-more : (plans : List PlanRun) (plan : PlanRun) → rounds_of (plans ++ plan ∷ []) ≡ rounds_of plans ++ rounds_run plan
+rounds-more plans plan = flat_map-append rounds_run plans (plan ∷ []) ∙ ap (λ rounds. rounds_of plans ++ rounds) (append-nil (rounds_run plan))
+
+-- a plan is made for what plans left that are over
+pub plan-more : (s : Setup) (start : List TaskState) (plans : List PlanRun) (plan : PlanRun) → ArePlanRuns s start plans → AreOver start plans → IsPlanRun s (table_after plans start) plan → ArePlanRuns s start (plans ++ plan ∷ [])
+plan-more s start [] plan runs over one = (one, inl refl, tt)
+plan-more s start (first ∷ plans) plan runs over one = (
+  runs.0,
+  inr over.0,
+  plan-more s (after_rounds (rounds_run first) start) plans plan runs.2 over.1 (subst (λ ts. IsPlanRun s ts plan) (after-append (rounds_run first) (rounds_of plans) start) one),
+)
+
+pub over-more : (start : List TaskState) (plans : List PlanRun) (plan : PlanRun) → AreOver start plans → IsOver (table_after plans start) plan → AreOver start (plans ++ plan ∷ [])
+over-more start [] plan over one = (one, tt)
+over-more start (first ∷ plans) plan over one = (
+  over.0,
+  over-more (after_rounds (rounds_run first) start) plans plan over.1 (subst (λ ts. IsOver ts plan) (after-append (rounds_run first) (rounds_of plans) start) one),
+)

@@ -17,8 +17,8 @@ use Rattle.jb_rules.specs.declared.row.RowState.TheVariants as state
 use Rattle.jb_saved.specs.GoingOn.{AreUnfailed}
 use Rattle.jb_saved.specs.SavedRows.{SavedRows, IsSaved}
 use Rattle.jb_chunk.specs.Standing.{HasItemCount}
-use Rattle.jb_step.specs.Setup.{IsSetup, fresh_rows}
-use Rattle.jb_step.specs.inside.Fresh.{setup_with}
+use Rattle.jb_step.specs.preparing.Setup.{IsSetup, fresh_rows}
+use Rattle.jb_step.specs.inside.Fresh.{setup_of_rows}
 use Rattle.jb_step.specs.inside.Preparing.{MayOpen}
 
 abbrev IsFreshAt : List Range → ℕ → Row → Type 0
@@ -83,7 +83,7 @@ saved-may-open saved kept unfailed = record {
 }
 
 pub opened-is : (rows : List Row) (plan : CheckedPlan) (step : StepRecord) (begun_anew : Bool) → MayOpen rows → 1 ≤ plan.threads → plan.threads ≤ max_threads → step.rules.retry_limit ≤ max_retry_limit → HasItemCount step.item_count
-    → IsSetup (setup_with rows plan step begun_anew)
+    → IsSetup (setup_of_rows rows plan step begun_anew)
 opened-is rows plan step begun_anew open_ some few retried items = record {
   openable = record {
     some_rows = open_.some_rows;

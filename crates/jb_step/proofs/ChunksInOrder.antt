@@ -1,152 +1,154 @@
--- The next round of a plan can be run.
-use Rattle.std.proofs.Common.{◌≡◌, ℕ, suc, zero, ◌+◌, ◌-◌, ◌≤◌, ◌<◌, Bool, true, false, not, cond, List, [], ◌∷◌, ◌++◌, append-nil, length, drop, get_or, map, reverse, Some, refl, ap, ap₂, sym, ◌∙◌, subst, arith, inl, inr, length-append, eqb-true}
-use Rattle.std.specs.Prelude.{nat_eq, ◌&&◌, ◌||◌, slice_get, slice_index, slice_index_or, Contains}
-use Rattle.std.specs.List.{list_all, list_any, enumerate_from, AllByRecursion}
-use Rattle.std.proofs.lemmas.Bool.{cases_lt, or_right, and_from, and_parts}
-use Rattle.std.proofs.lemmas.List.{get_or_at, length-reverse, drop-drop}
+-- Quiet rounds of a plan: which chunks were run, and that the next round can be run.
+use Rattle.std.proofs.Common.{◌≡◌, ℕ, suc, zero, ◌+◌, ◌≤◌, ◌<◌, ◌⊎◌, Bool, true, false, not, cond, List, [], ◌∷◌, ◌++◌, append-nil, length, drop, get_or, map, Some, refl, ap, sym, ◌∙◌, subst, arith, inl, inr, length-append, eqb-true}
+use Rattle.std.specs.Prelude.{nat_eq, ◌||◌, slice_get, slice_index, Contains}
+use Rattle.std.specs.List.{list_all, enumerate_from, AllByRecursion}
+use Rattle.std.proofs.lemmas.Bool.{or_parts, and_from, and_parts, not-false}
+use Rattle.std.proofs.lemmas.List.{get_or_at, drop-drop}
+use Rattle.jb_base.specs.declared.range.Range.{Range}
 use Rattle.jb_rules.specs.declared.row.Row.{Row}
 use Rattle.jb_rules.specs.declared.row.RowState.{RowState}
 use Rattle.jb_rules.specs.declared.row.RowState.TheVariants as state
 use Rattle.jb_rules.specs.States.{is_waiting, has_ended}
 use Rattle.jb_cert.specs.Lawful.{Pair, IsLawful, StandsIn}
-use Rattle.jb_chunk.specs.Attempt.{AttemptEnd, attempt_of}
+use Rattle.jb_chunk.specs.Attempt.{attempt_of, block_of}
 use Rattle.jb_chunk.specs.Standing.{TaskState}
 use Rattle.jb_rules.specs.Rows.{remaining_of}
 use Rattle.jb_repo.specs.Rows.{remaining}
-use Rattle.jb_step.specs.PlanLaws.{NextCanRun, RunsInOrder, RunsAll}
+use Rattle.jb_step.specs.Alone.{have_ended}
+use Rattle.jb_step.specs.rounds.PlanLaws.{ChunksAreBlocks, NextCanRun, RunsInOrder, RunsAll}
 use Rattle.jb_step.specs.OnePartition.{tasks_at}
-use Rattle.jb_step.specs.Rounds.{CanRun, is_commit, has_partition, has_task, tasks_in, after_round, after_rounds, CanRunAll, AreQuiet}
-use Rattle.jb_step.specs.Setup.{Setup, row_now, counts_now}
+use Rattle.jb_step.specs.rounds.Rounds.{AreRun, CanRun, GoQuietly, after_round, after_rounds, breaks_in, has_partition, has_task, is_commit, tasks_in}
+use Rattle.jb_step.specs.preparing.Setup.{Setup, row_now, counts_now}
 use Rattle.jb_step.specs.inside.Below.{ChunkLaws}
-use Rattle.jb_step.proofs.Adding.{sets-more}
-use Rattle.jb_step.proofs.Apart.{at-rounds, AllIn, at-in, waits-in, others-wait}
+use Rattle.jb_step.proofs.Adding.{quiet-parts}
+use Rattle.jb_step.proofs.Apart.{AllIn, IsWaiting, all-at, at-rounds}
+use Rattle.jb_step.proofs.ChunkNumbers.{chunk-in, cnt, cnt-all, cnt-is, one_if, runs-cnt, runs_of}
 use Rattle.jb_step.proofs.Holding.{apart-of, rest-of}
+use Rattle.jb_step.proofs.Leading.{first-waits, others-wait}
+use Rattle.jb_step.proofs.Filters.{each-passes, filter-all}
 use Rattle.jb_step.proofs.Staying.{steady-held}
-use Rattle.jb_step.proofs.Steady.{IsSteady, IsSteadyIn, IsSteadyTable, next-steady, waits, listing, rem, falls-one, drops-one, same-partition, same-count, row_waits}
-use Rattle.jb_step.proofs.Numbers.{add-next, itself}
+use Rattle.jb_step.proofs.Steady.{IsSteady, IsSteadyIn, IsSteadyTable, next-list, next-steady, waits, listing, rem, falls-one, drops-one, same-partition, same-count, row_waits}
+use Rattle.jb_step.proofs.Numbers.{itself}
 
-abbrev pub one_if : Bool → ℕ
-one_if true = 1
-one_if false = 0
+-- ONE TASK
 
--- how many of the rounds have the partition
-abbrev pub runs_of : ℕ → List (List Pair) → ℕ
-runs_of p [] = 0
-runs_of p (set ∷ older) = one_if (has_partition set p) + runs_of p older
+-- the task waits, and its attempt is a commit
+abbrev GoesOn : TaskState → Type 0
+GoesOn t = IsWaiting t × (is_commit (attempt_of t).outcome ≡ true)
 
-abbrev pub commits : TaskState → Bool
-commits t = is_commit (attempt_of t).outcome
-
--- a task after quiet rounds
-pub record IsFallen (rounds : List (List Pair)) (t u : TaskState) : Type 0 where
+-- a partition's task after quiet rounds, in chunks of c items
+pub record IsFallen (c p : ℕ) (rounds : List (List Pair)) (t u : TaskState) : Type 0 where
   pub steady : IsSteady u
-  pub item_count : u.item_count ≡ t.item_count
-  pub partition : u.partition ≡ t.partition
-  pub fallen : rem t.item_count u.row + runs_of t.partition rounds ≡ rem t.item_count t.row
-  pub dropped : drop (runs_of t.partition rounds) (listing t) ≡ listing u
+  pub item_count : u.item_count ≡ c
+  pub partition : u.partition ≡ p
+  pub fallen : rem c u.row + runs_of p rounds ≡ rem c t.row
+  pub dropped : drop (runs_of p rounds) (listing t) ≡ listing u
 
-abbrev pub IsFallenTo : List (List Pair) → TaskState → List TaskState → Type 0
-IsFallenTo rounds t ts = (u : TaskState) × (ts ≡ u ∷ []) × IsFallen rounds t u
+abbrev IsFallenTo : ℕ → ℕ → List (List Pair) → TaskState → List TaskState → Type 0
+IsFallenTo c p rounds t ts = (u : TaskState) × (ts ≡ u ∷ []) × IsFallen c p rounds t u
 
-fallen-one : ChunkLaws → (b : Bool) (set : List Pair) (older : List (List Pair)) (t u : TaskState) → has_partition set u.partition ≡ b → IsFallen older t u
-    → list_all row_waits (cond b (u ∷ []) []) ≡ true → list_all commits (cond b (u ∷ []) []) ≡ true → IsFallenTo (set ∷ older) t (cond b (attempt_of u).task u ∷ [])
-fallen-one law true set older t u has f wait commit =
-    let w = waits u.row.state (and_parts (row_waits u) true wait).0 in
-    let c = (and_parts (commits u) true commit).0 in
-    let less : rem t.item_count (attempt_of u).task.row + 1 ≡ rem t.item_count u.row = subst (λ n. rem n (attempt_of u).task.row + 1 ≡ rem n u.row) f.item_count (falls-one law u f.steady w c) in
-    let one : one_if (has_partition set t.partition) ≡ 1 = ap one_if (ap (has_partition set) (sym f.partition) ∙ has) in
-    let number : one_if (has_partition set t.partition) + runs_of t.partition older ≡ runs_of t.partition older + 1 = omega (arith, one) in
-    let was = f.fallen in (
-      (attempt_of u).task,
-      refl,
+fallen-one : ChunkLaws → (b : Bool) (c p : ℕ) (set : List Pair) (later : List (List Pair)) (t : TaskState) → has_partition set p ≡ b → IsSteady t → t.item_count ≡ c → t.partition ≡ p
+    → AllByRecursion GoesOn (cond b (t ∷ []) []) → AllIn GoesOn later (cond b (attempt_of t).task t ∷ [])
+    → ((u : TaskState) → IsSteady u → u.item_count ≡ c → u.partition ≡ p → AllIn GoesOn later (u ∷ []) → IsFallenTo c p later u (after_rounds later (u ∷ [])))
+    → IsFallenTo c p (set ∷ later) t (after_rounds later (cond b (attempt_of t).task t ∷ []))
+fallen-one law true c p set later t has st count name here all more =
+    let w = here.0.0 in
+    let end = more (attempt_of t).task (next-steady law t st w) (same-count t ∙ count) (same-partition t ∙ name) all in
+    let less : rem c (attempt_of t).task.row + 1 ≡ rem c t.row = subst (λ n. rem n (attempt_of t).task.row + 1 ≡ rem n t.row) count (falls-one law t st w here.0.1) in
+    let one : one_if (has_partition set p) ≡ 1 = ap one_if has in
+    let rest = end.2.fallen in (
+      end.0,
+      end.1,
       record {
-        steady = next-steady law u f.steady w;
-        item_count = same-count u ∙ f.item_count;
-        partition = same-partition u ∙ f.partition;
-        fallen = omega (arith, less, one, was);
+        steady = end.2.steady;
+        item_count = end.2.item_count;
+        partition = end.2.partition;
+        fallen = omega (arith, less, one, rest);
         dropped =
-            ap (λ n. drop n (listing t)) number
-            ∙ sym (drop-drop 1 (runs_of t.partition older) (listing t))
-            ∙ ap (drop 1) f.dropped
-            ∙ drops-one law u f.steady w c;
+            ap (λ n. drop (n + runs_of p later) (listing t)) one
+            ∙ sym (drop-drop (runs_of p later) 1 (listing t))
+            ∙ ap (drop (runs_of p later)) (drops-one law t st w here.0.1)
+            ∙ end.2.dropped;
       },
     )
-fallen-one law false set older t u has f wait commit =
-    let none : one_if (has_partition set t.partition) ≡ 0 = ap one_if (ap (has_partition set) (sym f.partition) ∙ has) in
-    let number : one_if (has_partition set t.partition) + runs_of t.partition older ≡ runs_of t.partition older = omega (arith, none) in
-    let was = f.fallen in
-    (u, refl, record { steady = f.steady; item_count = f.item_count; partition = f.partition; fallen = omega (arith, none, was); dropped = ap (λ n. drop n (listing t)) number ∙ f.dropped })
+fallen-one law false c p set later t has st count name here all more =
+    let end = more t st count name all in
+    let none : one_if (has_partition set p) ≡ 0 = ap one_if has in
+    let number : one_if (has_partition set p) + runs_of p later ≡ runs_of p later = omega (arith, none) in
+    let rest = end.2.fallen in (
+      end.0,
+      end.1,
+      record {
+        steady = end.2.steady;
+        item_count = end.2.item_count;
+        partition = end.2.partition;
+        fallen = omega (arith, none, rest);
+        dropped = ap (λ n. drop n (listing t)) number ∙ end.2.dropped;
+      },
+    )
 
-pub fallen-all : ChunkLaws → (rounds : List (List Pair)) (t : TaskState) → IsSteady t → AllIn row_waits rounds (t ∷ []) → AllIn commits rounds (t ∷ []) → IsFallenTo rounds t (after_rounds rounds (t ∷ []))
-fallen-all law [] t st wait commit = (t, refl, record { steady = st; item_count = refl; partition = refl; fallen = omega arith; dropped = refl })
-fallen-all law (set ∷ older) t st wait commit =
-    let before = fallen-all law older t st wait.0 commit.0 in
-    let u = before.0 in
-    let w : list_all row_waits (tasks_in set (u ∷ [])) ≡ true = subst (λ ts. list_all row_waits (tasks_in set ts) ≡ true) before.1 wait.1 in
-    let c : list_all commits (tasks_in set (u ∷ [])) ≡ true = subst (λ ts. list_all commits (tasks_in set ts) ≡ true) before.1 commit.1 in
-    subst (λ ts. IsFallenTo (set ∷ older) t (after_round set ts)) (sym before.1) (fallen-one law (has_partition set u.partition) set older t u refl before.2 w c)
+fallen-all : ChunkLaws → (c p : ℕ) (rounds : List (List Pair)) (t : TaskState) → IsSteady t → t.item_count ≡ c → t.partition ≡ p → AllIn GoesOn rounds (t ∷ []) → IsFallenTo c p rounds t (after_rounds rounds (t ∷ []))
+fallen-all law c p [] t st count name all = (t, refl, record { steady = st; item_count = count; partition = name; fallen = omega arith; dropped = refl })
+fallen-all law c p (set ∷ later) t st count name all =
+    fallen-one law (has_partition set t.partition) c p set later t (ap (has_partition set) (sym name)) st count name all.0 all.1 (λ u su cu nu rest. fallen-all law c p later u su cu nu rest)
 
 -- ONE PARTITION OF A TABLE
 
-quiet-commits : (ts : List TaskState) → list_any (λ (e : AttemptEnd). not (is_commit e.outcome)) (map attempt_of ts) ≡ false → list_all commits ts ≡ true
-quiet-commits [] e = refl
-quiet-commits (t ∷ ts) e = one (commits t) (quiet-commits ts) e
-  where
-    one : (b : Bool) → (list_any (λ (d : AttemptEnd). not (is_commit d.outcome)) (map attempt_of ts) ≡ false → list_all commits ts ≡ true) → (not b || list_any (λ (d : AttemptEnd). not (is_commit d.outcome)) (map attempt_of ts)) ≡ false → (b && list_all commits ts) ≡ true
-    one true more q = more q
-    one false more q = cc
+goes-on : (ts : List TaskState) → list_all row_waits ts ≡ true → breaks_in (map attempt_of ts) ≡ false → AllByRecursion GoesOn ts
+goes-on [] w q = tt
+goes-on (t ∷ ts) w q =
+    let one = and_parts (row_waits t) (list_all row_waits ts) w in
+    let two = or_parts (not (is_commit (attempt_of t).outcome)) (breaks_in (map attempt_of ts)) q in
+    ((waits t.row.state one.0, not-false (is_commit (attempt_of t).outcome) two.0), goes-on ts one.1 two.1)
 
-pub commits-in : (p : ℕ) (rounds : List (List Pair)) (ts : List TaskState) → AreQuiet rounds ts → AllIn commits rounds (tasks_at p ts)
-commits-in p [] ts quiet = tt
-commits-in p (set ∷ older) ts quiet = (commits-in p older ts quiet.0, at-in commits p set older ts (quiet-commits (tasks_in set (after_rounds older ts)) quiet.1))
+all-go-on : (rounds : List (List Pair)) (ts : List TaskState) → AreRun rounds ts → GoQuietly rounds ts → AllIn GoesOn rounds ts
+all-go-on [] ts run quiet = tt
+all-go-on (set ∷ later) ts run quiet =
+    let parts = quiet-parts set later ts quiet in
+    (goes-on (tasks_in set ts) run.0.waiting parts.0, all-go-on later (after_round set ts) run.2 parts.1)
 
 -- COUNTS
 
-abbrev IsCount : ℕ → List TaskState → List Row → ℕ → ℕ → Type 0
-IsCount c ts rows k i = (row : Row) × (slice_get rows i ≡ Some row) × (slice_index (remaining c (map (λ n. row_now ts n.0 n.1) (enumerate_from k rows))) i ≡ rem c (row_now ts (k + i) row))
+-- the row of a partition, by which its count is
+abbrev IsCount : ℕ → List TaskState → List Row → (k i p : ℕ) → Type 0
+IsCount c ts rows k i p = (row : Row) × (slice_get rows i ≡ Some row) × (slice_index (remaining c (map (λ n. row_now ts n.0 n.1) (enumerate_from k rows))) i ≡ rem c (row_now ts p row))
 
-count-at : (c : ℕ) (ts : List TaskState) (rows : List Row) (k i : ℕ) → i < length (remaining c (map (λ n. row_now ts n.0 n.1) (enumerate_from k rows))) → IsCount c ts rows k i
-count-at c ts [] k i lt = absurd (omega arith)
-count-at c ts (row ∷ rows) k zero lt = (row, refl, ap (λ m. rem c (row_now ts m row)) (let e : k ≡ k + 0 = omega arith in e))
-count-at c ts (row ∷ rows) k (suc i) lt =
-    let more = count-at c ts rows (k + 1) i (omega arith) in
-    (more.0, more.1, more.2 ∙ ap (λ m. rem c (row_now ts m more.0)) (add-next k i))
+count-at : (c : ℕ) (ts : List TaskState) (rows : List Row) (k i p : ℕ) → k + i ≡ p → i < length rows → IsCount c ts rows k i p
+count-at c ts [] k i p e lt = absurd (omega arith)
+count-at c ts (row ∷ rows) k zero p e lt = (row, refl, ap (λ m. rem c (row_now ts m row)) (let same : k ≡ p = omega (arith, e) in same))
+count-at c ts (row ∷ rows) k (suc i) p e lt = count-at c ts rows (k + 1) i p (omega (arith, e)) (omega arith)
 
-none-one : (b : Bool) (t : TaskState) (us : List TaskState) (now row : Row) → (us ≡ [] → now ≡ row) → cond b (t ∷ us) us ≡ [] → cond b t.row now ≡ row
-none-one true t us now row more e = let never : ⊥ = cc in absurd never
-none-one false t us now row more e = more e
+count-in : (s : Setup) (ts : List TaskState) (p : ℕ) → p < length s.rows → IsCount s.item_count ts s.rows 0 p p
+count-in s ts p lt = count-at s.item_count ts s.rows 0 p p (omega arith) lt
+
+-- the row of a partition now is that of its first task
+abbrev first_row : List TaskState → Row → Row
+first_row [] row = row
+first_row (t ∷ ts) row = t.row
+
+now-is : (ts : List TaskState) (p : ℕ) (row : Row) → row_now ts p row ≡ first_row (tasks_at p ts) row
+now-is [] p row = refl
+now-is (t ∷ ts) p row = one (nat_eq t.partition p) (now-is ts p row)
+  where
+    one : (b : Bool) → row_now ts p row ≡ first_row (tasks_at p ts) row → cond b t.row (row_now ts p row) ≡ first_row (cond b (t ∷ tasks_at p ts) (tasks_at p ts)) row
+    one true e = refl
+    one false e = e
 
 pub none-now : (ts : List TaskState) (p : ℕ) (row : Row) → tasks_at p ts ≡ [] → row_now ts p row ≡ row
-none-now [] p row e = refl
-none-now (t ∷ ts) p row e = none-one (nat_eq t.partition p) t (tasks_at p ts) (row_now ts p row) row (none-now ts p row) e
+none-now ts p row e = now-is ts p row ∙ ap (λ us. first_row us row) e
+
+pub first-now : (ts : List TaskState) (p : ℕ) (row : Row) (t : TaskState) (us : List TaskState) → tasks_at p ts ≡ t ∷ us → row_now ts p row ≡ t.row
+first-now ts p row t us e = now-is ts p row ∙ ap (λ vs. first_row vs row) e
 
 head-is : (u t : TaskState) (us vs : List TaskState) → u ∷ us ≡ t ∷ vs → u ≡ t
 head-is u t us vs e = cc
 
-first-one : (b : Bool) (u t : TaskState) (us vs : List TaskState) (now : Row) → (us ≡ t ∷ vs → now ≡ t.row) → cond b (u ∷ us) us ≡ t ∷ vs → cond b u.row now ≡ t.row
-first-one true u t us vs now more e = ap (λ (v : TaskState). v.row) (head-is u t us vs e)
-first-one false u t us vs now more e = more e
-
-pub first-now : (ts : List TaskState) (p : ℕ) (row : Row) (t : TaskState) (vs : List TaskState) → tasks_at p ts ≡ t ∷ vs → row_now ts p row ≡ t.row
-first-now [] p row t vs e = let never : ⊥ = cc in absurd never
-first-now (u ∷ ts) p row t vs e = first-one (nat_eq u.partition p) u t (tasks_at p ts) vs (row_now ts p row) (first-now ts p row t vs) e
-
 -- what holds of each task holds of a partition's
-member-one : (P : TaskState → Type 0) (b : Bool) (u t : TaskState) (us vs : List TaskState) → P u → (us ≡ t ∷ vs → P t) → cond b (u ∷ us) us ≡ t ∷ vs → P t
-member-one P true u t us vs here more e = subst P (head-is u t us vs e) here
-member-one P false u t us vs here more e = more e
+pub member : (P : TaskState → Type 0) (ts : List TaskState) (p : ℕ) (t : TaskState) (us : List TaskState) → AllByRecursion P ts → tasks_at p ts ≡ t ∷ us → P t
+member P ts p t us all e = (subst (λ vs. AllByRecursion P vs) e (filter-all P (λ v. nat_eq v.partition p) ts all)).0
 
-pub member : (P : TaskState → Type 0) (ts : List TaskState) (p : ℕ) (t : TaskState) (vs : List TaskState) → AllByRecursion P ts → tasks_at p ts ≡ t ∷ vs → P t
-member P [] p t vs all e = let never : ⊥ = cc in absurd never
-member P (u ∷ ts) p t vs all e = member-one P (nat_eq u.partition p) u t (tasks_at p ts) vs all.0 (member P ts p t vs all.1) e
-
-named-one : (b : Bool) (p : ℕ) (u t : TaskState) (us vs : List TaskState) → nat_eq u.partition p ≡ b → (us ≡ t ∷ vs → t.partition ≡ p) → cond b (u ∷ us) us ≡ t ∷ vs → t.partition ≡ p
-named-one true p u t us vs n more e = ap (λ (v : TaskState). v.partition) (sym (head-is u t us vs e)) ∙ eqb-true u.partition p n
-named-one false p u t us vs n more e = more e
-
-pub named : (ts : List TaskState) (p : ℕ) (t : TaskState) (vs : List TaskState) → tasks_at p ts ≡ t ∷ vs → t.partition ≡ p
-named [] p t vs e = let never : ⊥ = cc in absurd never
-named (u ∷ ts) p t vs e = named-one (nat_eq u.partition p) p u t (tasks_at p ts) vs refl (named ts p t vs) e
+pub named : (ts : List TaskState) (p : ℕ) (t : TaskState) (us : List TaskState) → tasks_at p ts ≡ t ∷ us → t.partition ≡ p
+named ts p t us e = eqb-true t.partition p (subst (λ vs. AllByRecursion (λ v. nat_eq v.partition p ≡ true) vs) e (each-passes (λ v. nat_eq v.partition p) ts)).0
 
 tasked-one : (b : Bool) (u t : TaskState) (us vs : List TaskState) (rest : Bool) → (us ≡ t ∷ vs → rest ≡ true) → cond b (u ∷ us) us ≡ t ∷ vs → (b || rest) ≡ true
 tasked-one true u t us vs rest more e = refl
@@ -156,90 +158,25 @@ tasked : (ts : List TaskState) (p : ℕ) (t : TaskState) (vs : List TaskState) �
 tasked [] p t vs e = let never : ⊥ = cc in absurd never
 tasked (u ∷ ts) p t vs e = tasked-one (nat_eq u.partition p) u t (tasks_at p ts) vs (has_task ts p) (tasked ts p t vs) e
 
-waits-by : (c : ℕ) (row : Row) (st : RowState) → 1 ≤ remaining_of c row st → is_waiting st ≡ true
+waits-by : (c : ℕ) (row : Row) (st : RowState) → 1 ≤ remaining_of c row st → st ≡ state.Waiting
 waits-by c row state.Waiting some = refl
 waits-by c row (state.Running lane) some = absurd (omega arith)
 waits-by c row state.Finished some = absurd (omega arith)
 waits-by c row state.Failed some = absurd (omega arith)
 
-idle-by : (c : ℕ) (row : Row) (st : RowState) → is_waiting st ≡ false → remaining_of c row st ≡ 0
-idle-by c row state.Waiting e = let never : ⊥ = cc in absurd never
-idle-by c row (state.Running lane) e = refl
-idle-by c row state.Finished e = refl
-idle-by c row state.Failed e = refl
+none-by : (c : ℕ) (row : Row) (st : RowState) → (st ≡ state.Waiting → ⊥) → remaining_of c row st ≡ 0
+none-by c row state.Waiting never = absurd (never refl)
+none-by c row (state.Running lane) never = refl
+none-by c row state.Finished never = refl
+none-by c row state.Failed never = refl
 
--- THE PLACES OF A PARTITION'S CHUNKS
+pub length-counts : (c : ℕ) (ts : List TaskState) (rows : List Row) (k : ℕ) → length (remaining c (map (λ n. row_now ts n.0 n.1) (enumerate_from k rows))) ≡ length rows
+length-counts c ts [] k = refl
+length-counts c ts (row ∷ rows) k = ap suc (length-counts c ts rows (k + 1))
 
--- how many of the first r sets have the partition
-abbrev pub cnt : List (List Pair) → ℕ → ℕ → ℕ
-cnt sets p zero = 0
-cnt sets p (suc r) = one_if (has_partition (get_or sets r []) p) + cnt sets p r
-
-pub runs-cnt : (p : ℕ) (rounds rest : List (List Pair)) → runs_of p rounds ≡ cnt (reverse rounds ++ rest) p (length rounds)
-runs-cnt p [] rest = refl
-runs-cnt p (set ∷ older) rest =
-    ap₂ ◌+◌ (ap (λ (x : List Pair). one_if (has_partition x p)) (sym (get_or_at (reverse older) set rest [] (length older) (length-reverse older)))) (runs-cnt p older (set ∷ rest))
-    ∙ ap (λ xs. cnt xs p (suc (length older))) (sym (sets-more older rest set))
-
-abbrev IsChunkIn : List Pair → ℕ → Type 0
-IsChunkIn set p = (j : ℕ) × Contains set (p, j)
-
-chunk-one : (b : Bool) (x : Pair) (xs : List Pair) (p : ℕ) → nat_eq x.0 p ≡ b → (b || has_partition xs p) ≡ true → (has_partition xs p ≡ true → IsChunkIn xs p) → IsChunkIn (x ∷ xs) p
-chunk-one true x xs p n e more =
-    let f : ℕ → Pair = λ q. (q, x.1) in
-    let same : x ≡ (p, x.1) = ap f (eqb-true x.0 p n) in
-    (x.1, (0, omega arith, same))
-chunk-one false x xs p n e more =
-    let there = more e in
-    let k = there.1.0 in
-    let lt = there.1.1 in
-    (there.0, (suc k, omega (arith, lt), there.1.2))
-
-chunk-in : (set : List Pair) (p : ℕ) → has_partition set p ≡ true → IsChunkIn set p
-chunk-in [] p e = let never : ⊥ = cc in absurd never
-chunk-in (x ∷ xs) p e = chunk-one (nat_eq x.0 p) x xs p refl e (chunk-in xs p)
-
-module _ (counts : List ℕ) (threads : ℕ) (sets : List (List Pair)) (lawful : IsLawful counts threads sets) where
-  mono : (p i d r q : ℕ) → StandsIn sets r (p, i) → StandsIn sets q (p, i + d) → r ≤ q
-  mono p i zero r q a b =
-      let e : i + 0 ≡ i = omega arith in
-      let same = lawful.once r q p i a (subst (λ n. StandsIn sets q (p, n)) e b) in
-      omega (arith, same)
-  mono p i (suc d) r q a b =
-      let e : i + suc d ≡ (i + d) + 1 = omega arith in
-      let there = lawful.known q p (i + suc d) b in
-      let few : i + suc d < slice_index counts p = there.1 in
-      let mid = lawful.somewhere p (i + d) there.0 (omega (arith, few)) in
-      let low = mono p i d r mid.0 a mid.1 in
-      let high = lawful.in_order mid.0 q p (i + d) mid.1 (subst (λ n. StandsIn sets q (p, n)) e b) in
-      omega (arith, low, high)
-
-  before : (p k i r q : ℕ) → StandsIn sets r (p, k) → StandsIn sets q (p, i) → r < q → k < i
-  before p k i r q a b lt =
-      elim (cases_lt k i) [
-        | inl below ↦ below
-        | inr above ↦ (
-            let e : k ≡ i + (k - i) = omega (arith, above) in
-            let over = mono p i (k - i) q r b (subst (λ n. StandsIn sets r (p, n)) e a) in
-            absurd (omega (arith, over, lt))
-            )
-      ]
-
-  cnt-one : (b : Bool) (p r q i : ℕ) → has_partition (get_or sets r []) p ≡ b → StandsIn sets q (p, i) → suc r ≤ q → ((k t : ℕ) → StandsIn sets t (p, k) → r ≤ t → cnt sets p r ≤ k) → one_if b + cnt sets p r ≤ i
-  cnt-one true p r q i has at le more =
-      let chunk = chunk-in (get_or sets r []) p has in
-      let within = at.0 in
-      let here : StandsIn sets r (p, chunk.0) = (omega (arith, within, le), chunk.1) in
-      let low = more chunk.0 r here (omega arith) in
-      let less = before p chunk.0 i r q here at (omega (arith, le)) in
-      omega (arith, low, less)
-  cnt-one false p r q i has at le more = let low = more i q at (omega (arith, le)) in omega (arith, low)
-
-  pub cnt-le : (p r i q : ℕ) → StandsIn sets q (p, i) → r ≤ q → cnt sets p r ≤ i
-  cnt-le p zero i q at le = omega arith
-  cnt-le p (suc r) i q at le = cnt-one (has_partition (get_or sets r []) p) p r q i refl at le (λ k t a b. cnt-le p r k t a b)
-
--- THE NEXT ROUND
+ended-at : (ts : List TaskState) → list_all (λ (t : TaskState). has_ended t.row.state) ts ≡ true → AllByRecursion (λ (t : TaskState). has_ended t.row.state ≡ true) ts
+ended-at [] e = tt
+ended-at (t ∷ ts) e = ((and_parts (has_ended t.row.state) (list_all (λ (u : TaskState). has_ended u.row.state) ts) e).0, ended-at ts (and_parts (has_ended t.row.state) (list_all (λ (u : TaskState). has_ended u.row.state) ts) e).1)
 
 all-members : (test : Pair → Bool) (xs : List Pair) → ((x : Pair) → Contains xs x → test x ≡ true) → list_all test xs ≡ true
 all-members test [] h = refl
@@ -251,257 +188,171 @@ keep-one : (b : Bool) (u : TaskState) (us : List TaskState) → (b ≡ true → 
 keep-one true u us here all = and_from (row_waits u) (list_all row_waits us) (here refl) all
 keep-one false u us here all = all
 
-members-wait : (set : List Pair) (ts : List TaskState) → ((p : ℕ) → has_partition set p ≡ true → list_all row_waits (tasks_at p ts) ≡ true) → list_all row_waits (tasks_in set ts) ≡ true
+members-wait : (set : List Pair) (ts : List TaskState) → ((p : ℕ) → has_partition set p ≡ true → AllByRecursion IsWaiting (tasks_at p ts)) → list_all row_waits (tasks_in set ts) ≡ true
 members-wait set [] h = refl
 members-wait set (u ∷ ts) h =
     keep-one (has_partition set u.partition) u (tasks_in set ts)
-    (λ has. (and_parts (row_waits u) (list_all row_waits (tasks_at u.partition ts)) (subst (λ b. list_all row_waits (cond b (u ∷ tasks_at u.partition ts) (tasks_at u.partition ts)) ≡ true) (itself u.partition) (h u.partition has))).0)
+    (λ has. ap is_waiting (first-waits (nat_eq u.partition u.partition) u (tasks_at u.partition ts) (h u.partition has) (itself u.partition)))
     (members-wait set ts (λ p has. others-wait (nat_eq u.partition p) u (tasks_at p ts) (h p has)))
 
-abbrev IsWaitingAt : ℕ → List TaskState → Type 0
-IsWaitingAt p ts = (u : TaskState) × (tasks_at p ts ≡ u ∷ []) × (row_waits u ≡ true)
+-- QUIET ROUNDS
 
-by-tasks : ChunkLaws → (s : Setup) (before : List TaskState) (rounds : List (List Pair)) (p j : ℕ) (row : Row) (us : List TaskState)
-    → IsSteadyTable s before → CanRunAll rounds before → AreQuiet rounds before → slice_get s.rows p ≡ Some row → j < rem s.item_count (row_now before p row) → runs_of p rounds ≤ j
-    → tasks_at p before ≡ us → IsWaitingAt p (after_rounds rounds before)
-by-tasks law s before rounds p j row [] table can quiet get less few e =
-    let idle = ap (rem s.item_count) (none-now before p row e) ∙ idle-by s.item_count row row.state (rest-of s before table p row get e) in
-    absurd (omega (arith, idle, less))
-by-tasks law s before rounds p j row (t ∷ []) table can quiet get less few e =
-    let both_are : IsSteadyIn s t = member (IsSteadyIn s) before p t [] table.tasks e in
-    let w = subst (λ ts. AllIn row_waits rounds ts) e (waits-in p rounds before can) in
-    let c = subst (λ ts. AllIn commits rounds ts) e (commits-in p rounds before quiet) in
-    let end = fallen-all law rounds t both_are.0 w c in
-    let u = end.0 in
-    let at : tasks_at p (after_rounds rounds before) ≡ u ∷ [] = at-rounds p rounds before ∙ ap (after_rounds rounds) e ∙ end.1 in
-    let runs : runs_of t.partition rounds ≡ runs_of p rounds = ap (λ q. runs_of q rounds) (named before p t [] e) in
-    let was : rem s.item_count (row_now before p row) ≡ rem t.item_count t.row = ap (rem s.item_count) (first-now before p row t [] e) ∙ ap (λ n. rem n t.row) (sym both_are.1) in
-    let fallen = end.2.fallen in
-    let some : 1 ≤ rem t.item_count u.row = omega (arith, less, few, runs, was, fallen) in
-    (u, at, waits-by t.item_count u.row u.row.state some)
-by-tasks law s before rounds p j row (t ∷ (v ∷ vs)) table can quiet get less few e =
-    let one = apart-of s before table p in
-    let two = ap length e in
-    absurd (omega (arith, one, two))
+-- no chunk of the partition was left, nor is one
+abbrev IsIdle : Setup → List TaskState → List (List Pair) → ℕ → Type 0
+IsIdle s before rounds p = (slice_index (counts_now s before) p ≡ 0) × (slice_index (counts_now s (after_rounds rounds before)) p ≡ 0)
 
-pub next-can-run : ChunkLaws → (s : Setup) (before : List TaskState) (rounds : List (List Pair)) (set : List Pair) (left : List (List Pair))
-    → IsSteadyTable s before → IsLawful (counts_now s before) s.threads (reverse rounds ++ set ∷ left)
-    → CanRunAll rounds before → AreQuiet rounds before → CanRun set (after_rounds rounds before)
-next-can-run law s before rounds set left table lawful can quiet =
-    let sets = reverse rounds ++ set ∷ left in
-    let n = length rounds in
-    let counts = counts_now s before in
-    let at : get_or sets n [] ≡ set = get_or_at (reverse rounds) set left [] n (length-reverse rounds) in
-    let long : n < length sets = omega (arith, length-append (reverse rounds) (set ∷ left), length-reverse rounds) in
-    let stands : (p j : ℕ) → Contains set (p, j) → StandsIn sets n (p, j) = λ p j c. (long, subst (λ (x : List Pair). Contains x (p, j)) (sym at) c) in
-    let waiting : (p j : ℕ) → Contains set (p, j) → IsWaitingAt p (after_rounds rounds before) = λ p j c.
-    let known = lawful.known n p j (stands p j c) in
-    let count = count-at s.item_count before s.rows 0 p known.0 in
-    let zero_add : 0 + p ≡ p = omega arith in
-    let there : slice_index counts p ≡ rem s.item_count (row_now before p count.0) = count.2 ∙ ap (λ m. rem s.item_count (row_now before m count.0)) zero_add in
-    let less = known.1 in
-    let few = cnt-le counts s.threads sets lawful p n j n (stands p j c) (omega arith) in
-    let runs = runs-cnt p rounds (set ∷ left) in
-    by-tasks law s before rounds p j count.0 (tasks_at p before) table can quiet count.1 (omega (arith, less, there)) (omega (arith, few, runs)) refl
-    in
-    record {
-      tasks = all-members (λ (x : Pair). has_task (after_rounds rounds before) x.0) set (λ x c. let here = waiting x.0 x.1 c in tasked (after_rounds rounds before) x.0 here.0 [] here.1);
+-- the partition has one task, which each round that has it left with one chunk less
+pub record HasFallen (s : Setup) (before : List TaskState) (rounds : List (List Pair)) (p : ℕ) : Type 0 where
+  pub t : TaskState
+  pub u : TaskState
+  pub stood : tasks_at p before ≡ t ∷ []
+  pub stands : tasks_at p (after_rounds rounds before) ≡ u ∷ []
+  pub falls : IsFallen s.item_count p rounds t u
+  pub was : slice_index (counts_now s before) p ≡ rem s.item_count t.row
+  pub now : slice_index (counts_now s (after_rounds rounds before)) p ≡ rem s.item_count u.row
+
+-- the chunk of the next round is the first one that the partition has left
+pub record IsNextChunk (s : Setup) (before : List TaskState) (rounds : List (List Pair)) (p j : ℕ) : Type 0 where
+  pub has : HasFallen s before rounds p
+  pub number : runs_of p rounds ≡ j
+  pub few : j < slice_index (counts_now s before) p
+  pub waiting : IsWaiting has.u
+
+get-dropped : (xs : List Range) (j : ℕ) → slice_get xs j ≡ slice_get (drop j xs) 0
+get-dropped [] zero = refl
+get-dropped [] (suc j) = refl
+get-dropped (x ∷ xs) zero = refl
+get-dropped (x ∷ xs) (suc j) = get-dropped xs j
+
+none-left : (rounds : List (List Pair)) → after_rounds rounds [] ≡ []
+none-left [] = refl
+none-left (set ∷ later) = none-left later
+
+module _ (law : ChunkLaws) (s : Setup) (before : List TaskState) (rounds : List (List Pair)) (table : IsSteadyTable s before) (run : AreRun rounds before) (quiet : GoQuietly rounds before) where
+  goes-by : (p : ℕ) → p < length s.rows → (us : List TaskState) → tasks_at p before ≡ us → IsIdle s before rounds p ⊎ HasFallen s before rounds p
+  goes-by p lt [] e =
+      let one = count-in s before p lt in
+      let two = count-in s (after_rounds rounds before) p lt in
+      let none : tasks_at p (after_rounds rounds before) ≡ [] = at-rounds p rounds before ∙ ap (after_rounds rounds) e ∙ none-left rounds in
+      let still : (row : Row) → slice_get s.rows p ≡ Some row → rem s.item_count row ≡ 0 = λ row get. none-by s.item_count row row.state (λ w. let both : true ≡ false = sym (ap is_waiting w) ∙ rest-of s before table p row get e in cc) in
+      inl (
+        one.2 ∙ ap (rem s.item_count) (none-now before p one.0 e) ∙ still one.0 one.1,
+        two.2 ∙ ap (rem s.item_count) (none-now (after_rounds rounds before) p two.0 none) ∙ still two.0 two.1,
+      )
+  goes-by p lt (t ∷ []) e =
+      let one = count-in s before p lt in
+      let two = count-in s (after_rounds rounds before) p lt in
+      let its : IsSteadyIn s t = member (IsSteadyIn s) before p t [] table.tasks e in
+      let all = subst (λ ts. AllIn GoesOn rounds ts) e (all-at GoesOn p rounds before (all-go-on rounds before run quiet)) in
+      let end = fallen-all law s.item_count p rounds t its.0 its.1 (named before p t [] e) all in
+      let stands : tasks_at p (after_rounds rounds before) ≡ end.0 ∷ [] = at-rounds p rounds before ∙ ap (after_rounds rounds) e ∙ end.1 in
+      inr (record {
+        t = t;
+        u = end.0;
+        stood = e;
+        stands = stands;
+        falls = end.2;
+        was = one.2 ∙ ap (rem s.item_count) (first-now before p one.0 t [] e);
+        now = two.2 ∙ ap (rem s.item_count) (first-now (after_rounds rounds before) p two.0 end.0 [] stands);
+      })
+  goes-by p lt (t ∷ (v ∷ vs)) e =
+      let one = apart-of s before table p in
+      let two = ap length e in
+      absurd (omega (arith, one, two))
+
+  goes : (p : ℕ) → p < length s.rows → IsIdle s before rounds p ⊎ HasFallen s before rounds p
+  goes p lt = goes-by p lt (tasks_at p before) refl
+
+  module _ (set : List Pair) (left : List (List Pair)) (lawful : IsLawful (counts_now s before) s.threads (rounds ++ set ∷ left)) where
+    pub next-chunk : (p j : ℕ) → Contains set (p, j) → IsNextChunk s before rounds p j
+    next-chunk p j chunk =
+        let sets = rounds ++ set ∷ left in
+        let n = length rounds in
+        let at : get_or sets n [] ≡ set = get_or_at rounds set left [] n refl in
+        let long : n < length sets = omega (arith, length-append rounds (set ∷ left)) in
+        let stands : StandsIn sets n (p, j) = (long, subst (λ (x : List Pair). Contains x (p, j)) (sym at) chunk) in
+        let known = lawful.known n p j stands in
+        let within = known.0 in
+        let few : j < slice_index (counts_now s before) p = known.1 in
+        let number : runs_of p rounds ≡ j = runs-cnt p rounds (set ∷ left) ∙ cnt-is (counts_now s before) s.threads sets lawful p j n stands in
+        elim (goes p (omega (arith, within, length-counts s.item_count before s.rows 0))) [
+          | inl idle ↦ (let none = idle.0 in absurd (omega (arith, none, few)))
+          | inr has ↦ (
+              let fallen = has.falls.fallen in
+              let was = has.was in
+              record { has = has; number = number; few = few; waiting = waits-by s.item_count has.u.row has.u.row.state (omega (arith, few, number, fallen, was)) }
+              )
+        ]
+
+    pub next-can-run : CanRun set (after_rounds rounds before)
+    next-can-run = record {
+      tasks = all-members (λ (x : Pair). has_task (after_rounds rounds before) x.0) set (λ x c. let has = (next-chunk x.0 x.1 c).has in tasked (after_rounds rounds before) x.0 has.u [] has.stands);
       waiting = members-wait set (after_rounds rounds before) (λ p has.
           let chunk = chunk-in set p has in
-          let here = waiting p chunk.0 chunk.1 in
-          subst (λ ts. list_all row_waits ts ≡ true) (sym here.1) (and_from (row_waits here.0) true here.2 refl));
+          let next = next-chunk p chunk.0 chunk.1 in
+          subst (λ ts. AllByRecursion IsWaiting ts) (sym next.has.stands) (next.waiting, tt));
     }
 
-pub next_can_run : ChunkLaws → NextCanRun
-next_can_run law s before rounds set left held = next-can-run law s before rounds set left (steady-held law s before held)
+    in-order : (p j : ℕ) → Contains set (p, j) → slice_index (counts_now s (after_rounds rounds before)) p + j ≡ slice_index (counts_now s before) p
+    in-order p j chunk =
+        let next = next-chunk p j chunk in
+        let fallen = next.has.falls.fallen in
+        let was = next.has.was in
+        let now = next.has.now in
+        let number = next.number in
+        omega (arith, fallen, was, now, number)
 
--- IN ORDER, AND ALL
+    pub block-next : (p j : ℕ) (next : IsNextChunk s before rounds p j) → slice_get (listing next.has.t) j ≡ Some (block_of next.has.u)
+    block-next p j next =
+        let falls = next.has.falls in
+        get-dropped (listing next.has.t) j
+        ∙ ap (λ xs. slice_get xs 0) (ap (λ m. drop m (listing next.has.t)) (sym next.number) ∙ falls.dropped ∙ next-list law next.has.u falls.steady (falls.steady.waiting next.waiting))
 
-pub chunk-has : (set : List Pair) (p j k : ℕ) → k < length set → slice_index_or set k (p, j) ≡ (p, j) → has_partition set p ≡ true
-chunk-has [] p j k lt e = absurd (omega arith)
-chunk-has (x ∷ xs) p j zero lt e =
-    let f : Pair → ℕ = λ y. y.0 in
-    let same : nat_eq x.0 p ≡ true = ap (λ q. nat_eq q p) (ap f e) ∙ itself p in
-    ap (λ b. b || has_partition xs p) same
-chunk-has (x ∷ xs) p j (suc k) lt e = or_right (nat_eq x.0 p) (has_partition xs p) (chunk-has xs p j k (omega arith) e)
-
-module _ (counts : List ℕ) (threads : ℕ) (sets : List (List Pair)) (lawful : IsLawful counts threads sets) where
-  ge-here : (p i r : ℕ) → StandsIn sets r (p, i) → ((k t : ℕ) → StandsIn sets t (p, k) → t < r → k + 1 ≤ cnt sets p r) → i ≤ cnt sets p r
-  ge-here p zero r at more = omega arith
-  ge-here p (suc i) r at more =
-      let e : suc i ≡ i + 1 = omega arith in
-      let known = lawful.known r p (suc i) at in
-      let few = known.1 in
-      let mid = lawful.somewhere p i known.0 (omega (arith, few)) in
-      let lt = lawful.in_order mid.0 r p i mid.1 (subst (λ n. StandsIn sets r (p, n)) e at) in
-      let low = more i mid.0 mid.1 lt in
-      omega (arith, low)
-
-  cnt-ge : (p r i q : ℕ) → StandsIn sets q (p, i) → q < r → i + 1 ≤ cnt sets p r
-  cnt-ge p zero i q at lt = absurd (omega arith)
-  cnt-ge p (suc r) i q at lt =
-      elim (cases_lt q r) [
-        | inl below ↦ (let low = cnt-ge p r i q at below in omega (arith, low))
-        | inr above ↦ (
-            let same : q ≡ r = omega (arith, lt, above) in
-            let here : StandsIn sets r (p, i) = subst (λ n. StandsIn sets n (p, i)) same at in
-            let low = ge-here p i r here (λ k t a b. cnt-ge p r k t a b) in
-            let has = chunk-has (get_or sets r []) p i here.1.0 here.1.1 here.1.2 in
-            let one : one_if (has_partition (get_or sets r []) p) ≡ 1 = ap one_if has in
-            omega (arith, low, one)
+  pub all-chunks : IsLawful (counts_now s before) s.threads rounds → (p : ℕ) → p < length s.rows → slice_index (counts_now s (after_rounds rounds before)) p ≡ 0
+  all-chunks lawful p lt =
+      let within : p < length (counts_now s before) = omega (arith, lt, length-counts s.item_count before s.rows 0) in
+      let many = cnt-all (counts_now s before) s.threads rounds lawful p (slice_index (counts_now s before) p) within (omega arith) in
+      let runs : runs_of p rounds ≡ cnt rounds p (length rounds) = runs-cnt p rounds [] ∙ ap (λ xs. cnt xs p (length rounds)) (append-nil rounds) in
+      elim (goes p lt) [
+        | inl idle ↦ idle.1
+        | inr has ↦ (
+            let fallen = has.falls.fallen in
+            let was = has.was in
+            let now = has.now in
+            omega (arith, many, runs, fallen, was, now)
             )
       ]
 
-  -- as many of the sets before a chunk's have its partition as it has chunks before
-  pub cnt-is : (p j r : ℕ) → StandsIn sets r (p, j) → cnt sets p r ≡ j
-  cnt-is p j r at =
-      let most = cnt-le counts threads sets lawful p r j r at (omega arith) in
-      let least = ge-here p j r at (λ k t a b. cnt-ge p r k t a b) in
-      omega (arith, most, least)
+  -- where no partition waits, each was in as many rounds as it had chunks
+  pub runs-from-ended : have_ended (after_rounds rounds before) ≡ true → (p : ℕ) → p < length s.rows → slice_index (counts_now s before) p ≤ runs_of p rounds
+  runs-from-ended ended p lt =
+      elim (goes p lt) [
+        | inl idle ↦ (let none = idle.0 in omega (arith, none))
+        | inr has ↦ (
+            let over = member (λ (v : TaskState). has_ended v.row.state ≡ true) (after_rounds rounds before) p has.u [] (ended-at (after_rounds rounds before) ended) has.stands in
+            let none = none-by s.item_count has.u.row has.u.row.state (λ w. let both : false ≡ true = sym (ap has_ended w) ∙ over in cc) in
+            let fallen = has.falls.fallen in
+            let was = has.was in
+            omega (arith, none, fallen, was)
+            )
+      ]
 
-  -- and all of the sets have it as often as it has chunks, at least
-  cnt-all : (p n : ℕ) → p < length counts → n ≤ slice_index counts p → n ≤ cnt sets p (length sets)
-  cnt-all p zero lt le = omega arith
-  cnt-all p (suc n) lt le =
-      let there = lawful.somewhere p n lt (omega (arith, le)) in
-      let low = cnt-ge p (length sets) n there.0 there.1 there.1.0 in
-      omega (arith, low)
+-- THE LAWS
 
-pub length-counts : (c : ℕ) (ts : List TaskState) (rows : List Row) (k : ℕ) → length (remaining c (map (λ n. row_now ts n.0 n.1) (enumerate_from k rows))) ≡ length rows
-length-counts c ts [] k = refl
-length-counts c ts (row ∷ rows) k = ap suc (length-counts c ts rows (k + 1))
-
--- a partition's count, by its row
-record IsCountAt (s : Setup) (ts : List TaskState) (p : ℕ) (row : Row) : Type 0 where
-  get : slice_get s.rows p ≡ Some row
-  count : slice_index (counts_now s ts) p ≡ rem s.item_count (row_now ts p row)
-
-count-in : (s : Setup) (ts : List TaskState) (p : ℕ) → p < length s.rows → (row : Row) × IsCountAt s ts p row
-count-in s ts p lt =
-    let there = count-at s.item_count ts s.rows 0 p (omega (arith, lt, length-counts s.item_count ts s.rows 0)) in
-    let zero_add : 0 + p ≡ p = omega arith in
-    (there.0, record { get = there.1; count = there.2 ∙ ap (λ m. rem s.item_count (row_now ts m there.0)) zero_add })
-
--- the counts of one partition with one task fall by one in each round that has it
-fall-at : ChunkLaws → (s : Setup) (before : List TaskState) (rounds : List (List Pair)) (p : ℕ) (t : TaskState) → IsSteadyTable s before → CanRunAll rounds before → AreQuiet rounds before → p < length s.rows
-    → tasks_at p before ≡ t ∷ [] → slice_index (counts_now s (after_rounds rounds before)) p + runs_of p rounds ≡ slice_index (counts_now s before) p
-fall-at law s before rounds p t table can quiet lt e =
-    let after = after_rounds rounds before in
-    let one = count-in s before p lt in
-    let two = count-in s after p lt in
-    let both_are : IsSteadyIn s t = member (IsSteadyIn s) before p t [] table.tasks e in
-    let w = subst (λ ts. AllIn row_waits rounds ts) e (waits-in p rounds before can) in
-    let c = subst (λ ts. AllIn commits rounds ts) e (commits-in p rounds before quiet) in
-    let end = fallen-all law rounds t both_are.0 w c in
-    let u = end.0 in
-    let at : tasks_at p after ≡ u ∷ [] = at-rounds p rounds before ∙ ap (after_rounds rounds) e ∙ end.1 in
-    let runs : runs_of t.partition rounds ≡ runs_of p rounds = ap (λ q. runs_of q rounds) (named before p t [] e) in
-    let was : slice_index (counts_now s before) p ≡ rem t.item_count t.row = one.1.count ∙ ap (rem s.item_count) (first-now before p one.0 t [] e) ∙ ap (λ n. rem n t.row) (sym both_are.1) in
-    let now : slice_index (counts_now s after) p ≡ rem t.item_count u.row = two.1.count ∙ ap (rem s.item_count) (first-now after p two.0 u [] at) ∙ ap (λ n. rem n u.row) (sym both_are.1) in
-    let fallen = end.2.fallen in
-    omega (arith, runs, was, now, fallen)
-
--- and its one task stays one
-pub by-at : ChunkLaws → (s : Setup) (before : List TaskState) (rounds : List (List Pair)) (p : ℕ) (t : TaskState) → IsSteadyTable s before → CanRunAll rounds before → AreQuiet rounds before → tasks_at p before ≡ t ∷ []
-    → (u : TaskState) × (tasks_at p (after_rounds rounds before) ≡ u ∷ [])
-by-at law s before rounds p t table can quiet e =
-    let both_are : IsSteadyIn s t = member (IsSteadyIn s) before p t [] table.tasks e in
-    let w = subst (λ ts. AllIn row_waits rounds ts) e (waits-in p rounds before can) in
-    let c = subst (λ ts. AllIn commits rounds ts) e (commits-in p rounds before quiet) in
-    let end = fallen-all law rounds t both_are.0 w c in
-    (end.0, at-rounds p rounds before ∙ ap (after_rounds rounds) e ∙ end.1)
-
--- a partition with no task has no chunk left
-pub idle-at : (s : Setup) (before : List TaskState) → IsSteadyTable s before → (p : ℕ) → p < length s.rows → tasks_at p before ≡ [] → slice_index (counts_now s before) p ≡ 0
-idle-at s before table p lt e =
-    let one = count-in s before p lt in
-    one.1.count ∙ ap (rem s.item_count) (none-now before p one.0 e) ∙ idle-by s.item_count one.0 one.0.state (rest-of s before table p one.0 one.1.get e)
-
-order-by : ChunkLaws → (s : Setup) (before : List TaskState) (rounds : List (List Pair)) (p j : ℕ) (us : List TaskState) → IsSteadyTable s before → CanRunAll rounds before → AreQuiet rounds before → p < length s.rows
-    → j < slice_index (counts_now s before) p → runs_of p rounds ≡ j → tasks_at p before ≡ us → slice_index (counts_now s (after_rounds rounds before)) p + j ≡ slice_index (counts_now s before) p
-order-by law s before rounds p j [] table can quiet lt less runs e =
-    let one = count-in s before p lt in
-    let idle = one.1.count ∙ ap (rem s.item_count) (none-now before p one.0 e) ∙ idle-by s.item_count one.0 one.0.state (rest-of s before table p one.0 one.1.get e) in
-    absurd (omega (arith, idle, less))
-order-by law s before rounds p j (t ∷ []) table can quiet lt less runs e = let fallen = fall-at law s before rounds p t table can quiet lt e in omega (arith, fallen, runs)
-order-by law s before rounds p j (t ∷ (v ∷ vs)) table can quiet lt less runs e =
-    let one = apart-of s before table p in
-    let two = ap length e in
-    absurd (omega (arith, one, two))
+pub next_can_run : ChunkLaws → NextCanRun
+next_can_run law s before rounds set left h = next-can-run law s before rounds (steady-held law s before h.held) h.run h.quiet set left h.lawful
 
 pub runs_in_order : ChunkLaws → RunsInOrder
-runs_in_order law s before rounds set left held lawful can quiet p j c =
-    let sets = reverse rounds ++ set ∷ left in
-    let n = length rounds in
-    let at : get_or sets n [] ≡ set = get_or_at (reverse rounds) set left [] n (length-reverse rounds) in
-    let long : n < length sets = omega (arith, length-append (reverse rounds) (set ∷ left), length-reverse rounds) in
-    let stands : StandsIn sets n (p, j) = (long, subst (λ (x : List Pair). Contains x (p, j)) (sym at) c) in
-    let known = lawful.known n p j stands in
-    let within : p < length s.rows = let low = known.0 in omega (arith, low, length-counts s.item_count before s.rows 0) in
-    order-by law s before rounds p j (tasks_at p before) (steady-held law s before held) can quiet within known.1 (runs-cnt p rounds (set ∷ left) ∙ cnt-is (counts_now s before) s.threads sets lawful p j n stands) refl
+runs_in_order law s before rounds set left h = in-order law s before rounds (steady-held law s before h.held) h.run h.quiet set left h.lawful
 
-all-by : ChunkLaws → (s : Setup) (before : List TaskState) (rounds : List (List Pair)) (p : ℕ) (us : List TaskState) → IsSteadyTable s before → CanRunAll rounds before → AreQuiet rounds before → p < length s.rows
-    → slice_index (counts_now s before) p ≤ runs_of p rounds → tasks_at p before ≡ us → slice_index (counts_now s (after_rounds rounds before)) p ≡ 0
-all-by law s before rounds p [] table can quiet lt few e =
-    let after = after_rounds rounds before in
-    let one = count-in s after p lt in
-    let none : tasks_at p after ≡ [] = at-rounds p rounds before ∙ ap (after_rounds rounds) e ∙ nothing rounds in
-    one.1.count ∙ ap (rem s.item_count) (none-now after p one.0 none) ∙ idle-by s.item_count one.0 one.0.state (rest-of s before table p one.0 one.1.get e)
-  where
-    nothing : (rs : List (List Pair)) → after_rounds rs [] ≡ []
-    nothing [] = refl
-    nothing (set ∷ older) = ap (after_round set) (nothing older)
-all-by law s before rounds p (t ∷ []) table can quiet lt few e = let fallen = fall-at law s before rounds p t table can quiet lt e in omega (arith, fallen, few)
-all-by law s before rounds p (t ∷ (v ∷ vs)) table can quiet lt few e =
-    let one = apart-of s before table p in
-    let two = ap length e in
-    absurd (omega (arith, one, two))
-
-pub runs-all-chunks : ChunkLaws → (s : Setup) (before : List TaskState) (rounds : List (List Pair))
-    → IsSteadyTable s before → IsLawful (counts_now s before) s.threads (reverse rounds)
-    → CanRunAll rounds before → AreQuiet rounds before → (p : ℕ) → p < length s.rows → slice_index (counts_now s (after_rounds rounds before)) p ≡ 0
-runs-all-chunks law s before rounds table lawful can quiet p lt =
-    let sets = reverse rounds in
-    let within : p < length (counts_now s before) = omega (arith, lt, length-counts s.item_count before s.rows 0) in
-    let many = cnt-all (counts_now s before) s.threads sets lawful p (slice_index (counts_now s before) p) within (omega arith) in
-    let runs : runs_of p rounds ≡ cnt sets p (length sets) = runs-cnt p rounds [] ∙ ap₂ (λ xs n. cnt xs p n) (append-nil sets) (sym (length-reverse rounds)) in
-    all-by law s before rounds p (tasks_at p before) table can quiet lt (omega (arith, many, runs)) refl
+pub chunks_are_blocks : ChunkLaws → ChunksAreBlocks
+chunks_are_blocks law s before rounds set left h p j chunk t u here there =
+    let table = steady-held law s before h.held in
+    let next = next-chunk law s before rounds table h.run h.quiet set left h.lawful p j chunk in
+    let was : next.has.t ≡ t = head-is next.has.t t [] [] (sym next.has.stood ∙ here) in
+    let is : next.has.u ≡ u = head-is next.has.u u [] [] (sym next.has.stands ∙ there) in
+    ap (λ v. slice_get (listing v) j) (sym was) ∙ block-next law s before rounds table h.run h.quiet set left h.lawful p j next ∙ ap (λ v. Some (block_of v)) is
 
 pub runs_all : ChunkLaws → RunsAll
-runs_all law s before rounds held = runs-all-chunks law s before rounds (steady-held law s before held)
-
--- WHERE NO PARTITION WAITS
-
-over-by : (c : ℕ) (row : Row) (st : RowState) → has_ended st ≡ true → remaining_of c row st ≡ 0
-over-by c row state.Waiting e = let never : ⊥ = cc in absurd never
-over-by c row (state.Running lane) e = refl
-over-by c row state.Finished e = refl
-over-by c row state.Failed e = refl
-
-ended-at : (ts : List TaskState) → list_all (λ (t : TaskState). has_ended t.row.state) ts ≡ true → AllByRecursion (λ (t : TaskState). has_ended t.row.state ≡ true) ts
-ended-at [] e = tt
-ended-at (t ∷ ts) e = ((and_parts (has_ended t.row.state) (list_all (λ (u : TaskState). has_ended u.row.state) ts) e).0, ended-at ts (and_parts (has_ended t.row.state) (list_all (λ (u : TaskState). has_ended u.row.state) ts) e).1)
-
-ended-by : ChunkLaws → (s : Setup) (before : List TaskState) (rounds : List (List Pair)) (p : ℕ) (us : List TaskState) → IsSteadyTable s before → CanRunAll rounds before → AreQuiet rounds before
-    → list_all (λ (t : TaskState). has_ended t.row.state) (after_rounds rounds before) ≡ true → p < length s.rows → tasks_at p before ≡ us → slice_index (counts_now s before) p ≤ runs_of p rounds
-ended-by law s before rounds p [] table can quiet ended lt e =
-    let one = count-in s before p lt in
-    let idle = one.1.count ∙ ap (rem s.item_count) (none-now before p one.0 e) ∙ idle-by s.item_count one.0 one.0.state (rest-of s before table p one.0 one.1.get e) in
-    omega (arith, idle)
-ended-by law s before rounds p (t ∷ []) table can quiet ended lt e =
-    let after = after_rounds rounds before in
-    let two = count-in s after p lt in
-    let there = by-at law s before rounds p t table can quiet e in
-    let u = there.0 in
-    let over : has_ended u.row.state ≡ true = member (λ (v : TaskState). has_ended v.row.state ≡ true) after p u [] (ended-at after ended) there.1 in
-    let none = two.1.count ∙ ap (rem s.item_count) (first-now after p two.0 u [] there.1) ∙ over-by s.item_count u.row u.row.state over in
-    let fallen = fall-at law s before rounds p t table can quiet lt e in
-    omega (arith, none, fallen)
-ended-by law s before rounds p (t ∷ (v ∷ vs)) table can quiet ended lt e =
-    let one = apart-of s before table p in
-    let two = ap length e in
-    absurd (omega (arith, one, two))
-
-pub runs-from-ended : ChunkLaws → (s : Setup) (before : List TaskState) (rounds : List (List Pair)) → IsSteadyTable s before → CanRunAll rounds before → AreQuiet rounds before
-    → list_all (λ (t : TaskState). has_ended t.row.state) (after_rounds rounds before) ≡ true → (p : ℕ) → p < length s.rows → slice_index (counts_now s before) p ≤ runs_of p rounds
-runs-from-ended law s before rounds table can quiet ended p lt = ended-by law s before rounds p (tasks_at p before) table can quiet ended lt refl
+runs_all law s before rounds h =
+    all-chunks law s before rounds (steady-held law s before h.held) h.run h.quiet (subst (λ (sets : List (List Pair)). IsLawful (counts_now s before) s.threads sets) (append-nil rounds) h.lawful)

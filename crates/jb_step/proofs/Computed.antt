@@ -1,348 +1,160 @@
 -- The worked rows, computed.
-use Rattle.std.proofs.Common.{◌≡◌, ◌≤◌, Bool, true, false, not, ◌&&◌, length, drop, sym, ap, ◌∙◌, subst, arith, List, None, [], ◌∷◌, refl, lit≤, lit<, inl, inr}
+use Rattle.std.proofs.Common.{◌≡◌, ◌≤◌, ℕ, Bool, true, false, not, ◌&&◌, ◌||◌, length, drop, map, sym, ap, ◌∙◌, subst, arith, List, None, [], ◌∷◌, ◌++◌, ◌⊎◌, refl, lit≤, inl, inr}
+use Rattle.std.proofs.Math.Dec.{leb}
+use Rattle.std.proofs.lemmas.Bool.{and_parts, leb-true}
 use Rattle.std.specs.Prelude.{is_some}
 use Rattle.std.specs.Fmt.{digits}
+use Rattle.std.specs.List.{list_all}
 use Rattle.jb_plan.specs.Blocks.{blocks}
 use Rattle.jb_artifacts.specs.Faults.{used_at}
+use Rattle.jb_cert.specs.declared.certificates.Certificate.{Certificate}
 use Rattle.jb_cert.specs.declared.certificates.Certificate.TheVariants.{Longest, FullLoad}
-use Rattle.jb_cert.specs.Lawful.{IsLeast}
+use Rattle.jb_cert.specs.declared.notes.PlanNote.{PlanNote}
+use Rattle.jb_cert.specs.Certificates.{Holds, bound_certificate}
+use Rattle.jb_cert.specs.Lawful.{IsLeast, Pair}
 use Rattle.jb_cert.specs.Laws.{WrapAroundIsLeast}
+use Rattle.jb_cert.specs.Load.{mcnaughton}
 use Rattle.jb_cert.specs.Plans.{sets_of as slots_sets}
 use Rattle.jb_cert.specs.WrapAround.{wrapped_rounds}
-use Rattle.jb_chunk.specs.Attempt.{end_of, asks_repeat, repeated_up_to, all_repeated, work_left}
+use Rattle.jb_chunk.specs.Attempt.{end_of, asks_repeat, repeated_up_to, all_repeated, work_used}
 use Rattle.jb_chunk.specs.Block.{entry, results, count_of, settles, settling, used_between}
-use Rattle.jb_chunk.specs.Worked.{class_e}
+use Rattle.jb_chunk.specs.Standing.{TaskState}
+use Rattle.jb_chunk.specs.Worked.{class_e, numbers}
+use Rattle.jb_collect.specs.declared.calls.AnalyzerCall.{AnalyzerCall}
 use Rattle.jb_collect.specs.declared.calls.ReducerCall.{ReducerCall}
 use Rattle.jb_collect.specs.declared.calls.ReducerCall.TheVariants.{Begin, Before, Rollback, After}
 use Rattle.jb_collect.specs.declared.calls.PartitionStatus.TheVariants as end
-use Rattle.jb_collect.specs.ReducerCalls.{is_before, rolled_back}
+use Rattle.jb_collect.specs.declared.calls.Status.{Status}
+use Rattle.jb_collect.specs.ReducerCalls.{is_before, reducer_calls, rolled_back}
 use Rattle.jb_collect.specs.Taken.{Taken, well, faulted, calls_of}
-use Rattle.jb_step.specs.Callbacks.{AreSome, has_fault}
-use Rattle.jb_step.specs.Worked.{SevenRecords, SevenOnOneThread, StoppedAndRestarted, OneRoundEach, OneFailed, NoRecord, Retried, Skipped, Refused, CallsOfPrepare, CallsOfOverride, Overridden, CallsWithoutMemory, AfterMapper, AfterReducer, WithoutMemory, WorkedRows, seven, seven_tasks, skipping, skipping_tasks, stopped_seven, plan_run, chunks, faulted_rollback, well_rollback}
-use Rattle.jb_step.specs.Runs.{PlanRun, IsPlanRun, ArePlanRuns}
-use Rattle.jb_step.specs.Setup.{counts_now}
+use Rattle.jb_step.specs.callbacks.Callbacks.{AreSome, has_fault}
+use Rattle.jb_step.specs.callbacks.Heard.{heard}
+use Rattle.jb_step.specs.rounds.Rounds.{AreRun, after_round, after_rounds, breaks, has_task, tasks_in}
+use Rattle.jb_step.specs.rounds.Runs.{PlanRun, ArePlanRuns, IsOver, IsPlanRun, note_of, rounds_run}
+use Rattle.jb_step.specs.preparing.Setup.{Setup, counts_now}
+use Rattle.jb_step.specs.Statuses.{status_of}
+use Rattle.jb_step.specs.Worked.{GivesRun, SevenRecords, SevenOnOneThread, StoppedAndRestarted, OneRoundEach, OneFailed, NoRecord, Retried, Skipped, Refused, CallsOfPrepare, CallsOfOverride, Overridden, CallsWithoutMemory, AfterMapper, AfterReducer, WithoutMemory, WorkedRows, WorkedRun, rows_at_last, whole_seven, skipped_run, stopped_seven, plan_run, chunks, faulted_rollback, well_rollback}
+use Rattle.jb_step.specs.inside.Below.{LawsBelow}
 use Rattle.jb_step.proofs.Planning.{least-wrapped}
+use Rattle.jb_step.proofs.Steady.{row_waits}
 
-seven_records : WrapAroundIsLeast → SevenRecords
-unfolding end_of asks_repeat repeated_up_to all_repeated settling settles entry results count_of work_left used_between used_at digits blocks
-seven_records law = record {
-  gives = record {
-    run = (
-      tt,
-      tt,
-      record {
-        least = least-wrapped law (2 ∷ 1 ∷ 1 ∷ []) 2 (lit≤ tt);
-        certified = (lit< tt, refl);
-        some = lit≤ tt;
-        among = lit≤ tt;
-        run = ((tt, record { tasks = refl; waiting = refl }), record { tasks = refl; waiting = refl });
-        quiet = (tt, refl);
-      },
-    );
-    notes_are = refl;
-    rows_are = refl;
-    calls_are = refl;
-    status_is = refl;
-    reduced_is = refl;
-  };
-  over = inl refl;
-  events = refl;
-}
+-- WHAT IS COMPUTED OF A PLAN
 
-seven_on_one_thread : WrapAroundIsLeast → SevenOnOneThread
-unfolding end_of asks_repeat repeated_up_to all_repeated settling settles entry results count_of work_left used_between used_at digits blocks
-seven_on_one_thread law = record {
-  gives = record {
-    run = (
-      tt,
-      tt,
-      record {
-        least = least-wrapped law (2 ∷ 1 ∷ 1 ∷ []) 1 (lit≤ tt);
-        certified = (lit≤ tt, lit< tt);
-        some = lit≤ tt;
-        among = lit≤ tt;
-        run = ((((tt, record { tasks = refl; waiting = refl }), record { tasks = refl; waiting = refl }), record { tasks = refl; waiting = refl }), record { tasks = refl; waiting = refl });
-        quiet = (((tt, refl), refl), refl);
-      },
-    );
-    notes_are = refl;
-    rows_are = refl;
-    calls_are = refl;
-    status_is = refl;
-    reduced_is = refl;
-  };
-  over = inl refl;
-  events = refl;
-}
+abbrev is_last : List (List Pair) → Bool
+is_last [] = true
+is_last (set ∷ later) = false
 
-stopped_and_restarted : WrapAroundIsLeast → StoppedAndRestarted
-unfolding end_of asks_repeat repeated_up_to all_repeated settling settles entry results count_of work_left used_between used_at digits blocks
-stopped_and_restarted law = record {
-  stopped = record {
-    run = (
-      tt,
-      tt,
-      record {
-        least = least-wrapped law (2 ∷ 1 ∷ 1 ∷ []) 2 (lit≤ tt);
-        certified = (lit< tt, refl);
-        some = lit≤ tt;
-        among = lit≤ tt;
-        run = (tt, record { tasks = refl; waiting = refl });
-        quiet = tt;
-      },
-    );
-    notes_are = refl;
-    rows_are = refl;
-    calls_are = refl;
-    status_is = refl;
-    reduced_is = refl;
-  };
-  needed = refl;
-  restarted = record {
-    run = (
-      tt,
-      tt,
-      record {
-        least = least-wrapped law (1 ∷ 0 ∷ 1 ∷ []) 2 (lit≤ tt);
-        certified = (lit< tt, refl);
-        some = lit≤ tt;
-        among = lit≤ tt;
-        run = (tt, record { tasks = refl; waiting = refl });
-        quiet = tt;
-      },
-    );
-    notes_are = refl;
-    rows_are = refl;
-    calls_are = refl;
-    status_is = refl;
-    reduced_is = refl;
-  };
-  rows = refl;
-  outputs = refl;
-}
+abbrev are_run : List (List Pair) → List TaskState → Bool
+are_run [] ts = true
+are_run (set ∷ later) ts =
+    (list_all (λ (pair : Pair). has_task ts pair.0) set && list_all row_waits (tasks_in set ts))
+    && ((is_last later || not (breaks set ts)) && are_run later (after_round set ts))
 
-one_round_each : WrapAroundIsLeast → OneRoundEach
-unfolding end_of asks_repeat repeated_up_to all_repeated settling settles entry results count_of work_left used_between used_at digits blocks
-one_round_each law = record {
-  first = record {
-    run = (
-      tt,
-      tt,
-      record {
-        least = least-wrapped law (2 ∷ 1 ∷ 1 ∷ []) 1 (lit≤ tt);
-        certified = (lit≤ tt, lit< tt);
-        some = lit≤ tt;
-        among = lit≤ tt;
-        run = (tt, record { tasks = refl; waiting = refl });
-        quiet = tt;
-      },
-    );
-    notes_are = refl;
-    rows_are = refl;
-    calls_are = refl;
-    status_is = refl;
-    reduced_is = refl;
-  };
-  second = record {
-    run = (
-      tt,
-      tt,
-      record {
-        least = least-wrapped law (1 ∷ 1 ∷ 1 ∷ []) 1 (lit≤ tt);
-        certified = (lit≤ tt, lit< tt);
-        some = lit≤ tt;
-        among = lit≤ tt;
-        run = (tt, record { tasks = refl; waiting = refl });
-        quiet = tt;
-      },
-    );
-    notes_are = refl;
-    rows_are = refl;
-    calls_are = refl;
-    status_is = refl;
-    reduced_is = refl;
-  };
-  third = record {
-    run = (
-      tt,
-      tt,
-      record {
-        least = least-wrapped law (0 ∷ 1 ∷ 1 ∷ []) 1 (lit≤ tt);
-        certified = (lit≤ tt, lit< tt);
-        some = lit≤ tt;
-        among = lit≤ tt;
-        run = (tt, record { tasks = refl; waiting = refl });
-        quiet = tt;
-      },
-    );
-    notes_are = refl;
-    rows_are = refl;
-    calls_are = refl;
-    status_is = refl;
-    reduced_is = refl;
-  };
-  fourth = record {
-    run = (
-      tt,
-      tt,
-      record {
-        least = least-wrapped law (0 ∷ 0 ∷ 1 ∷ []) 1 (lit≤ tt);
-        certified = (lit< tt, refl);
-        some = lit≤ tt;
-        among = lit≤ tt;
-        run = (tt, record { tasks = refl; waiting = refl });
-        quiet = tt;
-      },
-    );
-    notes_are = refl;
-    rows_are = refl;
-    calls_are = refl;
-    status_is = refl;
-    reduced_is = refl;
-  };
-}
+last-or-quiet : (later : List (List Pair)) (broke : Bool) → (is_last later || not broke) ≡ true → (later ≡ []) ⊎ (broke ≡ false)
+last-or-quiet [] broke e = inl refl
+last-or-quiet (set ∷ later) false e = inr refl
+last-or-quiet (set ∷ later) true e = absurd cc
 
-one_failed : WrapAroundIsLeast → OneFailed
-unfolding end_of asks_repeat repeated_up_to all_repeated settling settles entry results count_of work_left used_between used_at digits blocks
-one_failed law = record {
-  failed = record {
-    run = (
-      tt,
-      tt,
-      record {
-        least = least-wrapped law (2 ∷ 1 ∷ []) 2 (lit≤ tt);
-        certified = (lit< tt, refl);
-        some = lit≤ tt;
-        among = lit≤ tt;
-        run = ((tt, record { tasks = refl; waiting = refl }), record { tasks = refl; waiting = refl });
-        quiet = (tt, refl);
-      },
-    );
-    notes_are = refl;
-    rows_are = refl;
-    calls_are = refl;
-    status_is = refl;
-    reduced_is = refl;
-  };
-  needed = refl;
-  restarted = record {
-    run = (
-      tt,
-      tt,
-      record {
-        least = least-wrapped law (1 ∷ 0 ∷ []) 2 (lit≤ tt);
-        certified = (lit< tt, refl);
-        some = lit≤ tt;
-        among = lit≤ tt;
-        run = (tt, record { tasks = refl; waiting = refl });
-        quiet = tt;
-      },
-    );
-    notes_are = refl;
-    rows_are = refl;
-    calls_are = refl;
-    status_is = refl;
-    reduced_is = refl;
-  };
-}
+run-all : (rounds : List (List Pair)) (ts : List TaskState) → are_run rounds ts ≡ true → AreRun rounds ts
+run-all [] ts e = tt
+run-all (set ∷ later) ts e =
+    let both = and_parts (list_all (λ (pair : Pair). has_task ts pair.0) set && list_all row_waits (tasks_in set ts)) _ e in
+    let can = and_parts (list_all (λ (pair : Pair). has_task ts pair.0) set) _ both.0 in
+    let rest = and_parts (is_last later || not (breaks set ts)) _ both.1 in
+    (record { tasks = can.0; waiting = can.1 }, last-or-quiet later (breaks set ts) rest.0, run-all later (after_round set ts) rest.1)
 
-no_record : NoRecord
-unfolding end_of asks_repeat repeated_up_to all_repeated settling settles entry results count_of work_left used_between used_at digits blocks
-no_record = record {
-  run = tt;
-  notes_are = refl;
-  rows_are = refl;
-  calls_are = refl;
-  status_is = refl;
-  reduced_is = refl;
-}
+-- its rounds, their number, its certificate, whether there are threads, whether its rounds that were run are some and among
+-- them, and whether they can be run, each but the last one quietly
+abbrev Found : Type 0
+Found = List (List Pair) × ℕ × Certificate × Bool × Bool × Bool × Bool
 
-retried : WrapAroundIsLeast → Retried
-unfolding end_of asks_repeat repeated_up_to all_repeated settling settles entry results count_of work_left used_between used_at digits blocks
-retried law = record {
-  gives = record {
-    run = (
-      (
-        tt,
-        tt,
-        record {
-          least = least-wrapped law (1 ∷ []) 1 (lit≤ tt);
-          certified = (lit< tt, refl);
-          some = lit≤ tt;
-          among = lit≤ tt;
-          run = (tt, record { tasks = refl; waiting = refl });
-          quiet = tt;
-        },
-      ),
-      inl refl,
-      record {
-        least = least-wrapped law (4 ∷ []) 1 (lit≤ tt);
-        certified = (lit< tt, refl);
-        some = lit≤ tt;
-        among = lit≤ tt;
-        run = ((((tt, record { tasks = refl; waiting = refl }), record { tasks = refl; waiting = refl }), record { tasks = refl; waiting = refl }), record { tasks = refl; waiting = refl });
-        quiet = (((tt, refl), refl), refl);
-      },
-    );
-    notes_are = refl;
-    rows_are = refl;
-    calls_are = refl;
-    status_is = refl;
-    reduced_is = refl;
-  };
-  events = refl;
-}
+abbrev found : Setup → List TaskState → PlanRun → Found
+found s before plan =
+    (plan.rounds, length plan.rounds, plan.certificate, leb 1 s.threads, leb 1 plan.ran, leb plan.ran (length plan.rounds), are_run (rounds_run plan) before)
 
-skipped : WrapAroundIsLeast → Skipped
-unfolding end_of asks_repeat repeated_up_to all_repeated settling settles entry results count_of work_left used_between used_at digits blocks
-skipped law = record {
-  run = (
-    (
-      tt,
-      tt,
-      record {
-        least = least-wrapped law (2 ∷ []) 1 (lit≤ tt);
-        certified = (lit< tt, refl);
-        some = lit≤ tt;
-        among = lit≤ tt;
-        run = (tt, record { tasks = refl; waiting = refl });
-        quiet = tt;
-      },
-    ),
-    inr refl,
+-- the wrap-around's plan for what is left
+abbrev wrapped : List ℕ → ℕ → Found
+wrapped counts threads = (slots_sets (wrapped_rounds counts threads), mcnaughton counts threads, bound_certificate counts threads, true, true, true, true)
+
+abbrev IsComputed : Setup → List TaskState → PlanRun → Type 0
+IsComputed s before plan = found s before plan ≡ wrapped (counts_now s before) s.threads
+
+plan-is : LawsBelow → (s : Setup) (before : List TaskState) (plan : PlanRun) → IsComputed s before plan → IsPlanRun s before plan
+plan-is law s before plan e =
+    let counts = counts_now s before in
+    let some = leb-true 1 s.threads (ap (λ (x : Found). x.3) e) in
     record {
-      least = least-wrapped law (3 ∷ []) 1 (lit≤ tt);
-      certified = (lit< tt, refl);
-      some = lit≤ tt;
-      among = lit≤ tt;
-      run = (((tt, record { tasks = refl; waiting = refl }), record { tasks = refl; waiting = refl }), record { tasks = refl; waiting = refl });
-      quiet = ((tt, refl), refl);
-    },
-  );
-  notes_are = refl;
-  rows_are = refl;
-  calls_are = refl;
-  status_is = refl;
-  reduced_is = refl;
+      least = subst (λ (rounds : List (List Pair)). IsLeast counts s.threads rounds) (sym (ap (λ (x : Found). x.0) e)) (least-wrapped law.least counts s.threads some);
+      certified = subst (λ (x : ℕ × Certificate). Holds counts s.threads x.0 x.1) (sym (ap (λ (x : Found). (x.1, x.2)) e)) (law.certified counts s.threads some);
+      some = leb-true 1 plan.ran (ap (λ (x : Found). x.4) e);
+      among = leb-true plan.ran (length plan.rounds) (ap (λ (x : Found). x.5) e);
+      run = run-all (rounds_run plan) before (ap (λ (x : Found). x.6) e);
+    }
+
+abbrev AreComputed : Setup → List TaskState → List PlanRun → Type 0
+AreComputed s before [] = Unit {0}
+AreComputed s before (plan ∷ later) = IsComputed s before plan × ((later ≡ []) ⊎ IsOver before plan) × AreComputed s (after_rounds (rounds_run plan) before) later
+
+are-runs : LawsBelow → (s : Setup) (before : List TaskState) (plans : List PlanRun) → AreComputed s before plans → ArePlanRuns s before plans
+are-runs law s before [] h = tt
+are-runs law s before (plan ∷ later) h = (plan-is law s before plan h.0, h.1, are-runs law s (after_rounds (rounds_run plan) before) later h.2)
+
+-- a run's notes, its rows, the analyzer's calls, its status, and the reducer's calls
+abbrev Given : Type 0
+Given = List PlanNote × List (List ℕ) × List AnalyzerCall × Status × List ReducerCall
+
+abbrev given : WorkedRun → Given
+given r =
+    (map note_of r.plans, map numbers (rows_at_last r), heard r.step r.tasks r.plans, status_of (rows_at_last r) false, reducer_calls true false (status_of (rows_at_last r) false) false)
+
+abbrev listed : List PlanNote → List (List ℕ) → List AnalyzerCall → Status → List ReducerCall → Given
+listed notes rows calls status reduced = (notes, rows, calls, status, reduced)
+
+gives : LawsBelow → {r : WorkedRun} {notes : List PlanNote} {rows : List (List ℕ)} {calls : List AnalyzerCall} {status : Status} {reduced : List ReducerCall}
+    → AreComputed r.step r.tasks r.plans → given r ≡ listed notes rows calls status reduced → GivesRun r notes rows calls status reduced
+gives law {r = r} run e = record {
+  run = are-runs law r.step r.tasks r.plans run;
+  notes_are = ap (λ (x : Given). x.0) e;
+  rows_are = ap (λ (x : Given). x.1) e;
+  calls_are = ap (λ (x : Given). x.2) e;
+  status_is = ap (λ (x : Given). x.3) e;
+  reduced_is = ap (λ (x : Given). x.4) e;
 }
 
-seven_counts : counts_now (seven 2) (seven_tasks 2) ≡ 2 ∷ 1 ∷ 1 ∷ []
+-- THE RUNS
+
+runs : LawsBelow → SevenRecords × SevenOnOneThread × StoppedAndRestarted × OneRoundEach × OneFailed × NoRecord × Retried × Skipped
+unfolding end_of asks_repeat repeated_up_to all_repeated settling settles entry results count_of work_used used_between used_at digits blocks
+runs law = (
+  record { gives = gives law (refl, inl refl, tt) refl; over = (inl refl, tt); events = refl },
+  record { gives = gives law (refl, inl refl, tt) refl; over = (inl refl, tt); events = refl },
+  record { stopped = gives law (refl, inl refl, tt) refl; needed = refl; restarted = gives law (refl, inl refl, tt) refl; rows = refl; outputs = refl },
+  record { first = gives law (refl, inl refl, tt) refl; second = gives law (refl, inl refl, tt) refl; third = gives law (refl, inl refl, tt) refl; fourth = gives law (refl, inl refl, tt) refl },
+  record { failed = gives law (refl, inl refl, tt) refl; needed = refl; restarted = gives law (refl, inl refl, tt) refl },
+  gives law tt refl,
+  record { gives = gives law (refl, inr (inl refl), (refl, inl refl, tt)) refl; events = refl },
+  gives law (refl, inr (inr refl), (refl, inl refl, tt)) refl,
+)
+
+-- WHAT IS NO RUN
+
+seven_counts : counts_now whole_seven.step whole_seven.tasks ≡ 2 ∷ 1 ∷ 1 ∷ []
 unfolding blocks
 seven_counts = refl
 
-too_slow : WrapAroundIsLeast → (plan : PlanRun) → length plan.rounds ≡ 4 → IsPlanRun (seven 2) (seven_tasks 2) plan → ⊥
+too_slow : WrapAroundIsLeast → (plan : PlanRun) → length plan.rounds ≡ 4 → IsPlanRun whole_seven.step whole_seven.tasks plan → ⊥
 too_slow law plan four run =
     let least = subst (λ counts. IsLeast counts 2 plan.rounds) seven_counts run.least in
     let few : length plan.rounds ≤ 2 = least.least (slots_sets (wrapped_rounds (2 ∷ 1 ∷ 1 ∷ []) 2)) (least-wrapped law (2 ∷ 1 ∷ 1 ∷ []) 2 (lit≤ tt)).lawful in
     absurd (omega (arith, four, few))
 
-goes_on : IsPlanRun skipping skipping_tasks (plan_run (Longest 0) (chunks (0 ∷ 1 ∷ [])) 2) → ⊥
-unfolding end_of asks_repeat repeated_up_to all_repeated settling settles entry results count_of work_left used_between used_at digits blocks
-goes_on run = let broken : true ≡ false = run.quiet.1 in cc
+goes_on : IsPlanRun skipped_run.step skipped_run.tasks (plan_run (Longest 0) (chunks (0 ∷ 1 ∷ [])) 2) → ⊥
+unfolding end_of asks_repeat repeated_up_to all_repeated settling settles entry results count_of work_used used_between used_at digits blocks
+goes_on run = elim run.run.1 [ inl none ↦ cc | inr quiet ↦ cc ]
 
-left_open : ArePlanRuns (seven 2) (seven_tasks 2) (plan_run FullLoad [] 0 ∷ stopped_seven) → ⊥
-unfolding end_of asks_repeat repeated_up_to all_repeated settling settles entry results count_of work_left used_between used_at digits blocks
-left_open runs = elim runs.1 [ inl none ↦ cc | inr broken ↦ cc ]
+left_open : ArePlanRuns stopped_seven.step stopped_seven.tasks (stopped_seven.plans ++ plan_run FullLoad [] 0 ∷ []) → ⊥
+unfolding end_of asks_repeat repeated_up_to all_repeated settling settles entry results count_of work_used used_between used_at digits blocks
+left_open runs = elim runs.1 [ inl none ↦ cc | inr (inl whole) ↦ cc | inr (inr broken) ↦ cc ]
 
 refused : WrapAroundIsLeast → Refused
 refused law = record { slow = too_slow law; kept = goes_on; dropped = left_open }
@@ -443,6 +255,7 @@ calls_without_memory = record {
   not_exchanged = λ h. not_exchanged_at_the_end h.some;
 }
 
-pub worked : WrapAroundIsLeast → WorkedRows
+pub worked : LawsBelow → WorkedRows
 worked law =
-    (seven_records law, seven_on_one_thread law, stopped_and_restarted law, one_round_each law, one_failed law, no_record, retried law, skipped law, refused law, calls_of_prepare, calls_of_override, overridden, calls_without_memory)
+    let all = runs law in
+    (all.0, all.1, all.2, all.3, all.4, all.5, all.6, all.7, refused law.least, calls_of_prepare, calls_of_override, overridden, calls_without_memory)

@@ -10,11 +10,11 @@ use Rattle.jb_rules.specs.States.{is_finished, has_ended}
 use Rattle.jb_artifacts.specs.Meaning.{ArtifactsMeaning}
 use Rattle.jb_cert.specs.Rising.{RiseFrom}
 use Rattle.jb_chunk.specs.Standing.{TaskState}
-use Rattle.jb_step.specs.StepRuns.{newer, all_newer}
-use Rattle.jb_step.specs.Setup.{row_now}
+use Rattle.jb_step.specs.restarts.StepRuns.{newer, all_newer}
+use Rattle.jb_step.specs.preparing.Setup.{row_now}
 use Rattle.jb_step.specs.Alone.{AreOnTheWay, have_ended}
 use Rattle.jb_step.specs.inside.Round.{partitions_of}
-use Rattle.jb_step.proofs.Splitting.{rise-one}
+use Rattle.jb_step.proofs.Filters.{rise-filter}
 use Rattle.jb_step.proofs.Numbers.{itself, differ, differ-back, head-of, tail-of}
 
 abbrev pub is_unfinished : TaskState → Bool
@@ -42,12 +42,6 @@ others true (u ∷ us) = us
 abbrev pub filled : List TaskState → List TaskState → List TaskState
 filled [] us = []
 filled (t ∷ ts) us = taker (is_unfinished t) t us ∷ filled ts (others (is_unfinished t) us)
-
--- NUMBERS
-
-rise-open : (k : ℕ) (ts : List TaskState) → RiseFrom k (partitions_of ts) → RiseFrom k (partitions_of (open_tasks ts))
-rise-open k [] h = tt
-rise-open k (t ∷ ts) h = rise-one (is_unfinished t) k t (open_tasks ts) h.0 (rise-open (t.partition + 1) ts h.1)
 
 -- A PARTITION THAT ISN'T AMONG THE TASKS
 
@@ -146,7 +140,7 @@ fill-by true k t ts (u ∷ us) is rise e more =
     (more us (tail-of u.partition t.partition (partitions_of us) (partitions_of (open_tasks ts)) e))
 fill-by false k t ts us is rise e more =
     fill-closed t us ts (filled ts us) is
-    (subst (λ (ns : List ℕ). RiseFrom (t.partition + 1) ns) (sym e) (rise-open (t.partition + 1) ts rise))
+    (subst (λ (ns : List ℕ). RiseFrom (t.partition + 1) ns) (sym e) (rise-filter is_unfinished (t.partition + 1) ts rise))
     (more us e)
 
 -- where the tasks have the partitions of the unfinished ones
@@ -159,17 +153,12 @@ fill k [] us rise e = fill-none us e
 fill k (t ∷ ts) us rise e =
     fill-by (is_unfinished t) k t ts us refl rise.1 e (λ vs q. fill (t.partition + 1) ts vs rise.1 q)
 
--- what is so of each task of and_from is so of each task that is left
+-- what is so of each task of both is so of each task that is left
 pub filled-all : (P : TaskState → Type 0) (ts us : List TaskState) → AllByRecursion P ts → AllByRecursion P us → AllByRecursion P (filled ts us)
 filled-all P [] us a b = tt
-filled-all P (t ∷ ts) us a b = (taken (is_unfinished t) us b, filled-all P ts (others (is_unfinished t) us) a.1 (rest (is_unfinished t) us b))
+filled-all P (t ∷ ts) us a b = let both = parts (is_unfinished t) us b in (both.0, filled-all P ts (others (is_unfinished t) us) a.1 both.1)
   where
-    taken : (o : Bool) (us : List TaskState) → AllByRecursion P us → P (taker o t us)
-    taken false us b = a.0
-    taken true [] b = a.0
-    taken true (u ∷ us) b = b.0
-
-    rest : (o : Bool) (us : List TaskState) → AllByRecursion P us → AllByRecursion P (others o us)
-    rest false us b = b
-    rest true [] b = tt
-    rest true (u ∷ us) b = b.1
+    parts : (o : Bool) (us : List TaskState) → AllByRecursion P us → P (taker o t us) × AllByRecursion P (others o us)
+    parts false us b = (a.0, b)
+    parts true [] b = (a.0, tt)
+    parts true (u ∷ us) b = b

@@ -6,8 +6,9 @@ use Rattle.jb_base.specs.declared.artifact_error.ArtifactError.TheVariants.{Faul
 use Rattle.jb_base.specs.declared.class.ClassId.{ClassId}
 use Rattle.jb_collect.specs.declared.calls.AnalyzerCall.{AnalyzerCall}
 use Rattle.jb_collect.specs.Laws.{TakenOneAfterAnother, NoneAfterAFault}
-use Rattle.jb_collect.specs.Taken.{Taken, HasTaken, TakesCall, TakesCalls, well, faulted}
-use Rattle.jb_step.specs.inside.Telling.{Moment, IsAnswer, IsHeard, IsHearing, HearsMore, moment}
+use Rattle.jb_collect.specs.Taken.{Taken, HasTaken, TakesCall, TakesCalls}
+use Rattle.jb_collect.proofs.Taking.{takes_one}
+use Rattle.jb_step.specs.inside.Telling.{Moment, IsCallbackAnswer, IsHeard, IsHearing, HearsMore, moment}
 
 heard-by : TakenOneAfterAnother → NoneAfterAFault → (base taken : List (Taken AnalyzerCall)) (calls more : List AnalyzerCall) (fault : Option ClassId) (later : Moment)
     → HasTaken base calls fault taken → IsHearing fault taken more later → IsHeard base (calls ++ more) later
@@ -19,15 +20,13 @@ pub heard-more : TakenOneAfterAnother → NoneAfterAFault → (base : List (Take
 heard-more one_after_another none_after base calls more m later heard next = heard-by one_after_another none_after base m.calls calls more m.fault later heard next
 
 -- what was answered to calls, and to one
-pub heard-answer : (before after : List (Taken AnalyzerCall)) (calls : List AnalyzerCall) (answer : Result (Unit {0}) ArtifactError) (fault : Option ClassId) → TakesCalls before calls answer after → IsAnswer answer fault → HasTaken before calls fault after
+pub heard-answer : (before after : List (Taken AnalyzerCall)) (calls : List AnalyzerCall) (answer : Result (Unit {0}) ArtifactError) (fault : Option ClassId) → TakesCalls before calls answer after → IsCallbackAnswer answer fault → HasTaken before calls fault after
 heard-answer before after calls (Ok done) fault took is = subst (λ (f : Option ClassId). HasTaken before calls f after) (sym is) took
 heard-answer before after calls (Err (Fault class)) fault took is = subst (λ (f : Option ClassId). HasTaken before calls f after) (sym is) took
 heard-answer before after calls (Err Memory) fault took is = absurd is
 
-pub heard-one : (before after : List (Taken AnalyzerCall)) (c : AnalyzerCall) (answer : Result (Unit {0}) ArtifactError) (fault : Option ClassId) → TakesCall before c answer after → IsAnswer answer fault → HasTaken before (c ∷ []) fault after
-heard-one before after c (Ok done) fault took is = record { next = well c ∷ []; grown = took; taken = (refl, is) }
-heard-one before after c (Err (Fault class)) fault took is = record { next = faulted c class ∷ []; grown = took; taken = (refl, (is, refl)) }
-heard-one before after c (Err Memory) fault took is = absurd is
+pub heard-one : (before after : List (Taken AnalyzerCall)) (c : AnalyzerCall) (answer : Result (Unit {0}) ArtifactError) (fault : Option ClassId) → TakesCall before c answer after → IsCallbackAnswer answer fault → HasTaken before (c ∷ []) fault after
+heard-one before after c answer fault took is = heard-answer before after (c ∷ []) answer fault (takes_one before after c answer took) is
 
 -- nothing is told any more after a fault
 pub heard-over : (fault : Option ClassId) (taken : List (Taken AnalyzerCall)) (calls : List AnalyzerCall) → is_some fault ≡ true → IsHearing fault taken calls (moment taken fault)

@@ -1,9 +1,8 @@
 -- The tables that a step holds.
-use Rattle.std.proofs.Common.{◌≡◌, ℕ, suc, zero, ◌+◌, ◌≤◌, ◌<◌, Bool, true, false, not, cond, List, [], ◌∷◌, length, take, map, Some, refl, ap, sym, ◌∙◌, subst, arith, length-take}
+use Rattle.std.proofs.Common.{◌≡◌, ℕ, suc, zero, ◌+◌, ◌≤◌, ◌<◌, Bool, true, false, not, cond, List, [], ◌∷◌, length, take, map, Option, Some, None, refl, ap, ap₂, sym, ◌∙◌, subst, arith, eq-eqb, length-take, zero-add}
 use Rattle.std.proofs.lemmas.List.{length-map}
-use Rattle.std.specs.Prelude.{nat_eq, filter, slice_get, ◌⊎◌}
-use Rattle.std.specs.List.{enumerate_from, zip, AllByRecursion}
-use Rattle.std.proofs.lemmas.Bool.Decides.{nat_tests}
+use Rattle.std.specs.Prelude.{nat_eq, filter, option_map, slice_get}
+use Rattle.std.specs.List.{cons_option, enumerate_from, zip, AllByRecursion}
 use Rattle.jb_rules.specs.declared.row.Row.{Row}
 use Rattle.jb_rules.specs.declared.row.RowState.{RowState}
 use Rattle.jb_rules.specs.declared.row.RowState.TheVariants as state
@@ -12,119 +11,72 @@ use Rattle.jb_rules.specs.States.{is_waiting, is_finished}
 use Rattle.jb_base.specs.Limits.{max_retry_limit}
 use Rattle.jb_artifacts.specs.Meaning.{ArtifactsMeaning, Fits}
 use Rattle.jb_chunk.specs.Standing.{TaskState, IsReady, HasItemCount, started}
-use Rattle.jb_step.specs.PlanLaws.{AreTasksOf, BeginsWithTable, PartitionsStay}
+use Rattle.jb_step.specs.rounds.PlanLaws.{AreTasksOf, BeginsWithTable, PartitionsStay}
 use Rattle.jb_step.specs.OnePartition.{tasks_at}
-use Rattle.jb_step.specs.Prepare.{FitRows}
-use Rattle.jb_step.specs.Rounds.{has_partition}
-use Rattle.jb_step.specs.Setup.{Setup, IsSetup, row_now, unfinished}
-use Rattle.jb_step.specs.inside.Starting.{AreBegun}
+use Rattle.jb_step.specs.preparing.Prepare.{FitRows}
+use Rattle.jb_step.specs.rounds.Rounds.{has_partition}
+use Rattle.jb_step.specs.preparing.Setup.{Setup, IsSetup, row_now, unfinished}
+use Rattle.jb_step.specs.inside.Round.{partitions_of}
+use Rattle.jb_step.specs.inside.Starting.{IsRowBegun, AreBegun}
 use Rattle.jb_step.proofs.Apart.{stays}
+use Rattle.jb_step.proofs.Filters.{filter-all, filter-map, filter-swap}
+use Rattle.jb_step.proofs.Numbers.{differ, differ-back}
 use Rattle.jb_step.proofs.Steady.{IsSteadyTable}
 
 abbrev pub is_open : ℕ × Row → Bool
 is_open n = not (is_finished n.1.state)
 
--- the partition among those of rows that are numbered from k on
-abbrev found : ℕ → List Row → ℕ → List ℕ
-found k rows p = filter (λ n. nat_eq n p) (map (λ n. n.0) (filter is_open (enumerate_from k rows)))
+-- A ROW BY ITS NUMBER
 
-abbrev named_in : ℕ → List ℕ → List ℕ
-named_in p ns = filter (λ n. nat_eq n p) ns
+abbrev has_number : ℕ → ℕ × Row → Bool
+has_number p n = nat_eq n.0 p
 
--- what is found with one row more in front
-abbrev front : (unfinished_row same : Bool) → ℕ → List ℕ → List ℕ
-front false same k ns = ns
-front true false k ns = ns
-front true true k ns = k ∷ ns
+none-numbered : (k p : ℕ) (rows : List Row) → p < k → filter (has_number p) (enumerate_from k rows) ≡ []
+none-numbered k p [] lt = refl
+none-numbered k p (row ∷ rows) lt =
+    ap₂ (λ (b : Bool) (ns : List (ℕ × Row)). cond b ((k, row) ∷ ns) ns) (differ-back k p lt) (none-numbered (k + 1) p rows (omega (arith, lt)))
 
-front-is : (o : Bool) (k p : ℕ) (ns : List ℕ × ℕ) (xs : List (ℕ × Row)) (row : Row) → named_in p (map (λ (n : ℕ × Row). n.0) (cond o ((k, row) ∷ xs) xs)) ≡ front o (nat_eq k p) k (named_in p (map (λ (n : ℕ × Row). n.0) xs))
-front-is true k p ns xs row = by (nat_eq k p)
-  where
-    by : (b : Bool) → cond b (k ∷ named_in p (map (λ (n : ℕ × Row). n.0) xs)) (named_in p (map (λ (n : ℕ × Row). n.0) xs)) ≡ front true b k (named_in p (map (λ (n : ℕ × Row). n.0) xs))
-    by true = refl
-    by false = refl
-front-is false k p ns xs row = refl
+abbrev with_number : ℕ → Option Row → List (ℕ × Row)
+with_number p o = cons_option (option_map (λ (row : Row). (p, row)) o) []
 
-found-more : (k p : ℕ) (row : Row) (rows : List Row) → found k (row ∷ rows) p ≡ front (not (is_finished row.state)) (nat_eq k p) k (found (k + 1) rows p)
-found-more k p row rows = front-is (not (is_finished row.state)) k p ([], 0) (filter is_open (enumerate_from (k + 1) rows)) row
+numbered : (k i p : ℕ) (rows : List Row) → k + i ≡ p → filter (has_number p) (enumerate_from k rows) ≡ with_number p (slice_get rows i)
+numbered k i p [] is = refl
+numbered k zero p (row ∷ rows) is =
+    let same : k ≡ p = omega (arith, is) in
+    ap₂ (λ (b : Bool) (ns : List (ℕ × Row)). cond b ((k, row) ∷ ns) ns) (eq-eqb k p same) (none-numbered (k + 1) p rows (omega (arith, same)))
+    ∙ ap (λ (n : ℕ). (n, row) ∷ []) same
+numbered k (suc i) p (row ∷ rows) is =
+    ap₂ (λ (b : Bool) (ns : List (ℕ × Row)). cond b ((k, row) ∷ ns) ns) (differ k p (omega (arith, is))) (numbered (k + 1) i p rows (omega (arith, is)))
 
-front-none : (o b : Bool) (k p : ℕ) (ns : List ℕ) → nat_eq k p ≡ b → p < k → ns ≡ [] → front o b k ns ≡ []
-front-none false b k p ns e lt none = none
-front-none true false k p ns e lt none = none
-front-none true true k p ns e lt none = let same : k ≡ p = grind (arith, nat_tests) in absurd (omega (arith, same, lt))
-
-found-none : (k p : ℕ) (rows : List Row) → p < k → found k rows p ≡ []
-found-none k p [] lt = refl
-found-none k p (row ∷ rows) lt = found-more k p row rows ∙ front-none (not (is_finished row.state)) (nat_eq k p) k p (found (k + 1) rows p) refl lt (found-none (k + 1) p rows (omega arith))
-
-front-few : (o b : Bool) (k p : ℕ) (rows : List Row) → nat_eq k p ≡ b → length (found (k + 1) rows p) ≤ 1 → length (front o b k (found (k + 1) rows p)) ≤ 1
-front-few false b k p rows e few = few
-front-few true false k p rows e few = few
-front-few true true k p rows e few =
-    let same : k ≡ p = grind (arith, nat_tests) in
-    let none = ap length (found-none (k + 1) p rows (omega (arith, same))) in
-    omega (arith, none)
-
-found-few : (k p : ℕ) (rows : List Row) → length (found k rows p) ≤ 1
-found-few k p [] = omega arith
-found-few k p (row ∷ rows) =
-    let few = front-few (not (is_finished row.state)) (nat_eq k p) k p rows refl (found-few (k + 1) p rows) in
-    let same = ap length (found-more k p row rows) in
-    omega (arith, few, same)
-
-front-rest : (o b : Bool) (k : ℕ) (ns : List ℕ) → front o b k ns ≡ [] → ns ≡ []
-front-rest false b k ns e = e
-front-rest true false k ns e = e
-front-rest true true k ns e = let never : ⊥ = cc in absurd never
-
-front-closed : (o b : Bool) (k : ℕ) (ns : List ℕ) → b ≡ true → front o b k ns ≡ [] → o ≡ false
-front-closed false b k ns t e = refl
-front-closed true true k ns t e = let never : ⊥ = cc in absurd never
-front-closed true false k ns t e = let never : ⊥ = cc in absurd never
-
--- a row whose partition isn't found is finished
-found-closed : (k i : ℕ) (rows : List Row) (row : Row) → slice_get rows i ≡ Some row → found k rows (k + i) ≡ [] → not (is_finished row.state) ≡ false
-found-closed k i [] row get none = let never : ⊥ = cc in absurd never
-found-closed k zero (r ∷ rows) row get none =
-    let same : nat_eq k (k + 0) ≡ true = grind (arith, nat_tests) in
-    let here : r ≡ row = cc in
-    ap (λ (v : Row). not (is_finished v.state)) (sym here) ∙ front-closed (not (is_finished r.state)) (nat_eq k (k + 0)) k (found (k + 1) rows (k + 0)) same (sym (found-more k (k + 0) r rows) ∙ none)
-found-closed k (suc i) (r ∷ rows) row get none =
-    let next : k + suc i ≡ (k + 1) + i = omega arith in
-    found-closed (k + 1) i rows row get
-    (subst (λ q. found (k + 1) rows q ≡ []) next (front-rest (not (is_finished r.state)) (nat_eq k (k + suc i)) k (found (k + 1) rows (k + suc i)) (sym (found-more k (k + suc i) r rows) ∙ none)))
-
-closed-idle : (st : RowState) → not (is_finished st) ≡ false → is_waiting st ≡ false
-closed-idle state.Waiting e = cc
-closed-idle (state.Running lane) e = refl
-closed-idle state.Finished e = refl
-closed-idle state.Failed e = refl
-
-at-one : (b : Bool) (p : ℕ) (t : TaskState) (us : List TaskState) (ns : List ℕ) → map (λ (u : TaskState). u.partition) us ≡ ns → map (λ (u : TaskState). u.partition) (cond b (t ∷ us) us) ≡ cond b (t.partition ∷ ns) ns
-at-one true p t us ns e = ap (λ ms. t.partition ∷ ms) e
-at-one false p t us ns e = e
-
--- a partition's tasks, by their numbers
-at-names : (p : ℕ) (ts : List TaskState) → map (λ (u : TaskState). u.partition) (tasks_at p ts) ≡ named_in p (map (λ (u : TaskState). u.partition) ts)
-at-names p [] = refl
-at-names p (t ∷ ts) = at-one (nat_eq t.partition p) p t (tasks_at p ts) (named_in p (map (λ (u : TaskState). u.partition) ts)) (at-names p ts)
-
-none-mapped : (us : List TaskState) → us ≡ [] → map (λ (u : TaskState). u.partition) us ≡ []
-none-mapped us e = ap (λ vs. map (λ (u : TaskState). u.partition) vs) e
+-- a partition's tasks, by their numbers: one, if its row is unfinished
+at-names : (s : Setup) (ts : List TaskState) → IsSteadyTable s ts → (p : ℕ) → partitions_of (tasks_at p ts) ≡ map (λ (n : ℕ × Row). n.0) (filter is_open (with_number p (slice_get s.rows p)))
+at-names s ts steady p =
+    sym (filter-map (λ (n : ℕ). nat_eq n p) (λ (t : TaskState). nat_eq t.partition p) _ (λ t. refl) ts)
+    ∙ ap (filter (λ (n : ℕ). nat_eq n p)) steady.partitions
+    ∙ filter-map (λ (n : ℕ). nat_eq n p) (has_number p) _ (λ n. refl) (unfinished s.rows)
+    ∙ ap (map (λ (n : ℕ × Row). n.0)) (filter-swap (has_number p) is_open (enumerate_from 0 s.rows) ∙ ap (filter is_open) (numbered 0 p p s.rows (zero-add p)))
 
 pub apart-of : (s : Setup) (ts : List TaskState) → IsSteadyTable s ts → (p : ℕ) → length (tasks_at p ts) ≤ 1
 apart-of s ts table p =
-    let names = at-names p ts ∙ ap (named_in p) table.partitions in
-    let same = ap length names in
-    let few = found-few 0 p s.rows in
-    let long = length-map (tasks_at p ts) (λ (u : TaskState). u.partition) in
-    omega (arith, same, few, long)
+    subst (λ (n : ℕ). n ≤ 1) (sym (ap length (at-names s ts table p)) ∙ length-map (tasks_at p ts) (λ (u : TaskState). u.partition)) (few (slice_get s.rows p))
+  where
+    one : (b : Bool) (row : Row) → length (map (λ (n : ℕ × Row). n.0) (cond b ((p, row) ∷ []) [])) ≤ 1
+    one true row = omega arith
+    one false row = omega arith
+
+    few : (o : Option Row) → length (map (λ (n : ℕ × Row). n.0) (filter is_open (with_number p o))) ≤ 1
+    few None = omega arith
+    few (Some row) = one (is_open (p, row)) row
 
 pub rest-of : (s : Setup) (ts : List TaskState) → IsSteadyTable s ts → (p : ℕ) (row : Row) → slice_get s.rows p ≡ Some row → tasks_at p ts ≡ [] → is_waiting row.state ≡ false
 rest-of s ts table p row get none =
-    let names = sym (at-names p ts ∙ ap (named_in p) table.partitions) ∙ none-mapped (tasks_at p ts) none in
-    let zero_add : p ≡ 0 + p = omega arith in
-    closed-idle row.state (found-closed 0 p s.rows row get (subst (λ q. found 0 s.rows q ≡ []) zero_add names))
+    closed row.state (ap (λ (o : Option Row). map (λ (n : ℕ × Row). n.0) (filter is_open (with_number p o))) (sym get) ∙ sym (at-names s ts table p) ∙ ap partitions_of none)
+  where
+    closed : (st : RowState) → map (λ (n : ℕ × Row). n.0) (cond (not (is_finished st)) ((p, row) ∷ []) []) ≡ [] → is_waiting st ≡ false
+    closed state.Waiting e = let never : ⊥ = cc in absurd never
+    closed (state.Running lane) e = refl
+    closed state.Finished e = refl
+    closed state.Failed e = refl
 
 pub partitions_stay : PartitionsStay
 partitions_stay set [] = refl
@@ -135,7 +87,7 @@ partitions_stay set (t ∷ ts) = let more = partitions_stay set ts in λ i. stay
 abbrev pub first_from : Setup → List (ℕ × Row) → List ArtifactsMeaning → List TaskState
 first_from s ns works = map (λ n. started n.0.0 n.0.1 s.rules s.item_count n.1) (zip ns works)
 
-first-names : (s : Setup) (ns : List (ℕ × Row)) (works : List ArtifactsMeaning) → FitRows ns works → map (λ (u : TaskState). u.partition) (first_from s ns works) ≡ map (λ (n : ℕ × Row). n.0) ns
+first-names : (s : Setup) (ns : List (ℕ × Row)) (works : List ArtifactsMeaning) → FitRows ns works → partitions_of (first_from s ns works) ≡ map (λ (n : ℕ × Row). n.0) ns
 first-names s [] [] fits = refl
 first-names s [] (w ∷ ws) fits = absurd fits
 first-names s (n ∷ ns) [] fits = absurd fits
@@ -160,30 +112,26 @@ first-ready s [] (w ∷ ws) sound count retried fits = absurd fits
 first-ready s (n ∷ ns) [] sound count retried fits = absurd fits
 first-ready s (n ∷ ns) (w ∷ ws) sound count retried fits = ((ready-first s n w sound.0 count retried fits.0, refl), first-ready s ns ws sound.1 count retried fits.1)
 
-sound-one : (b : Bool) (n : ℕ × Row) (ns : List (ℕ × Row)) → IsSoundRow n.1 → AllByRecursion (λ (m : ℕ × Row). IsSoundRow m.1) ns → AllByRecursion (λ (m : ℕ × Row). IsSoundRow m.1) (cond b (n ∷ ns) ns)
-sound-one true n ns here rest = (here, rest)
-sound-one false n ns here rest = rest
+-- what is so of each row is so of all, and of the unfinished ones with their numbers
+all-rows : (P : Row → Type 0) (rows : List Row) → ((i : ℕ) (row : Row) → slice_get rows i ≡ Some row → P row) → AllByRecursion P rows
+all-rows P [] h = tt
+all-rows P (row ∷ rows) h = (h zero row refl, all-rows P rows (λ i r e. h (suc i) r e))
 
-sound-open : (k : ℕ) (rows : List Row) → AllByRecursion IsSoundRow rows → AllByRecursion (λ (n : ℕ × Row). IsSoundRow n.1) (filter is_open (enumerate_from k rows))
-sound-open k [] sound = tt
-sound-open k (row ∷ rows) sound = sound-one (not (is_finished row.state)) (k, row) (filter is_open (enumerate_from (k + 1) rows)) sound.0 (sound-open (k + 1) rows sound.1)
-
-all-sound : (rows : List Row) → ((i : ℕ) (row : Row) → slice_get rows i ≡ Some row → IsSoundRow row) → AllByRecursion IsSoundRow rows
-all-sound [] h = tt
-all-sound (row ∷ rows) h = (h zero row refl, all-sound rows (λ i r e. h (suc i) r e))
-
-begun-from : (rows : List Row) → ((p : ℕ) (row : Row) → slice_get rows p ≡ Some row → IsSoundRow row) → ((p : ℕ) (row : Row) → slice_get rows p ≡ Some row → (row.state ≡ state.Waiting) ⊎ (row.state ≡ state.Finished)) → AreBegun rows
-begun-from [] sound begun = tt
-begun-from (row ∷ rows) sound begun = (record { sound = sound zero row refl; begun = begun zero row refl }, begun-from rows (λ p r e. sound (suc p) r e) (λ p r e. begun (suc p) r e))
+pub all-unfinished : (P : Row → Type 0) (k : ℕ) (rows : List Row) → ((i : ℕ) (row : Row) → slice_get rows i ≡ Some row → P row) → AllByRecursion (λ (n : ℕ × Row). P n.1) (filter is_open (enumerate_from k rows))
+all-unfinished P k rows h = filter-all (λ (n : ℕ × Row). P n.1) is_open (enumerate_from k rows) (listed k rows (all-rows P rows h))
+  where
+    listed : (k : ℕ) (rows : List Row) → AllByRecursion P rows → AllByRecursion (λ (n : ℕ × Row). P n.1) (enumerate_from k rows)
+    listed k [] h = tt
+    listed k (row ∷ rows) h = (h.0, listed (k + 1) rows h.1)
 
 -- the prepared rows, one by one
 pub all-begun : (s : Setup) → IsSetup s → AreBegun s.rows
-all-begun s setup = begun-from s.rows (λ p row e. (setup.openable.idle p row e).0) setup.begun
+all-begun s setup = all-rows IsRowBegun s.rows (λ p row e. record { sound = (setup.openable.idle p row e).0; begun = setup.begun p row e })
 
 pub begins_with_table : BeginsWithTable
 begins_with_table s works setup fits = record {
   tasks = first-ready s (unfinished s.rows) works
-      (sound-open 0 s.rows (all-sound s.rows (λ i row e. (setup.openable.idle i row e).0)))
+      (all-unfinished IsSoundRow 0 s.rows (λ i row e. (setup.openable.idle i row e).0))
       (record { some = setup.openable.some_items; few = setup.openable.few_items })
       setup.retried fits;
   partitions = first-names s (unfinished s.rows) works fits;
@@ -191,10 +139,10 @@ begins_with_table s works setup fits = record {
 
 -- THE ROWS NOW
 
-either-sound : (b : Bool) (own other : Row) → IsSoundRow own → IsSoundRow other → IsSoundRow (cond b own other)
-either-sound true own other one two = one
-either-sound false own other one two = two
-
 pub now-sound : (s : Setup) (ts : List TaskState) (p : ℕ) (row : Row) → AreTasksOf s ts → IsSoundRow row → IsSoundRow (row_now ts p row)
 now-sound s [] p row tasks sound = sound
-now-sound s (t ∷ ts) p row tasks sound = either-sound (nat_eq t.partition p) t.row (row_now ts p row) tasks.0.0.sound (now-sound s ts p row tasks.1 sound)
+now-sound s (t ∷ ts) p row tasks sound = either (nat_eq t.partition p) (now-sound s ts p row tasks.1 sound)
+  where
+    either : (b : Bool) → IsSoundRow (row_now ts p row) → IsSoundRow (cond b t.row (row_now ts p row))
+    either true rest = tasks.0.0.sound
+    either false rest = rest

@@ -1,9 +1,8 @@
 -- Rounds lead each partition along its own attempts.
-use Rattle.std.proofs.Common.{◌≡◌, Bool, true, false, cond, List, [], ◌∷◌, ◌++◌, refl, sym, subst, inl}
+use Rattle.std.proofs.Common.{◌≡◌, Bool, true, false, cond, List, [], ◌∷◌, ◌++◌, refl, inl}
 use Rattle.std.proofs.lemmas.Bool.{and_parts}
-use Rattle.std.specs.List.{list_all}
+use Rattle.std.specs.List.{AllByRecursion, list_all}
 use Rattle.jb_base.proofs.Pairwise.{pairwise-itself, pairwise-one}
-use Rattle.jb_rules.specs.declared.row.RowState.TheVariants as state
 use Rattle.jb_rules.specs.States.{has_ended}
 use Rattle.jb_cert.specs.Lawful.{Pair}
 use Rattle.jb_chunk.specs.Alone.{IsAlone, IsOnTheWay}
@@ -11,23 +10,26 @@ use Rattle.jb_chunk.specs.Attempt.{attempt_of}
 use Rattle.jb_chunk.specs.Laws.{OneEnd, CalmRunsArePlain, WaysEnd}
 use Rattle.jb_chunk.specs.Standing.{TaskState}
 use Rattle.jb_step.specs.Laws.{StepsAreOnTheWay, StepsEndAlone, AloneIsOnePlace, CalmStepsArePlain}
-use Rattle.jb_step.specs.Rounds.{has_partition, tasks_in, after_round, after_rounds, CanRunAll}
-use Rattle.jb_step.specs.Runs.{table_after, rounds_of, rounds_run}
+use Rattle.jb_step.specs.rounds.Rounds.{has_partition, tasks_in, after_round, after_rounds}
+use Rattle.jb_step.specs.rounds.Runs.{table_after, rounds_of}
 use Rattle.jb_step.specs.Alone.{AreOnTheWay, AreAlone, AreReady, have_ended}
-use Rattle.jb_step.proofs.Adding.{after_rounds-append}
-use Rattle.jb_step.proofs.Apart.{run-more, others-wait}
+use Rattle.jb_step.proofs.Apart.{AllIn, IsWaiting, all-wait, run-more}
 use Rattle.jb_step.proofs.Steady.{waits, row_waits}
 
--- the first task waits, if it is in the set
-pub first-waits : (b : Bool) (s : TaskState) (rest : List TaskState) → list_all row_waits (cond b (s ∷ rest) rest) ≡ true → b ≡ true → s.row.state ≡ state.Waiting
-first-waits true s rest all e = waits s.row.state (and_parts (row_waits s) (list_all row_waits rest) all).0
+-- the first task waits, if it is in the set, and the others that are in it do
+pub first-waits : (b : Bool) (s : TaskState) (rest : List TaskState) → AllByRecursion IsWaiting (cond b (s ∷ rest) rest) → b ≡ true → IsWaiting s
+first-waits true s rest all e = all.0
 first-waits false s rest all e = cc
 
-way-one : (b : Bool) (t s : TaskState) → IsOnTheWay t s → (b ≡ true → s.row.state ≡ state.Waiting) → IsOnTheWay t (cond b (attempt_of s).task s)
+pub others-wait : (b : Bool) (s : TaskState) (rest : List TaskState) → AllByRecursion IsWaiting (cond b (s ∷ rest) rest) → AllByRecursion IsWaiting rest
+others-wait true s rest all = all.1
+others-wait false s rest all = all
+
+way-one : (b : Bool) (t s : TaskState) → IsOnTheWay t s → (b ≡ true → IsWaiting s) → IsOnTheWay t (cond b (attempt_of s).task s)
 way-one true t s way waiting = record { attempts = way.attempts ++ attempt_of s ∷ []; run = run-more t way.attempts s way.run (waiting refl) }
 way-one false t s way waiting = way
 
-way-round : (set : List Pair) (ts ss : List TaskState) → AreOnTheWay ts ss → list_all row_waits (tasks_in set ss) ≡ true → AreOnTheWay ts (after_round set ss)
+way-round : (set : List Pair) (ts ss : List TaskState) → AreOnTheWay ts ss → AllByRecursion IsWaiting (tasks_in set ss) → AreOnTheWay ts (after_round set ss)
 way-round set [] [] way waiting = tt
 way-round set [] (s ∷ ss) way waiting = absurd way
 way-round set (t ∷ ts) [] way waiting = absurd way
@@ -38,16 +40,12 @@ way-round set (t ∷ ts) (s ∷ ss) way waiting =
 way-none : (ts : List TaskState) → AreOnTheWay ts ts
 way-none ts = pairwise-itself IsOnTheWay (λ t. record { attempts = []; run = refl }) ts
 
-way-rounds : (rounds : List (List Pair)) (ts ss : List TaskState) → AreOnTheWay ts ss → CanRunAll rounds ss → AreOnTheWay ts (after_rounds rounds ss)
-way-rounds [] ts ss way can = way
-way-rounds (set ∷ older) ts ss way can = way-round set ts (after_rounds older ss) (way-rounds older ts ss way can.0) can.1.waiting
+way-rounds : (rounds : List (List Pair)) (ts ss : List TaskState) → AreOnTheWay ts ss → AllIn IsWaiting rounds ss → AreOnTheWay ts (after_rounds rounds ss)
+way-rounds [] ts ss way all = way
+way-rounds (set ∷ later) ts ss way all = way-rounds later ts (after_round set ss) (way-round set ts ss way all.0) all.1
 
 pub steps_are_on_the_way : StepsAreOnTheWay
-steps_are_on_the_way s start [] runs = way-none start
-steps_are_on_the_way s start (plan ∷ older) runs =
-    let before = steps_are_on_the_way s start older runs.0 in
-    subst (λ ts. AreOnTheWay start ts) (sym (after_rounds-append (rounds_run plan) (rounds_of older) start))
-    (way-rounds (rounds_run plan) start (table_after older start) before runs.2.run)
+steps_are_on_the_way s start plans runs = way-rounds (rounds_of plans) start start (way-none start) (all-wait s start plans runs)
 
 -- WHERE THEY END
 

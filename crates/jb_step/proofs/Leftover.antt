@@ -1,10 +1,9 @@
 -- The tasks as a step leaves them, put together again from what it answers.
-use Rattle.std.proofs.Common.{◌≡◌, ℕ, suc, zero, ◌+◌, ◌<◌, Bool, true, false, not, cond, List, [], ◌∷◌, length, map, refl, ap, ap₂, sym, ◌∙◌, subst, arith}
+use Rattle.std.proofs.Common.{◌≡◌, ℕ, suc, zero, ◌+◌, ◌<◌, Bool, true, false, cond, List, [], ◌∷◌, length, map, refl, ap, ap₂, sym, ◌∙◌, subst, arith}
 use Rattle.std.specs.Prelude.{filter, slice_index_or}
 use Rattle.std.specs.List.{enumerate_from, AllByRecursion}
 use Rattle.jb_rules.specs.declared.row.Row.{Row}
 use Rattle.jb_rules.specs.Rows.{fresh_row}
-use Rattle.jb_rules.specs.States.{is_finished}
 use Rattle.jb_artifacts.specs.Meaning.{ArtifactsMeaning}
 use Rattle.jb_cert.specs.Lawful.{Pair}
 use Rattle.jb_cert.specs.Rising.{RiseFrom}
@@ -12,11 +11,12 @@ use Rattle.jb_chunk.specs.Attempt.{attempt_of}
 use Rattle.jb_chunk.specs.Standing.{TaskState}
 use Rattle.jb_repo.specs.declared.snapshot.Snapshot.{Snapshot}
 use Rattle.jb_step.specs.Answers.{tasks_left}
-use Rattle.jb_step.specs.PlanLaws.{IsTable, AreTasksOf}
-use Rattle.jb_step.specs.Rounds.{has_partition, after_round, after_rounds}
-use Rattle.jb_step.specs.Runs.{PlanRun, rounds_of, table_after}
-use Rattle.jb_step.specs.Setup.{Setup, first_tasks, row_now, rows_now, unfinished}
+use Rattle.jb_step.specs.rounds.PlanLaws.{IsTaskTable, AreTasksOf}
+use Rattle.jb_step.specs.rounds.Rounds.{has_partition, after_round, after_rounds}
+use Rattle.jb_step.specs.rounds.Runs.{PlanRun, rounds_of, table_after}
+use Rattle.jb_step.specs.preparing.Setup.{Setup, first_tasks, row_now, rows_now, unfinished}
 use Rattle.jb_step.specs.inside.Round.{partitions_of}
+use Rattle.jb_step.proofs.Filters.{all-back, all-map, filter-all}
 use Rattle.jb_step.proofs.Holding.{first_from, is_open}
 use Rattle.jb_step.proofs.Steady.{same-rules}
 use Rattle.jb_step.proofs.Numbers.{itself, differ, add-next}
@@ -43,7 +43,7 @@ rules-round s set (t ∷ ts) h = (rules-one s (has_partition set t.partition) t 
 
 rules-rounds : (s : Setup) (rounds : List (List Pair)) (ts : List TaskState) → HaveRules s ts → HaveRules s (after_rounds rounds ts)
 rules-rounds s [] ts h = h
-rules-rounds s (set ∷ older) ts h = rules-round s set (after_rounds older ts) (rules-rounds s older ts h)
+rules-rounds s (set ∷ later) ts h = rules-rounds s later (after_round set ts) (rules-round s set ts h)
 
 rules-first : (s : Setup) (ns : List (ℕ × Row)) (works : List ArtifactsMeaning) → HaveRules s (first_from s ns works)
 rules-first s [] works = tt
@@ -88,17 +88,16 @@ now-at ts (row ∷ rows) k (suc i) d lt =
 abbrev pub AreBelow : ℕ → List ℕ → Type 0
 AreBelow n ns = AllByRecursion (λ (p : ℕ). p < n) ns
 
-below-one : (b : Bool) (n k : ℕ) (row : Row) (xs : List (ℕ × Row)) → k < n → AreBelow n (map (λ (m : ℕ × Row). m.0) xs) → AreBelow n (map (λ (m : ℕ × Row). m.0) (cond b ((k, row) ∷ xs) xs))
-below-one true n k row xs lt h = (lt, h)
-below-one false n k row xs lt h = h
-
 pub needs-in : (n k : ℕ) (rows : List Row) → k + length rows ≡ n → AreBelow n (map (λ (m : ℕ × Row). m.0) (filter is_open (enumerate_from k rows)))
-needs-in n k [] e = tt
-needs-in n k (row ∷ rows) e = below-one (not (is_finished row.state)) n k row (filter is_open (enumerate_from (k + 1) rows)) (omega (arith, e)) (needs-in n (k + 1) rows (omega (arith, e)))
+needs-in n k rows e =
+    all-map _ _ (filter is_open (enumerate_from k rows)) (filter-all (λ (m : ℕ × Row). m.0 < n) is_open (enumerate_from k rows) (numbered k rows e))
+  where
+    numbered : (k : ℕ) (rows : List Row) → k + length rows ≡ n → AllByRecursion (λ (m : ℕ × Row). m.0 < n) (enumerate_from k rows)
+    numbered k [] e = tt
+    numbered k (row ∷ rows) e = (omega (arith, e), numbered (k + 1) rows (omega (arith, e)))
 
 pub below-named : (n : ℕ) (ts : List TaskState) → AreBelow n (map (λ (t : TaskState). t.partition) ts) → AllByRecursion (λ (t : TaskState). t.partition < n) ts
-below-named n [] h = tt
-below-named n (t ∷ ts) h = (h.0, below-named n ts h.1)
+below-named n ts h = all-back _ _ ts h
 
 -- PUT TOGETHER AGAIN
 
@@ -123,7 +122,7 @@ all-again s rows ts (u ∷ us) is below rows_are rules tasks =
 
 -- what comes back is the table that the plans left
 pub left-again : (s : Setup) (works : List ArtifactsMeaning) (plans : List PlanRun) (snapshot : Snapshot) (left : List (ℕ × ArtifactsMeaning)) (table : List TaskState)
-    → table ≡ table_after plans (first_tasks s works) → IsTable s table → RiseFrom 0 (partitions_of table) → snapshot.rows.items ≡ rows_now s.rows table
+    → table ≡ table_after plans (first_tasks s works) → IsTaskTable s table → RiseFrom 0 (partitions_of table) → snapshot.rows.items ≡ rows_now s.rows table
     → left ≡ map (λ (t : TaskState). (t.partition, t.work)) table → tasks_left s snapshot left ≡ table_after plans (first_tasks s works)
 left-again s works plans snapshot left table is holds rise rows e =
     let below = below-named (length s.rows) table (subst (λ (ns : List ℕ). AreBelow (length s.rows) ns) (sym holds.partitions) (needs-in (length s.rows) 0 s.rows (omega arith))) in

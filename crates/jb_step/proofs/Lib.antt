@@ -3,7 +3,9 @@ mod Apart
 mod Beginning
 mod Computed
 mod Filling
+mod Filters
 mod Finishing
+mod ChunkNumbers
 mod ChunksInOrder
 mod Growing
 mod Heading
@@ -11,15 +13,15 @@ mod Hearing
 mod Holding
 mod Leading
 mod Leftover
-mod Listing
-mod Looping
 mod Numbers
+mod Opening
 mod Overriding
 mod Placing
 mod Planning
 mod Pooling
 mod CallsInPart
 mod Restarting
+mod Rounding
 mod SingleSlot
 mod Splitting
 mod Starting

@@ -3,8 +3,8 @@ use Rattle.std.proofs.Common.{◌≡◌, Bool, true, false, Result, Ok, Err, Non
 use Rattle.std.specs.Prelude.{is_none}
 use Rattle.jb_base.specs.declared.class.ClassId.{ClassId}
 use Rattle.jb_plan.specs.declared.plan.PartitionPlan.{PartitionPlan}
-use Rattle.jb_step.specs.Restarts.{OverridesBeginAnew}
-use Rattle.jb_step.specs.Setup.{gone_on, opening_rows}
+use Rattle.jb_step.specs.restarts.Restarts.{OverridesBeginAnew}
+use Rattle.jb_step.specs.preparing.Setup.{gone_on, opening_rows}
 
 abbrev replace-of : Result PartitionPlan ClassId → Bool
 replace-of (Ok plan) = plan.replace

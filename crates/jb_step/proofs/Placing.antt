@@ -1,386 +1,265 @@
 -- Tasks that are taken out of their places for a round, and put back.
-use Rattle.std.proofs.Common.{◌≡◌, ℕ, suc, zero, ◌+◌, ◌≤◌, ◌<◌, Bool, true, false, cond, ◌||◌, List, [], ◌∷◌, ◌++◌, length, map, Option, Some, None, drop, get_or, append-nil, refl, ap, ap₂, sym, ◌∙◌, subst, arith, zero-add, eq-eqb, eqb-true}
-use Rattle.std.specs.Prelude.{nat_eq, slice_index_or, slice_set}
-use Rattle.std.specs.List.{cons_option}
-use Rattle.std.proofs.lemmas.List.{drop_more, at_drop_all}
-use Rattle.jb_artifacts.specs.Meaning.{ArtifactsMeaning}
+use Rattle.std.proofs.Common.{◌≡◌, ℕ, suc, zero, ◌+◌, ◌<◌, Bool, true, false, cond, ◌||◌, List, [], ◌∷◌, ◌++◌, length, map, Option, Some, None, refl, ap, ap₂, sym, ◌∙◌, subst, arith, zero-add, eq-eqb}
+use Rattle.std.specs.Prelude.{slice_index_or, slice_set, option_map}
+use Rattle.std.specs.List.{cons_option, AllByRecursion}
+use Rattle.std.specs.Option.{IfSome}
+use Rattle.std.proofs.lemmas.List.{get_or-set_other, length-map, set-set, set_comm}
+use Rattle.std.proofs.lemmas.Simd.{map-map}
 use Rattle.jb_cert.specs.Lawful.{Pair}
 use Rattle.jb_cert.specs.Plans.{slot_pair}
-use Rattle.jb_cert.specs.declared.plans.Slot.{Slot}
 use Rattle.jb_cert.specs.Rising.{RiseFrom}
-use Rattle.jb_chunk.specs.Attempt.{AttemptEnd, attempt_of}
-use Rattle.jb_chunk.specs.Standing.{TaskState}
+use Rattle.jb_cert.specs.declared.plans.Slot.{Slot}
+use Rattle.jb_chunk.specs.Attempt.{AttemptEnd, attempt_of, ending_of, IsAttemptBy}
+use Rattle.jb_chunk.specs.Standing.{TaskState, IsReady}
 use Rattle.jb_chunk.specs.declared.outcome.Done.{Done}
-use Rattle.jb_rules.specs.Sound.{IsSoundRow}
+use Rattle.jb_chunk.specs.declared.outcome.Outcome.{Outcome}
+use Rattle.jb_chunk.specs.declared.outcome.Outcome.TheVariants.{Committed, Rolled, Failed, NoMemory}
+use Rattle.jb_collect.specs.Heard.{endings_of}
 use Rattle.jb_rules.specs.declared.row.Row.{Row}
-use Rattle.jb_step.specs.PlanLaws.{AreTasksOf}
-use Rattle.jb_step.specs.Rounds.{has_partition, after_round}
-use Rattle.jb_step.specs.Prepare.{FitRows}
-use Rattle.jb_step.specs.Setup.{Setup, row_now}
-use Rattle.jb_step.specs.inside.Starting.{IsBegun, AreBegun, tasks_from, unfinished_from}
+use Rattle.jb_workers.specs.Works.{IsAttemptOf}
 use Rattle.jb_step.specs.Alone.{AreReady}
-use Rattle.jb_step.specs.inside.Places.{held_in, ArePlaced, picked, emptied, filled}
-use Rattle.jb_step.specs.inside.Round.{partitions_of, AreDonesOf, AreWhole, tasks_of_set}
-use Rattle.jb_step.proofs.Holding.{now-sound}
-use Rattle.jb_step.proofs.Splitting.{attempted, rise-lower, works-rise}
+use Rattle.jb_step.specs.rounds.Rounds.{after_round, attempts_in, has_partition, tasks_in}
+use Rattle.jb_step.specs.preparing.Setup.{row_now}
+use Rattle.jb_step.specs.inside.Places.{AreAtPlaces, ArePlaced, emptied, filled, held_in, picked}
+use Rattle.jb_step.specs.inside.Round.{AreDonesOf, AreWhole, had_memory}
 use Rattle.jb_step.proofs.Steady.{same-partition}
-use Rattle.jb_step.proofs.Numbers.{differ, differ-back, below-of}
+use Rattle.jb_step.proofs.Numbers.{differ, differ-back}
 
--- NUMBERS
+-- PLACES
 
--- each number is so high at least
-abbrev Above : ℕ → List ℕ → Type 0
-Above k [] = Unit {0}
-Above k (n ∷ ns) = (k ≤ n) × Above k ns
+abbrev pub at : {X : Type 0} → List (Option X) → ℕ → Option X
+at os p = slice_index_or os p None
 
-above-lower : (j k : ℕ) (ns : List ℕ) → j ≤ k → Above k ns → Above j ns
-above-lower j k [] le h = tt
-above-lower j k (n ∷ ns) le h = (let from = h.0 in omega (arith, le, from), above-lower j k ns le h.1)
+abbrev pub table : {T : Type 0} → (T → TaskState) → List (Option T) → List TaskState
+table standing os = map standing (held_in os)
 
-rise-above : (k : ℕ) (ns : List ℕ) → RiseFrom k ns → Above k ns
-rise-above k [] h = tt
-rise-above k (n ∷ ns) h = (h.0, (let from = h.0 in above-lower k (n + 1) ns (omega (arith, from)) (rise-above (n + 1) ns h.1)))
-
--- PLACES BY THE NUMBERS OF PARTITIONS
-
-abbrev firsts : List Pair → List ℕ
+abbrev pub firsts : List Pair → List ℕ
 firsts set = map (λ (pair : Pair). pair.0) set
 
--- the places, the first of which is that of partition `k`, with this in the place of partition `p`
-abbrev put_at : {X : Type 0} → ℕ → ℕ → X → List X → List X
-put_at k p x [] = []
-put_at k p x (o ∷ os) = cond (nat_eq k p) (x ∷ os) (o ∷ put_at (k + 1) p x os)
+-- what is so of the task in a place, and of all, where one is put for which it is so, or none, or one place more is added
+at-place : {T : Type 0} (P : ℕ → T → Type 0) (k i p : ℕ) (os : List (Option T)) → k + i ≡ p → AreAtPlaces P k os → IfSome (at os i) (P p)
+at-place P k i p [] is h = tt
+at-place P k zero p (o ∷ os) is h = subst (λ n. IfSome o (P n)) (omega (arith, is)) h.0
+at-place P k (suc i) p (o ∷ os) is h = at-place P (k + 1) i p os (omega (arith, is)) h.1
 
-abbrev at : {T : Type 0} → ℕ → ℕ → List (Option T) → Option T
-at k p [] = None
-at k p (o ∷ os) = cond (nat_eq k p) o (at (k + 1) p os)
+at-set : {T : Type 0} (P : ℕ → T → Type 0) (k i p : ℕ) (x : Option T) (os : List (Option T)) → k + i ≡ p → IfSome x (P p) → AreAtPlaces P k os → AreAtPlaces P k (slice_set os i x)
+at-set P k i p x [] is here h = tt
+at-set P k zero p x (o ∷ os) is here h = (subst (λ n. IfSome x (P n)) (omega (arith, is)) here, h.1)
+at-set P k (suc i) p x (o ∷ os) is here h = (h.0, at-set P (k + 1) i p x os (omega (arith, is)) here h.1)
 
-put-is : {X : Type 0} (k i : ℕ) (x : X) (os : List X) → put_at k (k + i) x os ≡ slice_set os i x
-put-is k i x [] = refl
-put-is k zero x (o ∷ os) = ap (λ (b : Bool). cond b (x ∷ os) (o ∷ put_at (k + 1) (k + 0) x os)) (eq-eqb k (k + 0) (omega arith))
-put-is k (suc i) x (o ∷ os) =
-    let next : k + suc i ≡ (k + 1) + i = omega arith in
-    ap (λ (b : Bool). cond b (x ∷ os) (o ∷ put_at (k + 1) (k + suc i) x os)) (differ k (k + suc i) (omega arith))
-    ∙ ap (λ (rest : List _). o ∷ rest) (ap (λ (p : ℕ). put_at (k + 1) p x os) next ∙ put-is (k + 1) i x os)
+pub at-more : {T : Type 0} (P : ℕ → T → Type 0) (k n : ℕ) (os : List (Option T)) (o : Option T) → k + length os ≡ n → AreAtPlaces P k os → IfSome o (P n) → AreAtPlaces P k (os ++ o ∷ [])
+at-more P k n [] o is h here = (subst (λ m. IfSome o (P m)) (omega (arith, is)) here, tt)
+at-more P k n (x ∷ os) o is h here = (h.0, at-more P (k + 1) n os o (omega (arith, is)) h.1 here)
 
-at-is : {T : Type 0} (k i : ℕ) (os : List (Option T)) → at k (k + i) os ≡ slice_index_or os i None
-at-is k i [] = refl
-at-is k zero (o ∷ os) = ap (λ (b : Bool). cond b o (at (k + 1) (k + 0) os)) (eq-eqb k (k + 0) (omega arith))
-at-is k (suc i) (o ∷ os) =
-    let next : k + suc i ≡ (k + 1) + i = omega arith in
-    ap (λ (b : Bool). cond b o (at (k + 1) (k + suc i) os)) (differ k (k + suc i) (omega arith))
-    ∙ (ap (λ (p : ℕ). at (k + 1) p os) next ∙ at-is (k + 1) i os)
+-- all tasks that are held are so
+held-all : {T : Type 0} (standing : T → TaskState) (P : TaskState → Type 0) (k : ℕ) (os : List (Option T)) → AreAtPlaces (λ p t. P (standing t)) k os → AllByRecursion P (table standing os)
+held-all standing P k [] h = tt
+held-all standing P k (None ∷ os) h = held-all standing P (k + 1) os h.1
+held-all standing P k (Some t ∷ os) h = (h.0, held-all standing P (k + 1) os h.1)
 
-put-first : {X : Type 0} (p : ℕ) (x : X) (os : List X) → slice_set os p x ≡ put_at 0 p x os
-put-first p x os = sym (ap (λ (q : ℕ). put_at 0 q x os) (sym (zero-add p)) ∙ put-is 0 p x os)
+all-held : {T : Type 0} (standing : T → TaskState) (P : TaskState → Type 0) (k : ℕ) (os : List (Option T)) → AllByRecursion P (table standing os) → AreAtPlaces (λ p t. P (standing t)) k os
+all-held standing P k [] h = tt
+all-held standing P k (None ∷ os) h = (tt, all-held standing P (k + 1) os h)
+all-held standing P k (Some t ∷ os) h = (h.0, all-held standing P (k + 1) os h.1)
 
-at-first : {T : Type 0} (p : ℕ) (os : List (Option T)) → slice_index_or os p None ≡ at 0 p os
-at-first p os = sym (ap (λ (q : ℕ). at 0 q os) (sym (zero-add p)) ∙ at-is 0 p os)
+-- WHAT IS PUT ELSEWHERE DOESN'T COUNT
 
-put-later : {X : Type 0} (k p : ℕ) (x o : X) (os : List X) → k + 1 ≤ p → put_at k p x (o ∷ os) ≡ o ∷ put_at (k + 1) p x os
-put-later k p x o os le = ap (λ (b : Bool). cond b (x ∷ os) (o ∷ put_at (k + 1) p x os)) (differ k p (omega (arith, le)))
+module _ {T : Type 0} (p : ℕ) (x : Option T) where
+  emptied-put : (k : ℕ) (set : List Pair) (os : List (Option T)) → p < k → RiseFrom k (firsts set) → slice_set (emptied set os) p x ≡ emptied set (slice_set os p x)
+  emptied-put k [] os lt rise = refl
+  emptied-put k (pair ∷ set) os lt rise =
+      let le = rise.0 in
+      emptied-put (pair.0 + 1) set (slice_set os pair.0 None) (omega (arith, lt, le)) rise.1
+      ∙ ap (emptied set) (set_comm os pair.0 p None x (λ e. omega (arith, e, lt, le)))
 
-put-here : {X : Type 0} (k p : ℕ) (x o : X) (os : List X) → k ≡ p → put_at k p x (o ∷ os) ≡ x ∷ os
-put-here k p x o os e = ap (λ (b : Bool). cond b (x ∷ os) (o ∷ put_at (k + 1) p x os)) (eq-eqb k p e)
+  picked-put : (k : ℕ) (set : List Pair) (os : List (Option T)) → p < k → RiseFrom k (firsts set) → picked set (slice_set os p x) ≡ picked set os
+  picked-put k [] os lt rise = refl
+  picked-put k (pair ∷ set) os lt rise =
+      let le = rise.0 in
+      ap₂ cons_option (get_or-set_other os p pair.0 x None (λ e. omega (arith, e, lt, le)))
+      (ap (picked set) (set_comm os p pair.0 x None (λ e. omega (arith, e, lt, le))) ∙ picked-put (pair.0 + 1) set (slice_set os pair.0 None) (omega (arith, lt, le)) rise.1)
 
-at-later : {T : Type 0} (k p : ℕ) (o : Option T) (os : List (Option T)) → k + 1 ≤ p → at k p (o ∷ os) ≡ at (k + 1) p os
-at-later k p o os le = ap (λ (b : Bool). cond b o (at (k + 1) p os)) (differ k p (omega (arith, le)))
+-- A SET WITH A PAIR MORE
 
-at-here : {T : Type 0} (k p : ℕ) (o : Option T) (os : List (Option T)) → k ≡ p → at k p (o ∷ os) ≡ o
-at-here k p o os e = ap (λ (b : Bool). cond b o (at (k + 1) p os)) (eq-eqb k p e)
+has-none : (p k : ℕ) (set : List Pair) → p < k → RiseFrom k (firsts set) → has_partition set p ≡ false
+has-none p k [] lt rise = refl
+has-none p k (pair ∷ set) lt rise =
+    let le = rise.0 in
+    ap₂ ◌||◌ (differ-back pair.0 p (omega (arith, lt, le))) (has-none p (pair.0 + 1) set (omega (arith, lt, le)) rise.1)
 
--- TAKEN OUT, AND PUT BACK, FROM PARTITION k ON
+abbrev next : TaskState → TaskState
+next t = (attempt_of t).task
+
+map-cons : {T : Type 0} (standing : T → TaskState) (x : Option T) (ts : List T) → map standing (cons_option x ts) ≡ cons_option (option_map standing x) (map standing ts)
+map-cons standing None ts = refl
+map-cons standing (Some t) ts = refl
+
+module _ {T : Type 0} (standing : T → TaskState) (pair : Pair) (set : List Pair) where
+  -- what a task is taken or left as, where the pair's partition is its own, or isn't
+  abbrev takes : Bool → T → List TaskState → List TaskState
+  takes own t us = cond (own || has_partition set (standing t).partition) (standing t ∷ us) us
+
+  abbrev leaves : Bool → T → List TaskState → List TaskState
+  leaves own t us = cond (own || has_partition set (standing t).partition) (next (standing t)) (standing t) ∷ us
+
+  -- the pair's partition isn't among higher ones
+  record IsPast (ts : List TaskState) : Type 0 where
+    taken : tasks_in (pair ∷ set) ts ≡ tasks_in set ts
+    left : after_round (pair ∷ set) ts ≡ after_round set ts
+
+  past : (k : ℕ) (os : List (Option T)) → pair.0 < k → ArePlaced standing k os → IsPast (table standing os)
+  past k [] lt h = record { taken = refl; left = refl }
+  past k (None ∷ os) lt h = let rest = past (k + 1) os (omega (arith, lt)) h.1 in record { taken = rest.taken; left = rest.left }
+  past k (Some t ∷ os) lt h =
+      let is = h.0 in
+      let other = differ pair.0 (standing t).partition (omega (arith, lt, is)) in
+      let rest = past (k + 1) os (omega (arith, lt)) h.1 in
+      record { taken = ap₂ (λ (b : Bool). takes b t) other rest.taken; left = ap₂ (λ (b : Bool). leaves b t) other rest.left }
+
+  -- the set with the pair takes the task in the pair's place first, and then the set's; and it leaves what the set leaves of
+  -- the places with the attempt in the pair's
+  record IsMore (i : ℕ) (os : List (Option T)) : Type 0 where
+    taken : tasks_in (pair ∷ set) (table standing os) ≡ cons_option (option_map standing (at os i)) (tasks_in set (table standing (slice_set os i None)))
+    left : (x : Option T) → option_map standing x ≡ option_map next (option_map standing (at os i)) → after_round (pair ∷ set) (table standing os) ≡ after_round set (table standing (slice_set os i x))
+
+  more : (k i : ℕ) (os : List (Option T)) → k + i ≡ pair.0 → RiseFrom (pair.0 + 1) (firsts set) → ArePlaced standing k os → IsMore i os
+  more k i [] is rise h = record { taken = refl; left = λ x e. refl }
+  more k zero (None ∷ os) is rise h =
+      let rest = past (k + 1) os (omega (arith, is)) h.1 in
+      record { taken = rest.taken; left = λ x e. rest.left ∙ ap (after_round set) (sym (map-cons standing x (held_in os) ∙ ap (λ (o : Option TaskState). cons_option o (table standing os)) e)) }
+  more k zero (Some t ∷ os) is rise h =
+      let at_it = h.0 in
+      let rest = past (k + 1) os (omega (arith, is)) h.1 in
+      let own = eq-eqb pair.0 (standing t).partition (omega (arith, is, at_it)) in
+      let none = ap (has_partition set) (same-partition (standing t)) ∙ has-none (standing t).partition (pair.0 + 1) set (omega (arith, is, at_it)) rise in
+      record {
+        taken = ap₂ (λ (b : Bool). takes b t) own rest.taken;
+        left = λ x e. ap₂ (λ (b : Bool). leaves b t) own rest.left
+            ∙ ap (λ (b : Bool). cond b (next (next (standing t))) (next (standing t)) ∷ after_round set (table standing os)) (sym none)
+            ∙ ap (after_round set) (sym (map-cons standing x (held_in os) ∙ ap (λ (o : Option TaskState). cons_option o (table standing os)) e));
+      }
+  more k (suc i) (None ∷ os) is rise h =
+      let rest = more (k + 1) i os (omega (arith, is)) rise h.1 in record { taken = rest.taken; left = rest.left }
+  more k (suc i) (Some t ∷ os) is rise h =
+      let at_it = h.0 in
+      let rest = more (k + 1) i os (omega (arith, is)) rise h.1 in
+      let other = differ-back pair.0 (standing t).partition (omega (arith, is, at_it)) in
+      let none = has-none (standing t).partition (pair.0 + 1) set (omega (arith, is, at_it)) rise in
+      record {
+        taken = ap (λ (b : Bool). takes b t (tasks_in (pair ∷ set) (table standing os))) other
+            ∙ ap (λ (c : Bool). cond c (standing t ∷ tasks_in (pair ∷ set) (table standing os)) (tasks_in (pair ∷ set) (table standing os))) none
+            ∙ rest.taken
+            ∙ ap (λ (c : Bool). cons_option (option_map standing (at os i)) (cond c (standing t ∷ tasks_in set (table standing (slice_set os i None))) (tasks_in set (table standing (slice_set os i None))))) (sym none);
+        left = λ x e. ap₂ (λ (b : Bool). leaves b t) other (rest.left x e);
+      }
+
+-- A ROUND
+
+none-in : (ts : List TaskState) → tasks_in [] ts ≡ []
+none-in [] = refl
+none-in (t ∷ ts) = none-in ts
+
+all-stay : (ts : List TaskState) → after_round [] ts ≡ ts
+all-stay [] = refl
+all-stay (t ∷ ts) = ap (λ (us : List TaskState). t ∷ us) (all-stay ts)
+
+attempt_by : (o : Outcome) (t : TaskState) (e : AttemptEnd) → IsAttemptBy o t e → had_memory o ≡ true → e ≡ attempt_of t
+attempt_by (Committed delta) t e h m = h
+attempt_by (Rolled class) t e h m = h
+attempt_by (Failed class) t e h m = h
+attempt_by NoMemory t e h m = let never : ⊥ = cc in absurd never
 
 module _ {T : Type 0} (standing : T → TaskState) where
-  abbrev part : Done T → ℕ
-  part d = (standing d.task).partition
+  -- what is taken out are the set's tasks
+  pub taken-are : (k : ℕ) (set : List Pair) (os : List (Option T)) → RiseFrom k (firsts set) → ArePlaced standing 0 os → map standing (picked set os) ≡ tasks_in set (table standing os)
+  taken-are k [] os rise placed = sym (none-in (table standing os))
+  taken-are k (pair ∷ set) os rise placed =
+      map-cons standing (at os pair.0) (picked set (slice_set os pair.0 None))
+      ∙ ap (cons_option (option_map standing (at os pair.0))) (taken-are (pair.0 + 1) set (slice_set os pair.0 None) rise.1 (at-set _ 0 pair.0 pair.0 None os (zero-add pair.0) tt placed))
+      ∙ sym (more standing pair set 0 pair.0 os (zero-add pair.0) rise.1 placed).taken
 
-  abbrev parts : List (Done T) → List ℕ
-  parts ds = map part ds
+  attempted : (t : T) (d : Done T) → IsAttemptOf standing t d → had_memory d.outcome ≡ true → ending_of (standing d.task) d.outcome d.values.items d.again ≡ attempt_of (standing t)
+  attempted t d h m = attempt_by d.outcome (standing t) (ending_of (standing d.task) d.outcome d.values.items d.again) h.attempt m
 
-  abbrev emptied_from : ℕ → List Pair → List (Option T) → List (Option T)
-  emptied_from k [] os = os
-  emptied_from k (pair ∷ set) os = emptied_from k set (put_at k pair.0 None os)
+  endings-are : (us : List T) (ds : List (Done T)) → AreDonesOf standing us ds → AreWhole ds → endings_of standing ds ≡ map attempt_of (map standing us)
+  endings-are [] [] h m = refl
+  endings-are [] (d ∷ ds) h m = absurd h
+  endings-are (u ∷ us) [] h m = absurd h
+  endings-are (u ∷ us) (d ∷ ds) h m = ap₂ ◌∷◌ (attempted u d h.0 m.0) (endings-are us ds h.1 m.1)
 
-  abbrev picked_from : ℕ → List Pair → List (Option T) → List T
-  picked_from k [] os = []
-  picked_from k (pair ∷ set) os = cons_option (at k pair.0 os) (picked_from k set (put_at k pair.0 None os))
+  -- and what is put back are their attempts
+  abbrev AreLeft : List Pair → Type 0
+  AreLeft set =
+      (os : List (Option T)) (ds : List (Done T)) → ArePlaced standing 0 os → AreDonesOf standing (picked set os) ds → AreWhole ds
+      → table standing (filled standing ds (emptied set os)) ≡ after_round set (table standing os)
 
-  abbrev filled_from : ℕ → List (Done T) → List (Option T) → List (Option T)
-  filled_from k [] os = os
-  filled_from k (d ∷ ds) os = filled_from k ds (put_at k (part d) (Some d.task) os)
+  left-by : (pair : Pair) (set : List Pair) (os : List (Option T)) (o : Option T) (ds : List (Done T)) → RiseFrom (pair.0 + 1) (firsts set) → AreLeft set → ArePlaced standing 0 os → at os pair.0 ≡ o
+      → AreDonesOf standing (cons_option o (picked set (slice_set os pair.0 None))) ds → AreWhole ds
+      → table standing (filled standing ds (emptied set (slice_set os pair.0 None))) ≡ after_round (pair ∷ set) (table standing os)
+  left-by pair set os None ds rise again placed e h m =
+      again (slice_set os pair.0 None) ds (at-set _ 0 pair.0 pair.0 None os (zero-add pair.0) tt placed) h m
+      ∙ sym ((more standing pair set 0 pair.0 os (zero-add pair.0) rise placed).left None (ap (λ (o : Option T). option_map next (option_map standing o)) (sym e)))
+  left-by pair set os (Some t) [] rise again placed e h m = absurd h
+  left-by pair set os (Some t) (d ∷ ds) rise again placed e h m =
+      let now : List (Option T) = slice_set os pair.0 (Some d.task) in
+      let ended : standing d.task ≡ next (standing t) = ap (λ (a : AttemptEnd). a.task) (attempted t d h.0 m.0) in
+      let its : (standing t).partition ≡ pair.0 = subst (λ (o : Option T). IfSome o (λ (u : T). (standing u).partition ≡ pair.0)) e (at-place _ 0 pair.0 pair.0 os (zero-add pair.0) placed) in
+      let here : (standing d.task).partition ≡ pair.0 = ap (λ (u : TaskState). u.partition) ended ∙ same-partition (standing t) ∙ its in
+      let others : picked set (slice_set os pair.0 None) ≡ picked set now =
+      picked-put pair.0 None (pair.0 + 1) set os (omega arith) rise ∙ sym (picked-put pair.0 (Some d.task) (pair.0 + 1) set os (omega arith) rise) in
+      ap (λ (q : ℕ). table standing (filled standing ds (slice_set (emptied set (slice_set os pair.0 None)) q (Some d.task)))) here
+      ∙ ap (λ (xs : List (Option T)). table standing (filled standing ds xs))
+      (emptied-put pair.0 (Some d.task) (pair.0 + 1) set (slice_set os pair.0 None) (omega arith) rise ∙ ap (emptied set) (set-set os pair.0 None (Some d.task)))
+      ∙ again now ds (at-set _ 0 pair.0 pair.0 (Some d.task) os (zero-add pair.0) here placed) (subst (λ (us : List T). AreDonesOf standing us ds) others h.1) m.1
+      ∙ sym ((more standing pair set 0 pair.0 os (zero-add pair.0) rise placed).left (Some d.task) (ap Some ended ∙ ap (λ (o : Option T). option_map next (option_map standing o)) (sym e)))
 
-  emptied-is : (set : List Pair) (os : List (Option T)) → emptied set os ≡ emptied_from 0 set os
-  emptied-is [] os = refl
-  emptied-is (pair ∷ set) os = ap (emptied set) (put-first pair.0 None os) ∙ emptied-is set (put_at 0 pair.0 None os)
+  left-are : (k : ℕ) (set : List Pair) → RiseFrom k (firsts set) → AreLeft set
+  left-are k [] rise os [] placed h m = sym (all-stay (table standing os))
+  left-are k [] rise os (d ∷ ds) placed h m = absurd h
+  left-are k (pair ∷ set) rise os ds placed h m = left-by pair set os (at os pair.0) ds rise.1 (left-are (pair.0 + 1) set rise.1) placed refl h m
 
-  picked-is : (set : List Pair) (os : List (Option T)) → picked set os ≡ picked_from 0 set os
-  picked-is [] os = refl
-  picked-is (pair ∷ set) os =
-      ap₂ (λ (o : Option T) (ts : List T). cons_option o ts) (at-first pair.0 os)
-      (ap (picked set) (put-first pair.0 None os) ∙ picked-is set (put_at 0 pair.0 None os))
+  at-emptied : (P : ℕ → T → Type 0) (set : List Pair) (os : List (Option T)) → AreAtPlaces P 0 os → AreAtPlaces P 0 (emptied set os)
+  at-emptied P [] os h = h
+  at-emptied P (pair ∷ set) os h = at-emptied P set (slice_set os pair.0 None) (at-set P 0 pair.0 pair.0 None os (zero-add pair.0) tt h)
 
-  filled-is : (ds : List (Done T)) (os : List (Option T)) → filled standing ds os ≡ filled_from 0 ds os
-  filled-is [] os = refl
-  filled-is (d ∷ ds) os = ap (filled standing ds) (put-first (part d) (Some d.task) os) ∙ filled-is ds (put_at 0 (part d) (Some d.task) os)
+  at-filled : (P : ℕ → T → Type 0) (ds : List (Done T)) (os : List (Option T)) → AllByRecursion (λ (d : Done T). P (standing d.task).partition d.task) ds → AreAtPlaces P 0 os → AreAtPlaces P 0 (filled standing ds os)
+  at-filled P [] os all h = h
+  at-filled P (d ∷ ds) os all h =
+      let p = (standing d.task).partition in at-filled P ds (slice_set os p (Some d.task)) all.1 (at-set P 0 p p (Some d.task) os (zero-add p) all.0 h)
 
-  emptied-later : (k : ℕ) (o : Option T) (set : List Pair) (os : List (Option T)) → Above (k + 1) (firsts set) → emptied_from k set (o ∷ os) ≡ o ∷ emptied_from (k + 1) set os
-  emptied-later k o [] os h = refl
-  emptied-later k o (pair ∷ set) os h =
-      ap (emptied_from k set) (put-later k pair.0 None o os h.0) ∙ emptied-later k o set (put_at (k + 1) pair.0 None os) h.1
+  own-places : (ds : List (Done T)) → AllByRecursion (λ (d : Done T). (standing d.task).partition ≡ (standing d.task).partition) ds
+  own-places [] = tt
+  own-places (d ∷ ds) = (refl, own-places ds)
 
-  picked-later : (k : ℕ) (o : Option T) (set : List Pair) (os : List (Option T)) → Above (k + 1) (firsts set) → picked_from k set (o ∷ os) ≡ picked_from (k + 1) set os
-  picked-later k o [] os h = refl
-  picked-later k o (pair ∷ set) os h =
-      ap₂ (λ (p : Option T) (ts : List T). cons_option p ts) (at-later k pair.0 o os h.0)
-      (ap (picked_from k set) (put-later k pair.0 None o os h.0) ∙ picked-later k o set (put_at (k + 1) pair.0 None os) h.1)
+  are-ready : (us : List T) (ds : List (Done T)) → AreDonesOf standing us ds → AllByRecursion (λ (d : Done T). IsReady (standing d.task)) ds
+  are-ready [] [] h = tt
+  are-ready [] (d ∷ ds) h = absurd h
+  are-ready (u ∷ us) [] h = absurd h
+  are-ready (u ∷ us) (d ∷ ds) h = (h.0.ready, are-ready us ds h.1)
 
-  filled-later : (k : ℕ) (o : Option T) (ds : List (Done T)) (os : List (Option T)) → Above (k + 1) (parts ds) → filled_from k ds (o ∷ os) ≡ o ∷ filled_from (k + 1) ds os
-  filled-later k o [] os h = refl
-  filled-later k o (d ∷ ds) os h =
-      ap (filled_from k ds) (put-later k (part d) (Some d.task) o os h.0) ∙ filled-later k o ds (put_at (k + 1) (part d) (Some d.task) os) h.1
+-- these Dones, put back, are a round of the set
+pub record IsPutBack {T : Type 0} (standing : T → TaskState) (set : List Pair) (before : List (Option T)) (ds : List (Done T)) (after : List (Option T)) : Type 0 where
+  pub table_is : table standing after ≡ after_round set (table standing before)
+  pub placed : ArePlaced standing 0 after
+  pub ready : AreReady (table standing before) → AreReady (table standing after)
+  pub ends : endings_of standing ds ≡ attempts_in set (table standing before)
+  pub number : length ds ≡ length (attempts_in set (table standing before))
 
-  emptied-none : (k : ℕ) (set : List Pair) → emptied_from k set [] ≡ []
-  emptied-none k [] = refl
-  emptied-none k (pair ∷ set) = emptied-none k set
-
-  picked-none : (k : ℕ) (set : List Pair) → picked_from k set [] ≡ []
-  picked-none k [] = refl
-  picked-none k (pair ∷ set) = picked-none k set
-
-  -- the tasks rise with their places
-  placed-rise : (k : ℕ) (os : List (Option T)) → ArePlaced standing k os → RiseFrom k (partitions_of (map standing (held_in os)))
-  placed-rise k [] h = tt
-  placed-rise k (None ∷ os) h = rise-lower k (k + 1) (partitions_of (map standing (held_in os))) (omega arith) (placed-rise (k + 1) os h)
-  placed-rise k (Some t ∷ os) h =
-      (let e = h.0 in omega (arith, e), subst (λ (j : ℕ). RiseFrom (j + 1) (partitions_of (map standing (held_in os)))) (sym h.0) (placed-rise (k + 1) os h.1))
-
-  -- WHAT A SET HAS OF A PARTITION
-
-  has-none : (k : ℕ) (set : List Pair) → Above (k + 1) (firsts set) → has_partition set k ≡ false
-  has-none k [] h = refl
-  has-none k (pair ∷ set) h = ap₂ ◌||◌ (differ-back pair.0 k (let le = h.0 in omega (arith, le))) (has-none k set h.1)
-
-  has-here : (p : ℕ) (pair : Pair) (set : List Pair) → pair.0 ≡ p → has_partition (pair ∷ set) p ≡ true
-  has-here p pair set e = ap (λ (b : Bool). b || has_partition set p) (eq-eqb pair.0 p e)
-
-  taken-skip : (set : List Pair) (t : T) (ts : List T) → has_partition set (standing t).partition ≡ false → tasks_of_set standing set (t ∷ ts) ≡ tasks_of_set standing set ts
-  taken-skip set t ts e = ap (λ (b : Bool). cond b (t ∷ tasks_of_set standing set ts) (tasks_of_set standing set ts)) e
-
-  taken-keep : (set : List Pair) (t : T) (ts : List T) → has_partition set (standing t).partition ≡ true → tasks_of_set standing set (t ∷ ts) ≡ t ∷ tasks_of_set standing set ts
-  taken-keep set t ts e = ap (λ (b : Bool). cond b (t ∷ tasks_of_set standing set ts) (tasks_of_set standing set ts)) e
-
-  taken-none : (ts : List T) → tasks_of_set standing [] ts ≡ []
-  taken-none [] = refl
-  taken-none (t ∷ ts) = taken-none ts
-
-  after-none : (ts : List TaskState) → after_round [] ts ≡ ts
-  after-none [] = refl
-  after-none (t ∷ ts) = ap (λ (us : List TaskState). t ∷ us) (after-none ts)
-
-  -- a pair of a lower partition counts for nothing
-  taken-later : (pair : Pair) (set : List Pair) (ts : List T) → Above (pair.0 + 1) (partitions_of (map standing ts)) → tasks_of_set standing (pair ∷ set) ts ≡ tasks_of_set standing set ts
-  taken-later pair set [] h = refl
-  taken-later pair set (t ∷ ts) h =
-      ap₂ (λ (b : Bool) (rest : List T). cond (b || has_partition set (standing t).partition) (t ∷ rest) rest)
-      (differ pair.0 (standing t).partition (let le = h.0 in omega (arith, le))) (taken-later pair set ts h.1)
-
-  after-later : (pair : Pair) (set : List Pair) (ts : List TaskState) → Above (pair.0 + 1) (partitions_of ts) → after_round (pair ∷ set) ts ≡ after_round set ts
-  after-later pair set [] h = refl
-  after-later pair set (t ∷ ts) h =
-      ap₂ (λ (b : Bool) (rest : List TaskState). cond (b || has_partition set t.partition) (attempt_of t).task t ∷ rest)
-      (differ pair.0 t.partition (let le = h.0 in omega (arith, le))) (after-later pair set ts h.1)
-
-  -- THE WORKS
-
-  works-by : (b : Bool) (k : ℕ) (o : Option T) (os : List (Option T)) (pair : Pair) (set : List Pair) → nat_eq k pair.0 ≡ b
-      → RiseFrom k (firsts (pair ∷ set)) → ArePlaced standing k (o ∷ os)
-      → ((more : List Pair) → RiseFrom (k + 1) (firsts more) → ArePlaced standing (k + 1) os → picked_from (k + 1) more os ≡ tasks_of_set standing more (held_in os))
-      → picked_from k (pair ∷ set) (o ∷ os) ≡ tasks_of_set standing (pair ∷ set) (held_in (o ∷ os))
-  works-by true k None os pair set e rise placed more =
-      let is : k ≡ pair.0 = eqb-true k pair.0 e in
-      let up : RiseFrom (k + 1) (firsts set) = subst (λ (j : ℕ). RiseFrom (j + 1) (firsts set)) (sym is) rise.1 in
-      let high : Above (pair.0 + 1) (partitions_of (map standing (held_in os))) = subst (λ (j : ℕ). Above (j + 1) (partitions_of (map standing (held_in os)))) is (rise-above (k + 1) _ (placed-rise (k + 1) os placed)) in
-      ap₂ (λ (p : Option T) (xs : List (Option T)). cons_option p (picked_from k set xs)) (at-here k pair.0 None os is) (put-here k pair.0 None None os is)
-      ∙ (picked-later k None set os (rise-above (k + 1) (firsts set) up) ∙ (more set up placed ∙ sym (taken-later pair set (held_in os) high)))
-  works-by true k (Some t) os pair set e rise placed more =
-      let is : k ≡ pair.0 = eqb-true k pair.0 e in
-      let up : RiseFrom (k + 1) (firsts set) = subst (λ (j : ℕ). RiseFrom (j + 1) (firsts set)) (sym is) rise.1 in
-      let high : Above (pair.0 + 1) (partitions_of (map standing (held_in os))) = subst (λ (j : ℕ). Above (j + 1) (partitions_of (map standing (held_in os)))) is (rise-above (k + 1) _ (placed-rise (k + 1) os placed.1)) in
-      ap₂ (λ (p : Option T) (xs : List (Option T)). cons_option p (picked_from k set xs)) (at-here k pair.0 (Some t) os is) (put-here k pair.0 None (Some t) os is)
-      ∙ (ap (λ (ts : List T). t ∷ ts) (picked-later k None set os (rise-above (k + 1) (firsts set) up) ∙ (more set up placed.1 ∙ sym (taken-later pair set (held_in os) high)))
-      ∙ sym (taken-keep (pair ∷ set) t (held_in os) (has-here (standing t).partition pair set (sym is ∙ sym placed.0))))
-  works-by false k None os pair set e rise placed more =
-      let up : RiseFrom (k + 1) (firsts (pair ∷ set)) = (below-of k pair.0 e rise.0, rise.1) in
-      picked-later k None (pair ∷ set) os (rise-above (k + 1) (firsts (pair ∷ set)) up) ∙ more (pair ∷ set) up placed
-  works-by false k (Some t) os pair set e rise placed more =
-      let up : RiseFrom (k + 1) (firsts (pair ∷ set)) = (below-of k pair.0 e rise.0, rise.1) in
-      let none : has_partition (pair ∷ set) (standing t).partition ≡ false = ap (has_partition (pair ∷ set)) placed.0 ∙ has-none k (pair ∷ set) (rise-above (k + 1) (firsts (pair ∷ set)) up) in
-      picked-later k (Some t) (pair ∷ set) os (rise-above (k + 1) (firsts (pair ∷ set)) up)
-      ∙ (more (pair ∷ set) up placed.1 ∙ sym (taken-skip (pair ∷ set) t (held_in os) none))
-
-  works-are : (k : ℕ) (os : List (Option T)) (set : List Pair) → RiseFrom k (firsts set) → ArePlaced standing k os → picked_from k set os ≡ tasks_of_set standing set (held_in os)
-  works-are k [] set rise placed = picked-none k set
-  works-are k (o ∷ os) [] rise placed = sym (taken-none (held_in (o ∷ os)))
-  works-are k (o ∷ os) (pair ∷ set) rise placed =
-      works-by (nat_eq k pair.0) k o os pair set refl rise placed (λ more up p. works-are (k + 1) os more up p)
-
-  -- THE TABLE
-
-  -- the places after a round of the set
-  record IsRound (set : List Pair) (k : ℕ) (before after : List (Option T)) : Type 0 where
-    table : map standing (held_in after) ≡ after_round set (map standing (held_in before))
-    ready : AreReady (map standing (held_in before)) → AreReady (map standing (held_in after))
-    placed : ArePlaced standing k after
-
-  parts-are : (ts : List T) (ds : List (Done T)) → AreDonesOf standing ts ds → AreWhole ds → parts ds ≡ partitions_of (map standing ts)
-  parts-are [] [] h m = refl
-  parts-are [] (d ∷ ds) h m = absurd h
-  parts-are (t ∷ ts) [] h m = absurd h
-  parts-are (t ∷ ts) (d ∷ ds) h m =
-      ap₂ ◌∷◌ (ap (λ (e : AttemptEnd). e.task.partition) (attempted standing t d h.0 m.0) ∙ same-partition (standing t)) (parts-are ts ds h.1 m.1)
-
-  -- the parts of a round's Dones are as high as the places
-  parts-above : (k : ℕ) (set : List Pair) (os : List (Option T)) (ds : List (Done T)) → ArePlaced standing k os → AreDonesOf standing (tasks_of_set standing set (held_in os)) ds → AreWhole ds → Above k (parts ds)
-  parts-above k set os ds placed h m =
-      subst (λ (ns : List ℕ). Above k ns) (sym (parts-are (tasks_of_set standing set (held_in os)) ds h m))
-      (rise-above k _ (works-rise standing set k (held_in os) (placed-rise k os placed)))
-
-  round-none : (k : ℕ) (set : List Pair) (ds : List (Done T)) → AreDonesOf standing [] ds → IsRound set k [] (filled_from k ds [])
-  round-none k set [] h = record { table = refl; ready = λ r. r; placed = tt }
-  round-none k set (d ∷ ds) h = absurd h
-
-  round-some : (k : ℕ) (t : T) (set : List Pair) (ts : List T) (os before : List (Option T)) (all : List Pair) (ds : List (Done T))
-      → (standing t).partition ≡ k → has_partition all k ≡ true → after_round all (map standing (held_in before)) ≡ after_round set (map standing (held_in before))
-      → AreDonesOf standing (t ∷ ts) ds → AreWhole ds
-      → ((es : List (Done T)) → AreDonesOf standing ts es → AreWhole es → Above (k + 1) (parts es) × IsRound set (k + 1) before (filled_from (k + 1) es os))
-      → IsRound all k (Some t ∷ before) (filled_from k ds (None ∷ os))
-  round-some k t set ts os before all [] is has eq-eqb h m more = absurd h
-  round-some k t set ts os before all (d ∷ ds) is has same_after h m more =
-      let rest = more ds h.1 m.1 in
-      let ended = attempted standing t d h.0 m.0 in
-      let here : part d ≡ k = ap (λ (e : AttemptEnd). e.task.partition) ended ∙ (same-partition (standing t) ∙ is) in
-      let now : filled_from k (d ∷ ds) (None ∷ os) ≡ Some d.task ∷ filled_from (k + 1) ds os =
-      ap (filled_from k ds) (put-here k (part d) (Some d.task) None os (sym here)) ∙ filled-later k (Some d.task) ds os rest.0 in
-      subst (λ (xs : List (Option T)). IsRound all k (Some t ∷ before) xs) (sym now)
-      (record {
-        table = ap₂ ◌∷◌
-            (ap (λ (e : AttemptEnd). e.task) ended ∙ sym (ap (λ (b : Bool). cond b (attempt_of (standing t)).task (standing t)) (ap (has_partition all) is ∙ has)))
-            (rest.1.table ∙ sym same_after);
-        ready = λ r. (h.0.ready, rest.1.ready r.1);
-        placed = (here, rest.1.placed);
-      })
-
-  round-by : (b : Bool) (k : ℕ) (o : Option T) (os : List (Option T)) (pair : Pair) (set : List Pair) (ds : List (Done T)) → nat_eq k pair.0 ≡ b
-      → RiseFrom k (firsts (pair ∷ set)) → ArePlaced standing k (o ∷ os)
-      → AreDonesOf standing (tasks_of_set standing (pair ∷ set) (held_in (o ∷ os))) ds → AreWhole ds
-      → ((more : List Pair) (es : List (Done T)) → RiseFrom (k + 1) (firsts more) → ArePlaced standing (k + 1) os → AreDonesOf standing (tasks_of_set standing more (held_in os)) es → AreWhole es
-      → IsRound more (k + 1) os (filled_from (k + 1) es (emptied_from (k + 1) more os)))
-      → IsRound (pair ∷ set) k (o ∷ os) (filled_from k ds (emptied_from k (pair ∷ set) (o ∷ os)))
-  round-by true k None os pair set ds e rise placed h m more =
-      let is : k ≡ pair.0 = eqb-true k pair.0 e in
-      let up : RiseFrom (k + 1) (firsts set) = subst (λ (j : ℕ). RiseFrom (j + 1) (firsts set)) (sym is) rise.1 in
-      let high : Above (pair.0 + 1) (partitions_of (map standing (held_in os))) = subst (λ (j : ℕ). Above (j + 1) (partitions_of (map standing (held_in os)))) is (rise-above (k + 1) _ (placed-rise (k + 1) os placed)) in
-      let own : AreDonesOf standing (tasks_of_set standing set (held_in os)) ds = subst (λ (us : List T). AreDonesOf standing us ds) (taken-later pair set (held_in os) high) h in
-      let rest = more set ds up placed own m in
-      let now : filled_from k ds (emptied_from k (pair ∷ set) (None ∷ os)) ≡ None ∷ filled_from (k + 1) ds (emptied_from (k + 1) set os) =
-      ap (λ (xs : List (Option T)). filled_from k ds (emptied_from k set xs)) (put-here k pair.0 None None os is)
-      ∙ (ap (filled_from k ds) (emptied-later k None set os (rise-above (k + 1) (firsts set) up))
-      ∙ filled-later k None ds (emptied_from (k + 1) set os) (parts-above (k + 1) set os ds placed own m)) in
-      subst (λ (xs : List (Option T)). IsRound (pair ∷ set) k (None ∷ os) xs) (sym now)
-      (record { table = rest.table ∙ sym (after-later pair set (map standing (held_in os)) high); ready = rest.ready; placed = rest.placed })
-  round-by true k (Some t) os pair set ds e rise placed h m more =
-      let is : k ≡ pair.0 = eqb-true k pair.0 e in
-      let up : RiseFrom (k + 1) (firsts set) = subst (λ (j : ℕ). RiseFrom (j + 1) (firsts set)) (sym is) rise.1 in
-      let high : Above (pair.0 + 1) (partitions_of (map standing (held_in os))) = subst (λ (j : ℕ). Above (j + 1) (partitions_of (map standing (held_in os)))) is (rise-above (k + 1) _ (placed-rise (k + 1) os placed.1)) in
-      let own : AreDonesOf standing (t ∷ tasks_of_set standing set (held_in os)) ds = subst (λ (us : List T). AreDonesOf standing us ds) (taken-keep (pair ∷ set) t (held_in os) (has-here (standing t).partition pair set (sym is ∙ sym placed.0)) ∙ ap (λ (us : List T). t ∷ us) (taken-later pair set (held_in os) high)) h in
-      let now : filled_from k ds (emptied_from k (pair ∷ set) (Some t ∷ os)) ≡ filled_from k ds (None ∷ emptied_from (k + 1) set os) =
-      ap (λ (xs : List (Option T)). filled_from k ds (emptied_from k set xs)) (put-here k pair.0 None (Some t) os is)
-      ∙ ap (filled_from k ds) (emptied-later k None set os (rise-above (k + 1) (firsts set) up)) in
-      subst (λ (xs : List (Option T)). IsRound (pair ∷ set) k (Some t ∷ os) xs) (sym now)
-      (round-some k t set (tasks_of_set standing set (held_in os)) (emptied_from (k + 1) set os) os (pair ∷ set) ds placed.0 (has-here k pair set (sym is)) (after-later pair set (map standing (held_in os)) high) own m
-      (λ es h2 m2. (parts-above (k + 1) set os es placed.1 h2 m2, more set es up placed.1 h2 m2)))
-  round-by false k None os pair set ds e rise placed h m more =
-      let up : RiseFrom (k + 1) (firsts (pair ∷ set)) = (below-of k pair.0 e rise.0, rise.1) in
-      let rest = more (pair ∷ set) ds up placed h m in
-      let now : filled_from k ds (emptied_from k (pair ∷ set) (None ∷ os)) ≡ None ∷ filled_from (k + 1) ds (emptied_from (k + 1) (pair ∷ set) os) =
-      ap (filled_from k ds) (emptied-later k None (pair ∷ set) os (rise-above (k + 1) (firsts (pair ∷ set)) up))
-      ∙ filled-later k None ds (emptied_from (k + 1) (pair ∷ set) os) (parts-above (k + 1) (pair ∷ set) os ds placed h m) in
-      subst (λ (xs : List (Option T)). IsRound (pair ∷ set) k (None ∷ os) xs) (sym now)
-      (record { table = rest.table; ready = rest.ready; placed = rest.placed })
-  round-by false k (Some t) os pair set ds e rise placed h m more =
-      let up : RiseFrom (k + 1) (firsts (pair ∷ set)) = (below-of k pair.0 e rise.0, rise.1) in
-      let none : has_partition (pair ∷ set) (standing t).partition ≡ false = ap (has_partition (pair ∷ set)) placed.0 ∙ has-none k (pair ∷ set) (rise-above (k + 1) (firsts (pair ∷ set)) up) in
-      let own : AreDonesOf standing (tasks_of_set standing (pair ∷ set) (held_in os)) ds = subst (λ (us : List T). AreDonesOf standing us ds) (taken-skip (pair ∷ set) t (held_in os) none) h in
-      let rest = more (pair ∷ set) ds up placed.1 own m in
-      let now : filled_from k ds (emptied_from k (pair ∷ set) (Some t ∷ os)) ≡ Some t ∷ filled_from (k + 1) ds (emptied_from (k + 1) (pair ∷ set) os) =
-      ap (filled_from k ds) (emptied-later k (Some t) (pair ∷ set) os (rise-above (k + 1) (firsts (pair ∷ set)) up))
-      ∙ filled-later k (Some t) ds (emptied_from (k + 1) (pair ∷ set) os) (parts-above (k + 1) (pair ∷ set) os ds placed.1 own m) in
-      subst (λ (xs : List (Option T)). IsRound (pair ∷ set) k (Some t ∷ os) xs) (sym now)
-      (record {
-        table = ap₂ ◌∷◌ (sym (ap (λ (b : Bool). cond b (attempt_of (standing t)).task (standing t)) none)) rest.table;
-        ready = λ r. (r.0, rest.ready r.1);
-        placed = (placed.0, rest.placed);
-      })
-
-  round-is : (k : ℕ) (os : List (Option T)) (set : List Pair) (ds : List (Done T)) → RiseFrom k (firsts set) → ArePlaced standing k os
-      → AreDonesOf standing (tasks_of_set standing set (held_in os)) ds → AreWhole ds → IsRound set k os (filled_from k ds (emptied_from k set os))
-  round-is k [] set ds rise placed h m = subst (λ (xs : List (Option T)). IsRound set k [] (filled_from k ds xs)) (sym (emptied-none k set)) (round-none k set ds h)
-  round-is k (o ∷ os) [] ds rise placed h m = quiet ds (subst (λ (us : List T). AreDonesOf standing us ds) (taken-none (held_in (o ∷ os))) h)
-    where
-      quiet : (es : List (Done T)) → AreDonesOf standing [] es → IsRound [] k (o ∷ os) (filled_from k es (o ∷ os))
-      quiet [] own = record { table = sym (after-none (map standing (held_in (o ∷ os)))); ready = λ r. r; placed = placed }
-      quiet (d ∷ es) own = absurd own
-  round-is k (o ∷ os) (pair ∷ set) ds rise placed h m =
-      round-by (nat_eq k pair.0) k o os pair set ds refl rise placed h m (λ more es up p own w. round-is (k + 1) os more es up p own w)
-
-  the-round : (os : List (Option T)) (set : List Pair) (ds : List (Done T)) → RiseFrom 0 (firsts set) → ArePlaced standing 0 os
-      → AreDonesOf standing (tasks_of_set standing set (held_in os)) ds → AreWhole ds → IsRound set 0 os (filled standing ds (emptied set os))
-  the-round os set ds rise placed h m =
-      subst (λ (xs : List (Option T)). IsRound set 0 os xs) (sym (ap (filled standing ds) (emptied-is set os) ∙ filled-is ds (emptied_from 0 set os))) (round-is 0 os set ds rise placed h m)
-
--- WHAT IS USED
-
-firsts-are : (slots : List Slot) → map (λ (pair : Pair). pair.0) (map slot_pair slots) ≡ map (λ (slot : Slot). slot.partition) slots
-firsts-are [] = refl
-firsts-are (slot ∷ slots) = ap (λ (ns : List ℕ). slot.partition ∷ ns) (firsts-are slots)
+pub put-back : {T : Type 0} (standing : T → TaskState) (set : List Pair) (os : List (Option T)) (ds : List (Done T)) → RiseFrom 0 (firsts set) → ArePlaced standing 0 os
+    → AreDonesOf standing (picked set os) ds → AreWhole ds → IsPutBack standing set os ds (filled standing ds (emptied set os))
+put-back standing set os ds rise placed h m =
+    let ends = endings-are standing (picked set os) ds h m ∙ ap (map attempt_of) (taken-are standing 0 set os rise placed) in
+    record {
+      table_is = left-are standing 0 set rise os ds placed h m;
+      placed = at-filled standing _ ds (emptied set os) (own-places standing ds) (at-emptied standing _ set os placed);
+      ready = λ r. held-all standing IsReady 0 _ (at-filled standing _ ds (emptied set os) (are-ready standing (picked set os) ds h) (at-emptied standing _ set os (all-held standing IsReady 0 os r)));
+      ends = ends;
+      number = sym (length-map ds (λ (d : Done _). ending_of (standing d.task) d.outcome d.values.items d.again)) ∙ ap length ends;
+    }
 
 -- slots that come by rising partition, as pairs
-pub in-turn : (slots : List Slot) → RiseFrom 0 (map (λ (slot : Slot). slot.partition) slots) → RiseFrom 0 (map (λ (pair : Pair). pair.0) (map slot_pair slots))
-in-turn slots rise = subst (λ (ns : List ℕ). RiseFrom 0 ns) (sym (firsts-are slots)) rise
-
--- the works are the set's tasks
-pub picked-taken : {T : Type 0} (standing : T → TaskState) (set : List Pair) (os : List (Option T)) → RiseFrom 0 (map (λ (pair : Pair). pair.0) set) → ArePlaced standing 0 os → picked set os ≡ tasks_of_set standing set (held_in os)
-picked-taken standing set os rise placed = picked-is standing set os ∙ works-are standing 0 os set rise placed
-
--- the tasks after the round stand in the table after it
-pub filled-table : {T : Type 0} (standing : T → TaskState) (set : List Pair) (os : List (Option T)) (ds : List (Done T)) → RiseFrom 0 (map (λ (pair : Pair). pair.0) set) → ArePlaced standing 0 os
-    → AreDonesOf standing (tasks_of_set standing set (held_in os)) ds → AreWhole ds → map standing (held_in (filled standing ds (emptied set os))) ≡ after_round set (map standing (held_in os))
-filled-table standing set os ds rise placed h m = (the-round standing os set ds rise placed h m).table
-
-pub filled-ready : {T : Type 0} (standing : T → TaskState) (set : List Pair) (os : List (Option T)) (ds : List (Done T)) → RiseFrom 0 (map (λ (pair : Pair). pair.0) set) → ArePlaced standing 0 os
-    → AreDonesOf standing (tasks_of_set standing set (held_in os)) ds → AreWhole ds → AreReady (map standing (held_in os)) → AreReady (map standing (held_in (filled standing ds (emptied set os))))
-filled-ready standing set os ds rise placed h m r = (the-round standing os set ds rise placed h m).ready r
-
-pub filled-placed : {T : Type 0} (standing : T → TaskState) (set : List Pair) (os : List (Option T)) (ds : List (Done T)) → RiseFrom 0 (map (λ (pair : Pair). pair.0) set) → ArePlaced standing 0 os
-    → AreDonesOf standing (tasks_of_set standing set (held_in os)) ds → AreWhole ds → ArePlaced standing 0 (filled standing ds (emptied set os))
-filled-placed standing set os ds rise placed h m = (the-round standing os set ds rise placed h m).placed
-
--- ONE MORE PLACE
-
-pub held-more : {T : Type 0} (os : List (Option T)) (o : Option T) → held_in (os ++ o ∷ []) ≡ held_in os ++ held_in (o ∷ [])
-held-more [] o = refl
-held-more (None ∷ os) o = held-more os o
-held-more (Some t ∷ os) o = ap (λ ts. t ∷ ts) (held-more os o)
-
-pub placed-more : {T : Type 0} (standing : T → TaskState) (k : ℕ) (os : List (Option T)) (o : Option T) → ArePlaced standing k os → ArePlaced standing (k + length os) (o ∷ []) → ArePlaced standing k (os ++ o ∷ [])
-placed-more standing k [] o h here = subst (λ (j : ℕ). ArePlaced standing j (o ∷ [])) (omega arith) here
-placed-more standing k (None ∷ os) o h here =
-    let at_next : k + length (None ∷ os) ≡ (k + 1) + length os = omega arith in
-    placed-more standing (k + 1) os o h (subst (λ (j : ℕ). ArePlaced standing j (o ∷ [])) at_next here)
-placed-more standing k (Some t ∷ os) o h here =
-    let at_next : k + length (Some t ∷ os) ≡ (k + 1) + length os = omega arith in
-    (h.0, placed-more standing (k + 1) os o h.1 (subst (λ (j : ℕ). ArePlaced standing j (o ∷ [])) at_next here))
+pub in-turn : (slots : List Slot) → RiseFrom 0 (map (λ (slot : Slot). slot.partition) slots) → RiseFrom 0 (firsts (map slot_pair slots))
+in-turn slots rise = subst (λ (ns : List ℕ). RiseFrom 0 ns) (sym (map-map _ slot_pair slots)) rise
 
 -- THE ROW OF A PARTITION
 
@@ -388,48 +267,23 @@ abbrev pub row_in : {T : Type 0} → (T → TaskState) → Option T → Row → 
 row_in standing None row = row
 row_in standing (Some t) row = (standing t).row
 
-row-above : (us : List TaskState) (p : ℕ) (row : Row) → Above (p + 1) (partitions_of us) → row_now us p row ≡ row
-row-above [] p row h = refl
-row-above (u ∷ us) p row h = ap (λ (b : Bool). cond b u.row (row_now us p row)) (differ-back u.partition p (let le = h.0 in omega (arith, le))) ∙ row-above us p row h.1
+module _ {T : Type 0} (standing : T → TaskState) (row : Row) (p : ℕ) where
+  row-past : (k : ℕ) (os : List (Option T)) → p < k → ArePlaced standing k os → row_now (table standing os) p row ≡ row
+  row-past k [] lt h = refl
+  row-past k (None ∷ os) lt h = row-past (k + 1) os (omega (arith, lt)) h.1
+  row-past k (Some t ∷ os) lt h =
+      let is = h.0 in
+      ap (λ (b : Bool). cond b (standing t).row (row_now (table standing os) p row)) (differ-back (standing t).partition p (omega (arith, lt, is)))
+      ∙ row-past (k + 1) os (omega (arith, lt)) h.1
 
-row-from : {T : Type 0} (standing : T → TaskState) (k i : ℕ) (os : List (Option T)) (row : Row) → ArePlaced standing k os → row_now (map standing (held_in os)) (k + i) row ≡ row_in standing (slice_index_or os i None) row
-row-from standing k i [] row h = refl
-row-from standing k zero (None ∷ os) row h =
-    row-above (map standing (held_in os)) (k + 0) row (above-lower ((k + 0) + 1) (k + 1) _ (omega arith) (rise-above (k + 1) _ (placed-rise standing (k + 1) os h)))
-row-from standing k (suc i) (None ∷ os) row h =
-    let next : k + suc i ≡ (k + 1) + i = omega arith in
-    ap (λ (p : ℕ). row_now (map standing (held_in os)) p row) next ∙ row-from standing (k + 1) i os row h
-row-from standing k zero (Some t ∷ os) row h =
-    let is = h.0 in
-    ap (λ (b : Bool). cond b (standing t).row (row_now (map standing (held_in os)) (k + 0) row)) (eq-eqb (standing t).partition (k + 0) (omega (arith, is)))
-row-from standing k (suc i) (Some t ∷ os) row h =
-    let is = h.0 in
-    let next : k + suc i ≡ (k + 1) + i = omega arith in
-    ap (λ (b : Bool). cond b (standing t).row (row_now (map standing (held_in os)) (k + suc i) row)) (differ (standing t).partition (k + suc i) (omega (arith, is)))
-    ∙ (ap (λ (p : ℕ). row_now (map standing (held_in os)) p row) next ∙ row-from standing (k + 1) i os row h.1)
-
-pub row-at : {T : Type 0} (standing : T → TaskState) (p : ℕ) (os : List (Option T)) (row : Row) → ArePlaced standing 0 os → row_now (map standing (held_in os)) p row ≡ row_in standing (slice_index_or os p None) row
-row-at standing p os row h = ap (λ (q : ℕ). row_now (map standing (held_in os)) q row) (sym (zero-add p)) ∙ row-from standing 0 p os row h
-
--- ROW BY ROW
-
--- the artifacts for the rows from the i-th on are for that row and those behind it
-pub fit-at : (rows : List Row) (i : ℕ) (d : Row) (len : ℕ) (works : List ArtifactsMeaning) → i < length rows → len ≡ i → FitRows (unfinished_from i (drop i rows)) works → (rest : List Row) × FitRows (unfinished_from len (get_or rows i d ∷ rest)) works
-fit-at rows i d len works lt e h = (
-  drop (i + 1) rows,
-  subst (λ (k : ℕ). FitRows (unfinished_from k (get_or rows i d ∷ drop (i + 1) rows)) works) (sym e)
-      (subst (λ (rs : List Row). FitRows (unfinished_from i rs) works) (drop_more rows i d lt) h),
-)
-
-pub begun-at : (rows : List Row) (i : ℕ) (d : Row) → i < length rows → AreBegun rows → IsBegun (get_or rows i d)
-begun-at [] i d lt h = absurd (omega (arith, lt))
-begun-at (row ∷ rows) zero d lt h = h.0
-begun-at (row ∷ rows) (suc i) d lt h = begun-at rows i d (omega (arith, lt)) h.1
-
--- a partition's row is sound now
-pub now-sound-at : (s : Setup) (ts : List TaskState) (rows : List Row) (i : ℕ) (d row : Row) → i < length rows → AreBegun rows → AreTasksOf s ts → row ≡ row_now ts i (get_or rows i d) → IsSoundRow row
-now-sound-at s ts rows i d row lt begun tasks is = subst IsSoundRow (sym is) (now-sound s ts i (get_or rows i d) tasks (begun-at rows i d lt begun).sound)
-
--- past the last row there are no more tasks
-pub all-started : (s : Setup) (ts all : List TaskState) (rows : List Row) (i : ℕ) (works : List ArtifactsMeaning) → length rows ≤ i → ts ++ tasks_from s i (drop i rows) works ≡ all → ts ≡ all
-all-started s ts all rows i works le e = sym (append-nil ts) ∙ (sym (at_drop_all (λ (rs : List Row). ts ++ tasks_from s i rs works) rows i le) ∙ e)
+  pub row-at : (k i : ℕ) (os : List (Option T)) → k + i ≡ p → ArePlaced standing k os → row_now (table standing os) p row ≡ row_in standing (at os i) row
+  row-at k i [] is h = refl
+  row-at k zero (None ∷ os) is h = row-past (k + 1) os (omega (arith, is)) h.1
+  row-at k (suc i) (None ∷ os) is h = row-at (k + 1) i os (omega (arith, is)) h.1
+  row-at k zero (Some t ∷ os) is h =
+      let here = h.0 in
+      ap (λ (b : Bool). cond b (standing t).row (row_now (table standing os) p row)) (eq-eqb (standing t).partition p (omega (arith, is, here)))
+  row-at k (suc i) (Some t ∷ os) is h =
+      let here = h.0 in
+      ap (λ (b : Bool). cond b (standing t).row (row_now (table standing os) p row)) (differ (standing t).partition p (omega (arith, is, here)))
+      ∙ row-at (k + 1) i os (omega (arith, is)) h.1

@@ -1,7 +1,8 @@
 -- The wrap-around, as sets of chunks.
-use Rattle.std.proofs.Common.{◌≡◌, ℕ, ◌≤◌, List, [], ◌∷◌, map, refl, ap, sym, subst}
+use Rattle.std.proofs.Common.{ℕ, ◌≤◌, List, map, sym, subst}
 use Rattle.std.specs.List.{range_with_len}
 use Rattle.std.proofs.lemmas.List.{length-map}
+use Rattle.std.proofs.lemmas.Simd.{map-map}
 use Rattle.jb_cert.specs.Laws.{WrapAroundIsLeast}
 use Rattle.jb_cert.specs.Lawful.{IsLeast, NoneIsShorter}
 use Rattle.jb_cert.specs.Load.{Load, mcnaughton}
@@ -19,10 +20,6 @@ least-sets counts threads rounds stands = record {
 
 pub least-wrapped : WrapAroundIsLeast → (counts : List ℕ) (threads : ℕ) → 1 ≤ threads → IsLeast counts threads (sets_of (wrapped_rounds counts threads))
 least-wrapped law counts threads some = least-sets counts threads (wrapped_rounds counts threads) (law counts threads some)
-
-map-map : {X Y Z : Type 0} (g : Y → Z) (f : X → Y) (xs : List X) → map g (map f xs) ≡ map (λ x. g (f x)) xs
-map-map g f [] = refl
-map-map g f (x ∷ xs) = ap (λ ys. g (f x) ∷ ys) (map-map g f xs)
 
 -- the sets of the load's rounds are those of the wrap-around, and so a least plan
 pub least-planned : WrapAroundIsLeast → (load : Load) → 1 ≤ load.threads → IsLeast load.counts load.threads (planned_sets load)

@@ -1,8 +1,9 @@
 -- Runs of a step, each begun from what the one before it left.
 use Rattle.std.proofs.Common.{◌≡◌, ◌≢◌, ℕ, suc, zero, ◌+◌, ◌<◌, Bool, true, false, not, cond, List, [], ◌∷◌, length, map, Option, Some, Result, Ok, refl, ap, ap₂, sym, ◌∙◌, subst, arith}
-use Rattle.std.specs.Prelude.{slice_get, filter, slice_index_or, nat_eq}
+use Rattle.std.specs.Prelude.{filter, slice_index_or, nat_eq}
 use Rattle.std.specs.List.{enumerate_from, zip, AllByRecursion}
 use Rattle.std.proofs.lemmas.Bool.Decides.{nat_tests}
+use Rattle.std.proofs.lemmas.Simd.{map-map}
 use Rattle.jb_base.proofs.Pairwise.{pairwise-join}
 use Rattle.jb_base.specs.Rules.{RulesRecord}
 use Rattle.jb_job.specs.Records.{StepRecord}
@@ -25,16 +26,17 @@ use Rattle.jb_saved.specs.Reading.{answer_of}
 use Rattle.jb_saved.specs.SavedRows.{SavedRows}
 use Rattle.jb_saved.specs.declared.place.SavedPlace.{SavedPlace}
 use Rattle.jb_step.specs.Answers.{StepRun, tasks_after, tasks_before, tasks_left}
-use Rattle.jb_step.specs.Prepare.{FitRows}
-use Rattle.jb_step.specs.Restarts.{IsPreparedFor, IsRestart, AreRestarts, RestartsFit, RestartsAreOnTheWay, RestartsEndAlone, RestartsEndAsUnstopped}
-use Rattle.jb_step.specs.Rounds.{after_rounds}
-use Rattle.jb_step.specs.Runs.{rounds_of}
-use Rattle.jb_step.specs.Setup.{Setup, IsSetup, first_tasks, gone_on, needs, opening_rows, row_now, rows_now, unfinished}
-use Rattle.jb_step.specs.StepRuns.{IsAnswered, works_restarted, newest, all_newer, artifacts_left, tasks_at_last, StandOnTheWay, StandAtTheEnd}
+use Rattle.jb_step.specs.preparing.Prepare.{FitRows}
+use Rattle.jb_step.specs.restarts.Restarts.{IsPreparedFor, IsRestart, AreRestarts, RestartsFit, RestartsAreOnTheWay, RestartsEndAlone, RestartsEndAsUnstopped}
+use Rattle.jb_step.specs.rounds.Rounds.{after_round, after_rounds}
+use Rattle.jb_step.specs.rounds.Runs.{rounds_of}
+use Rattle.jb_step.specs.preparing.Setup.{Setup, IsSetup, first_tasks, gone_on, needs, opening_rows, row_now, rows_now, unfinished}
+use Rattle.jb_step.specs.restarts.StepRuns.{IsAnswered, works_restarted, newest, all_newer, artifacts_left, tasks_at_last, StandOnTheWay, StandAtTheEnd}
 use Rattle.jb_step.specs.Alone.{AreAlone, AreOnTheWay, AreReady, have_ended}
 use Rattle.jb_step.specs.inside.Round.{partitions_of}
 use Rattle.jb_step.proofs.Filling.{is_unfinished, open_tasks, works_in, filled, filled-all, fill, row-none}
-use Rattle.jb_step.proofs.Holding.{begins_with_table, is_open, partitions_stay}
+use Rattle.jb_step.proofs.Filters.{all-back, filter-all, filter-map, map-stays}
+use Rattle.jb_step.proofs.Holding.{all-unfinished, begins_with_table, is_open, partitions_stay}
 use Rattle.jb_step.proofs.Leading.{steps_are_on_the_way, alone-all, alone_is_one_place}
 use Rattle.jb_step.proofs.Leftover.{HaveRules, HaveCounts, AreBelow, no_row, all-again, below-named, needs-in, rows-are}
 use Rattle.jb_step.proofs.Turning.{ready-of, rise-needs}
@@ -51,7 +53,7 @@ pub record GivesTable (r : StepRun) : Type 0 where
 
 rounds-stay : (rounds : List (List Pair)) (ts : List TaskState) → partitions_of (after_rounds rounds ts) ≡ partitions_of ts
 rounds-stay [] ts = refl
-rounds-stay (set ∷ older) ts = partitions_stay set (after_rounds older ts) ∙ rounds-stay older ts
+rounds-stay (set ∷ later) ts = rounds-stay later (after_round set ts) ∙ partitions_stay set ts
 
 pub gives-table : (r : StepRun) → IsSetup r.setup → IsAnswered r → GivesTable r
 gives-table r setup a =
@@ -133,15 +135,9 @@ task_of s rows a = record { partition = a.0; row = slice_index_or rows a.0 no_ro
 abbrev is_again : List Row → ℕ × ArtifactsMeaning → Bool
 is_again rows a = not (is_finished (slice_index_or rows a.0 no_row).state)
 
-again-one : (b : Bool) (s : Setup) (rows : List Row) (a : ℕ × ArtifactsMeaning) (xs : List (ℕ × ArtifactsMeaning)) (ts : List TaskState) → map (λ (x : ℕ × ArtifactsMeaning). x.1) xs ≡ map (λ (t : TaskState). t.work) ts
-    → map (λ (x : ℕ × ArtifactsMeaning). x.1) (cond b (a ∷ xs) xs) ≡ map (λ (t : TaskState). t.work) (cond b (task_of s rows a ∷ ts) ts)
-again-one true s rows a xs ts e = ap (λ (ws : List ArtifactsMeaning). a.1 ∷ ws) e
-again-one false s rows a xs ts e = e
-
 again-works : (s : Setup) (rows : List Row) (left : List (ℕ × ArtifactsMeaning)) → map (λ (x : ℕ × ArtifactsMeaning). x.1) (filter (is_again rows) left) ≡ map (λ (t : TaskState). t.work) (open_tasks (map (task_of s rows) left))
-again-works s rows [] = refl
-again-works s rows (a ∷ left) =
-    again-one (is_again rows a) s rows a (filter (is_again rows) left) (open_tasks (map (task_of s rows) left)) (again-works s rows left)
+again-works s rows left =
+    sym (ap (map (λ (t : TaskState). t.work)) (filter-map is_unfinished (is_again rows) (task_of s rows) (λ a. refl) left) ∙ map-map (λ (t : TaskState). t.work) (task_of s rows) (filter (is_again rows) left))
 
 -- begun again from its row
 abbrev begun_again : Setup → TaskState → TaskState
@@ -184,13 +180,9 @@ works-back : (s : Setup) (rows : List Row) (left : List (ℕ × ArtifactsMeaning
 works-back s rows [] = refl
 works-back s rows (a ∷ left) = ap (λ (xs : List (ℕ × ArtifactsMeaning)). a ∷ xs) (works-back s rows left)
 
-rules-back : (s : Setup) (rules : RulesRecord) (rows : List Row) (left : List (ℕ × ArtifactsMeaning)) → s.rules ≡ rules → AllByRecursion (λ (t : TaskState). t.rules ≡ rules) (map (task_of s rows) left)
-rules-back s rules rows [] e = tt
-rules-back s rules rows (a ∷ left) e = (e, rules-back s rules rows left e)
-
-counts-back : (s : Setup) (count : ℕ) (rows : List Row) (left : List (ℕ × ArtifactsMeaning)) → s.item_count ≡ count → AllByRecursion (λ (t : TaskState). t.item_count ≡ count) (map (task_of s rows) left)
-counts-back s count rows [] e = tt
-counts-back s count rows (a ∷ left) e = (e, counts-back s count rows left e)
+each-back : (P : TaskState → Type 0) (s : Setup) (rows : List Row) (left : List (ℕ × ArtifactsMeaning)) → ((a : ℕ × ArtifactsMeaning) → P (task_of s rows a)) → AllByRecursion P (map (task_of s rows) left)
+each-back P s rows [] each = tt
+each-back P s rows (a ∷ left) each = (each a, each-back P s rows left each)
 
 pub left-by-one : (first : StepRun) → GivesTable first → IsLeftBy first first first.left (tasks_after first)
 left-by-one first g = record {
@@ -199,30 +191,21 @@ left-by-one first g = record {
   rows = g.rows;
   open_ = refl;
   left_is = sym (works-back first.setup first.snapshot.rows.items first.left);
-  rules = rules-back first.setup first.setup.rules first.snapshot.rows.items first.left refl;
-  counts = counts-back first.setup first.setup.item_count first.snapshot.rows.items first.left refl;
+  rules = each-back (λ t. t.rules ≡ first.setup.rules) first.setup first.snapshot.rows.items first.left (λ a. refl);
+  counts = each-back (λ t. t.item_count ≡ first.setup.item_count) first.setup first.snapshot.rows.items first.left (λ a. refl);
   ended = λ e. e;
 }
 
 -- tasks on their way are at their checkpoints: taken up again they are where they were
-same-one : (b : Bool) (s : Setup) (t : TaskState) (ts : List TaskState) → begun_again s t ≡ t → map (begun_again s) ts ≡ ts → map (begun_again s) (cond b (t ∷ ts) ts) ≡ cond b (t ∷ ts) ts
-same-one true s t ts here rest = ap₂ (λ (u : TaskState) (us : List TaskState). u ∷ us) here rest
-same-one false s t ts here rest = rest
-
 same-places : SamePlace → (s : Setup) (ts us : List TaskState) → AreReady ts → AreOnTheWay ts us → AllByRecursion (λ (u : TaskState). u.rules ≡ s.rules) us → AllByRecursion (λ (u : TaskState). u.item_count ≡ s.item_count) us
-    → map (begun_again s) (open_tasks us) ≡ open_tasks us
-same-places law s [] [] ready way rules counts = refl
+    → AllByRecursion (λ u. begun_again s u ≡ u) us
+same-places law s [] [] ready way rules counts = tt
 same-places law s [] (u ∷ us) ready way rules counts = absurd way
 same-places law s (t ∷ ts) [] ready way rules counts = absurd way
 same-places law s (t ∷ ts) (u ∷ us) ready way rules counts =
-    let place = law t u ready.0 way.0 in
     let rule = rules.0 in
     let count = counts.0 in
-    let here : begun_again s u ≡ u = (λ i. started u.partition u.row (sym rule i) (sym count i) u.work) ∙ place in
-    same-one (is_unfinished u) s u (open_tasks us) here (same-places law s ts us ready.1 way.1 rules.1 counts.1)
-
-join-ways : WaysJoin → (ts us vs : List TaskState) → AreOnTheWay ts us → AreOnTheWay us vs → AreOnTheWay ts vs
-join-ways law ts us vs a b = pairwise-join IsOnTheWay IsOnTheWay IsOnTheWay law ts us vs a b
+    ((λ i. started u.partition u.row (sym rule i) (sym count i) u.work) ∙ law t u ready.0 way.0, same-places law s ts us ready.1 way.1 rules.1 counts.1)
 
 -- rows of two runs, one after another
 rows-twice : (ts us all : List TaskState) → ((p : ℕ) (row : Row) → row_now us p (row_now ts p row) ≡ row_now all p row) → (k : ℕ) (rows : List Row)
@@ -241,17 +224,17 @@ left-by-more place join first r n left table ready g h u same l =
     let rules = subst (λ (x : RulesRecord). AllByRecursion (λ (t : TaskState). t.rules ≡ x) table) (sym same.0) l.rules in
     let counts = subst (λ (x : ℕ). AllByRecursion (λ (t : TaskState). t.item_count ≡ x) table) (sym same.1) l.counts in
     let begins : tasks_before n ≡ open_tasks table =
-    begins-again r n g u ∙ (ap (map (begun_again n.setup)) (sym l.open_) ∙ same-places place n.setup (tasks_before first) table ready l.way rules counts) in
+    begins-again r n g u ∙ (ap (map (begun_again n.setup)) (sym l.open_) ∙ map-stays (begun_again n.setup) (open_tasks table) (filter-all (λ u. begun_again n.setup u ≡ u) is_unfinished table (same-places place n.setup (tasks_before first) table ready l.way rules counts))) in
     let names : partitions_of us ≡ partitions_of (open_tasks table) = h.after ∙ (sym h.before ∙ ap partitions_of begins) in
     let f = fill 0 table us (subst (λ (ns : List ℕ). RiseFrom 0 ns) (sym l.names) (rise-needs 0 first.setup.rows)) names in
     record {
-      way = join-ways join (tasks_before first) table (filled table us) l.way (f.way (subst (λ (ts : List TaskState). AreOnTheWay ts us) begins h.way));
+      way = pairwise-join IsOnTheWay IsOnTheWay IsOnTheWay join (tasks_before first) table (filled table us) l.way (f.way (subst (λ (ts : List TaskState). AreOnTheWay ts us) begins h.way));
       names = f.names ∙ l.names;
       rows = h.rows ∙ (ap (λ (rs : List Row). rows_now rs us) (u.rows ∙ l.rows) ∙ rows-twice table us (filled table us) f.now 0 first.setup.rows);
       open_ = f.open_;
       left_is = ap₂ all_newer (sym (works-back n.setup n.snapshot.rows.items n.left)) l.left_is ∙ f.works;
-      rules = filled-all (λ (t : TaskState). t.rules ≡ first.setup.rules) table us l.rules (rules-back n.setup first.setup.rules n.snapshot.rows.items n.left same.0);
-      counts = filled-all (λ (t : TaskState). t.item_count ≡ first.setup.item_count) table us l.counts (counts-back n.setup first.setup.item_count n.snapshot.rows.items n.left same.1);
+      rules = filled-all (λ (t : TaskState). t.rules ≡ first.setup.rules) table us l.rules (each-back (λ t. t.rules ≡ first.setup.rules) n.setup n.snapshot.rows.items n.left (λ a. same.0));
+      counts = filled-all (λ (t : TaskState). t.item_count ≡ first.setup.item_count) table us l.counts (each-back (λ t. t.item_count ≡ first.setup.item_count) n.setup n.snapshot.rows.items n.left (λ a. same.1));
       ended = f.ended;
     }
 
@@ -357,37 +340,15 @@ newest-ends step first (n ∷ earlier) a h unstopped = gives-end n h.2 unstopped
 
 -- THE ARTIFACTS FIT
 
-abbrev IsSoundAt : ℕ × Row → Type 0
-IsSoundAt n = IsSoundRow n.1
-
-sound-one : (b : Bool) (n : ℕ × Row) (ns : List (ℕ × Row)) → IsSoundAt n → AllByRecursion IsSoundAt ns → AllByRecursion IsSoundAt (cond b (n ∷ ns) ns)
-sound-one true n ns here rest = (here, rest)
-sound-one false n ns here rest = rest
-
-sound-open : (k : ℕ) (rows : List Row) → ((i : ℕ) (row : Row) → slice_get rows i ≡ Some row → IsSoundRow row) → AllByRecursion IsSoundAt (filter is_open (enumerate_from k rows))
-sound-open k [] sound = tt
-sound-open k (row ∷ rows) sound =
-    sound-one (not (is_finished row.state)) (k, row) (filter is_open (enumerate_from (k + 1) rows)) (sound zero row refl)
-    (sound-open (k + 1) rows (λ i r e. sound (suc i) r e))
-
-sound-back : (ts : List TaskState) → AllByRecursion IsSoundAt (map numbered ts) → AllByRecursion (λ (t : TaskState). IsSoundRow t.row) ts
-sound-back [] h = tt
-sound-back (t ∷ ts) h = (h.0, sound-back ts h.1)
-
 -- a task on its way whose row is sound has artifacts that serve it
 abbrev FitsIfSound : TaskState → Type 0
 FitsIfSound t = IsSoundRow t.row → Fits t.work t.row
 
-fit-one : (b : Bool) (t : TaskState) (ts : List TaskState) → FitsIfSound t → AllByRecursion FitsIfSound ts → AllByRecursion FitsIfSound (cond b (t ∷ ts) ts)
-fit-one true t ts here rest = (here, rest)
-fit-one false t ts here rest = rest
-
-fit-open : TasksStayReady → (ts us : List TaskState) → AreReady ts → AreOnTheWay ts us → AllByRecursion FitsIfSound (open_tasks us)
-fit-open law [] [] ready way = tt
-fit-open law [] (u ∷ us) ready way = absurd way
-fit-open law (t ∷ ts) [] ready way = absurd way
-fit-open law (t ∷ ts) (u ∷ us) ready way =
-    fit-one (is_unfinished u) u (open_tasks us) (λ sound. (law t u ready.0 way.0 sound.counted.rolled sound.counted.few_repeats).fits) (fit-open law ts us ready.1 way.1)
+fit-all : TasksStayReady → (ts us : List TaskState) → AreReady ts → AreOnTheWay ts us → AllByRecursion FitsIfSound us
+fit-all law [] [] ready way = tt
+fit-all law [] (u ∷ us) ready way = absurd way
+fit-all law (t ∷ ts) [] ready way = absurd way
+fit-all law (t ∷ ts) (u ∷ us) ready way = (λ sound. (law t u ready.0 way.0 sound.counted.rolled sound.counted.few_repeats).fits, fit-all law ts us ready.1 way.1)
 
 fit-rows : (ts : List TaskState) → AllByRecursion FitsIfSound ts → AllByRecursion (λ (t : TaskState). IsSoundRow t.row) ts → FitRows (map numbered ts) (map (λ (t : TaskState). t.work) ts)
 fit-rows [] fit sound = tt
@@ -404,14 +365,14 @@ restarts-fit law place join stay step first later saved s c unfailed kept saved_
     let up = are-taken-up law step c.saved first later c.prepared c.restarts in
     let l = left-by-all place join first later g up in
     let now = newest-gives-table step first later g c.restarts in
-    let fit = subst (λ (ts : List TaskState). AllByRecursion FitsIfSound ts) l.open_ (fit-open stay (tasks_before first) (table_of first later) g.ready l.way) in
+    let fit = subst (λ (ts : List TaskState). AllByRecursion FitsIfSound ts) l.open_ (filter-all FitsIfSound is_unfinished (table_of first later) (fit-all stay (tasks_before first) (table_of first later) g.ready l.way)) in
     let same : s.rows ≡ r.snapshot.rows.items = rows_are ∙ (ap (map restarted) saved_is ∙ rows-same r.snapshot.rows.items unfailed) in
     let open_rows : unfinished s.rows ≡ map numbered (open_tasks (tasks_after r)) =
     ap unfinished (same ∙ now.rows) ∙ unfinished-now 0 r.setup.rows (tasks_after r) now.after in
     let works = again-works r.setup r.snapshot.rows.items r.left in
-    let sound = sound-back (open_tasks (tasks_after r))
-    (subst (λ (ns : List (ℕ × Row)). AllByRecursion IsSoundAt ns) (ap unfinished (saved_is ∙ sym same) ∙ open_rows)
-    (sound-open 0 saved.rows (λ i row e. (kept.idle i row e).0))) in
+    let sound = all-back (λ (n : ℕ × Row). IsSoundRow n.1) numbered (open_tasks (tasks_after r))
+    (subst (λ (ns : List (ℕ × Row)). AllByRecursion (λ (n : ℕ × Row). IsSoundRow n.1) ns) (ap unfinished (saved_is ∙ sym same) ∙ open_rows)
+    (all-unfinished IsSoundRow 0 saved.rows (λ i row e. (kept.idle i row e).0))) in
     subst (λ (ns : List (ℕ × Row)). FitRows ns (works_restarted r.snapshot.rows.items r.left)) (sym open_rows)
     (subst (λ (ws : List ArtifactsMeaning). FitRows (map numbered (open_tasks (tasks_after r))) ws) (sym works) (fit-rows (open_tasks (tasks_after r)) fit sound))
 

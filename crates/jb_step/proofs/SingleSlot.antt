@@ -1,19 +1,16 @@
 -- A round of one slot: its task is taken out of its place, and put back.
-use Rattle.std.proofs.Common.{◌≡◌, Bool, true, false, cond, ◌||◌, List, [], ◌∷◌, ◌++◌, map, Option, Some, None, refl, ap, sym, ◌∙◌, append-nil, arith}
+use Rattle.std.proofs.Common.{◌≡◌, Bool, true, false, cond, ◌||◌, List, [], ◌∷◌, ◌++◌, map, Option, None, refl, ap, sym, ◌∙◌, append-nil, arith}
 use Rattle.std.proofs.lemmas.Bool.{and_parts}
-use Rattle.std.specs.Prelude.{nat_eq, slice_index_or}
+use Rattle.std.specs.Prelude.{nat_eq}
 use Rattle.std.specs.List.{cons_option}
 use Rattle.jb_cert.specs.Lawful.{Pair}
-use Rattle.jb_cert.specs.Plans.{slot_pair}
 use Rattle.jb_cert.specs.Rising.{RiseFrom}
-use Rattle.jb_cert.specs.declared.plans.Slot.{Slot}
 use Rattle.jb_chunk.specs.Standing.{TaskState}
 use Rattle.jb_chunk.specs.declared.outcome.Done.{Done}
 use Rattle.jb_collect.specs.Heard.{collected_calls, ended_calls, endings_of, heard_in}
-use Rattle.jb_step.specs.Rounds.{CanRun, has_task}
-use Rattle.jb_step.specs.inside.Places.{held_in, ArePlaced}
-use Rattle.jb_step.specs.inside.Round.{tasks_of_set}
-use Rattle.jb_step.proofs.Placing.{picked-taken}
+use Rattle.jb_step.specs.rounds.Rounds.{CanRun, has_task, tasks_in}
+use Rattle.jb_step.specs.inside.Places.{ArePlaced}
+use Rattle.jb_step.proofs.Placing.{at, firsts, table, taken-are}
 use Rattle.jb_step.proofs.Numbers.{same-number}
 
 none-more : {X : Type 0} (here there rest : Bool) (x : X) (xs : List X) → here ≡ there → cond (here || false) (x ∷ xs) xs ≡ [] → (xs ≡ [] → rest ≡ true → ⊥) → (there || rest) ≡ true → ⊥
@@ -21,33 +18,25 @@ none-more true there rest x xs same e k h = absurd cc
 none-more false true rest x xs same e k h = absurd cc
 none-more false false rest x xs same e k h = k e h
 
--- one slot alone rises
-pub one-rises : (slot : Slot) → RiseFrom 0 (map (λ (pair : Pair). pair.0) (slot_pair slot ∷ []))
-one-rises slot = (omega arith, tt)
+-- one pair alone rises
+pub one-rises : (pair : Pair) → RiseFrom 0 (firsts (pair ∷ []))
+one-rises pair = (omega arith, tt)
 
-module _ {T : Type 0} (standing : T → TaskState) (slot : Slot) where
-  -- no task of the slot's partition
-  none-has : (ts : List T) → tasks_of_set standing (slot_pair slot ∷ []) ts ≡ [] → has_task (map standing ts) (slot_pair slot).0 ≡ true → ⊥
-  none-has [] e h = absurd cc
-  none-has (t ∷ ts) e h =
-      none-more (nat_eq (slot_pair slot).0 (standing t).partition) (nat_eq (standing t).partition (slot_pair slot).0) (has_task (map standing ts) (slot_pair slot).0) t (tasks_of_set standing (slot_pair slot ∷ []) ts)
-      (same-number (slot_pair slot).0 (standing t).partition) e (none-has ts) h
+-- no task of the pair's partition
+none-has : (pair : Pair) (ts : List TaskState) → tasks_in (pair ∷ []) ts ≡ [] → has_task ts pair.0 ≡ true → ⊥
+none-has pair [] e h = absurd cc
+none-has pair (t ∷ ts) e h =
+    none-more (nat_eq pair.0 t.partition) (nat_eq t.partition pair.0) (has_task ts pair.0) t (tasks_in (pair ∷ []) ts) (same-number pair.0 t.partition) e (none-has pair ts) h
 
-  picked-one : (os : List (Option T)) → ArePlaced standing 0 os
-      → cons_option (slice_index_or os slot.partition None) [] ≡ tasks_of_set standing (slot_pair slot ∷ []) (held_in os)
-  picked-one os placed = picked-taken standing (slot_pair slot ∷ []) os (one-rises slot) placed
+module _ {T : Type 0} (standing : T → TaskState) (pair : Pair) where
+  -- what stands in the pair's place is what its round takes
+  pub taken-one : (os : List (Option T)) (o : Option T) → ArePlaced standing 0 os → at os pair.0 ≡ o → map standing (cons_option o []) ≡ tasks_in (pair ∷ []) (table standing os)
+  taken-one os o placed is = sym (ap (λ (o : Option T). map standing (cons_option o [])) is) ∙ taken-are standing 0 (pair ∷ []) os (one-rises pair) placed
 
-  -- the place of the one slot has a task, where the round can be run
-  pub has-one : (os : List (Option T)) → ArePlaced standing 0 os → CanRun (slot_pair slot ∷ []) (map standing (held_in os))
-      → slice_index_or os slot.partition None ≡ None → ⊥
+  -- there is a task, where the round can be run
+  pub has-one : (os : List (Option T)) → ArePlaced standing 0 os → CanRun (pair ∷ []) (table standing os) → at os pair.0 ≡ None → ⊥
   has-one os placed can none =
-      none-has (held_in os) (sym (picked-one os placed) ∙ ap (λ o. cons_option o []) none)
-      (and_parts (has_task (map standing (held_in os)) (slot_pair slot).0) true can.tasks).0
-
-  -- which is the round's only one
-  pub taken-one : (os : List (Option T)) (task : T) → ArePlaced standing 0 os
-      → slice_index_or os slot.partition None ≡ Some task → task ∷ [] ≡ tasks_of_set standing (slot_pair slot ∷ []) (held_in os)
-  taken-one os task placed is = sym (ap (λ o. cons_option o []) is) ∙ picked-one os placed
+      none-has pair (table standing os) (sym (taken-one os None placed none)) (and_parts (has_task (table standing os) pair.0) true can.tasks).0
 
 pub or-false : (b : Bool) → (b || false) ≡ b
 or-false true = refl

@@ -1,14 +1,15 @@
 -- The first table has the prepared rows.
-use Rattle.std.proofs.Common.{◌≡◌, ℕ, suc, zero, ◌+◌, Bool, true, false, cond, List, [], ◌∷◌, map, Some, refl, ap₂, ◌∙◌, subst, arith}
-use Rattle.std.specs.Prelude.{filter, slice_get}
+use Rattle.std.proofs.Common.{◌≡◌, ℕ, suc, zero, ◌+◌, List, [], ◌∷◌, map, Some, refl, ap₂, ◌∙◌, subst, arith}
+use Rattle.std.specs.Prelude.{slice_get}
 use Rattle.std.specs.List.{enumerate_from, AllByRecursion}
 use Rattle.jb_rules.specs.declared.row.Row.{Row}
 use Rattle.jb_artifacts.specs.Meaning.{ArtifactsMeaning}
 use Rattle.jb_chunk.specs.Standing.{TaskState}
-use Rattle.jb_step.specs.PlanLaws.{BeginsWithRows}
+use Rattle.jb_step.specs.rounds.PlanLaws.{BeginsWithRows}
 use Rattle.jb_step.specs.OnePartition.{tasks_at}
-use Rattle.jb_step.specs.Setup.{Setup, first_tasks, row_now, unfinished}
+use Rattle.jb_step.specs.preparing.Setup.{Setup, first_tasks, row_now, unfinished}
 use Rattle.jb_step.proofs.ChunksInOrder.{first-now, none-now, named, member}
+use Rattle.jb_step.proofs.Filters.{filter-all}
 use Rattle.jb_step.proofs.Holding.{first_from, is_open}
 
 abbrev IsRowAt : List Row → ℕ × Row → Type 0
@@ -20,14 +21,6 @@ listed all k (row ∷ rows) h = (
   (let e : k + 0 ≡ k = omega arith in subst (λ m. slice_get all m ≡ Some row) e (h zero row refl)),
   listed all (k + 1) rows (λ i r get. let e : k + suc i ≡ (k + 1) + i = omega arith in subst (λ m. slice_get all m ≡ Some r) e (h (suc i) r get)),
 )
-
-some-one : (P : ℕ × Row → Type 0) (b : Bool) (n : ℕ × Row) (ns : List (ℕ × Row)) → P n → AllByRecursion P ns → AllByRecursion P (cond b (n ∷ ns) ns)
-some-one P true n ns here rest = (here, rest)
-some-one P false n ns here rest = rest
-
-some-listed : (P : ℕ × Row → Type 0) (ns : List (ℕ × Row)) → AllByRecursion P ns → AllByRecursion P (filter is_open ns)
-some-listed P [] all = tt
-some-listed P (n ∷ ns) all = some-one P (is_open n) n (filter is_open ns) all.0 (some-listed P ns all.1)
 
 tasks-listed : (s : Setup) (rows : List Row) (ns : List (ℕ × Row)) (works : List ArtifactsMeaning) → AllByRecursion (IsRowAt rows) ns → AllByRecursion (λ (t : TaskState). slice_get rows t.partition ≡ Some t.row) (first_from s ns works)
 tasks-listed s rows [] works all = tt
@@ -52,6 +45,6 @@ all-now ts k (row ∷ rows) h =
 pub begins_with_rows : BeginsWithRows
 begins_with_rows s works fits =
     let ts = first_tasks s works in
-    let all = tasks-listed s s.rows (unfinished s.rows) works (some-listed (IsRowAt s.rows) (enumerate_from 0 s.rows)
+    let all = tasks-listed s s.rows (unfinished s.rows) works (filter-all (IsRowAt s.rows) is_open (enumerate_from 0 s.rows)
     (listed s.rows 0 s.rows (λ i row get. let e : i ≡ 0 + i = omega arith in subst (λ m. slice_get s.rows m ≡ Some row) e get))) in
     all-now ts 0 s.rows (λ i row get. let e : i ≡ 0 + i = omega arith in subst (λ m. row_now ts m row ≡ row) e (now-by s.rows ts i row (tasks_at i ts) all get refl))

@@ -1,41 +1,36 @@
 -- What the plans of a run leave of a step's table is steady.
 use Rattle.std.proofs.Common.{◌≡◌, Bool, true, false, cond, List, [], ◌∷◌, refl, sym, ◌∙◌, subst}
-use Rattle.std.specs.List.{AllByRecursion, list_all}
-use Rattle.jb_rules.specs.declared.row.RowState.TheVariants as state
+use Rattle.std.specs.List.{AllByRecursion}
 use Rattle.jb_cert.specs.Lawful.{Pair}
 use Rattle.jb_chunk.specs.Attempt.{attempt_of}
 use Rattle.jb_chunk.specs.Standing.{TaskState}
-use Rattle.jb_step.specs.PlanLaws.{IsHeld, IsTable}
-use Rattle.jb_step.specs.Rounds.{CanRunAll, after_round, after_rounds, has_partition, tasks_in}
-use Rattle.jb_step.specs.Runs.{ArePlanRuns, PlanRun, rounds_of, table_after}
-use Rattle.jb_step.specs.Setup.{Setup}
+use Rattle.jb_step.specs.rounds.PlanLaws.{IsHeld, IsTaskTable}
+use Rattle.jb_step.specs.rounds.Rounds.{after_round, after_rounds, has_partition, tasks_in}
+use Rattle.jb_step.specs.rounds.Runs.{ArePlanRuns, PlanRun, rounds_of, table_after}
+use Rattle.jb_step.specs.preparing.Setup.{Setup}
 use Rattle.jb_step.specs.inside.Below.{ChunkLaws}
-use Rattle.jb_step.proofs.Apart.{others-wait, runs-all}
+use Rattle.jb_step.proofs.Apart.{AllIn, IsWaiting, all-wait}
 use Rattle.jb_step.proofs.Holding.{partitions_stay}
-use Rattle.jb_step.proofs.Leading.{first-waits}
-use Rattle.jb_step.proofs.Steady.{IsSteadyIn, IsSteadyTable, next-steady, row_waits, same-count, steady-table}
+use Rattle.jb_step.proofs.Leading.{first-waits, others-wait}
+use Rattle.jb_step.proofs.Steady.{IsSteadyIn, IsSteadyTable, next-steady, same-count, steady-table}
 
-steady-one : ChunkLaws → (s : Setup) (b : Bool) (t : TaskState) → IsSteadyIn s t → (b ≡ true → t.row.state ≡ state.Waiting) → IsSteadyIn s (cond b (attempt_of t).task t)
+steady-one : ChunkLaws → (s : Setup) (b : Bool) (t : TaskState) → IsSteadyIn s t → (b ≡ true → IsWaiting t) → IsSteadyIn s (cond b (attempt_of t).task t)
 steady-one law s true t here waiting = (next-steady law t here.0 (waiting refl), same-count t ∙ here.1)
 steady-one law s false t here waiting = here
 
-steady-round : ChunkLaws → (s : Setup) (set : List Pair) (ts : List TaskState) → AllByRecursion (IsSteadyIn s) ts → list_all row_waits (tasks_in set ts) ≡ true → AllByRecursion (IsSteadyIn s) (after_round set ts)
+steady-round : ChunkLaws → (s : Setup) (set : List Pair) (ts : List TaskState) → AllByRecursion (IsSteadyIn s) ts → AllByRecursion IsWaiting (tasks_in set ts) → AllByRecursion (IsSteadyIn s) (after_round set ts)
 steady-round law s set [] tasks waiting = tt
 steady-round law s set (t ∷ ts) tasks waiting =
     let b = has_partition set t.partition in
     (steady-one law s b t tasks.0 (first-waits b t (tasks_in set ts) waiting), steady-round law s set ts tasks.1 (others-wait b t (tasks_in set ts) waiting))
 
-steady-rounds : ChunkLaws → (s : Setup) (rounds : List (List Pair)) (ts : List TaskState) → IsSteadyTable s ts → CanRunAll rounds ts → IsSteadyTable s (after_rounds rounds ts)
-steady-rounds law s [] ts table can = table
-steady-rounds law s (set ∷ older) ts table can =
-    let before = steady-rounds law s older ts table can.0 in
-    record {
-      tasks = steady-round law s set (after_rounds older ts) before.tasks can.1.waiting;
-      partitions = partitions_stay set (after_rounds older ts) ∙ before.partitions;
-    }
+pub steady-rounds : ChunkLaws → (s : Setup) (rounds : List (List Pair)) (ts : List TaskState) → IsSteadyTable s ts → AllIn IsWaiting rounds ts → IsSteadyTable s (after_rounds rounds ts)
+steady-rounds law s [] ts table all = table
+steady-rounds law s (set ∷ later) ts table all =
+    steady-rounds law s later (after_round set ts) (record { tasks = steady-round law s set ts table.tasks all.0; partitions = partitions_stay set ts ∙ table.partitions }) all.1
 
-pub steady-after : ChunkLaws → (s : Setup) (start : List TaskState) (plans : List PlanRun) → IsTable s start → ArePlanRuns s start plans → IsSteadyTable s (table_after plans start)
-steady-after law s start plans table runs = steady-rounds law s (rounds_of plans) start (steady-table s start table) (runs-all s start plans runs)
+pub steady-after : ChunkLaws → (s : Setup) (start : List TaskState) (plans : List PlanRun) → IsTaskTable s start → ArePlanRuns s start plans → IsSteadyTable s (table_after plans start)
+steady-after law s start plans table runs = steady-rounds law s (rounds_of plans) start (steady-table s start table) (all-wait s start plans runs)
 
 pub steady-held : ChunkLaws → (s : Setup) (ts : List TaskState) → IsHeld s ts → IsSteadyTable s ts
 steady-held law s ts held = subst (IsSteadyTable s) (sym held.left) (steady-after law s held.start held.plans held.first held.run)

@@ -8,16 +8,16 @@ use Rattle.jb_rules.specs.declared.row.Row.{Row}
 use Rattle.jb_rules.specs.declared.row.RowState.{RowState}
 use Rattle.jb_rules.specs.declared.row.RowState.TheVariants as state
 use Rattle.jb_rules.specs.States.{is_waiting}
-use Rattle.jb_chunk.specs.declared.chunk_end.ChunkEnd.{ChunkEnd}
-use Rattle.jb_chunk.specs.declared.chunk_end.ChunkEnd.TheVariants.{Committed, Rolled, Failed}
+use Rattle.jb_chunk.specs.declared.outcome.Outcome.{Outcome}
+use Rattle.jb_chunk.specs.declared.outcome.Outcome.TheVariants.{Committed, Rolled, Failed, NoMemory}
 use Rattle.jb_chunk.specs.Attempt.{attempt_of, block_of, end_of, ending_by, after_repeats, again_of}
 use Rattle.jb_chunk.specs.Laws.{RepeatsAreRetries}
 use Rattle.jb_chunk.specs.Standing.{TaskState, IsReady, HasItemCount}
 use Rattle.jb_rules.specs.Rows.{remaining_of}
 use Rattle.jb_chunk.proofs.RunsAlone.{below-at, left-waiting}
-use Rattle.jb_step.specs.PlanLaws.{AreTasksOf, IsTable}
-use Rattle.jb_step.specs.Rounds.{is_commit}
-use Rattle.jb_step.specs.Setup.{Setup, needs}
+use Rattle.jb_step.specs.rounds.PlanLaws.{AreTasksOf, IsTaskTable}
+use Rattle.jb_step.specs.rounds.Rounds.{is_commit}
+use Rattle.jb_step.specs.preparing.Setup.{Setup, needs}
 use Rattle.jb_step.specs.inside.Below.{ChunkLaws}
 
 abbrev pub row_waits : TaskState → Bool
@@ -29,30 +29,15 @@ waits (state.Running lane) e = cc
 waits state.Finished e = cc
 waits state.Failed e = cc
 
-partition-by : (t : TaskState) (again : ℕ) (e : ChunkEnd) → (ending_by t again e).task.partition ≡ t.partition
-partition-by t again (Committed delta) = refl
-partition-by t again (Rolled class) = refl
-partition-by t again (Failed class) = refl
-
-count-by : (t : TaskState) (again : ℕ) (e : ChunkEnd) → (ending_by t again e).task.item_count ≡ t.item_count
-count-by t again (Committed delta) = refl
-count-by t again (Rolled class) = refl
-count-by t again (Failed class) = refl
-
-rules-by : (t : TaskState) (again : ℕ) (e : ChunkEnd) → (ending_by t again e).task.rules ≡ t.rules
-rules-by t again (Committed delta) = refl
-rules-by t again (Rolled class) = refl
-rules-by t again (Failed class) = refl
-
 -- an attempt leaves the partition's number, the item count and the rules as they are
 pub same-partition : (t : TaskState) → (attempt_of t).task.partition ≡ t.partition
-same-partition t = partition-by (after_repeats t) (again_of t) (end_of (after_repeats t))
+same-partition t = refl
 
 pub same-rules : (t : TaskState) → (attempt_of t).task.rules ≡ t.rules
-same-rules t = rules-by (after_repeats t) (again_of t) (end_of (after_repeats t))
+same-rules t = refl
 
 pub same-count : (t : TaskState) → (attempt_of t).task.item_count ≡ t.item_count
-same-count t = count-by (after_repeats t) (again_of t) (end_of (after_repeats t))
+same-count t = refl
 
 -- what is left of a task's being ready when only its row counts
 pub record IsSteady (t : TaskState) : Type 0 where
@@ -81,10 +66,10 @@ steady-tasks : (s : Setup) (ts : List TaskState) → AreTasksOf s ts → AllByRe
 steady-tasks s [] tasks = tt
 steady-tasks s (t ∷ ts) tasks = ((steady t tasks.0.0, tasks.0.1), steady-tasks s ts tasks.1)
 
-pub steady-table : (s : Setup) (ts : List TaskState) → IsTable s ts → IsSteadyTable s ts
+pub steady-table : (s : Setup) (ts : List TaskState) → IsTaskTable s ts → IsSteadyTable s ts
 steady-table s ts table = record { tasks = steady-tasks s ts table.tasks; partitions = table.partitions }
 
-next-by : ChunkLaws → (t : TaskState) (again : ℕ) (e : ChunkEnd) → IsSteady t → t.row.state ≡ state.Waiting → IsSteady (ending_by t again e).task
+next-by : ChunkLaws → (t : TaskState) (again : ℕ) (e : Outcome) → IsSteady t → t.row.state ≡ state.Waiting → IsSteady (ending_by t again e).task
 next-by law t again (Committed delta) st w =
     let next = law.follow.next t.row.at t.row.redo t.row.hi t.item_count (st.waiting w) st.redo_to st.count.some in
     record { at_to = next.within; redo_to = st.redo_to; waiting = below-at (block_of t).hi t.row.hi next.within; count = st.count }
@@ -96,6 +81,7 @@ next-by law t again (Rolled class) st w =
     record { at_to = st.at_to; redo_to = omega (arith, top, redo); waiting = λ u. st.waiting w; count = st.count }
 next-by law t again (Failed class) st w =
     record { at_to = st.at_to; redo_to = st.redo_to; waiting = λ e. let never : ⊥ = cc in absurd never; count = st.count }
+next-by law t again NoMemory st w = record { at_to = st.at_to; redo_to = st.redo_to; waiting = st.waiting; count = st.count }
 
 -- the repeats of a task's next block leave its place and its chunks as they are
 steady-after : RepeatsAreRetries → (t : TaskState) → IsSteady t → IsSteady (after_repeats t)
@@ -118,10 +104,11 @@ listing t = blocks t.row.at t.row.redo t.row.hi t.item_count
 pub next-list : ChunkLaws → (t : TaskState) → IsSteady t → t.row.at < t.row.hi → listing t ≡ block_of t ∷ blocks (block_of t).hi t.row.redo t.row.hi t.item_count
 next-list law t st lt = (law.follow.next t.row.at t.row.redo t.row.hi t.item_count lt st.redo_to st.count.some).others
 
-drops-by : ChunkLaws → (t : TaskState) (again : ℕ) (e : ChunkEnd) → IsSteady t → t.row.state ≡ state.Waiting → is_commit (ending_by t again e).outcome ≡ true → drop 1 (listing t) ≡ listing (ending_by t again e).task
+drops-by : ChunkLaws → (t : TaskState) (again : ℕ) (e : Outcome) → IsSteady t → t.row.state ≡ state.Waiting → is_commit (ending_by t again e).outcome ≡ true → drop 1 (listing t) ≡ listing (ending_by t again e).task
 drops-by law t again (Committed delta) st w commit = ap (drop 1) (next-list law t st (st.waiting w))
 drops-by law t again (Rolled class) st w commit = let never : ⊥ = cc in absurd never
 drops-by law t again (Failed class) st w commit = let never : ⊥ = cc in absurd never
+drops-by law t again NoMemory st w commit = let never : ⊥ = cc in absurd never
 
 listing-settled : RepeatsAreRetries → (t : TaskState) → listing (after_repeats t) ≡ listing t
 listing-settled law t = ap (λ (r : Row). blocks r.at r.redo r.hi t.item_count) (law t)
@@ -142,7 +129,7 @@ rem-by law false c row e redo = refl
 left-falls : ChunkLaws → (t : TaskState) → IsSteady t → t.row.at < t.row.hi → left t.row.at t.row.redo t.row.hi t.item_count ≡ suc (left (block_of t).hi t.row.redo t.row.hi t.item_count)
 left-falls law t st lt = ap length (next-list law t st lt)
 
-falls-by : ChunkLaws → (t : TaskState) (again : ℕ) (e : ChunkEnd) → IsSteady t → t.row.state ≡ state.Waiting → is_commit (ending_by t again e).outcome ≡ true → rem t.item_count (ending_by t again e).task.row + 1 ≡ rem t.item_count t.row
+falls-by : ChunkLaws → (t : TaskState) (again : ℕ) (e : Outcome) → IsSteady t → t.row.state ≡ state.Waiting → is_commit (ending_by t again e).outcome ≡ true → rem t.item_count (ending_by t again e).task.row + 1 ≡ rem t.item_count t.row
 falls-by law t again (Committed delta) st w commit =
     let less = left-falls law t st (st.waiting w) in
     let now = rem-by law ((block_of t).hi == t.row.hi) t.item_count (ending_by t again (Committed delta)).task.row refl st.redo_to in
@@ -150,6 +137,7 @@ falls-by law t again (Committed delta) st w commit =
     omega (arith, less, now, was)
 falls-by law t again (Rolled class) st w commit = let never : ⊥ = cc in absurd never
 falls-by law t again (Failed class) st w commit = let never : ⊥ = cc in absurd never
+falls-by law t again NoMemory st w commit = let never : ⊥ = cc in absurd never
 
 rem-settled : RepeatsAreRetries → (t : TaskState) → rem t.item_count (after_repeats t).row ≡ rem t.item_count t.row
 rem-settled law t = ap (rem t.item_count) (law t)

@@ -1,24 +1,28 @@
 -- From the rounds of a step to its end.
 use Rattle.std.proofs.Common.{◌≡◌, ℕ, ◌+◌, ◌*◌, Bool, true, false, ◌||◌, Option, Some, None, List, [], ◌∷◌, length, map, ap, sym, ◌∙◌, subst, arith}
-use Rattle.std.specs.Prelude.{MatchOption, is_some}
-use Rattle.std.proofs.lemmas.List.{length-map, length-reverse}
+use Rattle.std.specs.Prelude.{MatchOption, if◌then◌else◌, is_some}
+use Rattle.std.proofs.lemmas.List.{length-map}
 use Rattle.jb_base.specs.declared.class.ClassId.{ClassId}
 use Rattle.jb_cert.specs.Rising.{RiseFrom}
+use Rattle.jb_rules.specs.declared.row.Row.{Row}
 use Rattle.jb_chunk.specs.Standing.{TaskState}
+use Rattle.jb_collect.specs.declared.calls.Status.{Status}
+use Rattle.jb_collect.specs.declared.calls.Status.TheVariants.{Failed}
 use Rattle.jb_collect.specs.declared.calls.AnalyzerCall.{AnalyzerCall}
-use Rattle.jb_collect.specs.Taken.{Taken, AreTaken, HasTaken}
+use Rattle.jb_collect.specs.Taken.{Taken, AreTaken, HasTaken, since}
 use Rattle.jb_cert.specs.declared.notes.PlanNote.{PlanNote}
 use Rattle.jb_step.specs.Answers.{IsRunOfStep, IsUnstopped, StepRun, tasks_after, tasks_before}
-use Rattle.jb_step.specs.Heard.{heard}
-use Rattle.jb_step.specs.Callbacks.{has_fault, since}
-use Rattle.jb_step.specs.Runs.{PlanRun, note_of, notes_of, table_after}
-use Rattle.jb_step.specs.Setup.{rows_now}
+use Rattle.jb_step.specs.callbacks.Heard.{heard}
+use Rattle.jb_step.specs.callbacks.Callbacks.{has_fault}
+use Rattle.jb_step.specs.rounds.Runs.{PlanRun, note_of, table_after}
+use Rattle.jb_step.specs.preparing.Setup.{rows_now}
+use Rattle.jb_step.specs.Statuses.{status_of}
 use Rattle.jb_step.specs.Alone.{AreOnTheWay, have_ended}
-use Rattle.jb_step.specs.inside.Finish.{AreHeardToEnd, works_of}
+use Rattle.jb_step.specs.inside.Finish.{AreHeardToEnd, works_of_tasks}
 use Rattle.jb_step.specs.inside.Round.{partitions_of}
 use Rattle.jb_step.specs.inside.Telling.{moment}
 use Rattle.jb_step.proofs.Leftover.{left-again}
-use Rattle.jb_step.proofs.CallsInPart.{since-is}
+use Rattle.jb_step.proofs.Leading.{steps_are_on_the_way}
 use Rattle.jb_step.proofs.Turning.{rise-needs}
 
 -- THE ANALYZER'S FAULT
@@ -34,7 +38,14 @@ fault-is (c ∷ cs) fault [] h = absurd h
 fault-is (c ∷ cs) fault (t ∷ ts) h = fault-one t.fault fault cs ts h.1 (fault-is cs fault ts)
 
 fault-since : (base after : List (Taken AnalyzerCall)) (calls : List AnalyzerCall) (fault : Option ClassId) → HasTaken base calls fault after → is_some fault ≡ has_fault (since base after)
-fault-since base after calls fault h = sym (ap has_fault (since-is base after h.next h.grown) ∙ fault-is calls fault h.next h.taken)
+fault-since base after calls fault h = sym (fault-is calls fault (since base after) h.taken)
+
+-- the status, from that before the reducer's last calls
+pub status-later : (rows : List Row) (heard reduced : Bool) (status ended : Status) → status ≡ status_of rows heard → ended ≡ (if reduced then Failed else status) → ended ≡ status_of rows (heard || reduced)
+status-later rows true true status ended was is = is
+status-later rows true false status ended was is = is ∙ was
+status-later rows false true status ended was is = is
+status-later rows false false status ended was is = is ∙ was
 
 -- THE RUN
 
@@ -47,32 +58,29 @@ pub record IsLeft (r : StepRun) (fault : Option ClassId) : Type 0 where
       AreHeardToEnd (record { setup = r.setup; start = tasks_before r; base = r.heard_before }) r.round_limit
       (record { moment = moment r.heard_after fault; table = table; ran = ran; notes = r.notes }) stopped
   pub rows : r.snapshot.rows.items ≡ rows_now r.setup.rows table
-  pub left_is : r.left ≡ works_of table
+  pub left_is : r.left ≡ works_of_tasks table
   pub agree : r.snapshot.stopping ≡ false → (stopped ≡ false) × (r.snapshot.plans ≡ length r.notes) × (r.snapshot.events ≡ length r.notes + ran.0 + 2 * ran.1)
 
-number-of : (notes : List PlanNote) (plans : List PlanRun) → notes ≡ notes_of plans → length notes ≡ length plans
-number-of notes plans is = ap length is ∙ (length-reverse (map note_of plans) ∙ length-map plans note_of)
+number-of : (notes : List PlanNote) (plans : List PlanRun) → notes ≡ map note_of plans → length notes ≡ length plans
+number-of notes plans is = ap length is ∙ length-map plans note_of
 
 module _ (r : StepRun) (fault : Option ClassId) (h : IsLeft r fault) where
   rise : RiseFrom 0 (partitions_of h.table)
-  rise = subst (λ (ns : List ℕ). RiseFrom 0 ns) (sym h.told.rounds.holds.partitions) (rise-needs 0 r.setup.rows)
+  rise = subst (λ (ns : List ℕ). RiseFrom 0 ns) (sym h.told.rounds.left.holds.partitions) (rise-needs 0 r.setup.rows)
 
   again : tasks_after r ≡ table_after h.told.rounds.plans (tasks_before r)
-  again = left-again r.setup r.works h.told.rounds.plans r.snapshot r.left h.table h.told.rounds.table_is h.told.rounds.holds rise h.rows h.left_is
-
-  back : tasks_after r ≡ h.table
-  back = again ∙ sym h.told.rounds.table_is
+  again = left-again r.setup r.works h.told.rounds.plans r.snapshot r.left h.table h.told.rounds.left.table_is h.told.rounds.left.holds rise h.rows h.left_is
 
   unstopped : r.snapshot.stopping ≡ false → IsUnstopped (tasks_before r) h.told.rounds.plans r.snapshot
   unstopped going =
       let agree = h.agree going in
       let ended = h.told.rounds.unstopped agree.0 in
       let number = number-of r.notes h.told.rounds.plans h.told.rounds.notes_are in
-      let ran = h.told.rounds.ran_is in
-      let tried = h.told.rounds.tried_is in
+      let ran = ap (λ (n : ℕ × ℕ). n.0) h.told.rounds.left.ran_is in
+      let tried = ap (λ (n : ℕ × ℕ). n.1) h.told.rounds.left.ran_is in
       let events = agree.2 in
       record {
-        ended = subst (λ (ts : List TaskState). have_ended ts ≡ true) h.told.rounds.table_is ended.0;
+        ended = subst (λ (ts : List TaskState). have_ended ts ≡ true) h.told.rounds.left.table_is ended.0;
         over = ended.1;
         plans_number = agree.1 ∙ number;
         events_number = omega (arith, events, number, ran, tried);
@@ -84,14 +92,14 @@ module _ (r : StepRun) (fault : Option ClassId) (h : IsLeft r fault) where
     run = h.told.rounds.run;
     notes_are = h.told.rounds.notes_are;
     few = h.told.rounds.few;
-    rows = h.rows ∙ ap (λ (ts : List TaskState). rows_now r.setup.rows ts) h.told.rounds.table_is;
+    rows = h.rows ∙ ap (λ (ts : List TaskState). rows_now r.setup.rows ts) h.told.rounds.left.table_is;
     tasks = again;
     heard_is = (fault, h.told.heard_is);
     unstopped = unstopped;
   }
 
   pub way-is : AreOnTheWay (tasks_before r) (tasks_after r)
-  way-is = subst (λ (ts : List TaskState). AreOnTheWay (tasks_before r) ts) (sym back) h.told.on_the_way
+  way-is = subst (λ (ts : List TaskState). AreOnTheWay (tasks_before r) ts) (sym again) (steps_are_on_the_way r.setup (tasks_before r) h.told.rounds.plans h.told.rounds.run)
 
   pub heard-fault : is_some fault ≡ has_fault (since r.heard_before r.heard_after)
   heard-fault = fault-since r.heard_before r.heard_after (heard r.setup (tasks_before r) h.told.rounds.plans) fault h.told.heard_is

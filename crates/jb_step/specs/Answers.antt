@@ -11,12 +11,12 @@ use Rattle.jb_collect.specs.declared.calls.Status.{Status}
 use Rattle.jb_saved.specs.declared.error.StepError.{StepError}
 use Rattle.jb_saved.specs.declared.error.StepError.TheVariants.{WrongArtifacts, Repository, Workers, Memory}
 use Rattle.jb_cert.specs.declared.notes.PlanNote.{PlanNote}
-use Rattle.jb_collect.specs.ReducerCalls.{before_failed, calls_after, rolled_back, run_end}
+use Rattle.jb_collect.specs.ReducerCalls.{before_failed, calls_after, rolled_back}
 use Rattle.jb_collect.specs.Taken.{Taken, calls_of, well}
-use Rattle.jb_step.specs.Heard.{heard, HasHeard}
-use Rattle.jb_step.specs.Callbacks.{AreSome, has_fault}
-use Rattle.jb_step.specs.Runs.{PlanRun, ArePlanRuns, IsLastOver, notes_of, rounds_of, table_after, events_of}
-use Rattle.jb_step.specs.Setup.{Setup, first_tasks, rows_now}
+use Rattle.jb_step.specs.callbacks.Heard.{heard, HasHeard}
+use Rattle.jb_step.specs.callbacks.Callbacks.{AreSome, has_fault}
+use Rattle.jb_step.specs.rounds.Runs.{PlanRun, AreOver, ArePlanRuns, note_of, rounds_of, table_after, events_of}
+use Rattle.jb_step.specs.preparing.Setup.{Setup, first_tasks, rows_now}
 use Rattle.jb_step.specs.Statuses.{status_of}
 use Rattle.jb_step.specs.Alone.{have_ended}
 
@@ -37,10 +37,10 @@ tasks_left s snapshot left =
     })
     left
 
--- what holds where nothing stopped the run: all partitions ended, and so is the last plan; and the history's numbers
+-- what holds where nothing stopped the run: all partitions ended, and all plans are over; and the history's numbers
 pub record IsUnstopped (start : List TaskState) (plans : List PlanRun) (snapshot : Snapshot) : Type 0 where
   pub ended : have_ended (table_after plans start) ≡ true
-  pub over : IsLastOver plans start
+  pub over : AreOver start plans
   pub plans_number : snapshot.plans ≡ length plans
   pub events_number : snapshot.events ≡ events_of plans start
 
@@ -68,7 +68,7 @@ tasks_after r = tasks_left r.setup r.snapshot r.left
 pub record IsRunOfStep (r : StepRun) : Type 0 where
   pub plans : List PlanRun
   pub run : ArePlanRuns r.setup (tasks_before r) plans
-  pub notes_are : r.notes ≡ notes_of plans
+  pub notes_are : r.notes ≡ map note_of plans
   pub few : MatchOption r.round_limit (Unit {0}) (λ limit. length (rounds_of plans) ≤ limit)
   pub rows : r.snapshot.rows.items ≡ rows_now r.setup.rows (table_after plans (tasks_before r))
   pub tasks : tasks_after r ≡ table_after plans (tasks_before r)
@@ -82,7 +82,7 @@ IsStatus snapshot analyzed reduced status = status ≡ status_of snapshot.rows.i
 -- the reducer's calls at the end, by how the step stands before them and by what `before_completion` answered
 abbrev pub AreCallsAfter : Snapshot → List (Taken AnalyzerCall) → List (Taken ReducerCall) → Type 0
 AreCallsAfter snapshot analyzed reduced =
-    calls_of reduced ≡ calls_after (run_end (status_of snapshot.rows.items (has_fault analyzed)) (before_failed reduced))
+    calls_of reduced ≡ calls_after (status_of snapshot.rows.items (has_fault analyzed)) (before_failed reduced)
 
 -- The reducer's calls where memory lacked: some of these, in their order. Where `before_completion` was answered well, it is
 -- the only one: `after(Commit)`, which is called then, found no memory.

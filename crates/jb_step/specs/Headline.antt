@@ -9,33 +9,23 @@ use Rattle.jb_chunk.specs.Standing.{TaskState}
 use Rattle.jb_step.specs.Alone.{AreAlone}
 use Rattle.jb_step.specs.Answers.{StepRun, tasks_before, tasks_after}
 use Rattle.jb_step.specs.OnePartition.{tasks_at}
-use Rattle.jb_step.specs.Rounds.{after_round, breaks}
-use Rattle.jb_step.specs.Runs.{PlanRun, note_of}
-use Rattle.jb_step.specs.Setup.{IsSetup, Setup, counts_now, rows_now}
-use Rattle.jb_step.specs.StepRuns.{IsAnswered}
+use Rattle.jb_step.specs.rounds.Rounds.{GoQuietly, after_round, after_rounds}
+use Rattle.jb_step.specs.rounds.Runs.{PlanRun, note_of, rounds_run}
+use Rattle.jb_step.specs.preparing.Setup.{IsSetup, Setup, counts_now, rows_now}
+use Rattle.jb_step.specs.restarts.StepRuns.{IsAnswered}
 
 -- ---- rounds, run one after another
 
--- the table that they leave
-abbrev pub left_by : List (List Pair) → List TaskState → List TaskState
-left_by [] now = now
-left_by (set ∷ later) now = left_by later (after_round set now)
-
--- none of them has a rollback or a failure
-abbrev pub GoQuietly : List (List Pair) → List TaskState → Type 0
-GoQuietly [] now = Unit {0}
-GoQuietly (set ∷ later) now = (breaks set now ≡ false) × GoQuietly later (after_round set now)
-
 -- in the table the partition has this task, and no other
-abbrev pub StandsAt : (p : ℕ) → List TaskState → TaskState → Type 0
-StandsAt p table task = tasks_at p table ≡ task ∷ []
+abbrev pub HasTask : (p : ℕ) → List TaskState → TaskState → Type 0
+HasTask p table task = tasks_at p table ≡ task ∷ []
 
 -- chunk j of the partition is block j of those that it had left before, and the next one that it has left now
 pub record IsNextBlock (before now : List TaskState) (p j : ℕ) : Type 0 where
   pub was : TaskState
   pub is : TaskState
-  pub stood : StandsAt p before was
-  pub stands : StandsAt p now is
+  pub stood : HasTask p before was
+  pub stands : HasTask p now is
   pub next : slice_get (blocks was.row.at was.row.redo was.row.hi was.item_count) j ≡ Some (block_of is)
 
 -- each of their chunks is its partition's next block when its round begins; `before` is the table that they were planned for
@@ -46,17 +36,13 @@ RunInOrder before now (set ∷ later) =
 
 -- ---- a plan
 
--- the rounds that were run: its first ones
-abbrev pub rounds_made : PlanRun → List (List Pair)
-rounds_made plan = take plan.ran plan.rounds
-
 -- no partition has a chunk that isn't committed yet, but for those that failed
 abbrev pub NoneIsLeft : Setup → List TaskState → Type 0
 NoneIsLeft s now = (p : ℕ) → p < length s.rows → slice_index (counts_now s now) p ≡ 0
 
 -- nothing ended the plan: no rollback, no failure, and no stop, which can end a step's last plan only
 pub record IsUnended (r : StepRun) (before : List TaskState) (plan : PlanRun) (later : List PlanRun) : Type 0 where
-  pub quiet : GoQuietly (rounds_made plan) before
+  pub quiet : GoQuietly (rounds_run plan) before
   pub unstopped : later ≡ [] → r.snapshot.stopping ≡ false
 
 -- a plan that the step made for the tasks as they stood before it, and those that it made later
@@ -69,16 +55,16 @@ pub record IsPlanOf (r : StepRun) (before : List TaskState) (plan : PlanRun) (la
   pub certified : Holds (counts_now r.setup before) r.setup.threads (length plan.rounds) plan.certificate
   -- its first rounds were run, each partition's chunks in order,
   pub among : plan.ran ≤ length plan.rounds
-  pub in_order : RunInOrder before before (rounds_made plan)
+  pub in_order : RunInOrder before before (rounds_run plan)
   -- none behind one with a rollback or a failure,
   pub no_further : GoQuietly (take (plan.ran - 1) plan.rounds) before
   -- and, unless something ended it, all of them: then no chunk is left
-  pub whole : IsUnended r before plan later → (plan.ran ≡ length plan.rounds) × NoneIsLeft r.setup (left_by (rounds_made plan) before)
+  pub whole : IsUnended r before plan later → (plan.ran ≡ length plan.rounds) × NoneIsLeft r.setup (after_rounds (rounds_run plan) before)
 
 -- the plans, each made for what the one before it left; the last one leaves the tasks as the step left them
 abbrev pub ArePlansOf : StepRun → (before : List TaskState) → List PlanRun → Type 0
 ArePlansOf r before [] = tasks_after r ≡ before
-ArePlansOf r before (plan ∷ later) = IsPlanOf r before plan later × ArePlansOf r (left_by (rounds_made plan) before) later
+ArePlansOf r before (plan ∷ later) = IsPlanOf r before plan later × ArePlansOf r (after_rounds (rounds_run plan) before) later
 
 -- ---- the headline
 

@@ -3,8 +3,8 @@ use Rattle.std.specs.Prelude.{◌≡◌, true, List}
 use Rattle.std.specs.List.{list_all}
 use Rattle.jb_rules.specs.States.{is_waiting}
 use Rattle.jb_chunk.specs.Standing.{TaskState}
-use Rattle.jb_step.specs.Runs.{PlanRun, ArePlanRuns, table_after}
-use Rattle.jb_step.specs.Setup.{Setup}
+use Rattle.jb_step.specs.rounds.Runs.{PlanRun, ArePlanRuns, table_after}
+use Rattle.jb_step.specs.preparing.Setup.{Setup}
 use Rattle.jb_step.specs.Alone.{AreOnTheWay, AreAlone, ArePlain, AreCalm, AreReady, have_ended}
 
 -- at each moment each partition stands after some of its attempts alone

@@ -4,9 +4,9 @@ use Rattle.jb_chunk.specs.Alone.{IsRunOf}
 use Rattle.jb_chunk.specs.Attempt.{AttemptEnd}
 use Rattle.jb_chunk.specs.Standing.{TaskState}
 use Rattle.jb_collect.specs.Heard.{calls_about, heard_first, heard_in, heard_last}
-use Rattle.jb_step.specs.Heard.{heard}
-use Rattle.jb_step.specs.Runs.{PlanRun, ArePlanRuns, all_attempts, table_after}
-use Rattle.jb_step.specs.Setup.{Setup}
+use Rattle.jb_step.specs.callbacks.Heard.{heard}
+use Rattle.jb_step.specs.rounds.Runs.{PlanRun, ArePlanRuns, all_attempts, table_after}
+use Rattle.jb_step.specs.preparing.Setup.{Setup}
 
 -- the partition's attempts, and its tasks
 abbrev pub attempts_at : ℕ → List AttemptEnd → List AttemptEnd

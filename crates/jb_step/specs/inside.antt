@@ -1,9 +1,7 @@
-pub mod Adding
 pub mod Below
 pub mod Finish
 pub mod Fresh
 pub mod Head
-pub mod Loop
 pub mod Places
 pub mod Preparing
 pub mod Reducing

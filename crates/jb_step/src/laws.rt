@@ -1,11 +1,11 @@
 //! What holds of every run of a step. Nothing is done here: the clauses are the laws.
 
-ghost use Rattle.jb_step.specs.PlanLaws.{BeginsWithRows, BeginsWithTable, ChunksAreBlocks, EndsWhole, NextCanRun, PartitionsStay, RunsAll, RunsInOrder};
+ghost use Rattle.jb_step.specs.rounds.PlanLaws.{BeginsWithRows, BeginsWithTable, ChunksAreBlocks, EndsWhole, NextCanRun, PartitionsStay, RunsAll, RunsInOrder};
 ghost use Rattle.jb_step.specs.Headline.{HeadlineHolds, UnstoppedRunsAgree};
 ghost use Rattle.jb_step.specs.Laws.{StepsAreOnTheWay, StepsEndAlone, AloneIsOnePlace, CalmStepsArePlain};
 ghost use Rattle.jb_step.specs.inside.Below.{LawsBelow};
 ghost use Rattle.jb_step.specs.OnePartition.{AttemptsAreAlone, HeardOfPartition, OthersDontCount};
-ghost use Rattle.jb_step.specs.Restarts.{OverridesBeginAnew, RestartsAreOnTheWay, RestartsEndAlone, RestartsEndAsUnstopped, RestartsFit};
+ghost use Rattle.jb_step.specs.restarts.Restarts.{OverridesBeginAnew, RestartsAreOnTheWay, RestartsEndAlone, RestartsEndAsUnstopped, RestartsFit};
 
 use jb_cert::{bound_is_least, wrap_around_is_least};
 use jb_chunk::{

@@ -1,16 +1,15 @@
 //! A step over one pool of workers for all its rounds, with the analyzer and the reducer that keep the list of their calls.
 
 ghost use Rattle.std.specs.Prelude.{◌≡◌, ◌⊎◌, IfOk, IfErr, OnOk, map};
-ghost use Rattle.jb_collect.specs.Taken.{well};
+ghost use Rattle.jb_collect.specs.Taken.{Grew, since, well};
 ghost use Rattle.jb_step.specs.Answers.{given_back, AreCallsAfter, AreCallsUndone, IsRunError, IsRunOfStep, IsStatus, tasks_left};
-ghost use Rattle.jb_step.specs.Callbacks.{Grew, since};
 ghost use Rattle.jb_step.specs.Headline.{Headline};
-ghost use Rattle.jb_step.specs.Prepare.{DoFit};
-ghost use Rattle.jb_step.specs.Setup.{first_tasks};
+ghost use Rattle.jb_step.specs.preparing.Prepare.{DoFit};
+ghost use Rattle.jb_step.specs.preparing.Setup.{first_tasks};
 ghost use Rattle.jb_step.specs.Alone.{AreOnTheWay};
 ghost use Rattle.jb_saved.specs.declared.error.StepError.TheVariants.{WrongArtifacts, Memory};
 
-use crate::prepared::Prepared;
+use crate::preparing::prepared::Prepared;
 use crate::step::{StepEnd, run_step_by};
 use jb_artifacts::Meaning;
 use jb_chunk::PartitionTask;

@@ -3,15 +3,17 @@
 ghost use Rattle.std.specs.Prelude.{◌≡◌, ◌≤◌, ◌++◌, ◌∷◌, [], true, IfOk, IfErr, OnOk};
 ghost use Rattle.jb_base.specs.Limits.{max_records};
 ghost use Rattle.jb_collect.specs.declared.calls.ReducerCall.TheVariants as act;
-ghost use Rattle.jb_collect.specs.Taken.{well};
+ghost use Rattle.jb_collect.specs.Taken.{Grew, since, well};
 ghost use Rattle.jb_saved.specs.declared.error.StepError.TheVariants.{Memory};
-ghost use Rattle.jb_step.specs.Prepare.{AreCallsBefore, IsAnew, IsPreparation, IsRefusal, discards_by};
-ghost use Rattle.jb_step.specs.Callbacks.{Grew, since};
-ghost use Rattle.jb_step.specs.Setup.{IsSetup, fresh_rows, saved_faults};
-ghost use Rattle.jb_step.specs.inside.Fresh.{IsDiscardRefused, IsUnopened, IsUnplanned, opened_setup, setup_with};
+ghost use Rattle.jb_step.specs.preparing.Prepare.{AreCallsBefore, IsAnew, IsPreparation, IsPrepareRefusal, discards_by};
+ghost use Rattle.jb_step.specs.preparing.Setup.{IsSetup, fresh_rows, saved_faults};
+ghost use Rattle.jb_step.specs.inside.Fresh.{IsDiscardRefused, IsUnopened, IsUnplanned, opened_setup, setup_of_rows};
 
-use crate::prepared::Prepared;
-use crate::reduce::undo;
+pub(crate) mod prepared;
+pub(crate) mod start;
+
+use crate::callbacks::reduce::undo;
+use crate::preparing::prepared::Prepared;
 use jb_base::ArtifactError;
 use jb_collect::{PartitionStatus, Reducer};
 use jb_job::Step;
@@ -43,7 +45,7 @@ pub fn prepare(
     requires { records ≤ max_records }
     ensures prepared { IfOk result (λ prepared. IsPreparation step.now records (mapping mapper.old records) saved prepared) }
     ensures setup { IfOk result (λ prepared. IsSetup prepared) }
-    ensures refused { IfErr result (λ error. IsRefusal step.now records (mapping mapper.old records) saved (since (reduced reducer.old) (reduced reducer.new)) error) }
+    ensures refused { IfErr result (λ error. IsPrepareRefusal step.now records (mapping mapper.old records) saved (since (reduced reducer.old) (reduced reducer.new)) error) }
     ensures calls { AreCallsBefore (discards_by (mapping mapper.old records) saved) result (since (reduced reducer.old) (reduced reducer.new)) }
     ensures anew { IfOk result (λ prepared. IsAnew (mapping mapper.old records) saved (since (reduced reducer.old) (reduced reducer.new)) prepared) }
     ensures grew { Grew (reduced reducer.old) (reduced reducer.new) }
@@ -145,7 +147,7 @@ fn opened(
 
 // All partitions begin anew on the plan's ranges. The only error is want of memory.
 fn anew(alloc: Global, plan: &Checked, step: &Step) -> Result<Prepared, StepError>
-    ensures value { IfOk result (λ prepared. prepared ≡ setup_with (fresh_rows plan.now.ranges) plan.now step.now true) }
+    ensures value { IfOk result (λ prepared. prepared ≡ setup_of_rows (fresh_rows plan.now.ranges) plan.now step.now true) }
     ensures setup { IfOk result (λ prepared. IsSetup prepared) }
     ensures err { IfErr result (λ error. error ≡ Memory) }
 {

@@ -1,25 +1,26 @@
 //! A step, from its artifacts to its end.
 
 ghost use Rattle.std.specs.Prelude.{◌≡◌, ◌⊎◌, ◌+◌, ◌*◌, ◌++◌, ◌∷◌, [], true, false, IfOk, IfErr, OnOk, length, map};
-ghost use Rattle.jb_step.specs.inside.Finish.{works_of};
+ghost use Rattle.jb_step.specs.inside.Finish.{works_of_tasks};
 ghost use Rattle.jb_step.specs.inside.Places.{held_in};
 ghost use Rattle.jb_step.specs.Answers.{given_back, AreCallsAfter, AreCallsUndone, IsRunError, IsRunOfStep, IsStatus, tasks_left};
-ghost use Rattle.jb_step.specs.Prepare.{DoFit};
-ghost use Rattle.jb_step.specs.Callbacks.{Grew, has_fault, since};
+ghost use Rattle.jb_step.specs.preparing.Prepare.{DoFit};
+ghost use Rattle.jb_collect.specs.Taken.{Grew, since};
+ghost use Rattle.jb_step.specs.callbacks.Callbacks.{has_fault};
 ghost use Rattle.jb_step.specs.Headline.{Headline};
-ghost use Rattle.jb_step.specs.Setup.{first_tasks};
+ghost use Rattle.jb_step.specs.preparing.Setup.{first_tasks};
 ghost use Rattle.jb_step.specs.Statuses.{status_of};
 ghost use Rattle.jb_step.specs.Alone.{AreOnTheWay};
 ghost use Rattle.jb_saved.specs.declared.error.StepError.TheVariants.{WrongArtifacts, Memory};
 
+use crate::callbacks::finish::{rows_shown, run_to_end};
+use crate::callbacks::reduce::{end_step, status_now, undone};
 use crate::error::RunError;
-use crate::finish::{rows_shown, run_to_end};
 use crate::laws::laws_below;
-use crate::prepared::Prepared;
-use crate::ran::Ran;
-use crate::reduce::{end_step, status_now, undone};
-use crate::runner::RoundRunner;
-use crate::start::start_all;
+use crate::preparing::prepared::Prepared;
+use crate::preparing::start::start_all;
+use crate::rounds::ran::Ran;
+use crate::rounds::runner::{RoundRunner, StepGate, StepLedger, StepTask, StepThreads};
 use jb_artifacts::Meaning;
 use jb_cert::PlanNote;
 use jb_chunk::PartitionTask;
@@ -50,7 +51,7 @@ fn give_back<T: PartitionTask>(
     alloc: Global,
     held: Vec<Option<T>>,
 ) -> Result<Vec<(u32, T::Artifacts)>, RunError>
-    ensures { IfOk result (λ left. given_back T.Artifacts.meaning left.items ≡ works_of (map T.standing (held_in held.items))) }
+    ensures { IfOk result (λ left. given_back T.Artifacts.meaning left.items ≡ works_of_tasks (map T.standing (held_in held.items))) }
 {
     let mut left = Vec::new(alloc);
     for place in held {
@@ -64,7 +65,7 @@ fn give_one<T: PartitionTask>(
     left: &mut Vec<(u32, T::Artifacts)>,
     place: Option<T>,
 ) -> Result<(), RunError>
-    ensures { OnOk result (given_back T.Artifacts.meaning left.new.items ≡ given_back T.Artifacts.meaning left.old.items ++ works_of (map T.standing (held_in (place ∷ [])))) }
+    ensures { OnOk result (given_back T.Artifacts.meaning left.new.items ≡ given_back T.Artifacts.meaning left.old.items ++ works_of_tasks (map T.standing (held_in (place ∷ [])))) }
 {
     if let Some(task) = place {
         let partition = task.partition();
@@ -87,12 +88,11 @@ fn are_numbers<T: PartitionTask>(snapshot: &Snapshot, ran: &Ran<T>) -> bool
 }
 
 // The desk has the prepared rows, and no event yet.
-fn is_new<
-    T: PartitionTask + Send + 'static,
-    L: Ledger + Send + Sync + 'static,
-    G: Gate + Sync,
-    R: Threads + Wait + Sync,
->(runner: &RoundRunner<L, G, R>, alloc: Global, prepared: &Prepared) -> Result<(), RunError> {
+fn is_new<T: StepTask, L: StepLedger, G: StepGate, R: StepThreads>(
+    runner: &RoundRunner<L, G, R>,
+    alloc: Global,
+    prepared: &Prepared,
+) -> Result<(), RunError> {
     let none: Vec<Option<T>> = Vec::new(alloc);
     let snapshot = rows_shown(runner, prepared, none.as_slice())?;
     if snapshot.events != 0 {
@@ -102,12 +102,7 @@ fn is_new<
 }
 
 // The rounds of a step whose artifacts fit, and how it stands before the reducer is told.
-fn run_tasks<
-    T: PartitionTask + Send + 'static,
-    L: Ledger + Send + Sync + 'static,
-    G: Gate + Sync,
-    R: Threads + Wait + Sync,
->(
+fn run_tasks<T: StepTask, L: StepLedger, G: StepGate, R: StepThreads>(
     runner: &RoundRunner<L, G, R>,
     pool: &mut Pool<T, L>,
     alloc: Global,

@@ -2,11 +2,11 @@
 
 ghost use Rattle.jb_step.specs.Worked.{WorkedRows};
 
-use jb_cert::wrap_around_is_least;
+use crate::laws::laws_below;
 
 /// What the definitions give for whole steps.
 pub fn worked_rows()
     ensures { WorkedRows }
 {
-    wrap_around_is_least();
+    laws_below();
 }

@@ -1,6 +1,6 @@
 //! A round delivered to the ready analyzer, the ready reducer's calls, and the definitions computed on worked rows.
 
-ghost use Rattle.jb_collect.specs.Worked.{FirstRun, OneFailed, StoppedAfterARound, NoRecord, RolledBack, CallsTaken, ListedCalls, ReducerCalls, ReducerFaults};
+ghost use Rattle.jb_collect.specs.Worked.{FirstRunHeard, OneFailedHeard, StoppedAfterARound, NoRecordHeard, RolledBack, CallsTaken, ListedCalls, ReducerCalls, ReducerFaults};
 
 use crate::workers::most::{OneRecordTask, own_task};
 use jb_base::{ArtifactError, ClassId, MAX_ROLLBACKS};
@@ -14,10 +14,10 @@ use std::test::*;
 
 /// What is heard, which calls are taken, and the reducer's calls, computed from the definitions alone.
 fn worked_rows()
-    ensures first_run { FirstRun }
-    ensures one_failed { OneFailed }
+    ensures first_run { FirstRunHeard }
+    ensures one_failed { OneFailedHeard }
     ensures stopped { StoppedAfterARound }
-    ensures no_record { NoRecord }
+    ensures no_record { NoRecordHeard }
     ensures rolled_back { RolledBack }
     ensures taken { CallsTaken }
     ensures listed { ListedCalls }

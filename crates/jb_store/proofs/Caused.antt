@@ -30,9 +30,9 @@ use Rattle.sqlite.specs.Clock.{timed}
 use Rattle.sqlite.specs.State.{State, mode_of, Executes, ExecutesIn, IsNotRun, IsNoStatement, IsMisplaced, RunsCommand, Fails, HasCause, store_error, shows_rows}
 use Rattle.sqlite.proofs.Callers.{IsPlain, command_of}
 use Rattle.jb_store.specs.declared.error.StoreError.{StoreError}
-use Rattle.jb_store.specs.Errors.{name_of, IsCaused}
+use Rattle.jb_store.specs.Errors.{refusal_named, IsCaused}
 use Rattle.jb_store.specs.Form.{checkpoint, checkpoint_schema}
-use Rattle.jb_store.specs.Checkpoints.{HasNumber, Holds, IsTooLong, Kept, stored}
+use Rattle.jb_store.specs.Checkpoints.{HasNumber, HoldsList, IsTooLong, Kept, stored}
 use Rattle.sqlite.specs.Schema.{Schema}
 use Rattle.sqlite.specs.Edit.{Edit, edit_of}
 use Rattle.sqlite.specs.Rowids.TheVariants.{Chosen}
@@ -90,11 +90,11 @@ taken_of : (b : Bool) → (not b && true) ≡ false → b ≡ true
 taken_of true h = refl
 taken_of false h = absurd (true≢false h)
 
-module _ (old new : State) (all : List Kept) (holds : Holds old.now all) (it : Kept) (number : ℕ) where
+module _ (old new : State) (all : List Kept) (holds : HoldsList old.now all) (it : Kept) (number : ℕ) where
   abbrev Why : StoreError → Type 0
   Why = IsCaused old new (HasNumber all number) (IsTooLong it)
 
-  by_rules : (r : Refusal) → (r ≡ Violates PrimaryKey → HasNumber all number) → Why (name_of (edit_error r))
+  by_rules : (r : Refusal) → (r ≡ Violates PrimaryKey → HasNumber all number) → Why (refusal_named (edit_error r))
   by_rules (Violates Datatype) has = tt
   by_rules (Violates NotNull) has = tt
   by_rules (Violates Check) has = tt
@@ -106,7 +106,7 @@ module _ (old new : State) (all : List Kept) (holds : Holds old.now all) (it : K
   by_rules BadReference has = tt
   by_rules TooDeep has = tt
 
-  by_cause : (Big : Type 0) → (Big → IsTooLong it) → (cause : Cause) → HasCause old new Big cause → Why (name_of (store_error cause))
+  by_cause : (Big : Type 0) → (Big → IsTooLong it) → (cause : Cause) → HasCause old new Big cause → Why (refusal_named (store_error cause))
   by_cause Big long OutOfMemory has = tt
   by_cause Big long Io has = has
   by_cause Big long Corrupt has = has
@@ -116,10 +116,10 @@ module _ (old new : State) (all : List Kept) (holds : Holds old.now all) (it : K
 
   module _ (e : Error) where
     abbrev Said : Type 0
-    Said = Why (name_of e)
+    Said = Why (refusal_named e)
 
-    as_named : (x : Error) → e ≡ x → Why (name_of x) → Said
-    as_named x is c = subst (λ y. Why (name_of y)) (sym is) c
+    as_named : (x : Error) → e ≡ x → Why (refusal_named x) → Said
+    as_named x is c = subst (λ y. Why (refusal_named y)) (sym is) c
 
     by_failure : (Big : Type 0) → (Big → IsTooLong it) → Fails old new Big e → Said
     by_failure Big long f = as_named (store_error f.0) f.1 (by_cause Big long f.0 f.2)
@@ -234,6 +234,6 @@ module _ (old new : State) (all : List Kept) (holds : Holds old.now all) (it : K
               run r.0 (timed (params number it) r.0.formats r.1.now) (rw (plain, append-nil (params number it))) r.1.is (rw runs at r.2)
         ]
 
-  pub causes : (r : Result ℕ Error) → Executes insert_text (params number it) old new r → IfErr r (λ e. IsCaused old new (HasNumber all number) (IsTooLong it) (name_of e))
+  pub causes : (r : Result ℕ Error) → Executes insert_text (params number it) old new r → IfErr r (λ e. IsCaused old new (HasNumber all number) (IsTooLong it) (refusal_named e))
   causes (Ok n) h = tt
   causes (Err e) h = caused e h

@@ -25,7 +25,7 @@ use Rattle.sqlite_schema.specs.declared.program.Program.{Program}
 use Rattle.jb_store.specs.declared.error.StoreError.{StoreError}
 use Rattle.sqlite_disk.specs.Disk.{MoreFaults}
 use Rattle.jb_store.specs.declared.error.StoreError.TheVariants as named
-use Rattle.jb_store.specs.Errors.{name_of, IsFault, IsOpenCause}
+use Rattle.jb_store.specs.Errors.{refusal_named, IsStoreFault, IsOpenCause}
 use Rattle.jb_store.specs.Form.{checkpoint, checkpoint_schema, no_schema}
 use Rattle.jb_store.proofs.Texts.{create_text, query, select_text, create_is, create_plain, select_is, select_plain}
 
@@ -47,9 +47,9 @@ short table defined long = let name : length table.name ≡ 10 = ap (λ (t : Rat
 
 module _ (old new : State) where
   abbrev Why : StoreError → Type 0
-  Why = IsFault old new
+  Why = IsStoreFault old new
 
-  by_cause : (Big : Type 0) → (Big → ⊥) → (cause : Cause) → HasCause old new Big cause → Why (name_of (store_error cause))
+  by_cause : (Big : Type 0) → (Big → ⊥) → (cause : Cause) → HasCause old new Big cause → Why (refusal_named (store_error cause))
   by_cause Big never OutOfMemory has = tt
   by_cause Big never Io has = has
   by_cause Big never Corrupt has = has
@@ -59,10 +59,10 @@ module _ (old new : State) where
 
   module _ (e : Error) where
     abbrev Said : Type 0
-    Said = Why (name_of e)
+    Said = Why (refusal_named e)
 
-    as_named : (x : Error) → e ≡ x → Why (name_of x) → Said
-    as_named x is c = subst (λ y. Why (name_of y)) (sym is) c
+    as_named : (x : Error) → e ≡ x → Why (refusal_named x) → Said
+    as_named x is c = subst (λ y. Why (refusal_named y)) (sym is) c
 
     by_failure : (Big : Type 0) → (Big → ⊥) → Fails old new Big e → Said
     by_failure Big never f = as_named (store_error f.0) f.1 (by_cause Big never f.0 f.2)
@@ -137,7 +137,7 @@ module _ (old new : State) where
           | inr runs ↦ run r.0 (timed [] r.0.formats r.1.now) r.1.is (rw runs at r.2)
         ]
 
-  pub not_made : old.now.schema ≡ no_schema → (r : Result ℕ Error) → Executes create_text [] old new r → IfErr r (λ e. IsFault old new (name_of e))
+  pub not_made : old.now.schema ≡ no_schema → (r : Result ℕ Error) → Executes create_text [] old new r → IfErr r (λ e. IsStoreFault old new (refusal_named e))
   not_made has (Ok n) h = tt
   not_made has (Err e) h = unmade has e h
 
@@ -161,11 +161,11 @@ module _ (old new : State) where
         let refuses = subst (λ k. RefusesToRead old.step_limit k plain.0 row e) (ap command_of known ∙ select_is.0) plain.2 in
         by_reading plain.0 row (record { lets = []; body = query }) (codes "number" ∷ codes "saved" ∷ codes "results" ∷ []) refuses
 
-    pub not_read : FailsToQuery select_text [] old new e → IsFault old new (name_of e)
+    pub not_read : FailsToQuery select_text [] old new e → IsStoreFault old new (refusal_named e)
     not_read = unread
 
 -- a fault behind what was done before
-pub later_fault : (old mid new : State) → old.faults ≤ mid.faults → (mid.is_open ≡ false → MoreFaults old.faults new.faults) → (e : StoreError) → IsFault mid new e → IsOpenCause old new e
+pub later_fault : (old mid new : State) → old.faults ≤ mid.faults → (mid.is_open ≡ false → MoreFaults old.faults new.faults) → (e : StoreError) → IsStoreFault mid new e → IsOpenCause old new e
 later_fault old mid new counts shut named.Foreign fault = absurd fault
 later_fault old mid new counts shut named.Version fault = absurd fault
 later_fault old mid new counts shut named.Gap fault = absurd fault

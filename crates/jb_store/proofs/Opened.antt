@@ -8,7 +8,7 @@ use Rattle.sqlite_trees.specs.Objects.{catalog_tree}
 use Rattle.sqlite_catalog.specs.Listing.{IsSound}
 use Rattle.sqlite_catalog.proofs.ReadLemmas.{lists_once}
 use Rattle.jb_store.specs.Form.{checkpoint_schema, no_schema}
-use Rattle.jb_store.specs.Checkpoints.{Kept, AreIn, Holds, StandsFor, Has, ShowsList}
+use Rattle.jb_store.specs.Checkpoints.{Kept, AreIn, HoldsList, StandsFor, Has, ShowsList}
 use Rattle.jb_store.specs.Connections.{IsJustOpened, Keeps}
 
 pub apart : checkpoint_schema ≡ no_schema → ⊥
@@ -65,6 +65,6 @@ pub keeps_read : (old new : State) (all : List Kept) → Keeps old all → IsUnc
 keeps_read old new all keeps u left = record {
   autocommit = u.0.mode ∙ keeps.autocommit;
   same = λ _. u.0.now_is ∙ keeps.same u.0.was_open ∙ sym u.0.committed_is;
-  shows = subst (λ d. Holds d all) (sym u.0.now_is) keeps.shows;
+  shows = subst (λ d. HoldsList d all) (sym u.0.now_is) keeps.shows;
   leaves = λ db may. keeps.leaves db (left db may);
 }

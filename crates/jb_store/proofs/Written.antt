@@ -29,7 +29,7 @@ use Rattle.sqlite.specs.State.{State, HasCleanDisk, mode_of, Writes, Executes, E
 use Rattle.sqlite.proofs.Callers.{IsPlain, command_of, statement_of, runs_as, one_step}
 use Rattle.std.proofs.lemmas.Bool.{cases_Bool}
 use Rattle.jb_store.specs.Form.{checkpoint, checkpoint_schema, no_schema}
-use Rattle.jb_store.specs.Checkpoints.{Kept, Holds, StandsFor, stored, stored_from}
+use Rattle.jb_store.specs.Checkpoints.{Kept, HoldsList, StandsFor, stored, stored_from}
 use Rattle.jb_store.specs.Connections.{Keeps}
 use Rattle.jb_store.proofs.Texts.{create_text, insert_text, terms, create_is, insert_is, create_plain, insert_plain}
 use Rattle.jb_store.proofs.Lists.{put_adds, stored_push}
@@ -55,7 +55,7 @@ same_value : {B E : Type 0} {a b : B} → ◌≡◌ {A = Result B E} (Ok a) (Ok 
 same_value e = cc
 
 -- what the statement that makes the table makes of a database
-pub makes : (s : State) → s.now.schema ≡ no_schema → (tally : Tally) (after : Database) → Does s.step_limit (mode_of s) [] s.now create_text None CreateTable (Ok (tally, after)) → Holds after []
+pub makes : (s : State) → s.now.schema ≡ no_schema → (tally : Tally) (after : Database) → Does s.step_limit (mode_of s) [] s.now create_text None CreateTable (Ok (tally, after)) → HoldsList after []
 makes s has tally after changed =
     let all = went changed in
     let first = went all.1 in
@@ -90,8 +90,8 @@ insert_statement = statement_of insert_text (understood checkpoint_schema insert
 abbrev pub Inserted : State → Row → Tally → Database → Type 0
 Inserted s row tally after = Does s.step_limit (mode_of s) row s.now insert_statement None command (Ok (tally, after))
 
-pub inserts : (s : State) (all : List Kept) (it : Kept) (number : ℕ) → number ≡ length all + 1 → Holds s.now all → (tally : Tally) (after : Database) → Inserted s (params number it) tally after
-    → Holds after (all ++ it ∷ [])
+pub inserts : (s : State) (all : List Kept) (it : Kept) (number : ℕ) → number ≡ length all + 1 → HoldsList s.now all → (tally : Tally) (after : Database) → Inserted s (params number it) tally after
+    → HoldsList after (all ++ it ∷ [])
 inserts s all it number at holds tally after changed =
     let row = params number it in
     let db = s.now.trees in
@@ -113,7 +113,7 @@ inserts s all it number at holds tally after changed =
     }
 
 -- what the insert commits
-pub commits : (s : State) (all : List Kept) (it : Kept) (number : ℕ) → number ≡ length all + 1 → Holds s.now all → (db : Trees) → CommitsBy insert_text (params number it) s db → StandsFor db (all ++ it ∷ [])
+pub commits : (s : State) (all : List Kept) (it : Kept) (number : ℕ) → number ≡ length all + 1 → HoldsList s.now all → (db : Trees) → CommitsBy insert_text (params number it) s db → StandsFor db (all ++ it ∷ [])
 unfolding CommitsBy
 commits s all it number at holds db h = go plain
   where
@@ -159,7 +159,7 @@ commits_table s has db h = go plain
 
 module _ (old new : State) (settled : (db : Trees) → IsTrue new.is_open → new.may_leave db → db ≡ new.committed.trees) (all : List Kept) where
   -- a write that was made and committed
-  wrote : {command : Rattle.sqlite.specs.Command.Command} {text : List ℕ} {row : Row} {count : ℕ} → old.in_transaction ≡ false → Writes old new None command text row count → Holds new.now all → Keeps new all
+  wrote : {command : Rattle.sqlite.specs.Command.Command} {text : List ℕ} {row : Row} {count : ℕ} → old.in_transaction ≡ false → Writes old new None command text row count → HoldsList new.now all → Keeps new all
   wrote autocommit w holds =
       let same : new.now ≡ new.committed = sym (w.shown.committed_is ∙ ap (λ b. if b then old.committed else new.now) autocommit) in
       record {
@@ -176,7 +176,7 @@ module _ (old new : State) (settled : (db : Trees) → IsTrue new.is_open → ne
   rests keeps stays is_open was_open now committed mode = record {
     autocommit = mode;
     same = λ _. now ∙ sym committed;
-    shows = subst (λ d. Holds d all) (keeps.same was_open ∙ sym now) keeps.shows;
+    shows = subst (λ d. HoldsList d all) (keeps.same was_open ∙ sym now) keeps.shows;
     leaves = λ db may. subst (λ x. StandsFor x all) (sym (settled db is_open may ∙ ap (λ (d : Database). d.trees) committed)) (keeps.leaves _ (stays was_open));
   }
 

@@ -46,13 +46,13 @@ abbrev pub IsTooLong : Kept → Type 0
 IsTooLong it = 10 ^ 9 < 72 + length it.saved + length it.results
 
 -- a database of checkpoints, which has these
-pub record Holds (db : Database) (all : List Kept) : Type 0 where
+pub record HoldsList (db : Database) (all : List Kept) : Type 0 where
   pub schema : db.schema ≡ checkpoint_schema
   pub rows : AreIn db.trees all
 
 -- the same, or nothing is defined yet and there is no checkpoint
 abbrev pub ShowsList : Database → List Kept → Type 0
-ShowsList db all = Holds db all ⊎ ((db.schema ≡ no_schema) × (all ≡ []))
+ShowsList db all = HoldsList db all ⊎ ((db.schema ≡ no_schema) × (all ≡ []))
 
 -- what a file holds: it lists this one table, obeys its rules, and has these checkpoints
 pub record StandsFor (db : Trees) (all : List Kept) : Type 0 where

@@ -2,7 +2,7 @@
 use Rattle.std.specs.Prelude.{◌≡◌, false, List, IsTrue}
 use Rattle.sqlite.specs.State.{State, Opens, IsLive}
 use Rattle.sqlite.specs.Tree.{Trees}
-use Rattle.jb_store.specs.Checkpoints.{Kept, Holds, StandsFor}
+use Rattle.jb_store.specs.Checkpoints.{Kept, HoldsList, StandsFor}
 
 -- nothing was done since the open, and the database obeys its schema
 abbrev pub IsJustOpened : State → Type 0
@@ -12,7 +12,7 @@ IsJustOpened s = Opens s × IsLive s
 pub record Keeps (s : State) (all : List Kept) : Type 0 where
   pub autocommit : s.in_transaction ≡ false
   pub same : IsTrue s.is_open → s.now ≡ s.committed
-  pub shows : Holds s.now all
+  pub shows : HoldsList s.now all
   pub leaves : (db : Trees) → s.may_leave db → StandsFor db all
 
 -- it shows what it showed, and a crash leaves that and nothing else

@@ -12,18 +12,18 @@ use Rattle.jb_store.specs.Form.{IsForeign, IsOtherVersion, checkpoint_schema}
 use Rattle.jb_store.specs.declared.error.StoreError.TheVariants.{Foreign, Version, Gap, Damaged, Busy, CannotOpen, Full, Disk, Shut, TooLong, Taken, Memory, Sql}
 
 -- how a refusal of SQLite is named here
-abbrev pub name_of : Error → StoreError
-name_of (SqliteFailure code.NotADatabase) = Damaged
-name_of (SqliteFailure code.DatabaseCorrupt) = Damaged
-name_of (SqliteFailure code.DatabaseBusy) = Busy
-name_of (SqliteFailure code.CannotOpen) = CannotOpen
-name_of (SqliteFailure code.DiskFull) = Full
-name_of (SqliteFailure code.SystemIoFailure) = Disk
-name_of (SqliteFailure code.Closed) = Shut
-name_of (SqliteFailure code.TooBig) = TooLong
-name_of (SqliteFailure (code.ConstraintViolation PrimaryKey)) = Taken
-name_of (SqliteFailure code.OutOfMemory) = Memory
-name_of e = Sql e
+abbrev pub refusal_named : Error → StoreError
+refusal_named (SqliteFailure code.NotADatabase) = Damaged
+refusal_named (SqliteFailure code.DatabaseCorrupt) = Damaged
+refusal_named (SqliteFailure code.DatabaseBusy) = Busy
+refusal_named (SqliteFailure code.CannotOpen) = CannotOpen
+refusal_named (SqliteFailure code.DiskFull) = Full
+refusal_named (SqliteFailure code.SystemIoFailure) = Disk
+refusal_named (SqliteFailure code.Closed) = Shut
+refusal_named (SqliteFailure code.TooBig) = TooLong
+refusal_named (SqliteFailure (code.ConstraintViolation PrimaryKey)) = Taken
+refusal_named (SqliteFailure code.OutOfMemory) = Memory
+refusal_named e = Sql e
 
 -- a refusal of what the database holds
 abbrev pub IsOfTheList : StoreError → Type 0
@@ -31,24 +31,24 @@ IsOfTheList e = (e ≡ Foreign) ⊎ ((e ≡ Version) ⊎ (e ≡ Gap))
 
 -- What came to pass where a statement fails that makes the table or reads it: a call of the disk failed, the connection was shut before,
 -- memory lacked, or SQLite has another reason.
-abbrev pub IsFault : State → State → StoreError → Type 0
-IsFault old new Foreign = ⊥
-IsFault old new Version = ⊥
-IsFault old new Gap = ⊥
-IsFault old new Busy = ⊥
-IsFault old new CannotOpen = ⊥
-IsFault old new Damaged = MoreFaults old.faults new.faults
-IsFault old new Full = MoreFaults old.faults new.faults
-IsFault old new Disk = MoreFaults old.faults new.faults
-IsFault old new Shut = old.is_open ≡ false
-IsFault old new TooLong = ⊥
-IsFault old new Taken = ⊥
-IsFault old new Memory = ⊤
-IsFault old new (Sql e) = ⊤
+abbrev pub IsStoreFault : State → State → StoreError → Type 0
+IsStoreFault old new Foreign = ⊥
+IsStoreFault old new Version = ⊥
+IsStoreFault old new Gap = ⊥
+IsStoreFault old new Busy = ⊥
+IsStoreFault old new CannotOpen = ⊥
+IsStoreFault old new Damaged = MoreFaults old.faults new.faults
+IsStoreFault old new Full = MoreFaults old.faults new.faults
+IsStoreFault old new Disk = MoreFaults old.faults new.faults
+IsStoreFault old new Shut = old.is_open ≡ false
+IsStoreFault old new TooLong = ⊥
+IsStoreFault old new Taken = ⊥
+IsStoreFault old new Memory = ⊤
+IsStoreFault old new (Sql e) = ⊤
 
 -- the same where all rows are listed, or their numbers have a gap
 abbrev pub IsListFault : State → State → StoreError → Type 0
-IsListFault old new e = (e ≡ Gap) ⊎ IsFault old new e
+IsListFault old new e = (e ≡ Gap) ⊎ IsStoreFault old new e
 
 -- What came to pass where the list of a connection that was just opened isn't taken: its database is of another kind, of another version
 -- or has a gap, or a call of the disk failed.

@@ -11,11 +11,11 @@ use Rattle.sqlite_schema.specs.declared.schema.Column.{Column}
 use Rattle.sqlite_schema.specs.Names.{same_name}
 
 -- a column of a STRICT table, with no default
-abbrev pub strict : List ℕ → Kind → Bool → Column
-strict name kind not_null = record { name = name; kind = kind; is_strict = true; not_null = not_null; default = Null; collation = Binary }
+abbrev pub strict_column : List ℕ → Kind → Bool → Column
+strict_column name kind not_null = record { name = name; kind = kind; is_strict = true; not_null = not_null; default = Null; collation = Binary }
 
 abbrev pub checkpoint_columns : List Column
-checkpoint_columns = strict (codes "number") Integer false ∷ strict (codes "saved") Text true ∷ strict (codes "results") Blob true ∷ []
+checkpoint_columns = strict_column (codes "number") Integer false ∷ strict_column (codes "saved") Text true ∷ strict_column (codes "results") Blob true ∷ []
 
 -- the table of checkpoints: number, the key of the row; saved, a text; results, bytes; all there, and no further rule
 abbrev pub checkpoint : Table

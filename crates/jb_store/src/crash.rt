@@ -1,7 +1,7 @@
 //! A crash at any moment of an append, and the next open.
 
 ghost use Rattle.std.specs.Prelude.{◌≡◌, ◌⊎◌, ◌++◌, ◌+◌, [], ◌∷◌, length, map, IfSome, IsTrue};
-ghost use Rattle.jb_store.specs.Checkpoints.{Kept, kept};
+ghost use Rattle.jb_store.specs.Checkpoints.{kept};
 ghost use Rattle.jb_store.specs.Connections.{Keeps};
 ghost use Rattle.sqlite.specs.Files.{file_state};
 ghost use Rattle.sqlite.specs.State.{HasCleanDisk};

@@ -1,7 +1,7 @@
 //! Why a call on the checkpoints has no answer.
 
 ghost use Rattle.std.specs.Prelude.{◌≡◌};
-ghost use Rattle.jb_store.specs.Errors.{name_of};
+ghost use Rattle.jb_store.specs.Errors.{refusal_named};
 ghost use Rattle.jb_store.specs.declared.error.StoreError.TheVariants.{Memory};
 
 use sqlite::{Constraint, Error as SqlError, ErrorCode};
@@ -53,7 +53,7 @@ pub enum StoreError {
 }
 
 impl From<SqlError> for StoreError {
-    ghost from_gives = { λ error e. e ≡ name_of error };
+    ghost from_gives = { λ error e. e ≡ refusal_named error };
 
     fn from(error: SqlError) -> StoreError {
         match error {

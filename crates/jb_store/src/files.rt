@@ -15,6 +15,19 @@ use sqlite::{Connection, FileFrom, FileStore, Files, Options, Start};
 use sqlite_disk::Disk;
 use std::alloc::Global;
 
+/// The list of a connection that was just opened, and the connection. Where there is none, it is shut.
+fn with_list<D: Disk + Drop>(
+    alloc: Global,
+    conn: Connection<FileStore<D>>,
+) -> Result<(Connection<FileStore<D>>, Vec<Checkpoint>), StoreError>
+    ensures { IfOk result (λ r. HasCleanDisk (file_state r.0) → HasCleanDisk (file_state conn)
+        × (IsJustOpened (file_state conn) → Keeps (file_state r.0) (map kept r.1.items) × ((all : _) → ShowsList (file_state conn).now all → map kept r.1.items ≡ all))) }
+{
+    let mut conn = conn;
+    let found = begin(alloc, &mut conn)?;
+    Ok((conn, found))
+}
+
 /// Opens a log and its database file, and takes the list: of an empty file none.
 pub fn open_files<D: Disk + Drop>(
     alloc: Global,
@@ -28,10 +41,7 @@ pub fn open_files<D: Disk + Drop>(
     ensures honest { IfOk result (λ r. HasCleanDisk (file_state r.0) → AreClean D.Disk files.log files.db) }
 {
     match Connection::open_files(alloc, files, options) {
-        Ok(mut conn) => {
-            let found = begin(alloc, &mut conn)?;
-            Ok((conn, found))
-        }
+        Ok(conn) => with_list(alloc, conn),
         Err((error, _)) => Err(StoreError::from(error)),
     }
 }
@@ -61,7 +71,6 @@ pub fn open<S: Start>(
     ensures begun { IfOk result (λ r. HasCleanDisk (file_state r.0) → Keeps (file_state r.0) (map kept r.1.items)) }
     ensures found { IfOk result (λ r. HasCleanDisk (file_state r.0) → (db : _) (all : _) → HoldsDatabase (image_at S.Start) db → Has db all → map kept r.1.items ≡ all) }
 {
-    let mut conn = connect(rt, path, start)?;
-    let found = begin(rt.alloc(), &mut conn)?;
-    Ok((conn, found))
+    let conn = connect(rt, path, start)?;
+    with_list(rt.alloc(), conn)
 }

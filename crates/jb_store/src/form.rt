@@ -1,9 +1,8 @@
 //! Whether a database is one of checkpoints.
 
 ghost use Rattle.std.specs.Prelude.{◌≡◌, ◌↔◌, IsTrue, false, codes, Some, [], ◌∷◌};
-ghost use Rattle.std.specs.List.{list_any};
 ghost use Rattle.sqlite_schema.specs.Names.{same_name};
-ghost use Rattle.jb_store.specs.Form.{checkpoint, checkpoint_columns, checkpoint_schema, no_schema, named_checkpoint, strict};
+ghost use Rattle.jb_store.specs.Form.{checkpoint, checkpoint_columns, checkpoint_schema, no_schema, named_checkpoint, strict_column};
 
 use sqlite::types::Value;
 use sqlite_schema::names::same_name;
@@ -11,7 +10,7 @@ use sqlite_schema::schema::{Column, Kind, Schema, Table};
 use sqlite_value::keys::Collation;
 
 fn is_column(column: &Column, name: &[u8], kind: Kind, not_null: bool) -> bool
-    ensures { IsTrue result ↔ (column.now ≡ strict name.now kind not_null) }
+    ensures { IsTrue result ↔ (column.now ≡ strict_column name.now kind not_null) }
 {
     column.name.as_slice() == name
         && column.kind == kind

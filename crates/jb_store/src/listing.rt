@@ -4,7 +4,7 @@ ghost use Rattle.std.specs.Prelude.{◌≡◌, ◌≢◌, ◌⊎◌, ◌≤◌, 
 ghost use Rattle.jb_store.specs.declared.error.StoreError.TheVariants.{Foreign, Gap, Version};
 ghost use Rattle.jb_store.specs.Errors.{IsListFault};
 ghost use Rattle.jb_store.specs.Form.{checkpoint_schema};
-ghost use Rattle.jb_store.specs.Checkpoints.{AreIn, Holds, kept};
+ghost use Rattle.jb_store.specs.Checkpoints.{AreIn, HoldsList, kept};
 ghost use Rattle.jb_store.specs.Connections.{Keeps};
 ghost use Rattle.sqlite.specs.Held.{state};
 ghost use Rattle.sqlite.specs.State.{HasCleanDisk};
@@ -23,11 +23,11 @@ pub fn list<S: Alter>(
     alloc: Global,
     conn: &mut Connection<S>,
 ) -> Result<Vec<Checkpoint>, StoreError>
-    ensures rows { HasCleanDisk (state S.Store conn.new) → (all : _) → Holds (state S.Store conn.old).now all → IfOk result (λ found. map kept found.items ≡ all) }
+    ensures rows { HasCleanDisk (state S.Store conn.new) → (all : _) → HoldsList (state S.Store conn.old).now all → IfOk result (λ found. map kept found.items ≡ all) }
     ensures found { HasCleanDisk (state S.Store conn.new) → (state S.Store conn.old).now.schema ≡ checkpoint_schema → IsSound checkpoint_schema (state S.Store conn.old).now.trees
         → IfOk result (λ found. AreIn (state S.Store conn.old).now.trees (map kept found.items)) }
     ensures named { IfErr result (λ e. (e ≢ Foreign) × (e ≢ Version)) }
-    ensures gap { HasCleanDisk (state S.Store conn.new) → (all : _) → Holds (state S.Store conn.old).now all → IfErr result (λ e. e ≢ Gap) }
+    ensures gap { HasCleanDisk (state S.Store conn.new) → (all : _) → HoldsList (state S.Store conn.old).now all → IfErr result (λ e. e ≢ Gap) }
     ensures kept { HasCleanDisk (state S.Store conn.new) → (all : _) → Keeps (state S.Store conn.old) all → OnOk result (Keeps (state S.Store conn.new) all) }
     ensures untouched { HasCleanDisk (state S.Store conn.new) → (state S.Store conn.old).now.schema ≡ checkpoint_schema
         → IfErr result (λ e. e ≡ Gap → (state S.Store conn.new).now ≡ (state S.Store conn.old).now) }

@@ -2,7 +2,7 @@
 
 ghost use Rattle.std.specs.Prelude.{◌≡◌, ◌≢◌, ◌⊎◌, ◌≤◌, ◌↔◌, false, map, [], None, Some, Err, IfOk, IfErr, IsOk, IsTrue, OnOk};
 ghost use Rattle.jb_store.specs.declared.error.StoreError.TheVariants.{Foreign, Version, Gap};
-ghost use Rattle.jb_store.specs.Errors.{IsFault, IsOfTheList, IsOpenCause};
+ghost use Rattle.jb_store.specs.Errors.{IsStoreFault, IsOfTheList, IsOpenCause};
 ghost use Rattle.jb_store.specs.Form.{checkpoint_schema, no_schema, IsForeign, IsOtherVersion};
 ghost use Rattle.jb_store.specs.Checkpoints.{AreIn, Has, ShowsList, StandsFor, kept};
 ghost use Rattle.jb_store.specs.Connections.{IsAsItWas, IsJustOpened, Keeps};
@@ -46,7 +46,7 @@ fn make<S: Alter>(conn: &mut Connection<S>) -> Result<(), StoreError>
     ensures clean { doubt (state S.Store conn.old).is_clean ≤ doubt (state S.Store conn.new).is_clean }
     ensures crash { HasCleanDisk (state S.Store conn.new) → (state S.Store conn.old).now.schema ≡ no_schema → (db : _) → (state S.Store conn.new).may_leave db
         → (state S.Store conn.old).may_leave db ⊎ StandsFor db [] }
-    ensures cause { HasCleanDisk (state S.Store conn.new) → IfErr result (IsFault (state S.Store conn.old) (state S.Store conn.new)) }
+    ensures cause { HasCleanDisk (state S.Store conn.new) → IfErr result (IsStoreFault (state S.Store conn.old) (state S.Store conn.new)) }
     ensures counts { (state S.Store conn.old).faults ≤ (state S.Store conn.new).faults }
     ensures shut { HasCleanDisk (state S.Store conn.new) → IsTrue (state S.Store conn.old).is_open
         → IsTrue (state S.Store conn.new).is_open ⊎ MoreFaults (state S.Store conn.old).faults (state S.Store conn.new).faults }

@@ -2,9 +2,9 @@
 
 ghost use Rattle.std.specs.Prelude.{◌≡◌, ◌⊎◌, ◌++◌, ◌+◌, ◌≤◌, false, List, [], ◌∷◌, length, IfErr, IfOk, OnOk, OnErr, IsTrue};
 ghost use Rattle.std.specs.List.{AllByRecursion};
-ghost use Rattle.jb_store.specs.Errors.{IsCaused, IsFault, name_of};
+ghost use Rattle.jb_store.specs.Errors.{IsCaused, IsStoreFault, refusal_named};
 ghost use Rattle.jb_store.specs.Form.{checkpoint_schema, no_schema};
-ghost use Rattle.jb_store.specs.Checkpoints.{Kept, AreIn, HasNumber, Holds, IsTooLong, StandsFor, shown_from};
+ghost use Rattle.jb_store.specs.Checkpoints.{Kept, AreIn, HasNumber, HoldsList, IsTooLong, StandsFor, shown_from};
 ghost use Rattle.jb_store.specs.Connections.{Keeps};
 ghost use Rattle.sqlite.specs.Held.{state};
 ghost use Rattle.sqlite.specs.State.{HasCleanDisk, IsUnchanged};
@@ -23,7 +23,7 @@ pub fn create<S: Alter>(conn: &mut Connection<S>) -> Result<usize, SqlError>
     ensures crash { HasCleanDisk (state S.Store conn.new) → (state S.Store conn.old).now.schema ≡ no_schema → (db : _) → (state S.Store conn.new).may_leave db
         → (state S.Store conn.old).may_leave db ⊎ StandsFor db [] }
     ensures cause { HasCleanDisk (state S.Store conn.new) → (state S.Store conn.old).now.schema ≡ no_schema
-        → IfErr result (λ e. IsFault (state S.Store conn.old) (state S.Store conn.new) (name_of e)) }
+        → IfErr result (λ e. IsStoreFault (state S.Store conn.old) (state S.Store conn.new) (refusal_named e)) }
     ensures counts { (state S.Store conn.old).faults ≤ (state S.Store conn.new).faults }
     ensures shut { HasCleanDisk (state S.Store conn.new) → IsTrue (state S.Store conn.old).is_open
         → IsTrue (state S.Store conn.new).is_open ⊎ MoreFaults (state S.Store conn.old).faults (state S.Store conn.new).faults }
@@ -45,7 +45,7 @@ fn insert<S: Alter>(
     ensures kept { HasCleanDisk (state S.Store conn.new) → (all : _) → Keeps (state S.Store conn.old) all
         → OnErr result (IsTrue (state S.Store conn.new).is_open → Keeps (state S.Store conn.new) all) }
     ensures cause { HasCleanDisk (state S.Store conn.new) → (all : _) → Keeps (state S.Store conn.old) all
-        → IfErr result (λ e. IsCaused (state S.Store conn.old) (state S.Store conn.new) (HasNumber all number) (IsTooLong (record { saved = saved.now; results = results.now })) (name_of e)) }
+        → IfErr result (λ e. IsCaused (state S.Store conn.old) (state S.Store conn.new) (HasNumber all number) (IsTooLong (record { saved = saved.now; results = results.now })) (refusal_named e)) }
     ensures shut { HasCleanDisk (state S.Store conn.new) → IsTrue (state S.Store conn.old).is_open
         → IsTrue (state S.Store conn.new).is_open ⊎ MoreFaults (state S.Store conn.old).faults (state S.Store conn.new).faults }
     ensures counts { (state S.Store conn.old).faults ≤ (state S.Store conn.new).faults }
@@ -88,7 +88,7 @@ pub fn append<S: Alter>(
 
 /// The rows of all checkpoints in the order of their numbers.
 pub fn select<S: Alter>(conn: &mut Connection<S>) -> Result<Vec<Row>, SqlError>
-    ensures rows { HasCleanDisk (state S.Store conn.new) → (all : _) → Holds (state S.Store conn.old).now all → IfOk result (λ rows. rows.items ≡ shown_from 1 all) }
+    ensures rows { HasCleanDisk (state S.Store conn.new) → (all : _) → HoldsList (state S.Store conn.old).now all → IfOk result (λ rows. rows.items ≡ shown_from 1 all) }
     ensures back { HasCleanDisk (state S.Store conn.new) → (state S.Store conn.old).now.schema ≡ checkpoint_schema → IsSound checkpoint_schema (state S.Store conn.old).now.trees
         → IfOk result (λ rows. (all : List Kept) → rows.items ≡ shown_from 1 all → AreIn (state S.Store conn.old).now.trees all) }
     ensures wide { HasCleanDisk (state S.Store conn.new) → (state S.Store conn.old).now.schema ≡ checkpoint_schema → IfOk result (λ rows. AllByRecursion (λ row. length row ≡ 3) rows.items) }
@@ -96,7 +96,7 @@ pub fn select<S: Alter>(conn: &mut Connection<S>) -> Result<Vec<Row>, SqlError>
     ensures clean { doubt (state S.Store conn.old).is_clean ≤ doubt (state S.Store conn.new).is_clean }
     ensures crash { HasCleanDisk (state S.Store conn.new) → (state S.Store conn.old).now.schema ≡ checkpoint_schema → (db : _) → (state S.Store conn.new).may_leave db → (state S.Store conn.old).may_leave db }
     ensures cause { HasCleanDisk (state S.Store conn.new) → (state S.Store conn.old).now.schema ≡ checkpoint_schema
-        → IfErr result (λ e. IsFault (state S.Store conn.old) (state S.Store conn.new) (name_of e)) }
+        → IfErr result (λ e. IsStoreFault (state S.Store conn.old) (state S.Store conn.new) (refusal_named e)) }
     ensures counts { (state S.Store conn.old).faults ≤ (state S.Store conn.new).faults }
     ensures shut { HasCleanDisk (state S.Store conn.new) → IsTrue (state S.Store conn.old).is_open
         → IsTrue (state S.Store conn.new).is_open ⊎ MoreFaults (state S.Store conn.old).faults (state S.Store conn.new).faults }

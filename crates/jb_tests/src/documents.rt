@@ -2,7 +2,7 @@
 
 ghost use Rattle.jb_documents.specs.CheckDocument.{Claims};
 ghost use Rattle.jb_documents.specs.PlanDocument.{AsksFor};
-ghost use Rattle.jb_documents.specs.Worked.{three_equal, three_equal_document, two_rounds, two_rounds_document};
+ghost use Rattle.jb_documents.specs.Worked.{three_equal, three_equal_document, two_rounds_claim, two_rounds_document};
 
 use jb_cert::Certificate;
 use jb_documents::{
@@ -16,7 +16,7 @@ use std::test::Fail;
 // This fact speaks of no code.
 fn worked_documents()
     ensures plan { AsksFor three_equal three_equal_document }
-    ensures check { Claims two_rounds two_rounds_document }
+    ensures check { Claims two_rounds_claim two_rounds_document }
 {}
 
 fn bytes_of(alloc: Global, text: &str) -> Result<Vec<u8>, AllocError> {
@@ -49,12 +49,12 @@ fn is_that_step(step: &StepData) -> bool {
 
 /// Whether it is that document.
 fn has_one_step(document: &Document) -> bool {
-    for step in document.steps.as_slice() {
+    for step in document.step_data.as_slice() {
         if !is_that_step(step) {
             return false;
         }
     }
-    document.steps.as_slice().len() == 1
+    document.step_data.as_slice().len() == 1
 }
 
 const LOAD: &str = r#"{"counts":[3,3,3],"threads":2}"#;
@@ -80,7 +80,7 @@ const RESTART: &str = r#"{"data":[{"records":["a","b","c","d","e","f","g"]}],
 fn is_that_restart(document: &RestartDocument) -> bool {
     let saved = document.resume.saved.rows().len();
     let held = document.resume.outputs.as_slice().len();
-    saved == 3 && held == 3 && document.steps.as_slice().len() == 1
+    saved == 3 && held == 3 && document.step_data.as_slice().len() == 1
 }
 
 #[test]

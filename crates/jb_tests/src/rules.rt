@@ -1,8 +1,9 @@
 ghost use Rattle.std.specs.Prelude.{◌≡◌, Some, None, slice_index, true, false};
 ghost use Rattle.jb_rules.specs.Counts.{no_counts, is_delta};
-ghost use Rattle.jb_rules.specs.Decide.{choice_by, is_below};
+ghost use Rattle.jb_rules.specs.Decide.{choice_of, is_below};
 ghost use Rattle.jb_rules.specs.Rows.{fresh_row, begun_row, repeated_row, committed_row, rolled_row, failed_row, dropped_row};
 ghost use Rattle.jb_rules.specs.Sound.{IsSoundRow};
+ghost use Rattle.jb_chunk.specs.Worked.{class_e, rules_of};
 
 use jb_base::{ClassId, Range, Rules};
 use jb_rules::*;
@@ -25,16 +26,16 @@ fn counts_of(numbers: [u64; 8]) -> Counts
 /// The rule of faults, computed: skipping and retrying may both be open, one of them, or none; and a retry may roll the chunk
 /// back, or repeat the call in place.
 fn worked_choices()
-    ensures both { choice_by Choice.Retry false true true ≡ Choice.Retry }
-    ensures both_again { choice_by Choice.Retry true true true ≡ Choice.Skip }
-    ensures skip { choice_by Choice.Retry false true false ≡ Choice.Skip }
-    ensures retry_again { choice_by Choice.Retry true false true ≡ Choice.Retry }
-    ensures none { choice_by Choice.Retry false false false ≡ Choice.Fail }
-    ensures none_again { choice_by Choice.Retry true false false ≡ Choice.Fail }
-    ensures in_place { choice_by Choice.Again false true true ≡ Choice.Again }
-    ensures in_place_again { choice_by Choice.Again true true true ≡ Choice.Skip }
-    ensures in_place_alone { choice_by Choice.Again true false true ≡ Choice.Again }
-    ensures in_place_closed { choice_by Choice.Again false false false ≡ Choice.Fail }
+    ensures both { choice_of (rules_of 1 1) class_e false 0 0 ≡ Choice.Retry }
+    ensures both_again { choice_of (rules_of 1 1) class_e true 0 0 ≡ Choice.Skip }
+    ensures skip { choice_of (rules_of 1 0) class_e false 0 0 ≡ Choice.Skip }
+    ensures retry_again { choice_of (rules_of 0 1) class_e true 0 0 ≡ Choice.Retry }
+    ensures none { choice_of (rules_of 0 0) class_e false 0 0 ≡ Choice.Fail }
+    ensures none_again { choice_of (rules_of 0 0) class_e true 0 0 ≡ Choice.Fail }
+    ensures in_place { choice_of (record (rules_of 1 1) { no_rollback = 1 }) class_e false 0 0 ≡ Choice.Again }
+    ensures in_place_again { choice_of (record (rules_of 1 1) { no_rollback = 1 }) class_e true 0 0 ≡ Choice.Skip }
+    ensures in_place_alone { choice_of (record (rules_of 0 1) { no_rollback = 1 }) class_e true 0 0 ≡ Choice.Again }
+    ensures in_place_closed { choice_of (record (rules_of 0 0) { no_rollback = 1 }) class_e false 0 0 ≡ Choice.Fail }
     ensures at_limit { is_below (Some 1) 1 ≡ false }
     ensures no_limit { is_below None 10000000 ≡ true }
 {}

@@ -17,9 +17,9 @@ use Rattle.serde_json.specs.Written.{comma_if}
 use Rattle.jb_saved.specs.SavedTree.{tokens_of}
 use Rattle.jb_saved.proofs.Written.{list-written}
 use Rattle.jb_texts.specs.Front.{AppendsFront}
-use Rattle.jb_texts.specs.Report.{texts_tree}
+use Rattle.jb_texts.specs.Report.{results_tree}
 use Rattle.jb_texts.specs.declared.report.parts.Part.{Part}
-use Rattle.jb_texts.specs.inside.Parts.{GoesOn, PassesOn, part_text, part_tokens, results_tokens}
+use Rattle.jb_texts.specs.inside.Parts.{PrintsOn, PassesOn, part_text, part_tokens, results_tokens}
 use Rattle.jb_texts.proofs.Fronts.{front-passed, passes-put, passes-then}
 
 -- ---- results
@@ -150,7 +150,7 @@ module _ (parts new : List Part) (part : Part) (now : List Token) (is : new ≡ 
   tokens-more = ap (flat_map part_tokens) is ∙ one-more part_tokens parts part ∙ ap (λ ts. flat_map part_tokens parts ++ (ts ++ results_tokens part.results)) read
 
   -- it goes on with the end of the list
-  pub goes-on-behind : part.text.items ≡ print (now ++ begin_array ∷ []) → GoesOn parts now → GoesOn new (end_array ∷ [])
+  pub goes-on-behind : part.text.items ≡ print (now ++ begin_array ∷ []) → PrintsOn parts now → PrintsOn new (end_array ∷ [])
   goes-on-behind printed before rest =
       let front = flat_map part_tokens parts in
       let text = flat_map part_text parts in
@@ -163,7 +163,7 @@ module _ (parts new : List Part) (part : Part) (now : List Token) (is : new ≡ 
       ∙ sym (append_assoc text (begun ++ print results) end) ∙ ap (λ more. more ++ end) (sym whole)
 
   -- and with that it is the list of the results
-  pub outputs-added : flat_map part_tokens new ++ end_array ∷ [] ≡ (flat_map part_tokens parts ++ now) ++ tokens_of (texts_tree (map utf8_lossy part.results))
+  pub outputs-added : flat_map part_tokens new ++ end_array ∷ [] ≡ (flat_map part_tokens parts ++ now) ++ tokens_of (results_tree (map utf8_lossy part.results))
   outputs-added =
       let front = flat_map part_tokens parts in
       let texts = map utf8_lossy part.results in

@@ -1,12 +1,12 @@
 -- What `check` prints and answers. The form is this project's own choice.
 use Rattle.std.specs.Prelude.{ℕ, Bool, true, false, List, ◌++◌, codes, Option, Some, None}
 use Rattle.jb_cert.specs.declared.plans.PlanFault.{PlanFault}
-use Rattle.jb_cert.specs.Texts.{fault_text}
+use Rattle.jb_cert.specs.Texts.{plan_fault_text}
 use Rattle.jb_texts.specs.declared.judgement.Judgement.{Judgement}
 
 abbrev pub plan_word : Option PlanFault → List ℕ
 plan_word None = codes "lawful"
-plan_word (Some fault) = fault_text fault
+plan_word (Some fault) = plan_fault_text fault
 
 abbrev pub certificate_word : Bool → List ℕ
 certificate_word true = codes "yes"

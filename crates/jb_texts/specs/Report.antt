@@ -39,11 +39,11 @@ pub record Report : Type 0 where
 
 -- ---- the tree
 
-abbrev pub texts_tree : List (List ℕ) → Data
-texts_tree ts = list_tree (map string ts)
+abbrev pub results_tree : List (List ℕ) → Data
+results_tree ts = list_tree (map string ts)
 
 abbrev pub outputs_tree : List PartitionReport → Data
-outputs_tree ps = list_tree (map (λ p. texts_tree p.outputs) ps)
+outputs_tree ps = list_tree (map (λ p. results_tree p.outputs) ps)
 
 -- a collected text, bytes that are no UTF-8 replaced, or the name of a status
 abbrev pub heard_text : AnalyzerCall → List ℕ
@@ -51,19 +51,19 @@ heard_text (heard.Collected partition text) = utf8_lossy text
 heard_text (heard.Status partition status) = status_name status
 
 -- what was heard of a partition, of all calls
-abbrev pub heard_of : List AnalyzerCall → (partition : ℕ) → Data
-heard_of calls partition = texts_tree (map heard_text (calls_about partition calls))
+abbrev pub heard_about : List AnalyzerCall → (partition : ℕ) → Data
+heard_about calls partition = results_tree (map heard_text (calls_about partition calls))
 
 -- the same of each partition, of so many
 abbrev pub heard_tree : (partitions : ℕ) → List AnalyzerCall → Data
-heard_tree partitions calls = list_tree (map (heard_of calls) (range_with_len 0 partitions))
+heard_tree partitions calls = list_tree (map (heard_about calls) (range_with_len 0 partitions))
 
 -- why no plan is shorter, the rounds that were planned, and those that were run
-abbrev pub plan_tree : PlanNote → Data
-plan_tree note = list_tree (string (certificate_text note.certificate) ∷ number_tree note.planned ∷ number_tree note.ran ∷ [])
+abbrev pub note_tree : PlanNote → Data
+note_tree note = list_tree (string (certificate_text note.certificate) ∷ number_tree note.planned ∷ number_tree note.ran ∷ [])
 
 abbrev pub plans_tree : List PlanNote → Data
-plans_tree notes = list_tree (map plan_tree notes)
+plans_tree notes = list_tree (map note_tree notes)
 
 abbrev pub call_name : ReducerCall → List ℕ
 call_name Begin = codes "begin"
@@ -73,10 +73,10 @@ call_name (After end.Commit) = codes "after COMMIT"
 call_name (After end.Rollback) = codes "after ROLLBACK"
 
 abbrev pub reducer_tree : List ReducerCall → Data
-reducer_tree calls = texts_tree (map call_name calls)
+reducer_tree calls = results_tree (map call_name calls)
 
-abbrev pub step_tree : StepReport → Data
-step_tree s = object
+abbrev pub report_step_tree : StepReport → Data
+report_step_tree s = object
     (member (codes "heard") (heard_tree (length s.partitions) s.heard)
     (member (codes "outputs") (outputs_tree s.partitions)
     (member (codes "plans") (plans_tree s.plans)
@@ -86,7 +86,7 @@ step_tree s = object
     (member (codes "step") (string s.id) no_members)))))))
 
 abbrev pub steps_tree : List StepReport → Data
-steps_tree ss = list_tree (map step_tree ss)
+steps_tree ss = list_tree (map report_step_tree ss)
 
 abbrev pub report_tree : Report → Data
 report_tree r = object

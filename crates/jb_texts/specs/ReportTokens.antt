@@ -8,14 +8,14 @@ use Rattle.jb_collect.specs.declared.calls.Status.{Status}
 use Rattle.jb_saved.specs.SavedTree.{saved_tree, tokens_of}
 use Rattle.jb_cert.specs.declared.notes.PlanNote.{PlanNote}
 use Rattle.jb_texts.specs.Statuses.{status_name}
-use Rattle.jb_texts.specs.Report.{PartitionReport, StepReport, heard_tree, plans_tree, reducer_tree, texts_tree}
+use Rattle.jb_texts.specs.Report.{PartitionReport, StepReport, heard_tree, plans_tree, reducer_tree, results_tree}
 
 -- a step begins with what was heard of its partitions; then come the outputs of these, one list after another
 abbrev pub step_head : (partitions : ℕ) → List AnalyzerCall → List Token
 step_head partitions heard = begin_object ∷ key (codes "heard") ∷ (tokens_of (heard_tree partitions heard) ++ key (codes "outputs") ∷ begin_array ∷ [])
 
 abbrev pub outputs_tokens : List PartitionReport → List Token
-outputs_tokens partitions = flat_map (λ p. tokens_of (texts_tree p.outputs)) partitions
+outputs_tokens partitions = flat_map (λ p. tokens_of (results_tree p.outputs)) partitions
 
 -- and it ends with the rest of what its run left
 abbrev pub step_tail : List Row → List PlanNote → List ReducerCall → Status → (id : List ℕ) → List Token

@@ -13,7 +13,7 @@ use Rattle.jb_workers.specs.declared.pool.mailbox.Message.{Message}
 use Rattle.jb_workers.specs.declared.pool.mailbox.Message.TheVariants.{Ask, Answer}
 use Rattle.jb_workers.specs.Works.{CanBegin}
 use Rattle.jb_workers.specs.Turns.{MeetsWork}
-use Rattle.jb_workers.specs.inside.Mailboxes.{known, IsAnswer, Lies, Knows, IsMailbox, Asks, Takes, Answers, Hears}
+use Rattle.jb_workers.specs.inside.Mailboxes.{known, IsAnswerTo, Lies, Knows, IsMailbox, AsksForAWork, Takes, AnswersAWork, Hears}
 
 module _ {T : Type 0} where
   at_end : (l : List (Known T)) (a b : Known T) (j : ℕ) → get_elem? l j ≢ some b → get_elem? (l ++ a ∷ []) j ≡ some b → j ≡ length l
@@ -82,7 +82,7 @@ module _ {T : Type 0} where
   pub busy-learns : (standing : T → TaskState) (pass : ℕ) (v : Known T) (work : Work T) → v ≡ known false true (Some work) → Learns (IsMailbox standing) pass v (λ items. items ≡ [])
   busy-learns standing pass v work is items views h at = (busy standing pass v work items views is h at).0
 
-  pub asks : (standing : T → TaskState) (n pass : ℕ) (v : Known T) (work : Work T) → v ≡ known true false None → CanBegin (standing work.task) → Pushes (IsMailbox standing) n pass v (Ask work) (Asks v (Ask work))
+  pub asks : (standing : T → TaskState) (n pass : ℕ) (v : Known T) (work : Work T) → v ≡ known true false None → CanBegin (standing work.task) → Pushes (IsMailbox standing) n pass v (Ask work) (AsksForAWork v (Ask work))
   asks standing n pass v work is can items views room h at =
       let empty = idle standing pass v items views is h at in
       let w : Known T = known v.of_caller v.of_worker (Some work) in (
@@ -99,7 +99,7 @@ module _ {T : Type 0} where
       )
 
   pub answers : (standing : T → TaskState) (n pass : ℕ) (v : Known T) (work : Work T) (answer : Result (Done T) RoundError) → v ≡ known false true (Some work) → MeetsWork standing work answer
-      → Pushes (IsMailbox standing) n pass v (Answer answer) (Answers v (Answer answer))
+      → Pushes (IsMailbox standing) n pass v (Answer answer) (AnswersAWork v (Answer answer))
   answers standing n pass v work answer is meets items views room h at =
       let empty = busy standing pass v work items views is h at in
       let w : Known T = known v.of_caller v.of_worker None in (
@@ -138,7 +138,7 @@ module _ {T : Type 0} where
   hears standing pass v of_caller of_worker (Answer answer) [] views h at = (
     known v.of_caller v.of_worker None,
     (h.0, h.1, None, h.3, inl h.4.0, caller-learns h.0 h.1 h.2 h.3 None views pass v of_caller of_worker h.5 at),
-    (refl, subst (λ o. IsAnswer standing o answer) (sym ((h.5 pass v at).0 of_caller).1) h.4.1),
+    (refl, subst (λ o. IsAnswerTo standing o answer) (sym ((h.5 pass v at).0 of_caller).1) h.4.1),
   )
   hears standing pass v of_caller of_worker (Ask work) (y ∷ rest) views h at = absurd h.4
   hears standing pass v of_caller of_worker (Answer answer) (y ∷ rest) views h at = absurd h.4

@@ -12,12 +12,12 @@ use Rattle.jb_workers.specs.declared.round.error.RoundError.TheVariants as error
 use Rattle.jb_workers.specs.declared.worker.lane_work.Work.{Work}
 use Rattle.jb_workers.specs.declared.round.report.Report.{Report}
 use Rattle.jb_workers.specs.Turns.{IsDoneOf, IsKeptOut, MeetsWork}
-use Rattle.jb_workers.specs.Works.{IsOrderOf, Rise}
+use Rattle.jb_workers.specs.Works.{IsOrderOf, RiseByPartition}
 use Rattle.jb_workers.specs.Round.{AreReports, IsRefusedRound, IsRoundError}
 use Rattle.jb_workers.specs.Lock.{IsRefused}
 
 module _ {T : Type 0} (standing : T → TaskState) (w : Work T) where
-  rising : Rise standing (w ∷ [])
+  rising : RiseByPartition standing (w ∷ [])
   rising zero zero d le lt = omega arith
   rising (suc i) zero d le lt = absurd (omega (arith, le))
   rising i (suc j) d le lt = absurd (omega (arith, lt))

@@ -5,7 +5,7 @@ use Rattle.jb_chunk.specs.declared.outcome.Outcome.TheVariants.{Committed, Rolle
 use Rattle.jb_repo.specs.Deltas.{delta_of}
 use Rattle.jb_repo.specs.declared.events.Event.{Event}
 use Rattle.jb_repo.specs.declared.events.Event.TheVariants.{Commit, Roll, Fail, Drop}
-use Rattle.jb_repo.specs.History.{is_commit, number}
+use Rattle.jb_repo.specs.History.{is_commit_event, number}
 
 -- the event by which a lane's attempt enters the history; `written` is the row's number of results after the attempt, `again`
 -- how often it repeated a call in place
@@ -17,11 +17,11 @@ event_of lane NoMemory written again = Drop lane
 
 -- the number of Commits of a history
 abbrev pub commits : List Event → ℕ
-commits past = number is_commit past
+commits past = number is_commit_event past
 
 -- what an event adds to it
 abbrev pub commit_in : Event → ℕ
-commit_in e = if is_commit e then 1 else 0
+commit_in e = if is_commit_event e then 1 else 0
 
 -- 1 for an attempt that is committed
 abbrev pub commit_of : Outcome → ℕ

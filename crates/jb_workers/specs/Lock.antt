@@ -22,7 +22,7 @@ pub record IsSeen (snapshot : Snapshot) : Type 0 where
   pub shows : IsSnapshot journal snapshot
 
 -- the class of the partition's last Fail, in some repository with an accepted history
-pub record IsFailure (partition : ℕ) (class : Option ClassId) : Type 0 where
+pub record IsLastFail (partition : ℕ) (class : Option ClassId) : Type 0 where
   pub journal : Journal
   pub replayable : IsReplayable journal
   pub shows : class ≡ failure journal partition

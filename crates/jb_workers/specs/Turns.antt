@@ -18,14 +18,14 @@ abbrev pub IsBegun : {T : Type 0} → (T → TaskState) → Work T → Type 0
 IsBegun standing work = IsAccepted (Begin work.lane (standing work.task).partition)
 
 -- the table accepted the work's Begin, and the event of what came of it
-pub record IsEntered {T : Type 0} (standing : T → TaskState) (work : Work T) (done : Done T) : Type 0 where
+pub record IsTurnEntered {T : Type 0} (standing : T → TaskState) (work : Work T) (done : Done T) : Type 0 where
   pub begun : IsBegun standing work
   pub ended : IsAccepted (event_of work.lane done.outcome (standing done.task).row.written done.again)
 
 -- the work was done: its task was attempted, and what came of it was entered
 pub record IsDoneOf {T : Type 0} (standing : T → TaskState) (work : Work T) (done : Done T) : Type 0 where
   pub attempted : IsAttemptOf standing work.task done
-  pub entered : IsEntered standing work done
+  pub entered : IsTurnEntered standing work done
 
 -- the task was attempted, and the table refused the event of what came of it
 pub record IsEndRefused {T : Type 0} (standing : T → TaskState) (work : Work T) (refused : Refused) : Type 0 where

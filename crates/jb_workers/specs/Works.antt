@@ -22,10 +22,10 @@ pub record IsAttemptOf {T : Type 0} (standing : T → TaskState) (task : T) (don
   pub ready : IsReady (standing done.task)
 
 -- the works come by rising partition
-abbrev pub Rise : {T : Type 0} → (T → TaskState) → List (Work T) → Type 0
-Rise standing works = IsNonDecreasingBy (λ work. (standing work.task).partition) works
+abbrev pub RiseByPartition : {T : Type 0} → (T → TaskState) → List (Work T) → Type 0
+RiseByPartition standing works = IsNonDecreasingBy (λ work. (standing work.task).partition) works
 
 -- the same works by rising partition
 pub record IsOrderOf {T : Type 0} (standing : T → TaskState) (works ordered : List (Work T)) : Type 0 where
   pub each : IsPermutation works ordered
-  pub rising : Rise standing ordered
+  pub rising : RiseByPartition standing ordered

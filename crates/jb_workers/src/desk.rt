@@ -6,7 +6,7 @@ ghost use Rattle.jb_base.specs.Limits.{max_parts};
 ghost use Rattle.jb_repo.specs.declared.events.Event.TheVariants.{Begin, Round};
 ghost use Rattle.jb_repo.specs.History.{is_plan, is_stop, is_round};
 ghost use Rattle.jb_workers.specs.Events.{commit_in};
-ghost use Rattle.jb_workers.specs.Lock.{IsSeen, IsFailure, IsAccepted, IsRefused};
+ghost use Rattle.jb_workers.specs.Lock.{IsSeen, IsLastFail, IsAccepted, IsRefused};
 
 pub(crate) mod parts;
 pub(crate) mod state;
@@ -65,7 +65,7 @@ impl<L: Ledger> Desk<L> {
 
     /// The class of the partition's last Fail, at some moment; none where it has none.
     pub fn failure<R: Wait>(&self, rt: &R, partition: u32) -> Option<ClassId>
-        ensures { IsFailure partition result }
+        ensures { IsLastFail partition result }
     {
         self.state.lock(rt).failure(partition)
     }

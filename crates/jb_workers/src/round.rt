@@ -4,7 +4,7 @@ ghost use Rattle.std.specs.Prelude.{◌≡◌, ◌+◌, ◌≤◌, ◌∷◌, []
 ghost use Rattle.jb_repo.specs.declared.events.Event.TheVariants.{Round};
 ghost use Rattle.jb_workers.specs.Lock.{IsAccepted};
 ghost use Rattle.jb_workers.specs.Turns.{IsDoneOf};
-ghost use Rattle.jb_workers.specs.Works.{AllCanBegin, CanBegin, Rise};
+ghost use Rattle.jb_workers.specs.Works.{AllCanBegin, CanBegin, RiseByPartition};
 ghost use Rattle.jb_workers.specs.Round.{AreDones, AreRoundOf, IsRoundError};
 
 mod error;
@@ -41,7 +41,7 @@ impl<L: Ledger + Send + Sync + 'static> Desk<L> {
     ) -> Result<Vec<Done<T>>, RoundError>
         requires { AllCanBegin T.standing works.items }
         ensures round { IfOk result (λ dones. AreRoundOf T.standing works.items dones.items) }
-        ensures in_order { Rise T.standing works.items → IfOk result (λ dones. AreDones T.standing works.items dones.items) }
+        ensures in_order { RiseByPartition T.standing works.items → IfOk result (λ dones. AreDones T.standing works.items dones.items) }
         ensures closed { OnOk result (IsAccepted Round) }
         ensures error { IfErr result (λ error. IsRoundError T.standing works.items error) }
     {
@@ -68,7 +68,7 @@ impl<L: Ledger> Desk<L> {
     ) -> Result<Vec<Done<T>>, RoundError>
         requires { AllCanBegin T.standing works.items }
         ensures round { IfOk result (λ dones. AreRoundOf T.standing works.items dones.items) }
-        ensures in_order { Rise T.standing works.items → IfOk result (λ dones. AreDones T.standing works.items dones.items) }
+        ensures in_order { RiseByPartition T.standing works.items → IfOk result (λ dones. AreDones T.standing works.items dones.items) }
         ensures closed { OnOk result (IsAccepted Round) }
         ensures error { IfErr result (λ error. IsRoundError T.standing works.items error) }
         ensures enough { OnOk result (length works.items ≤ pool.old + 1) }

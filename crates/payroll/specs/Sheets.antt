@@ -1,7 +1,7 @@
 -- A time sheet and its pay slip, each a line of CSV.
 use Rattle.std.specs.Prelude.{ℕ, Bool, false, List, [], ◌∷◌, Option, Some, None, bytes_eq, codes, decimal, option_map}
 use Rattle.csv.specs.Records.{field_at}
-use Rattle.jb_ready.specs.Csv.{first_fields, row_of}
+use Rattle.jb_ready.specs.Csv.{first_fields, csv_row}
 use Rattle.jb_ready.specs.Numbers.{number_of, product_of}
 
 -- ---- pay
@@ -24,7 +24,7 @@ pay_in fields = named_pay (field_at fields 0) (field_at fields 1) (field_at fiel
 
 abbrev pub slip_with : Option (List ℕ × ℕ) → Option (List ℕ)
 slip_with None = None
-slip_with (Some named) = Some (row_of (named.0 ∷ decimal named.1 ∷ []))
+slip_with (Some named) = Some (csv_row (named.0 ∷ decimal named.1 ∷ []))
 
 abbrev pub slip_by : (fields : Option (List (List ℕ))) → Option (List ℕ)
 slip_by None = None

@@ -1,7 +1,7 @@
 //! What is done to a time sheet.
 
-ghost use Rattle.std.specs.Prelude.{◌≡◌, IfOk};
-ghost use Rattle.payroll.specs.Payroll.{broken_class, payroll, tries_by, unsteady_class};
+ghost use Rattle.std.specs.Prelude.{◌≡◌};
+ghost use Rattle.payroll.specs.Payroll.{broken_class, payroll, unsteady_class};
 
 use crate::sheet::{is_shaky, slip_of};
 use jb_artifacts::Item;

@@ -10,8 +10,8 @@ abbrev pub Entries : Type 0
 Entries = List (ℕ × FaultPlan)
 
 -- each number is below the next
-abbrev pub AreInOrder : Entries → Type 0
-AreInOrder entries = IsStrictlySortedBy nat_cmp (keys_of entries)
+abbrev pub DoNumbersRise : Entries → Type 0
+DoNumbersRise entries = IsStrictlySortedBy nat_cmp (keys_of entries)
 
 -- the entries before this place have smaller numbers, and no other has
 pub record IsPlaceOf (number : ℕ) (entries : Entries) (place : ℕ) : Type 0 where

@@ -1,5 +1,5 @@
 -- What the functions that read and process a block keep, record by record.
-use Rattle.std.specs.Prelude.{ℕ, ◌≡◌, ◌+◌, ◌-◌, ◌≤◌, ◌++◌, List, false, Option, Some, None, option_to_list}
+use Rattle.std.specs.Prelude.{ℕ, ◌≡◌, ◌+◌, ◌≤◌, ◌++◌, List, false, Option, Some, None, option_to_list}
 use Rattle.jb_base.specs.declared.class.ClassId.{ClassId}
 use Rattle.jb_base.specs.Limits.{max_records}
 use Rattle.jb_rules.specs.declared.row.Row.{Row}
@@ -12,47 +12,29 @@ use Rattle.jb_chunk.specs.declared.entry.EntryKind.TheVariants as kind
 use Rattle.jb_chunk.specs.declared.tally.Tally.{Tally}
 use Rattle.jb_rules.specs.declared.choice.Choice.{Choice}
 use Rattle.jb_rules.specs.Rows.{skips_of}
-use Rattle.jb_rules.specs.declared.counts.Counts.{Counts}
-use Rattle.jb_rules.specs.Counts.{no_counts}
 use Rattle.jb_chunk.specs.Block.{results, count_of, choice_at, is_skip, stops, MayBeUsed}
-use Rattle.jb_chunk.specs.Entries.{Entry, ReadFault, ProcessFault, Filtered, Answered, fault_in, is_read_fault, is_process_fault, is_filtered, text_in, numbered, one_if}
+use Rattle.jb_chunk.specs.Entries.{Entry, ReadFault, ProcessFault, Processed, fault_in, is_fault, is_read_fault, text_in, numbered, one_if}
 
--- the entry of such a kind; where it has a result, this one
-abbrev pub entry_with : EntryKind → (text : List ℕ) → Entry
-entry_with (kind.ReadFault class) text = ReadFault class
-entry_with (kind.ProcessFault class) text = ProcessFault class
-entry_with kind.Filtered text = Filtered
-entry_with kind.Answered text = Answered text
+-- the entry of such a kind; where it was processed, with this answer
+abbrev pub entry_with : EntryKind → (answer : Option (List ℕ)) → Entry
+entry_with (kind.ReadFault class) answer = ReadFault class
+entry_with (kind.ProcessFault class) answer = ProcessFault class
+entry_with kind.Processed answer = Processed answer
 
--- what records came to: their results, and how many were skipped or filtered
+-- what records came to: their results, and how many were skipped
 pub record Yield : Type 0 where
   pub found : Numbered
+  pub skips : ℕ
   pub read_skips : ℕ
-  pub process_skips : ℕ
-  pub filtered : ℕ
 
 abbrev pub yield_of : Tally → (found : Numbered) → Yield
-yield_of t found = record { found = found; read_skips = t.read_skips; process_skips = t.process_skips; filtered = t.filtered }
+yield_of t found = record { found = found; skips = t.skips; read_skips = t.read_skips }
 
 -- what the records `lo` to `hi - 1` came to
 pub record IsTally (w : ArtifactsMeaning) (lo hi : ℕ) (t : Yield) : Type 0 where
   pub found : t.found ≡ results w lo hi
+  pub skips : t.skips ≡ count_of is_fault w lo hi
   pub read_skips : t.read_skips ≡ count_of is_read_fault w lo hi
-  pub process_skips : t.process_skips ≡ count_of is_process_fault w lo hi
-  pub filtered : t.filtered ≡ count_of is_filtered w lo hi
-
--- what a chunk of so many records that came to this adds to the counts where it is committed with so many results, and so
--- many write calls skipped
-abbrev pub counts_with : (records : ℕ) → Yield → (written write_skips : ℕ) → Counts
-counts_with records t written write_skips = record no_counts {
-  read = records - t.read_skips;
-  write = written;
-  commit = 1;
-  read_skip = t.read_skips;
-  process_skip = t.process_skips;
-  filter = t.filtered;
-  write_skip = write_skips;
-}
 
 -- the processor's plans after record `k`: only a record that was read is processed
 abbrev pub processed_at : (read_fault : Option ClassId) → FaultTable → ℕ → FaultTable
@@ -77,21 +59,19 @@ pub record IsWornTo (lo hi : ℕ) (w now : ArtifactsMeaning) : Type 0 where
 
 -- the numbers of a tally are far from a limit
 pub record IsSmallTally (t : Tally) : Type 0 where
+  pub skips : t.skips ≤ max_records
   pub read_skips : t.read_skips ≤ max_records
-  pub process_skips : t.process_skips ≤ max_records
-  pub filtered : t.filtered ≤ max_records
 
 -- there is one more record, with this entry
 pub record IsCountedUp (number : ℕ) (e : Entry) (old new : Yield) : Type 0 where
   pub found : new.found ≡ old.found ++ option_to_list (numbered number (text_in e))
+  pub skips : new.skips ≡ old.skips + one_if (is_fault e)
   pub read_skips : new.read_skips ≡ old.read_skips + one_if (is_read_fault e)
-  pub process_skips : new.process_skips ≡ old.process_skips + one_if (is_process_fault e)
-  pub filtered : new.filtered ≡ old.filtered + one_if (is_filtered e)
 
 -- a record with this entry settled the block, or it is counted
-abbrev pub IsStep : RulesRecord → Row → Entry → (number : ℕ) → Yield → Option (ClassId × Choice) → Yield → Type 0
-IsStep rules row e number old (Some settled) new =
-    let choice = choice_at rules row settled.0 (skips_of row + old.read_skips + old.process_skips) in
+abbrev pub IsGatheringStep : RulesRecord → Row → Entry → (number : ℕ) → Yield → Option (ClassId × Choice) → Yield → Type 0
+IsGatheringStep rules row e number old (Some settled) new =
+    let choice = choice_at rules row settled.0 (skips_of row + old.skips) in
     (fault_in e ≡ Some settled.0) × (settled.1 ≡ choice) × (is_skip choice ≡ false)
-IsStep rules row e number old None new =
-    (stops rules row (fault_in e) (skips_of row + old.read_skips + old.process_skips) ≡ false) × IsCountedUp number e old new
+IsGatheringStep rules row e number old None new =
+    (stops rules row (fault_in e) (skips_of row + old.skips) ≡ false) × IsCountedUp number e old new

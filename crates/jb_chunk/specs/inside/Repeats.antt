@@ -12,7 +12,7 @@ use Rattle.jb_artifacts.specs.Reader.{record_at, after_read}
 use Rattle.jb_artifacts.specs.Processor.{after_process}
 use Rattle.jb_artifacts.specs.Writer.{Writer, Numbered, failing, used_for, write_fault, after_write, torn_write}
 use Rattle.jb_artifacts.specs.Meaning.{ArtifactsMeaning}
-use Rattle.jb_chunk.specs.declared.chunk_end.ChunkEnd.{ChunkEnd}
+use Rattle.jb_chunk.specs.declared.outcome.Outcome.{Outcome}
 use Rattle.jb_chunk.specs.declared.entry.EntryKind.{EntryKind}
 use Rattle.jb_chunk.specs.declared.gather.Gathered.{Gathered}
 use Rattle.jb_chunk.specs.declared.gather.Gathered.TheVariants.{Settled, Whole}
@@ -21,7 +21,7 @@ use Rattle.jb_chunk.specs.Standing.{TaskState}
 use Rattle.jb_chunk.specs.Block.{entry, repeats, is_skip, is_again, choice_at, skips_before, settling, passed}
 use Rattle.jb_chunk.specs.Entries.{Entry, fault_in, text_in, numbered}
 use Rattle.jb_chunk.specs.inside.Gathering.{Yield, yield_of, entry_with, IsTally, passed_one}
-use Rattle.jb_chunk.specs.inside.TriedChunk.{IsWriteEnd, IsFinish}
+use Rattle.jb_chunk.specs.inside.TriedChunk.{IsFinish}
 
 -- an answer, by what its value stands for
 abbrev pub seen_as : {A B : Type 0} → (A → B) → Result A ArtifactError → Result B ArtifactError
@@ -144,9 +144,9 @@ pub record IsDone (rules : RulesRecord) (skips : ℕ) (row : Row) (w : Artifacts
 
 -- so it was, its entry is of this kind, and its result, if it has one, is put behind the others
 pub record IsEntered (rules : RulesRecord) (skips : ℕ) (row : Row) (w : ArtifactsMeaning) (k : ℕ) (before : Numbered) (kind : EntryKind) (now : Row) (left : ArtifactsMeaning) (after : Numbered) : Type 0 where
-  pub text : List ℕ
-  pub done : IsDone rules skips row w k (entry_with kind text) now left
-  pub added : after ≡ before ++ option_to_list (numbered k (text_in (entry_with kind text)))
+  pub answer : Option (List ℕ)
+  pub done : IsDone rules skips row w k (entry_with kind answer) now left
+  pub added : after ≡ before ++ option_to_list (numbered k (text_in (entry_with kind answer)))
 
 -- the second block is the first after some of its repeats
 pub record IsRepeated (t u : TaskState) : Type 0 where
@@ -200,14 +200,8 @@ pub record IsTornWrite (w : ArtifactsMeaning) (found : Numbered) (left : Artifac
   pub written : take (length w.writer.written) left.writer.written ≡ w.writer.written
   pub longer : length w.writer.written ≤ length left.writer.written
 
--- how a block's write ended it, after its repeats
-abbrev pub IsWriteEndAfter : RulesRecord → Row → (hi : ℕ) → Yield → ArtifactsMeaning → ChunkEnd → (now : Row) → (left : ArtifactsMeaning) → Type 0
-IsWriteEndAfter rules row hi tally w end now left =
-    (again : ℕ) × IsRewritten rules (skips_of row + tally.read_skips + tally.process_skips) row w.writer tally.found again now
-    × IsWriteEnd rules now hi tally (record w { writer = rewritten w.writer tally.found again }) end left
-
 -- how a block ended that nothing settled before its write, after its repeats
-abbrev pub IsFinishAfter : RulesRecord → Row → (hi : ℕ) → Yield → ArtifactsMeaning → ChunkEnd → (now : Row) → (left : ArtifactsMeaning) → Type 0
+abbrev pub IsFinishAfter : RulesRecord → Row → (hi : ℕ) → Yield → ArtifactsMeaning → Outcome → (now : Row) → (left : ArtifactsMeaning) → Type 0
 IsFinishAfter rules row hi tally w end now left =
-    (again : ℕ) × IsRewritten rules (skips_of row + tally.read_skips + tally.process_skips) row w.writer tally.found again now
+    (again : ℕ) × IsRewritten rules (skips_of row + tally.skips) row w.writer tally.found again now
     × IsFinish rules now hi tally (record w { writer = rewritten w.writer tally.found again }) end left

@@ -1,19 +1,19 @@
 -- What the functions that try a chunk keep, from its parts to its end.
-use Rattle.std.specs.Prelude.{ℕ, ◌≡◌, ◌+◌, ◌-◌, ◌≤◌, length, take, ⊤}
+use Rattle.std.specs.Prelude.{ℕ, ◌≡◌, ◌+◌, ◌-◌, ◌≤◌, length, take, Option, Some, None, ⊤}
 use Rattle.jb_rules.specs.declared.row.Row.{Row}
+use Rattle.jb_base.specs.declared.class.ClassId.{ClassId}
 use Rattle.jb_base.specs.Rules.{RulesRecord}
 use Rattle.jb_rules.specs.Rows.{skips_of}
-use Rattle.jb_artifacts.specs.Reader.{opened}
-use Rattle.jb_artifacts.specs.Writer.{Writer, Numbered, write_fault, after_write}
+use Rattle.jb_artifacts.specs.Writer.{Numbered, write_fault, after_write}
 use Rattle.jb_artifacts.specs.Meaning.{ArtifactsMeaning}
-use Rattle.jb_chunk.specs.declared.chunk_end.ChunkEnd.{ChunkEnd}
-use Rattle.jb_chunk.specs.declared.chunk_end.ChunkEnd.TheVariants.{Committed}
+use Rattle.jb_chunk.specs.declared.outcome.Outcome.{Outcome}
+use Rattle.jb_chunk.specs.declared.outcome.Outcome.TheVariants.{Committed, NoMemory}
+use Rattle.jb_rules.specs.declared.counts.Counts.{Counts}
 use Rattle.jb_rules.specs.Counts.{IsDelta}
-use Rattle.jb_chunk.specs.Attempt.{end_of}
-use Rattle.jb_chunk.specs.inside.ChunkEnds.{end_from, place_by, kept_by, work_by}
+use Rattle.jb_chunk.specs.Attempt.{block_of, settled_at, counts_with, end_by, end_of, row_after, work_used}
 use Rattle.jb_chunk.specs.inside.Gathering.{Yield}
-use Rattle.jb_chunk.specs.Block.{MayBeUsed}
-use Rattle.jb_chunk.specs.Standing.{TaskState}
+use Rattle.jb_chunk.specs.Block.{choice_at, MayBeUsed}
+use Rattle.jb_chunk.specs.Standing.{TaskState, at_checkpoint}
 
 -- the task of this partition with this row, these rules, this item count and these artifacts
 abbrev pub task_at : (partition : ℕ) → Row → RulesRecord → (item_count : ℕ) → ArtifactsMeaning → TaskState
@@ -23,32 +23,34 @@ task_at partition row rules item_count w = record { partition = partition; row =
 abbrev pub OfTask : RulesRecord → Row → (item_count : ℕ) → ArtifactsMeaning → (TaskState → Type 0) → Type 0
 OfTask rules row item_count w P = (partition : ℕ) → P (task_at partition row rules item_count w)
 
--- a chunk of so many records that is committed adds what it may to the counts
-abbrev pub HasDelta : (records : ℕ) → ChunkEnd → Type 0
+-- a chunk of so many records found its memory, and where it is committed adds what it may to the counts
+abbrev pub HasDelta : (records : ℕ) → Outcome → Type 0
 HasDelta records (Committed delta) = IsDelta records delta
+HasDelta records NoMemory = ⊥
 HasDelta records _ = ⊤
 
--- the writer after a chunk's write ended so
-abbrev pub writer_by : ChunkEnd → Writer → Numbered → Writer
-writer_by end w found = record { written = kept_by end w.written found; faults = (after_write w found).faults }
+-- what a chunk of so many records that came to this adds to the counts
+abbrev pub counts_by : (records : ℕ) → Yield → (written write_skips : ℕ) → Counts
+counts_by records tally = counts_with records tally.skips tally.read_skips (length tally.found)
 
--- how a chunk's write ended it, after the faults that the tally counts, and what it left
-pub record IsWriteEnd (rules : RulesRecord) (row : Row) (hi : ℕ) (tally : Yield) (w : ArtifactsMeaning) (end : ChunkEnd) (now : ArtifactsMeaning) : Type 0 where
-  pub ended : end ≡ end_from rules row (hi - row.at) tally (write_fault w.writer tally.found) (skips_of row + tally.read_skips + tally.process_skips)
-  pub left : now ≡ record w { writer = writer_by end w.writer tally.found }
+-- how such a chunk ends by its write's fault after so many skips
+abbrev pub end_from : RulesRecord → Row → (records : ℕ) → Yield → (fault : Option ClassId) → (skips : ℕ) → Outcome
+end_from rules row records tally None skips = Committed (counts_by records tally (length tally.found) 0)
+end_from rules row records tally (Some class) skips = end_by (counts_by records tally 0 1) class (choice_at rules row class skips)
 
--- how a chunk ended that nothing settled before its write, and what it left
-pub record IsFinish (rules : RulesRecord) (row : Row) (hi : ℕ) (tally : Yield) (w : ArtifactsMeaning) (end : ChunkEnd) (now : ArtifactsMeaning) : Type 0 where
-  pub ended : end ≡ end_from rules row (hi - row.at) tally (write_fault w.writer tally.found) (skips_of row + tally.read_skips + tally.process_skips)
-  pub left : now ≡ record w {
-    reader = opened w.reader (place_by end row.at hi);
-    writer = writer_by end w.writer tally.found;
-  }
+-- the artifacts with these results written
+abbrev pub written_with : ArtifactsMeaning → Numbered → ArtifactsMeaning
+written_with w found = record w { writer = after_write w.writer found }
+
+-- how a chunk ended that nothing settled before its write, after the faults that the tally counts, and what it left
+pub record IsFinish (rules : RulesRecord) (row : Row) (hi : ℕ) (tally : Yield) (w : ArtifactsMeaning) (end : Outcome) (now : ArtifactsMeaning) : Type 0 where
+  pub ended : end ≡ end_from rules row (hi - row.at) tally (write_fault w.writer tally.found) (skips_of row + tally.skips)
+  pub left : now ≡ at_checkpoint (row_after row hi end) (written_with w tally.found)
 
 -- the chunk was tried to its end
-pub record IsTried (t : TaskState) (end : ChunkEnd) (now : ArtifactsMeaning) : Type 0 where
+pub record IsTried (t : TaskState) (end : Outcome) (now : ArtifactsMeaning) : Type 0 where
   pub ended : end ≡ end_of t
-  pub left : now ≡ work_by t end
+  pub left : now ≡ at_checkpoint (row_after t.row (block_of t).hi end) (work_used t (settled_at t))
 
 -- reader and processor may have worked on the records from `lo` to `hi - 1`, and something may be written past what was there
 pub record IsTorn (lo hi : ℕ) (w now : ArtifactsMeaning) : Type 0 where

@@ -57,8 +57,8 @@ abbrev mutual
 abbrev pub seen : {A : Type 0} → Value A → Data
 seen tree = data_of (value_view tree)
 
-abbrev pub all_seen : {A : Type 0} → List (Value A) → Items
-all_seen trees = items_data (items_view trees)
+abbrev pub items_seen : {A : Type 0} → List (Value A) → Items
+items_seen trees = items_data (items_view trees)
 
 -- a tree that can be printed and read again
 pub record IsReadable (tree : Json) : Type 0 where
@@ -74,14 +74,14 @@ keys json.no_members = []
 keys (json.member k j ms) = k ∷ keys ms
 
 -- the members of the front, and then the others
-abbrev pub joined : json.Members → json.Members → json.Members
-joined json.no_members back = back
-joined (json.member k j ms) back = json.member k j (joined ms back)
+abbrev pub members_joined : json.Members → json.Members → json.Members
+members_joined json.no_members back = back
+members_joined (json.member k j ms) back = json.member k j (members_joined ms back)
 
 -- the last member of a name, and the object without it
 pub record IsApart (name : List ℕ) (whole part rest : Json) : Type 0 where
   pub front : json.Members
   pub back : json.Members
-  pub whole_is : whole ≡ json.object (joined front (json.member name part back))
-  pub rest_is : rest ≡ json.object (joined front back)
+  pub whole_is : whole ≡ json.object (members_joined front (json.member name part back))
+  pub rest_is : rest ≡ json.object (members_joined front back)
   pub last : get_member name back ≡ None

@@ -4,6 +4,6 @@ use Rattle.jb_documents.specs.FaultLists.{FaultForm, bad, shaky}
 use Rattle.jb_documents.specs.declared.run.fault_lists.EntryForm.{EntryForm}
 use Rattle.jb_documents.specs.declared.run.fault_lists.EntryForm.TheVariants.{Bad, Shaky}
 
-abbrev pub form_of : EntryForm → FaultForm
-form_of (Bad name) = bad name.now
-form_of (Shaky names) = shaky (seen names.now)
+abbrev pub fault_form_of : EntryForm → FaultForm
+fault_form_of (Bad name) = bad name.now
+fault_form_of (Shaky names) = shaky (seen names.now)

@@ -14,4 +14,4 @@ parts_at job given left = do
   steps ← fields (taken (data_list_at job) field.Data given)
   tree ← fields (taken (λ f d. Ok d) field.Resume left)
   resume ← resume_at job.steps field.Resume tree
-  Ok (record { job = job; steps = steps; resume = resume })
+  Ok (record { job = job; step_data = steps; resume = resume })

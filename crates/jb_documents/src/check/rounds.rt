@@ -3,7 +3,7 @@
 ghost use Rattle.serde_json.specs.View.{view};
 ghost use Rattle.jb_job.specs.declared.field.Field.TheVariants as field;
 ghost use Rattle.jb_job.specs.Reading.{Gives, GivesExactly, required};
-ghost use Rattle.jb_cert.specs.Plans.{rounds_of};
+ghost use Rattle.jb_cert.specs.Plans.{plan_rounds};
 ghost use Rattle.jb_documents.specs.CheckDocument.{certificate_at, named_certificate, round_at, rounds_at, slot_at};
 
 use jb_base::MAX_PLACE;
@@ -47,7 +47,7 @@ fn round(alloc: Global, tree: &Value) -> Result<Vec<Slot>, JobError>
 /// `WrongShape`), with lanes and partitions below 4,294,967,296 (else `OutOfRange`).
 #[tactic(auto, unfolding(crate::specs::CheckDocument::rounds_at, jb_job::specs::Reading::required))]
 pub fn claimed_plan(alloc: Global, document: &Value) -> Result<Plan, JobError>
-    ensures { Gives rounds_of result (required rounds_at field.Rounds (view document.now)) }
+    ensures { Gives plan_rounds result (required rounds_at field.Rounds (view document.now)) }
 {
     let items = required(Field::Rounds, document)?
         .as_array()

@@ -5,7 +5,7 @@ ghost use Rattle.json.specs.Value.{value_view};
 ghost use Rattle.serde_json.specs.Find.{get};
 ghost use Rattle.jb_job.specs.Names.{name_of};
 ghost use Rattle.jb_job.specs.declared.field.Field.TheVariants as field;
-ghost use Rattle.jb_documents.specs.RestartDocument.{GivesRestart, IsRestart, IsRefusedRestart, restart_at};
+ghost use Rattle.jb_documents.specs.RestartDocument.{GivesRestart, IsRestartText, IsRefusedRestart, restart_at};
 ghost use Rattle.jb_documents.specs.inside.Borrowed.{IsReadable, seen};
 ghost use Rattle.jb_documents.specs.inside.Parts.{parts_at};
 
@@ -24,7 +24,7 @@ use std::alloc::Global;
 #[derive(Drop)]
 pub struct RestartDocument {
     pub job: Job,
-    pub steps: DataList,
+    pub step_data: DataList,
     pub resume: Resume,
 }
 
@@ -64,7 +64,11 @@ fn of_parts(
     let steps = document_data(alloc, &job, given)?;
     let left = left.ok_or(JobError::WrongShape(Field::Resume))?;
     let resume = resume(alloc, job.steps.as_slice(), left)?;
-    Ok(RestartDocument { job, steps, resume })
+    Ok(RestartDocument {
+        job,
+        step_data: steps,
+        resume,
+    })
 }
 
 /// The document that the tree stands for, or its first fault.
@@ -83,7 +87,7 @@ fn document_of(alloc: Global, tree: Borrowed<'_>) -> Result<RestartDocument, Res
 /// The document that the bytes stand for, or their first fault: `NotJson` where they are no JSON text. The bytes are let
 /// go once they are read.
 pub fn read_restart(alloc: Global, bytes: Vec<u8>) -> Result<RestartDocument, RestartFault>
-    ensures document { IfOk result (IsRestart bytes.items) }
+    ensures document { IfOk result (IsRestartText bytes.items) }
     ensures refused { IfErr result (λ fault. IsRefusedRestart fault bytes.items) }
 {
     let mut scratch = Scratch::new(alloc);

@@ -9,7 +9,7 @@ ghost use Rattle.jb_job.specs.Reading.{Gives, GivesExactly, each_at, shaped};
 ghost use Rattle.jb_job.specs.declared.field.Field.TheVariants as field;
 ghost use Rattle.jb_documents.specs.ResumeFields.{texts_at, outputs_at, holds, held_at};
 ghost use Rattle.jb_documents.specs.RestartDocument.{GivesRestart, resume_at, saves};
-ghost use Rattle.jb_documents.specs.inside.Borrowed.{IsReadable, all_seen, seen};
+ghost use Rattle.jb_documents.specs.inside.Borrowed.{IsReadable, items_seen, seen};
 ghost use Rattle.jb_saved.specs.Reading.{saved_at};
 
 use super::fault::RestartFault;
@@ -27,7 +27,7 @@ use std::alloc::Global;
 
 /// The texts of the list, packed into exact room.
 fn packed(alloc: Global, items: &Vec<Borrowed<'_>>) -> Result<PackedList, JobError>
-    ensures { Gives (λ texts. texts) result (each_at (λ _ text. shaped field.Outputs (as_str text)) (all_seen items.now.items)) }
+    ensures { Gives (λ texts. texts) result (each_at (λ _ text. shaped field.Outputs (as_str text)) (items_seen items.now.items)) }
 {
     let mut texts = PackedList::with_room(alloc, items.len(), text_bytes(items))?;
     for item in items {
@@ -46,7 +46,7 @@ fn writer_texts(alloc: Global, tree: Borrowed<'_>) -> Result<WriterTexts, JobErr
 
 /// The texts of each writer. The tree of each is let go once its texts are packed.
 fn writers(alloc: Global, trees: Vec<Borrowed<'_>>) -> Result<Vec<WriterTexts>, JobError>
-    ensures { Gives (λ v. v.items) result (each_at (λ _. texts_at field.Outputs) (all_seen trees.entry.items)) }
+    ensures { Gives (λ v. v.items) result (each_at (λ _. texts_at field.Outputs) (items_seen trees.entry.items)) }
 {
     let mut writers = Vec::with_capacity(alloc, trees.len())?;
     for tree in trees {

@@ -10,7 +10,7 @@ ghost use Rattle.jb_job.specs.Names.{name_of};
 ghost use Rattle.jb_job.specs.Reading.{Gives, each_at};
 ghost use Rattle.jb_documents.specs.RunDocument.{IsDocument, IsRefusedDocument, data_list_at, document_at};
 ghost use Rattle.jb_documents.specs.StepFields.{data_at};
-ghost use Rattle.jb_documents.specs.inside.Borrowed.{IsReadable, all_seen, seen};
+ghost use Rattle.jb_documents.specs.inside.Borrowed.{IsReadable, items_seen, seen};
 ghost use Rattle.jb_documents.specs.inside.Taken.{taken};
 
 use super::step_data::StepData;
@@ -30,19 +30,19 @@ pub type DataList = Listed<StepData>;
 #[derive(Drop)]
 pub struct Document {
     pub job: Job,
-    pub steps: DataList,
+    pub step_data: DataList,
 }
 
 #[tactic(auto, using(crate::proofs::Trees::tree_steps))]
 fn is_one_for_each_step(job: &Job, items: &Vec<Borrowed<'_>>) -> bool
-    ensures { result ≡ (items_len (all_seen items.now.items) == length job.now.steps) }
+    ensures { result ≡ (items_len (items_seen items.now.items) == length job.now.steps) }
 {
     items.len() == job.steps.as_slice().len()
 }
 
 /// The data of the steps, in order. The tree of each is let go once it is read.
 fn steps_data(alloc: Global, job: &Job, trees: Vec<Borrowed<'_>>) -> Result<Vec<StepData>, JobError>
-    ensures { Gives (λ v. v.items) result (each_at (λ _. data_at job.now.classes) (all_seen trees.entry.items)) }
+    ensures { Gives (λ v. v.items) result (each_at (λ _. data_at job.now.classes) (items_seen trees.entry.items)) }
 {
     let mut steps = Vec::with_capacity(alloc, trees.len())?;
     for tree in trees {
@@ -107,7 +107,10 @@ fn document_of(alloc: Global, tree: Borrowed<'_>) -> Result<Document, JobError>
     let (job, given) = take_parts(tree);
     let job = document_job(alloc, job)?;
     let steps = document_data(alloc, &job, given)?;
-    Ok(Document { job, steps })
+    Ok(Document {
+        job,
+        step_data: steps,
+    })
 }
 
 /// The document that the bytes stand for, or their first fault: `NotJson` where they are no JSON text. The bytes are let

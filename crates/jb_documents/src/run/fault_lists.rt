@@ -6,8 +6,8 @@ ghost use Rattle.jb_job.specs.declared.field.Field.TheVariants as field;
 ghost use Rattle.jb_job.specs.Names.{name_of};
 ghost use Rattle.jb_job.specs.Reading.{Gives, GivesExactly, each_at, or_else};
 ghost use Rattle.jb_documents.specs.FaultLists.{class_named, fault_kind, fault_number, form_at, is_past, named_class_at, planned_fault_at, planned_faults_at, shaky_classes_at, step_faults_at};
-ghost use Rattle.jb_documents.specs.inside.Borrowed.{all_seen, seen};
-ghost use Rattle.jb_documents.specs.inside.Forms.{form_of};
+ghost use Rattle.jb_documents.specs.inside.Borrowed.{items_seen, seen};
+ghost use Rattle.jb_documents.specs.inside.Forms.{fault_form_of};
 
 use super::faults::{ClassIds, FaultKind, PlannedFault, PlannedFaults, StepFaults};
 use crate::fields::take_field;
@@ -31,7 +31,7 @@ fn entry_form<'t, 'a>(
     word: &str,
     tree: &'t Borrowed<'a>,
 ) -> Result<EntryForm<'t, 'a>, JobError>
-    ensures { GivesExactly form_of result (form_at field word.now (seen tree.now)) }
+    ensures { GivesExactly fault_form_of result (form_at field word.now (seen tree.now)) }
 {
     match word {
         "bad" => {
@@ -113,7 +113,7 @@ fn fault_kind(
     field: Field,
     form: EntryForm<'_, '_>,
 ) -> Result<FaultKind, JobError>
-    ensures { Gives (λ k. k) result (fault_kind job.now.classes field (form_of form.entry)) }
+    ensures { Gives (λ k. k) result (fault_kind job.now.classes field (fault_form_of form.entry)) }
 {
     match form {
         EntryForm::Bad(name) => {
@@ -156,7 +156,7 @@ fn entries(
     field: Field,
     trees: Vec<Borrowed<'_>>,
 ) -> Result<Vec<PlannedFault>, JobError>
-    ensures { Gives (λ v. v.items) result (each_at (planned_fault_at job.now.classes field records) (all_seen trees.entry.items)) }
+    ensures { Gives (λ v. v.items) result (each_at (planned_fault_at job.now.classes field records) (items_seen trees.entry.items)) }
 {
     let mut faults = Vec::with_capacity(alloc, trees.len())?;
     for tree in trees {

@@ -1,7 +1,7 @@
 //! The faults that a document plans for the artifacts of a step.
 
 ghost use Rattle.std.specs.Prelude.{◌≡◌, []};
-ghost use Rattle.jb_documents.specs.FaultOrder.{AreInOrder};
+ghost use Rattle.jb_documents.specs.FaultOrder.{AreFaultsInOrder};
 
 use jb_base::{ClassId, Listed};
 use std::alloc::Global;
@@ -36,26 +36,27 @@ pub struct PlannedFaults {
 impl Model for PlannedFaults {
     ghost use Rattle.std.specs.Prelude.{List};
     ghost use Rattle.jb_documents.specs.declared.run.faults.PlannedFault.{PlannedFault};
-    ghost use Rattle.jb_documents.specs.FaultOrder.{AreInOrder};
+    ghost use Rattle.jb_documents.specs.FaultOrder.{AreFaultsInOrder};
 
     ghost Value = { List PlannedFault };
 
     ghost view = { λ r. r.faults.items };
 
-    ghost invariant = { λ r. AreInOrder r.faults.items };
+    ghost invariant = { λ r. AreFaultsInOrder r.faults.items };
 }
 
 impl PlannedFaults {
     pub(crate) fn new(faults: Vec<PlannedFault>) -> PlannedFaults
-        requires { AreInOrder faults.items }
+        requires { AreFaultsInOrder faults.items }
         ensures { result ≡ faults.items }
     {
         PlannedFaults { faults }
     }
 
+    /// The faults, by rising record.
     pub fn as_slice(&self) -> &[PlannedFault]
         ensures faults { result.now ≡ self.now }
-        ensures order { AreInOrder result.now }
+        ensures order { AreFaultsInOrder result.now }
     {
         self.faults.as_slice()
     }

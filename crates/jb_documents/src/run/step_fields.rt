@@ -8,7 +8,7 @@ ghost use Rattle.jb_job.specs.Names.{name_of};
 ghost use Rattle.jb_job.specs.Reading.{Gives, each_at, or_else, text_at};
 ghost use Rattle.jb_documents.specs.FaultLists.{no_faults, step_faults_at};
 ghost use Rattle.jb_documents.specs.StepFields.{data_at, drop_at, records_at};
-ghost use Rattle.jb_documents.specs.inside.Borrowed.{all_seen, seen};
+ghost use Rattle.jb_documents.specs.inside.Borrowed.{items_seen, seen};
 ghost use Rattle.jb_documents.specs.inside.Taken.{taken};
 
 use super::fault_lists::step_faults;
@@ -24,7 +24,7 @@ use std::alloc::Global;
 
 /// The texts of the list, packed into exact room.
 fn packed(alloc: Global, items: &Vec<Borrowed<'_>>) -> Result<PackedList, JobError>
-    ensures exact { Gives (λ texts. texts) result (each_at (λ _. text_at 0 max_record field.Records) (all_seen items.now.items)) }
+    ensures exact { Gives (λ texts. texts) result (each_at (λ _. text_at 0 max_record field.Records) (items_seen items.now.items)) }
     ensures long { IfOk result (λ texts. length texts ≡ length items.now.items) }
 {
     let mut texts = PackedList::with_room(alloc, items.len(), text_bytes(items))?;

@@ -2,7 +2,7 @@
 use Rattle.jb_rules.specs.Laws.{RowsStaySound}
 use Rattle.jb_chunk.specs.Laws.{CalmRunsArePlain, WaysEnd}
 
-pub record LawsBelow : Type 0 where
+pub record LawsOfTheCratesBelow : Type 0 where
   pub sound : RowsStaySound
   pub ends : WaysEnd
   pub plain : CalmRunsArePlain

@@ -6,7 +6,7 @@ use Rattle.jb_rules.specs.declared.row.Row.{Row}
 use Rattle.jb_artifacts.specs.Meaning.{ArtifactsMeaning}
 use Rattle.jb_artifacts.specs.Writer.{Texts}
 use Rattle.jb_saved.specs.SavedTree.{tokens_of}
-use Rattle.jb_texts.specs.Report.{texts_tree}
+use Rattle.jb_texts.specs.Report.{results_tree}
 use Rattle.jb_program.specs.StepRun.{committed_of}
 
 -- of all artifacts that came back
@@ -20,4 +20,4 @@ outputs_by before (Some held) = map utf8_lossy held.1
 
 -- the outputs of a partition as they are written, of all that the writers hold
 abbrev pub written_at : (outputs : List (List (List ℕ))) → List (ℕ × Texts) → ℕ × Row → List Token
-written_at outputs lists n = tokens_of (texts_tree (outputs_by (committed_of outputs n) (find (λ one. one.0 == n.0) lists)))
+written_at outputs lists n = tokens_of (results_tree (outputs_by (committed_of outputs n) (find (λ one. one.0 == n.0) lists)))

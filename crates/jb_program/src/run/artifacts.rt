@@ -6,7 +6,7 @@ ghost use Rattle.jb_artifacts.specs.Prefix.{prefixed};
 ghost use Rattle.jb_base.specs.declared.range.Range.{Range};
 ghost use Rattle.jb_plan.specs.Plans.{IsWithin};
 ghost use Rattle.jb_rules.specs.Rows.{range_of};
-ghost use Rattle.jb_step.specs.Setup.{needs, unfinished};
+ghost use Rattle.jb_step.specs.preparing.Setup.{needs, unfinished};
 ghost use Rattle.jb_program.specs.PartitionRun.{plans_in, records_in, work_for, workplace_of};
 ghost use Rattle.jb_program.specs.StepRun.{works_for};
 
@@ -15,7 +15,7 @@ use crate::run::held::held_list;
 use crate::run::settings::StepSettings;
 use crate::run::shared_reader::SharedReader;
 use jb_artifacts::{
-    CountCollector, Item, ItemProcessor, ItemReader, ItemWriter, ListWriter, Meaning,
+    ArtifactsOf, CountCollector, Item, ItemProcessor, ItemReader, ItemWriter, ListWriter, Meaning,
     PackedArtifacts, PrefixProcessor,
 };
 use jb_base::{PackedList, Range, Text};
@@ -101,13 +101,13 @@ fn artifacts_for(
     requires { IsWithin (length (arc_value records)) range }
     ensures { IfOk result (λ own. ⟦<OwnArtifacts as Meaning>⟧.meaning own ≡ workplace_of step.now (records_in (arc_value records) range) held range) }
 {
-    let artifacts = PackedArtifacts {
+    let inner = ArtifactsOf {
         reader: reader_for(alloc, step, records, range)?,
         processor: processor_for(alloc, step, range)?,
         writer: writer_for(alloc, step, held, range)?,
         collector: CountCollector::new(alloc),
     };
-    let boxed = BoxedArtifacts::new(alloc, artifacts)?;
+    let boxed = BoxedArtifacts::new(alloc, PackedArtifacts { inner })?;
     Ok(boxed)
 }
 

@@ -2,7 +2,7 @@
 
 ghost use Rattle.std.specs.Prelude.{◌≡◌, filter, IfOk, OnOk};
 ghost use Rattle.jb_artifacts.specs.Faults.{plans_of, with_plan};
-ghost use Rattle.jb_documents.specs.FaultOrder.{AreInOrder};
+ghost use Rattle.jb_documents.specs.FaultOrder.{AreFaultsInOrder};
 ghost use Rattle.jb_program.specs.PartitionRun.{fault_plan_of, is_of_range, plans_in};
 
 use jb_artifacts::{FaultList, FaultPlan, FaultPlans};
@@ -31,7 +31,7 @@ fn fault_plan(alloc: Global, kind: &FaultKind) -> Result<FaultPlan, AllocError>
 
 /// The faults for records of the range: they stand together.
 fn faults_in(faults: &[PlannedFault], range: Range) -> &[PlannedFault]
-    requires { AreInOrder faults.now }
+    requires { AreFaultsInOrder faults.now }
     ensures { result.now ≡ filter (is_of_range range) faults.now }
 {
     let first = faults.partition_point(|fault| fault.number < range.lo);

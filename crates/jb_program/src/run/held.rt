@@ -2,7 +2,7 @@
 
 ghost use Rattle.std.specs.Prelude.{◌≡◌, take, IfOk};
 ghost use Rattle.jb_program.specs.PartitionRun.{held_by};
-ghost use Rattle.jb_program.specs.StepRun.{gone_on_from, outputs_of, saved_of};
+ghost use Rattle.jb_program.specs.StepRun.{gone_on_from, outputs_of, rows_saved};
 
 use jb_base::PackedList;
 use jb_documents::{Outputs, Resume, WriterTexts};
@@ -11,7 +11,7 @@ use std::alloc::{AllocError, Global};
 
 /// The rows of the run before, if there was one, and its outputs, unless the step's plan discards them.
 pub fn taken(alloc: Global, resume: Option<Resume>, replace: bool) -> (Option<Saved>, Outputs)
-    ensures saved { result.0 ≡ saved_of resume }
+    ensures saved { result.0 ≡ rows_saved resume }
     ensures outputs { result.1 ≡ outputs_of (gone_on_from replace resume) }
 {
     match resume {

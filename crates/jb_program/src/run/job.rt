@@ -4,11 +4,11 @@ ghost use Rattle.std.specs.Prelude.{◌≡◌, ◌-◌, ◌⊎◌, ◌++◌, dro
 ghost use Rattle.std.specs.List.{zip};
 ghost use Rattle.jb_texts.specs.Report.{Report, StepReport, report_text};
 ghost use Rattle.jb_texts.specs.ReportTokens.{step_tokens};
-ghost use Rattle.jb_program.specs.Refusals.{IsBroken};
+ghost use Rattle.jb_program.specs.Refusals.{IsBreakOff};
 ghost use Rattle.jb_program.specs.JobRun.{AreStepRuns, IsJobRun, IsRefusedAtStep, IsRestartRefused, IsRestartRun, earlier, status_in};
 ghost use Rattle.jb_program.specs.StepRun.{AreHeld};
 
-use crate::run::step::run_step;
+use crate::run::step::run_job_step;
 use crate::streams::Failure;
 use jb_collect::Status;
 use jb_documents::{Document, RestartDocument, Resume, StepData};
@@ -32,7 +32,7 @@ fn run_steps<T: Threads + Wait + Sync>(
     requires held { IfSome resume AreHeld }
     ensures ran { IfOk result (λ status. (reports : List StepReport) × AreStepRuns (zip steps.now supplies.items) round_limit resume reports
         × (status ≡ status_in (slice_get reports (length reports - 1))) × (text.new ≡ text.old ++ flat_map step_tokens reports)) }
-    ensures why { IfErr result (λ e. IsBroken e ⊎ IsRefusedAtStep (zip steps.now supplies.items) round_limit resume e) }
+    ensures why { IfErr result (λ e. IsBreakOff e ⊎ IsRefusedAtStep (zip steps.now supplies.items) round_limit resume e) }
 {
     let Some((step, steps)) = steps.split_first() else {
         return Ok(Status::Completed);
@@ -41,7 +41,7 @@ fn run_steps<T: Threads + Wait + Sync>(
         return Ok(Status::Completed);
     }
     let supply = supplies.remove(0);
-    match run_step(rt, alloc, step, supply, round_limit, resume, text)? {
+    match run_job_step(rt, alloc, step, supply, round_limit, resume, text)? {
         Status::Completed => run_steps(rt, alloc, steps, supplies, round_limit, None, text),
         status => Ok(status),
     }
@@ -61,7 +61,7 @@ fn run_later_steps<T: Threads + Wait + Sync>(
     ensures ran { IfOk result (λ status. (reports : List StepReport)
         × AreStepRuns (drop (earlier resume.saved.step steps.now) (zip steps.now supplies.items)) round_limit (Some resume) reports
         × (status ≡ status_in (slice_get reports (length reports - 1))) × (text.new ≡ text.old ++ flat_map step_tokens reports)) }
-    ensures why { IfErr result (λ e. IsBroken e
+    ensures why { IfErr result (λ e. IsBreakOff e
         ⊎ IsRefusedAtStep (drop (earlier resume.saved.step steps.now) (zip steps.now supplies.items)) round_limit (Some resume) e) }
 {
     let Some((step, rest)) = steps.split_first() else {
@@ -86,9 +86,12 @@ pub fn run_job<T: Threads + Wait + Sync>(
     round_limit: Option<u64>,
 ) -> Result<(Status, ReportText), Failure>
     ensures ran { IfOk result (λ ran. (report : Report) × IsJobRun document round_limit report × (ran.0 ≡ report.status) × (ran.1 ≡ report_text report)) }
-    ensures why { IfErr result (λ e. IsBroken e ⊎ IsRefusedAtStep (zip document.job.steps document.steps) round_limit None e) }
+    ensures why { IfErr result (λ e. IsBreakOff e ⊎ IsRefusedAtStep (zip document.job.steps document.step_data) round_limit None e) }
 {
-    let Document { job, steps } = document;
+    let Document {
+        job,
+        step_data: steps,
+    } = document;
     let mut text = StepsText::new(alloc)?;
     let status = run_steps(
         rt,
@@ -113,9 +116,13 @@ pub fn restart_job<T: Threads + Wait + Sync>(
 ) -> Result<(Status, ReportText), Failure>
     requires held { AreHeld document.resume }
     ensures ran { IfOk result (λ ran. (report : Report) × IsRestartRun document round_limit report × (ran.0 ≡ report.status) × (ran.1 ≡ report_text report)) }
-    ensures why { IfErr result (λ e. IsBroken e ⊎ IsRestartRefused document round_limit e) }
+    ensures why { IfErr result (λ e. IsBreakOff e ⊎ IsRestartRefused document round_limit e) }
 {
-    let RestartDocument { job, steps, resume } = document;
+    let RestartDocument {
+        job,
+        step_data: steps,
+        resume,
+    } = document;
     let mut text = StepsText::new(alloc)?;
     let status = run_later_steps(
         rt,

@@ -4,7 +4,7 @@ ghost use Rattle.std.specs.Prelude.{◌≡◌, ◌≤◌, ◌⊎◌, ◌++◌, [
 ghost use Rattle.jb_collect.specs.ReducerCalls.{calls_before};
 ghost use Rattle.jb_base.specs.Limits.{max_records};
 ghost use Rattle.jb_plan.specs.Plans.{IsRunnable};
-ghost use Rattle.jb_step.specs.Setup.{IsSetup, discards, gone_on, saved_faults};
+ghost use Rattle.jb_step.specs.preparing.Setup.{IsSetup, discards, gone_on, saved_faults};
 ghost use Rattle.jb_program.specs.JobRun.{plan_for};
 ghost use Rattle.jb_program.specs.StepRun.{IsNotBegun, setup_with};
 

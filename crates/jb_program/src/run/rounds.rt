@@ -2,16 +2,16 @@
 
 ghost use Rattle.std.specs.Prelude.{◌≡◌, ◌++◌, false, map, IfErr, IfOk};
 ghost use Rattle.jb_base.specs.Limits.{max_parts};
-ghost use Rattle.jb_collect.specs.ReducerCalls.{calls_after, run_end};
+ghost use Rattle.jb_collect.specs.ReducerCalls.{calls_after};
 ghost use Rattle.jb_collect.specs.Taken.{well};
 ghost use Rattle.jb_step.specs.Answers.{IsRunError, IsRunOfStep, given_back, tasks_left};
 ghost use Rattle.jb_step.specs.Headline.{Headline};
-ghost use Rattle.jb_step.specs.Prepare.{DoFit};
-ghost use Rattle.jb_step.specs.Setup.{first_tasks};
+ghost use Rattle.jb_step.specs.preparing.Prepare.{DoFit};
+ghost use Rattle.jb_step.specs.preparing.Setup.{first_tasks};
 ghost use Rattle.jb_step.specs.Statuses.{status_of};
 ghost use Rattle.jb_step.specs.Alone.{AreOnTheWay};
 ghost use Rattle.jb_saved.specs.declared.error.StepError.TheVariants.{WrongArtifacts};
-ghost use Rattle.jb_program.specs.Refusals.{IsBroken, IsFailureOf};
+ghost use Rattle.jb_program.specs.Refusals.{IsBreakOff, IsFailureOf};
 
 use crate::run::artifacts::OwnArtifacts;
 use crate::streams::Failure;
@@ -30,7 +30,7 @@ fn run_failure(error: StepError) -> Failure
     requires causes { IsRunError error }
     requires fit { error ≡ WrongArtifacts → ⊥ }
     ensures why { IsFailureOf error result }
-    ensures broken { IsBroken result }
+    ensures broken { IsBreakOff result }
 {
     match error {
         StepError::Repository(partition) => Failure::Repository(partition),
@@ -46,7 +46,7 @@ fn run_failure(error: StepError) -> Failure
 
 /// Runs the rounds of a prepared step on a desk of its own, in no more rounds than the limit, over one pool of workers. `blank` is a
 /// ledger's with `MAX_PARTS` parts. The analyzer and the reducer come back.
-pub fn run_rounds<T: Threads + Wait + Sync, L: Ledger + Send + Sync + 'static>(
+pub fn run_over_desk<T: Threads + Wait + Sync, L: Ledger + Send + Sync + 'static>(
     rt: &T,
     alloc: Global,
     blank: Blank,
@@ -83,8 +83,8 @@ pub fn run_rounds<T: Threads + Wait + Sync, L: Ledger + Send + Sync + 'static>(
     ensures on_the_way { IfOk result (λ ended. AreOnTheWay (first_tasks prepared (map ⟦<OwnArtifacts as Meaning>⟧.meaning artifacts.items))
         (tasks_left prepared ended.0.snapshot (given_back ⟦<OwnArtifacts as Meaning>⟧.meaning ended.0.artifacts.items))) }
     ensures status { IfOk result (λ ended. ended.0.status ≡ status_of ended.0.snapshot.rows.items false) }
-    ensures reducer { IfOk result (λ ended. ended.2 ≡ reducer ++ calls_after (run_end (status_of ended.0.snapshot.rows.items false) false)) }
-    ensures why { IfErr result IsBroken }
+    ensures reducer { IfOk result (λ ended. ended.2 ≡ reducer ++ calls_after (status_of ended.0.snapshot.rows.items false) false) }
+    ensures why { IfErr result IsBreakOff }
 {
     let desk = prepared.desk::<L>(alloc, blank)?;
     let (end, analyzer, reducer) = run_pooled_step::<Task<OwnArtifacts>, L, NoGate, T>(

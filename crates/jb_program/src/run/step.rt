@@ -4,14 +4,14 @@ ghost use Rattle.std.specs.Prelude.{◌≡◌, ◌⊎◌, ◌++◌, IfErr, IfOk,
 ghost use Rattle.jb_texts.specs.Report.{StepReport};
 ghost use Rattle.jb_texts.specs.ReportTokens.{step_tokens};
 ghost use Rattle.jb_program.specs.JobRun.{IsStepRefused, IsStepRun};
-ghost use Rattle.jb_program.specs.Refusals.{IsBroken};
+ghost use Rattle.jb_program.specs.Refusals.{IsBreakOff};
 ghost use Rattle.jb_program.specs.StepRun.{AreHeld};
 
 use crate::run::artifacts::all_artifacts;
 use crate::run::held::taken;
 use crate::run::laws::laws_below;
 use crate::run::preparing::prepared_step;
-use crate::run::rounds::run_rounds;
+use crate::run::rounds::run_over_desk;
 use crate::run::settings::settings_for;
 use crate::run::told::write_step;
 use crate::streams::Failure;
@@ -28,7 +28,7 @@ use std::thread::Threads;
 
 /// Runs a step: prepares it by its partition plan, or by what the run before left, if the plan doesn't discard that, runs its
 /// partitions over its threads in no more rounds than the limit, and writes the step's report. What it works on is used up.
-pub fn run_step<T: Threads + Wait + Sync>(
+pub fn run_job_step<T: Threads + Wait + Sync>(
     rt: &T,
     alloc: Global,
     step: &Step,
@@ -39,7 +39,7 @@ pub fn run_step<T: Threads + Wait + Sync>(
 ) -> Result<Status, Failure>
     requires held { IfSome resume AreHeld }
     ensures ran { IfOk result (λ status. (report : StepReport) × IsStepRun step.now supply round_limit resume report × (status ≡ report.status) × (text.new ≡ text.old ++ step_tokens report)) }
-    ensures why { IfErr result (λ e. IsBroken e ⊎ IsStepRefused step.now supply resume e) }
+    ensures why { IfErr result (λ e. IsBreakOff e ⊎ IsStepRefused step.now supply resume e) }
 {
     let StepData {
         records,
@@ -58,7 +58,7 @@ pub fn run_step<T: Threads + Wait + Sync>(
     let artifacts = all_artifacts(alloc, &settings, records, outputs, &prepared)?;
     let analyzer = FaultlessAnalyzer::new(alloc);
     let blank = Blank::new(MAX_PARTS);
-    let (end, analyzer, reducer) = run_rounds::<T, Brand>(
+    let (end, analyzer, reducer) = run_over_desk::<T, Brand>(
         rt,
         alloc,
         blank,

@@ -25,7 +25,7 @@ fn results_of(left: (u32, OwnArtifacts)) -> (u32, PackedList)
     ensures { result ∷ [] ≡ lists_left (given_back ⟦<OwnArtifacts as Meaning>⟧.meaning (left ∷ [])) }
 {
     let (partition, own) = left;
-    (partition, own.into_artifacts().writer.into_written())
+    (partition, own.into_artifacts().inner.writer.into_written())
 }
 
 /// What the writers of the artifacts that came back hold. With the last of their readers the records are let go.

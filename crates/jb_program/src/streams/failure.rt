@@ -55,7 +55,7 @@ impl fmt::Display for Failure {
 
     ghost output = { λ failure. Some (failure_text failure) };
 
-    #[tactic(auto, unfolding(crate::specs::FailureText::refusal))]
+    #[tactic(auto, unfolding(crate::specs::FailureText::refusal_line))]
     fn fmt<W: fmt::Write>(&self, f: &mut fmt::Formatter<W>) -> fmt::Result {
         match self {
             Failure::Usage(fault) => write!(f, "{fault}"),

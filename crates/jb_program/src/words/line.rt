@@ -2,7 +2,7 @@
 
 ghost use Rattle.std.specs.Prelude.{◌≡◌, ◌∷◌, ◌++◌, [], codes, map, option_map, true, false, None, IfErr, IfOk, IfSome};
 ghost use Rattle.clap.specs.Words.{app_of, subcommand_rows_of, with_subcommand};
-ghost use Rattle.jb_program.specs.CommandLine.{app, help_app, limited_app, program as program_app, request_in, rounds_in, topic_at, topic_in, word_app, work_in, word_in, AreUnknown, Asks, CanGoOn, CannotGoOn, IsWrong};
+ghost use Rattle.jb_program.specs.CommandLine.{app, help_app, limited_app, program as program_app, request_in, rounds_of_word, topic_at, topic_in, word_app, work_in, word_in, AreUnknown, Asks, CanBeCompleted, CannotGoOn, IsWrong};
 
 use crate::words::fault::{LineFault, UsageFault};
 use crate::words::help::VERSION;
@@ -98,7 +98,7 @@ fn topic_of(name: Option<&str>) -> Option<Request>
 
 /// The number that decimal digits write, if it isn't past the most rounds.
 fn rounds_of(text: &str) -> Option<u64>
-    ensures { result ≡ rounds_in text.now }
+    ensures { result ≡ rounds_of_word text.now }
 {
     let digits = text.as_bytes();
     if digits.is_empty() {
@@ -127,9 +127,9 @@ fn work_of(name: &str, given: Option<&str>) -> Option<Request>
 {
     let word = word_of(name)?;
     match given {
-        None => Some(Request::Work(Line { word, rounds: None })),
+        None => Some(Request::Perform(Line { word, rounds: None })),
         Some(text) => match rounds_of(text) {
-            Some(rounds) => Some(Request::Work(Line {
+            Some(rounds) => Some(Request::Perform(Line {
                 word,
                 rounds: Some(rounds),
             })),
@@ -193,7 +193,7 @@ fn with_a_number<'a>(alloc: Global, words: &'a [&'a str]) -> Result<Vec<&'a str>
 
 /// Whether the words ask for something, or would if a number stood behind them.
 fn can_go_on<'a>(alloc: Global, words: &'a [&'a str]) -> Result<bool, LineFault>
-    ensures yes { IfOk result (λ can. can ≡ true → CanGoOn (map (λ w. w.now) words.now)) }
+    ensures yes { IfOk result (λ can. can ≡ true → CanBeCompleted (map (λ w. w.now) words.now)) }
     ensures no { IfOk result (λ can. can ≡ false → CannotGoOn (map (λ w. w.now) words.now)) }
     ensures err { IfErr result (λ e. e ≡ LineFault.Memory) }
 {

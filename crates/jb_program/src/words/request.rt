@@ -26,7 +26,7 @@ pub struct Line {
 #[derive(Clone, Copy, Debug, PartialEq, Eq)]
 pub enum Request {
     /// Do this with the document on standard input.
-    Work(Line),
+    Perform(Line),
     /// Print the help: the program's, or that of a word. Nothing is read.
     Help(Option<Word>),
     /// Print the program's version. Nothing is read.

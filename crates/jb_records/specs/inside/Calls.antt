@@ -11,7 +11,7 @@ use Rattle.jb_rules.specs.declared.row.Row.{Row}
 use Rattle.jb_rules.specs.Rows.{range_of}
 use Rattle.jb_saved.specs.declared.error.StepError.TheVariants as error
 use Rattle.jb_saved.specs.SavedRows.{SavedRows}
-use Rattle.jb_step.specs.Setup.{saved_faults}
+use Rattle.jb_step.specs.preparing.Setup.{saved_faults}
 use Rattle.jb_records.specs.Causes.{AreOtherResults, HasSkippedTry, IsStepFault, written_in}
 use Rattle.jb_records.specs.declared.error.RecordsStepError.{RecordsStepError}
 use Rattle.jb_records.specs.declared.error.RecordsStepError.TheVariants.{Memory, Records, Results, SkippedTry, Step}
@@ -35,7 +35,7 @@ abbrev pub HaveOwn : (records : ℕ) → List Row → (shares : List (List (List
 HaveOwn records rows shares ps = AllByRecursion (λ p. (row : Row) × HasOwn records rows shares (p, row)) ps
 
 -- the records of each row's range are there, and each partition has its share
-pub record CanBegin (records : ℕ) (rows : List Row) (shares : List (List (List ℕ))) : Type 0 where
+pub record CanBeginOver (records : ℕ) (rows : List Row) (shares : List (List (List ℕ))) : Type 0 where
   pub within : (p : ℕ) (row : Row) → slice_get rows p ≡ Some row → IsWithin records (range_of row)
   pub numbered : AreNumbered rows shares
 
@@ -81,10 +81,10 @@ IsUnbegunBehind step records earlier Memory = Unit {0}
 IsUnbegunBehind step records earlier _ = ⊥
 
 -- the step that was begun has no end
-abbrev pub IsUnended : Function → RulesRecord → (records : List (List ℕ)) → RecordsStepError → Type 0
-IsUnended f rules records SkippedTry = HasSkippedTry f rules 0 records
-IsUnended f rules records (Step (error.Repository partition)) = Unit {0}
-IsUnended f rules records (Step error.Workers) = Unit {0}
-IsUnended f rules records (Step error.Memory) = Unit {0}
-IsUnended f rules records Memory = Unit {0}
-IsUnended f rules records _ = ⊥
+abbrev pub HasNoEnd : Function → RulesRecord → (records : List (List ℕ)) → RecordsStepError → Type 0
+HasNoEnd f rules records SkippedTry = HasSkippedTry f rules 0 records
+HasNoEnd f rules records (Step (error.Repository partition)) = Unit {0}
+HasNoEnd f rules records (Step error.Workers) = Unit {0}
+HasNoEnd f rules records (Step error.Memory) = Unit {0}
+HasNoEnd f rules records Memory = Unit {0}
+HasNoEnd f rules records _ = ⊥

@@ -4,12 +4,12 @@ use Rattle.jb_base.specs.Rules.{RulesRecord}
 use Rattle.jb_repo.specs.declared.snapshot.Snapshot.{Snapshot}
 use Rattle.jb_saved.specs.declared.error.StepError.TheVariants as error
 use Rattle.jb_saved.specs.Answers.{first_running}
-use Rattle.jb_saved.specs.GoingOn.{is_past, rows_restarted}
+use Rattle.jb_saved.specs.GoingOn.{ends_past, rows_restarted}
 use Rattle.jb_step.specs.Alone.{AreOnTheWay}
 use Rattle.jb_step.specs.Answers.{StepRun, tasks_after, tasks_before, tasks_left}
 use Rattle.jb_step.specs.Headline.{Headline}
-use Rattle.jb_step.specs.Prepare.{DoFit}
-use Rattle.jb_step.specs.StepRuns.{IsAnswered}
+use Rattle.jb_step.specs.preparing.Prepare.{DoFit}
+use Rattle.jb_step.specs.restarts.StepRuns.{IsAnswered}
 use Rattle.jb_records.specs.declared.error.RecordsStepError.{RecordsStepError}
 use Rattle.jb_records.specs.declared.error.RecordsStepError.TheVariants.{Memory, Step}
 use Rattle.jb_records.specs.Shares.{newer_shares}
@@ -17,7 +17,7 @@ use Rattle.jb_artifacts.specs.Meaning.{ArtifactsMeaning}
 use Rattle.jb_rules.specs.declared.row.Row.{Row}
 use Rattle.jb_rules.specs.Rows.{fresh_row}
 use Rattle.jb_rules.specs.States.{is_finished}
-use Rattle.jb_step.specs.Setup.{IsSetup, Setup, first_tasks, needs, rows_now, unfinished}
+use Rattle.jb_step.specs.preparing.Setup.{IsSetup, Setup, first_tasks, needs, rows_now, unfinished}
 use Rattle.jb_records.specs.Function.{Function}
 use Rattle.jb_records.specs.Steps.{AreWorks}
 use Rattle.jb_records.specs.Stretches.{HasGoneOn, RunState, StandsOver, numbers_in, works_in}
@@ -89,7 +89,7 @@ abbrev pub RowsAreSaved : Type 0
 RowsAreSaved =
     (f : Function) (records : List (List ℕ)) (s : RunState) (rounds : Option ℕ) (snapshot : Snapshot) (left : List (ℕ × ArtifactsMeaning))
     → StandsOver f records s → IsRanOver s.setup (works_in s.works) rounds snapshot left
-    → (first_running snapshot.rows.items ≡ None) × (is_past s.records snapshot.rows.items ≡ false)
+    → (first_running snapshot.rows.items ≡ None) × (ends_past s.records snapshot.rows.items ≡ false)
 
 -- and where it goes on from them, with what came back of the unfinished partitions, and the results of the finished ones put to
 -- the others, it has gone on

@@ -2,7 +2,7 @@
 use Rattle.jb_plan.specs.Blocks.{ChunksFollow}
 use Rattle.jb_rules.specs.Laws.{RowsStaySound, DeltasAreTested}
 
-pub record LawsBelow : Type 0 where
+pub record LawsOfRowsBelow : Type 0 where
   pub chunks : ChunksFollow
   pub rows : RowsStaySound
   pub deltas : DeltasAreTested

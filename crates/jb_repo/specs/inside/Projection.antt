@@ -8,14 +8,14 @@ use Rattle.jb_repo.specs.declared.owners.Owners.{Owners}
 use Rattle.jb_repo.specs.declared.marks.Marks.{Marks}
 use Rattle.jb_repo.specs.declared.plan_progress.PlanProgress.{PlanProgress}
 use Rattle.jb_repo.specs.declared.projection.Projection.{Projection}
-use Rattle.jb_repo.specs.History.{owner, is_lane_marked, is_partition_marked, number, some, since, is_plan, is_round, ends_plan, is_closed, planned_rounds, is_stopping, own, failure_in, lane_of, begun_by}
+use Rattle.jb_repo.specs.History.{owner, is_lane_marked, is_partition_marked, number, some, events_since, is_plan, is_round, ends_plan, is_closed, planned_rounds, is_stopping, own, failure_in, lane_of, begun_by}
 use Rattle.jb_repo.specs.Rows.{total_counts}
 use Rattle.jb_repo.specs.Table.{Journal, Accepted, refusal, rows_of, reserved}
 use Rattle.jb_repo.specs.Answers.{needed}
 use Rattle.jb_repo.specs.Openable.{IsOpenable}
 
 -- the lane and the partition that the event names have their places
-pub record IsWithin (e : Event) : Type 0 where
+pub record IsInPlace (e : Event) : Type 0 where
   pub lane : IfSome (lane_of e) (λ lane. lane < max_threads)
   pub partition : IfSome (begun_by e) (λ partition. partition < max_partitions)
 
@@ -32,9 +32,9 @@ pub record ShowMarks (marks : Marks) (past : List Event) : Type 0 where
 pub record ShowPlan (plan : PlanProgress) (past : List Event) : Type 0 where
   pub count : plan.count ≡ number is_plan past
   pub planned : plan.planned ≡ planned_rounds past
-  pub used : plan.used ≡ number is_round (since is_plan past)
-  pub ended : plan.ended ≡ some ends_plan (since is_plan past)
-  pub closed : plan.closed ≡ is_closed (since is_plan past)
+  pub used : plan.used ≡ number is_round (events_since is_plan past)
+  pub ended : plan.ended ≡ some ends_plan (events_since is_plan past)
+  pub closed : plan.closed ≡ is_closed (events_since is_plan past)
   pub stopping : plan.stopping ≡ is_stopping past
 
 -- each partition's number is that of its own events

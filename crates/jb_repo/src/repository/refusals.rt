@@ -1,6 +1,6 @@
 //! The table of refusals, memory aside.
 
-ghost use Rattle.std.specs.Prelude.{◌≡◌, ◌<◌, ◌≤◌, length};
+ghost use Rattle.std.specs.Prelude.{◌≡◌, ◌<◌};
 ghost use Rattle.jb_repo.specs.Table.{refusal, first_refusal, outcome_conditions, undone_conditions};
 
 use crate::deltas::Delta;

@@ -2,18 +2,17 @@
 use Rattle.std.specs.Prelude.{ℕ, Bool, Option, List, map}
 use Rattle.jb_artifacts.specs.Meaning.{ArtifactsMeaning}
 use Rattle.jb_chunk.specs.Standing.{TaskState}
-use Rattle.jb_step.specs.Heard.{heard}
-use Rattle.jb_step.specs.Alone.{AreOnTheWay}
-use Rattle.jb_step.specs.inside.Head.{AreRounds, Beginning, Progress}
+use Rattle.jb_step.specs.callbacks.Heard.{heard}
+use Rattle.jb_step.specs.inside.Head.{AreRounds, Beginning}
+use Rattle.jb_step.specs.inside.Round.{Progress}
 use Rattle.jb_step.specs.inside.Telling.{Moment, IsHeard}
 
 -- what tasks work with, each with its partition
-abbrev pub works_of : List TaskState → List (ℕ × ArtifactsMeaning)
-works_of ts = map (λ t. (t.partition, t.work)) ts
+abbrev pub works_of_tasks : List TaskState → List (ℕ × ArtifactsMeaning)
+works_of_tasks ts = map (λ t. (t.partition, t.work)) ts
 
--- the rounds of a step, and what was heard behind them: each partition stands on its way alone, and the analyzer heard all of it
+-- the rounds of a step, and what was heard behind them: the analyzer heard all of it
 pub record AreHeardToEnd (b : Beginning) (round_limit : Option ℕ) (now : Progress) (stopped : Bool) : Type 0 where
   pub earlier : Moment
   pub rounds : AreRounds b round_limit (record { moment = earlier; table = now.table; ran = now.ran; notes = now.notes }) stopped
   pub heard_is : IsHeard b.base (heard b.setup b.start rounds.plans) now.moment
-  pub on_the_way : AreOnTheWay b.start now.table

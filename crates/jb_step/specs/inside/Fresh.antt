@@ -10,16 +10,16 @@ use Rattle.jb_collect.specs.declared.calls.ReducerCall.{ReducerCall}
 use Rattle.jb_collect.specs.declared.calls.ReducerCall.TheVariants.{Rollback, After}
 use Rattle.jb_collect.specs.declared.calls.PartitionStatus.TheVariants as status
 use Rattle.jb_collect.specs.ReducerCalls.{rolled_back}
-use Rattle.jb_collect.specs.Taken.{Taken, faulted}
+use Rattle.jb_collect.specs.Taken.{Taken, calls_of, faulted, since}
 use Rattle.jb_saved.specs.SavedRows.{SavedRows}
 use Rattle.jb_saved.specs.declared.error.StepError.{StepError}
 use Rattle.jb_saved.specs.declared.error.StepError.TheVariants.{Plan, Mapper, Reducer, Saved, Memory}
-use Rattle.jb_step.specs.inside.Reducing.{IsReducingSome}
-use Rattle.jb_step.specs.Setup.{Setup, gone_on, opening_rows, saved_faults}
+use Rattle.jb_step.specs.callbacks.Callbacks.{AreSome}
+use Rattle.jb_step.specs.preparing.Setup.{Setup, gone_on, opening_rows, saved_faults}
 
 -- the step with these rows, on the plan's threads
-abbrev pub setup_with : List Row → CheckedPlan → StepRecord → (begun_anew : Bool) → Setup
-setup_with rows plan step begun_anew = record {
+abbrev pub setup_of_rows : List Row → CheckedPlan → StepRecord → (begun_anew : Bool) → Setup
+setup_of_rows rows plan step begun_anew = record {
   rows = rows;
   rules = step.rules;
   item_count = step.item_count;
@@ -29,7 +29,7 @@ setup_with rows plan step begun_anew = record {
 
 abbrev pub opened_setup : CheckedPlan → StepRecord → Option SavedRows → Setup
 opened_setup plan step saved =
-    let from = gone_on plan.replace saved in setup_with (opening_rows plan.ranges from) plan step (is_none from)
+    let from = gone_on plan.replace saved in setup_of_rows (opening_rows plan.ranges from) plan step (is_none from)
 
 -- the saved rows are refused; where memory lacked, nothing is said
 abbrev pub IsUnopened : StepRecord → (records : ℕ) → (replace : Bool) → Option SavedRows → StepError → Type 0
@@ -51,5 +51,5 @@ IsUnplanned step records mapped saved _ = ⊥
 -- taken
 abbrev pub IsDiscardRefused : StepError → (before after : List (Taken ReducerCall)) → Type 0
 IsDiscardRefused (Reducer class) before after = (fault : Option ClassId) × (after ≡ before ++ faulted Rollback class ∷ record { call = After status.Rollback; fault = fault } ∷ [])
-IsDiscardRefused Memory before after = IsReducingSome before rolled_back after
+IsDiscardRefused Memory before after = AreSome (calls_of (since before after)) rolled_back
 IsDiscardRefused _ before after = ⊥

@@ -6,15 +6,15 @@ use Rattle.jb_repo.specs.Openable.{AreIdle}
 use Rattle.jb_rules.specs.Rows.{range_of}
 use Rattle.jb_rules.specs.declared.row.Row.{Row}
 use Rattle.jb_rules.specs.declared.row.RowState.TheVariants.{Waiting, Finished}
-use Rattle.jb_step.specs.declared.prepared.Prepared.TheInside.{Inside}
-use Rattle.jb_step.specs.Setup.{Setup, IsSetup, needs}
+use Rattle.jb_step.specs.declared.preparing.prepared.Prepared.TheInside.{Inside}
+use Rattle.jb_step.specs.preparing.Setup.{Setup, IsSetup, needs}
 
-abbrev pub setup_of : Inside → Setup
-setup_of a = record { rows = a.rows.items; rules = a.rules; item_count = a.item_count; threads = a.threads; begun_anew = a.begun_anew }
+abbrev pub prepared_setup : Inside → Setup
+prepared_setup a = record { rows = a.rows.items; rules = a.rules; item_count = a.item_count; threads = a.threads; begun_anew = a.begun_anew }
 
 -- a step may begin with them, and the unfinished partitions are listed
 pub record IsPrepared (a : Inside) : Type 0 where
-  pub setup : IsSetup (setup_of a)
+  pub setup : IsSetup (prepared_setup a)
   pub needed : a.needs.items ≡ needs a.rows.items
 
 -- 1 to 1,024 rows with which a step may begin: sound ones of disjoint ranges, each of which waits or is finished

@@ -7,7 +7,7 @@ use Rattle.jb_rules.specs.Sound.{IsSoundRow}
 use Rattle.jb_rules.specs.States.{is_finished}
 use Rattle.jb_artifacts.specs.Meaning.{ArtifactsMeaning}
 use Rattle.jb_chunk.specs.Standing.{TaskState, started}
-use Rattle.jb_step.specs.Setup.{Setup}
+use Rattle.jb_step.specs.preparing.Setup.{Setup}
 
 -- the unfinished ones of rows that are numbered from `first` on
 abbrev pub unfinished_from : ℕ → List Row → List (ℕ × Row)
@@ -18,9 +18,9 @@ abbrev pub tasks_from : Setup → ℕ → List Row → List ArtifactsMeaning →
 tasks_from s first rows works = map (λ n. started n.0.0 n.0.1 s.rules s.item_count n.1) (zip (unfinished_from first rows) works)
 
 -- each row is sound, and its partition waits or is finished
-pub record IsBegun (row : Row) : Type 0 where
+pub record IsRowBegun (row : Row) : Type 0 where
   pub sound : IsSoundRow row
   pub begun : (row.state ≡ Waiting) ⊎ (row.state ≡ Finished)
 
 abbrev pub AreBegun : List Row → Type 0
-AreBegun = AllByRecursion IsBegun
+AreBegun = AllByRecursion IsRowBegun

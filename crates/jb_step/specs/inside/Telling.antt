@@ -19,10 +19,10 @@ abbrev pub moment : List (Taken AnalyzerCall) → Option ClassId → Moment
 moment calls fault = record { calls = calls; fault = fault }
 
 -- a callback answered so: with this fault, if with one, and not with want of memory
-abbrev pub IsAnswer : Result (Unit {0}) ArtifactError → Option ClassId → Type 0
-IsAnswer (Ok done) fault = fault ≡ None
-IsAnswer (Err (Fault class)) fault = fault ≡ Some class
-IsAnswer (Err Memory) fault = ⊥
+abbrev pub IsCallbackAnswer : Result (Unit {0}) ArtifactError → Option ClassId → Type 0
+IsCallbackAnswer (Ok done) fault = fault ≡ None
+IsCallbackAnswer (Err (Fault class)) fault = fault ≡ Some class
+IsCallbackAnswer (Err Memory) fault = ⊥
 
 -- it took these calls since `base`, up to its first fault
 abbrev pub IsHeard : (base : List (Taken AnalyzerCall)) → List AnalyzerCall → Moment → Type 0

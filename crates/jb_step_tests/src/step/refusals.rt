@@ -1,7 +1,6 @@
 //! Why a step has no answer.
 
 ghost use Rattle.std.specs.Prelude.{◌≡◌, Err};
-ghost use Rattle.jb_mapper.specs.Mapping.{Mapping};
 ghost use Rattle.jb_base.specs.Limits.{max_parts};
 
 use crate::step::given::{Given, Letters, begun, works};

@@ -5,12 +5,11 @@ ghost use Rattle.jb_rules.specs.declared.row.RowState.TheVariants.{Waiting};
 ghost use Rattle.jb_base.specs.Limits.{max_rollbacks, max_retry_limit, max_in_place};
 
 use super::counted::{
-    AllCalls, CountedCollector, CountedProcessor, CountedReader, CountedWriter, Counting, packed,
-    unpacked,
+    AllCalls, CountedCollector, CountedProcessor, CountedReader, CountedWriter, Counting,
 };
 use jb_artifacts::{
     Artifacts, ArtifactsOf, CountCollector, FaultList, FaultPlan, FaultPlans, Item, ItemWriter,
-    ListWriter, PrefixProcessor, RowView, TableReader,
+    ListWriter, PackedArtifacts, PrefixProcessor, RowView, TableReader,
 };
 use jb_base::{
     ClassId, MAX_IN_PLACE, MAX_ITEM_COUNT, MAX_RETRY_LIMIT, MAX_ROLLBACKS, PackedList, Range, Rules,
@@ -315,11 +314,12 @@ fn owned(alloc: Global, told: &Told<'_>) -> Result<Ran, Fail> {
 fn lent(alloc: Global, told: &Told<'_>) -> Result<Ran, Fail> {
     let calls = AllCalls::new(alloc)?;
     let mut course = Course::new(alloc);
-    let artifacts = packed(counting(alloc, told, &calls)?);
+    let inner = counting(alloc, told, &calls)?;
+    let artifacts = PackedArtifacts { inner };
     let task = begun(told.records(), told.item_count, artifacts).ok_or("a task")?;
     let task = attempts(alloc, task, &calls, &mut course)?;
     let row = *task.row();
-    let artifacts = unpacked(task.into_artifacts());
+    let PackedArtifacts { inner: artifacts } = task.into_artifacts();
     if calls.lends.taken() != artifacts.processor.noted.len() as u64 {
         return Err(Fail::from("a record lent for each call that processes it"));
     }
@@ -552,7 +552,7 @@ fn boxed(alloc: Global, told: &Told<'_>, calls: &AllCalls) -> Result<Artifacts, 
 fn do_a_record<A: PartitionArtifacts>(alloc: Global, mut artifacts: A) -> Result<(), Fail> {
     let range = Range { lo: 0, hi: 1 };
     let row = Row::fresh(range);
-    if !artifacts.serves(&row) {
+    if !artifacts.fit(&row) {
         return Err(Fail::from("a reader"));
     }
     artifacts.open_reader_at(0);
@@ -594,7 +594,10 @@ fn calls_at_a_record(alloc: Global, form: Form) -> Result<String, Fail> {
     match form {
         Form::Bare => do_a_record(alloc, counting(alloc, &told, &calls)?)?,
         Form::Boxed => do_a_record(alloc, boxed(alloc, &told, &calls)?)?,
-        Form::Packed => do_a_record(alloc, packed(counting(alloc, &told, &calls)?))?,
+        Form::Packed => {
+            let inner = counting(alloc, &told, &calls)?;
+            do_a_record(alloc, PackedArtifacts { inner })?
+        }
     }
     let row = Row::fresh(Range { lo: 0, hi: 1 });
     Ok(calls.line(alloc, "done", &row)?)

@@ -4,8 +4,8 @@ ghost use Rattle.std.specs.Prelude.{◌≡◌};
 
 use jb_artifacts::{
     ArtifactsOf, Collector, CountCollector, Item, ItemProcessor, ItemReader, ItemWriter,
-    LendingReader, ListWriter, PackedArtifacts, PackedResults, PackedWriter, PackingProcessor,
-    PrefixProcessor, RowView, TableReader,
+    LendingReader, ListWriter, PackedResults, PackedWriter, PackingProcessor, PrefixProcessor,
+    RowView, TableReader,
 };
 use jb_base::ArtifactError;
 use jb_rules::Row;
@@ -217,44 +217,6 @@ pub(super) type Counting = ArtifactsOf<
     CountedWriter,
     CountedCollector,
 >;
-
-/// The same artifacts, where the records are lent and the results packed.
-pub(super) type Packing = PackedArtifacts<
-    CountedReader,
-    CountedProcessor,
-    CountedWriter,
-    CountedCollector,
->;
-
-pub(super) fn packed(owning: Counting) -> Packing {
-    let ArtifactsOf {
-        reader,
-        processor,
-        writer,
-        collector,
-    } = owning;
-    PackedArtifacts {
-        reader,
-        processor,
-        writer,
-        collector,
-    }
-}
-
-pub(super) fn unpacked(packing: Packing) -> Counting {
-    let PackedArtifacts {
-        reader,
-        processor,
-        writer,
-        collector,
-    } = packing;
-    ArtifactsOf {
-        reader,
-        processor,
-        writer,
-        collector,
-    }
-}
 
 /// The calls of reader, processor, writer and collector, and how often a record was lent.
 #[derive(Drop)]

@@ -1,16 +1,16 @@
 //! The definitions, computed on worked rows apart from the code.
 
-ghost use Rattle.jb_chunk.specs.Worked.{FirstRun, EverythingFiltered, NoRecord, RetryToSingles, SkipInRedo, OneFailed, TornWrite, WriteRetried, WriteFailed, ShakyWrite, RetryLimit, ReadSkip, SkippedBeforeWrite, RolledBackSkip, Repeat, RepeatLimit, RepeatedWrite, RepeatedAndRolled, RepeatedThenSkipped, SkippedAndRepeated, SkippedInRedo, RepeatedReads, AllSeen, PlainRuns};
+ghost use Rattle.jb_chunk.specs.Worked.{FirstRunAlone, EverythingFiltered, NoRecordAlone, RetryToSingles, SkipInRedo, OneFailedAlone, TornWrite, WriteRetried, WriteFailed, ShakyWrite, RetryLimit, ReadSkip, SkippedBeforeWrite, RolledBackSkip, Repeat, RepeatLimit, RepeatedWrite, RepeatedAndRolled, RepeatedThenSkipped, SkippedAndRepeated, SkippedInRedo, RepeatedReads, AllSeen, PlainRuns};
 
 use std::test::*;
 
 fn worked_rows()
-    ensures first_run { FirstRun }
+    ensures first_run { FirstRunAlone }
     ensures everything_filtered { EverythingFiltered }
-    ensures no_record { NoRecord }
+    ensures no_record { NoRecordAlone }
     ensures retry_to_singles { RetryToSingles }
     ensures skip_in_redo { SkipInRedo }
-    ensures one_failed { OneFailed }
+    ensures one_failed { OneFailedAlone }
     ensures torn_write { TornWrite }
     ensures write_retried { WriteRetried }
     ensures write_failed { WriteFailed }

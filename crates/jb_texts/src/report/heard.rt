@@ -3,10 +3,10 @@
 ghost use Rattle.std.specs.Prelude.{◌≡◌, ◌++◌, ◌∷◌, [], map, flat_map, IfOk, OnOk};
 ghost use Rattle.std.specs.List.{range_with_len};
 ghost use Rattle.json.specs.Token.{string};
-ghost use Rattle.jb_collect.specs.Heard.{partition_of};
+ghost use Rattle.jb_collect.specs.Heard.{partition_told};
 ghost use Rattle.jb_saved.specs.SavedTree.{tokens_of};
 ghost use Rattle.jb_collect.specs.Heard.{calls_about};
-ghost use Rattle.jb_texts.specs.Report.{heard_text, heard_tree, texts_tree};
+ghost use Rattle.jb_texts.specs.Report.{heard_text, heard_tree, results_tree};
 ghost use Rattle.jb_texts.specs.inside.Heard.{placed};
 
 use crate::report::text::write_text;
@@ -19,7 +19,7 @@ use std::alloc::{AllocError, Global};
 type Calls<'a> = Vec<&'a AnalyzerCall>;
 
 fn partition_of(call: &AnalyzerCall) -> u32
-    ensures { result ≡ partition_of call.now }
+    ensures { result ≡ partition_told call.now }
 {
     match call {
         AnalyzerCall::Collected(of, _) => *of,
@@ -87,7 +87,7 @@ fn write_calls(alloc: Global, out: &mut Writer, calls: &[&AnalyzerCall]) -> Resu
 
 /// Writes the list of what these calls said.
 fn write_list(alloc: Global, out: &mut Writer, calls: &[&AnalyzerCall]) -> Result<(), AllocError>
-    ensures list { OnOk result (out.new.tokens ≡ out.old.tokens ++ tokens_of (texts_tree (map heard_text (map (λ c. c.now) calls.now)))) }
+    ensures list { OnOk result (out.new.tokens ≡ out.old.tokens ++ tokens_of (results_tree (map heard_text (map (λ c. c.now) calls.now)))) }
     ensures before { out.new.before ≡ out.old.before }
 {
     out.begin_array()?;
@@ -96,7 +96,7 @@ fn write_list(alloc: Global, out: &mut Writer, calls: &[&AnalyzerCall]) -> Resul
 }
 
 fn write_lists(alloc: Global, out: &mut Writer, lists: &[Calls<'_>]) -> Result<(), AllocError>
-    ensures lists { OnOk result (out.new.tokens ≡ out.old.tokens ++ flat_map (λ list. tokens_of (texts_tree (map heard_text (map (λ c. c.now) list.items)))) lists.now) }
+    ensures lists { OnOk result (out.new.tokens ≡ out.old.tokens ++ flat_map (λ list. tokens_of (results_tree (map heard_text (map (λ c. c.now) list.items)))) lists.now) }
     ensures before { out.new.before ≡ out.old.before }
 {
     for list in lists {

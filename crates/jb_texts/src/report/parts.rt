@@ -1,5 +1,8 @@
 //! A part of a report: a text, and results that stand behind it.
 
+ghost use Rattle.std.specs.Prelude.{◌≡◌};
+ghost use Rattle.jb_texts.specs.inside.Parts.{longest, longest_of_parts};
+
 use jb_base::PackedList;
 
 /// A text of a report, and the results of a partition, which stand behind it. No text is made of these before they are written.
@@ -10,7 +13,9 @@ pub struct Part {
 }
 
 /// The bytes of the longest result.
-pub fn longest_in(results: &PackedList) -> usize {
+pub fn longest_in(results: &PackedList) -> usize
+    ensures { result ≡ longest results.now }
+{
     let mut longest = 0;
     for place in 0..results.len() {
         longest = longest.max(results.at(place).len());
@@ -19,7 +24,9 @@ pub fn longest_in(results: &PackedList) -> usize {
 }
 
 /// The bytes of the longest result of all parts.
-pub fn longest_result(parts: &[Part]) -> usize {
+pub fn longest_result(parts: &[Part]) -> usize
+    ensures { result ≡ longest_of_parts parts.now }
+{
     let mut longest = 0;
     for part in parts {
         longest = longest.max(longest_in(&part.results));

@@ -2,7 +2,7 @@
 
 ghost use Rattle.std.specs.Prelude.{◌≡◌, ◌++◌, flat_map, OnOk};
 ghost use Rattle.jb_saved.specs.SavedTree.{tokens_of};
-ghost use Rattle.jb_texts.specs.Report.{plan_tree, plans_tree};
+ghost use Rattle.jb_texts.specs.Report.{note_tree, plans_tree};
 
 use jb_cert::PlanNote;
 use json::Writer;
@@ -10,7 +10,7 @@ use std::alloc::{AllocError, Global};
 
 /// Writes a plan's certificate, the number of its rounds and how many of them were run.
 fn write_plan(alloc: Global, out: &mut Writer, note: &PlanNote) -> Result<(), AllocError>
-    ensures plan { OnOk result (out.new.tokens ≡ out.old.tokens ++ tokens_of (plan_tree note.now)) }
+    ensures plan { OnOk result (out.new.tokens ≡ out.old.tokens ++ tokens_of (note_tree note.now)) }
     ensures before { out.new.before ≡ out.old.before }
 {
     let certificate = note.certificate;
@@ -23,7 +23,7 @@ fn write_plan(alloc: Global, out: &mut Writer, note: &PlanNote) -> Result<(), Al
 }
 
 fn write_members(alloc: Global, out: &mut Writer, notes: &[PlanNote]) -> Result<(), AllocError>
-    ensures plans { OnOk result (out.new.tokens ≡ out.old.tokens ++ flat_map (λ note. tokens_of (plan_tree note)) notes.now) }
+    ensures plans { OnOk result (out.new.tokens ≡ out.old.tokens ++ flat_map (λ note. tokens_of (note_tree note)) notes.now) }
     ensures before { out.new.before ≡ out.old.before }
 {
     for note in notes {

@@ -5,7 +5,7 @@ ghost use Rattle.std.specs.Str.Lossy.{utf8_lossy};
 ghost use Rattle.json.specs.Print.{print};
 ghost use Rattle.json.specs.Token.{Token};
 ghost use Rattle.jb_saved.specs.SavedTree.{tokens_of};
-ghost use Rattle.jb_texts.specs.Report.{texts_tree};
+ghost use Rattle.jb_texts.specs.Report.{results_tree};
 ghost use Rattle.jb_texts.specs.inside.Parts.{part_text};
 ghost use Rattle.jb_texts.specs.inside.Tail.{end_tokens, lists_tokens};
 ghost use Rattle.jb_texts.specs.ReportTokens.{step_head, step_tail, steps_tokens};
@@ -37,7 +37,7 @@ pub struct StepsText {
 impl Model for StepsText {
     ghost use Rattle.std.specs.Prelude.{◌≡◌, ◌++◌, List, flat_map, []};
     ghost use Rattle.json.specs.Token.{Token, tokens_code};
-    ghost use Rattle.jb_texts.specs.inside.Parts.{GoesOn, part_tokens};
+    ghost use Rattle.jb_texts.specs.inside.Parts.{PrintsOn, part_tokens};
 
     ghost Value = { List Token };
 
@@ -45,7 +45,7 @@ impl Model for StepsText {
 
     ghost view = { λ steps. flat_map part_tokens steps.parts.items ++ steps.out.tokens };
 
-    ghost invariant = { λ steps. (steps.out.before ≡ []) × GoesOn steps.parts.items steps.out.tokens };
+    ghost invariant = { λ steps. (steps.out.before ≡ []) × PrintsOn steps.parts.items steps.out.tokens };
 }
 
 /// Begins the report of a step: what was heard, and the list of the outputs.
@@ -134,7 +134,7 @@ impl StepsText {
     /// Adds the outputs of the step's next partition: these results, whose memory it keeps. Bytes that are no UTF-8 are replaced where
     /// they are written.
     pub fn add_outputs(&mut self, alloc: Global, results: PackedList) -> Result<(), AllocError>
-        ensures { OnOk result (self.new ≡ self.old ++ tokens_of (texts_tree (map utf8_lossy results))) }
+        ensures { OnOk result (self.new ≡ self.old ++ tokens_of (results_tree (map utf8_lossy results))) }
     {
         let StepsText { mut parts, mut out } = mem::replace(self, StepsText::nothing(alloc));
         out.begin_array()?;

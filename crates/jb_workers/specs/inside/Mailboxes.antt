@@ -16,7 +16,7 @@ abbrev pub known : {T : Type 0} → Bool → Bool → Option (Work T) → Known 
 known of_caller of_worker work = record { of_caller = of_caller; of_worker = of_worker; work = work }
 
 -- an answer to the work that was asked for
-pub record IsAnswer {T : Type 0} (standing : T → TaskState) (asked : Option (Work T)) (answer : Result (Done T) RoundError) : Type 0 where
+pub record IsAnswerTo {T : Type 0} (standing : T → TaskState) (asked : Option (Work T)) (answer : Result (Done T) RoundError) : Type 0 where
   pub work : Work T
   pub is : asked ≡ Some work
   pub meets : MeetsWork standing work answer
@@ -25,7 +25,7 @@ pub record IsAnswer {T : Type 0} (standing : T → TaskState) (asked : Option (W
 abbrev pub Lies : {T : Type 0} → (T → TaskState) → List (Message T) → (asked doing : Option (Work T)) → Type 0
 Lies standing [] asked doing = (doing ≡ None) ⊎ (doing ≡ asked)
 Lies standing (Ask work ∷ []) asked doing = (doing ≡ None) × (asked ≡ Some work) × CanBegin (standing work.task)
-Lies standing (Answer answer ∷ []) asked doing = (doing ≡ None) × IsAnswer standing asked answer
+Lies standing (Answer answer ∷ []) asked doing = (doing ≡ None) × IsAnswerTo standing asked answer
 Lies standing (x ∷ y ∷ rest) asked doing = ⊥
 
 -- there is one caller and one worker, and each knows its work
@@ -38,9 +38,9 @@ IsMailbox {T} standing items views = (caller : ℕ) × (worker : ℕ) × (asked 
     × ((pass : ℕ) (v : Known T) → get_elem? views pass ≡ some v → Knows caller worker asked doing pass v)
 
 -- the caller asks for a work
-abbrev pub Asks : {T : Type 0} → Known T → Message T → Known T → Type 0
-Asks v (Ask work) w = w ≡ known v.of_caller v.of_worker (Some work)
-Asks v (Answer answer) w = w ≡ v
+abbrev pub AsksForAWork : {T : Type 0} → Known T → Message T → Known T → Type 0
+AsksForAWork v (Ask work) w = w ≡ known v.of_caller v.of_worker (Some work)
+AsksForAWork v (Answer answer) w = w ≡ v
 
 -- the worker takes the work up
 abbrev pub Takes : {T : Type 0} → (T → TaskState) → Known T → Message T → Known T → Type 0
@@ -48,10 +48,10 @@ Takes standing v (Ask work) w = (w ≡ known v.of_caller v.of_worker (Some work)
 Takes standing v (Answer answer) w = w ≡ known v.of_caller v.of_worker None
 
 -- the worker answers
-abbrev pub Answers : {T : Type 0} → Known T → Message T → Known T → Type 0
-Answers v x w = w ≡ known v.of_caller v.of_worker None
+abbrev pub AnswersAWork : {T : Type 0} → Known T → Message T → Known T → Type 0
+AnswersAWork v x w = w ≡ known v.of_caller v.of_worker None
 
 -- the caller hears the answer
 abbrev pub Hears : {T : Type 0} → (T → TaskState) → Known T → Message T → Known T → Type 0
 Hears standing v (Ask work) w = w ≡ known v.of_caller v.of_worker None
-Hears standing v (Answer answer) w = (w ≡ known v.of_caller v.of_worker None) × IsAnswer standing v.work answer
+Hears standing v (Answer answer) w = (w ≡ known v.of_caller v.of_worker None) × IsAnswerTo standing v.work answer

@@ -2,10 +2,10 @@
 
 ghost use Rattle.std.specs.Prelude.{◌≡◌, ◌+◌, ◌<◌, [], false, OnOk, OnErr, IfOk, IfErr};
 ghost use Rattle.jb_repo.specs.declared.events.Event.TheVariants.{Begin, Round};
-ghost use Rattle.jb_repo.specs.History.{is_commit, is_round, number};
+ghost use Rattle.jb_repo.specs.History.{is_commit_event, is_round, number};
 ghost use Rattle.jb_repo.specs.Table.{after, with_room, failure};
 ghost use Rattle.jb_workers.specs.Events.{commits, commit_in};
-ghost use Rattle.jb_workers.specs.Lock.{IsBooked, IsSeen, IsFailure, IsAccepted, IsRefused};
+ghost use Rattle.jb_workers.specs.Lock.{IsBooked, IsSeen, IsLastFail, IsAccepted, IsRefused};
 
 use crate::desk::parts::Parts;
 use crate::worker::entry::commits_in;
@@ -54,7 +54,7 @@ impl<L: Ledger> DeskState<L> {
     /// The class of the partition's last Fail, if it has one.
     pub(crate) fn failure(&self, partition: u32) -> Option<ClassId>
         ensures class { result ≡ failure self.now.repo partition }
-        ensures seen { IsFailure partition result }
+        ensures seen { IsLastFail partition result }
     {
         let _history = self.repo.history();
         self.repo.failure(partition)
@@ -62,7 +62,7 @@ impl<L: Ledger> DeskState<L> {
 
     /// Applies an event that is neither Commit nor Round.
     pub(crate) fn apply(&mut self, event: Event) -> Result<(), Refused>
-        requires no_commit { is_commit event ≡ false }
+        requires no_commit { is_commit_event event ≡ false }
         requires no_round { is_round event ≡ false }
         ensures ok { OnOk result (self.new.repo ≡ after (with_room self.old.repo self.new.repo.room) event) }
         ensures err { OnErr result (self.new.repo ≡ self.old.repo) }

@@ -5,7 +5,7 @@ ghost use Rattle.std.specs.Option.{IfNone};
 ghost use Rattle.crossbeam_queue.specs.Passes.{view, IsPassOf, ruled_capacity};
 ghost use Rattle.jb_workers.specs.Works.{CanBegin};
 ghost use Rattle.jb_workers.specs.Turns.{MeetsWork};
-ghost use Rattle.jb_workers.specs.inside.Mailboxes.{known, IsMailbox, Asks, Takes, Answers, Hears};
+ghost use Rattle.jb_workers.specs.inside.Mailboxes.{known, IsMailbox, AsksForAWork, Takes, AnswersAWork, Hears};
 
 use crate::pool::signal::Signal;
 use crate::round::RoundError;
@@ -48,7 +48,7 @@ impl<T: PartitionTask> Protocol<Message<T>, Known<T>> for OneAtATime {
 pub struct Ends;
 
 impl<T> Split<Known<T>> for Ends {
-    ghost use Rattle.std.specs.Prelude.{true, false, None};
+    ghost use Rattle.std.specs.Prelude.{true, false};
     ghost use Rattle.jb_workers.specs.inside.Mailboxes.{known};
 
     ghost left = { λ v. known true false v.work };
@@ -60,7 +60,7 @@ impl<T> Split<Known<T>> for Ends {
 pub struct Asking;
 
 impl<T: PartitionTask> Outcome<Message<T>, Known<T>> for Asking {
-    ghost then = { Asks };
+    ghost then = { AsksForAWork };
 }
 
 impl<T: PartitionTask> Lesson<Message<T>, Known<T>> for Asking {
@@ -78,7 +78,7 @@ impl<T: PartitionTask> Outcome<Message<T>, Known<T>> for Taking {
 pub struct Answering;
 
 impl<T: PartitionTask> Outcome<Message<T>, Known<T>> for Answering {
-    ghost then = { Answers };
+    ghost then = { AnswersAWork };
 }
 
 impl<T: PartitionTask> Lesson<Message<T>, Known<T>> for Answering {

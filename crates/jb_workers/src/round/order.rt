@@ -2,7 +2,7 @@
 
 ghost use Rattle.std.specs.Prelude.{◌≡◌, ◌≤◌, ◌↔◌, IsTrue, IfOk, IfErr, OnOk, length};
 ghost use Rattle.std.specs.List.Sorted.{IsPermutation};
-ghost use Rattle.jb_workers.specs.Works.{AllCanBegin, Rise, IsOrderOf};
+ghost use Rattle.jb_workers.specs.Works.{AllCanBegin, RiseByPartition, IsOrderOf};
 ghost use Rattle.jb_workers.specs.declared.round.error.RoundError.TheVariants.{Memory};
 
 use crate::round::RoundError;
@@ -16,7 +16,7 @@ pub(crate) fn in_order<T: PartitionTask>(works: Vec<Work<T>>) -> Result<Vec<Work
     ensures order { IfOk result (λ ordered. IsOrderOf T.standing works.items ordered.items) }
     ensures all { IfOk result (λ ordered. length ordered.items ≡ length works.items) }
     ensures err { IfErr result (λ error. error ≡ Memory) }
-    ensures same { Rise T.standing works.items → IfOk result (λ ordered. ordered.items ≡ works.items) }
+    ensures same { RiseByPartition T.standing works.items → IfOk result (λ ordered. ordered.items ≡ works.items) }
 {
     if rise(works.as_slice()) {
         return Ok(works);
@@ -28,7 +28,7 @@ pub(crate) fn in_order<T: PartitionTask>(works: Vec<Work<T>>) -> Result<Vec<Work
 
 /// Whether the works come by rising partition.
 fn rise<T: PartitionTask>(works: &[Work<T>]) -> bool
-    ensures { IsTrue result ↔ Rise T.standing works.now }
+    ensures { IsTrue result ↔ RiseByPartition T.standing works.now }
 {
     for i in 1..works.len() {
         if !is_next(&works[i - 1], &works[i]) {
@@ -47,7 +47,7 @@ fn is_next<T: PartitionTask>(earlier: &Work<T>, later: &Work<T>) -> bool
 
 fn sort_works<T: PartitionTask>(works: &mut Vec<Work<T>>) -> Result<(), RoundError>
     ensures permutation { IsPermutation works.old.items works.new.items }
-    ensures rising { OnOk result (Rise T.standing works.new.items) }
+    ensures rising { OnOk result (RiseByPartition T.standing works.new.items) }
     ensures err { IfErr result (λ error. error ≡ Memory) }
 {
     match works.sort_by_key(|work| work.task.partition()) {

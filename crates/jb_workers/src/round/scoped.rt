@@ -3,7 +3,7 @@
 ghost use Rattle.std.specs.Prelude.{IfOk, IfErr, OnOk};
 ghost use Rattle.jb_repo.specs.declared.events.Event.TheVariants.{Round};
 ghost use Rattle.jb_workers.specs.Lock.{IsAccepted};
-ghost use Rattle.jb_workers.specs.Works.{AllCanBegin, Rise};
+ghost use Rattle.jb_workers.specs.Works.{AllCanBegin, RiseByPartition};
 ghost use Rattle.jb_workers.specs.Round.{AreDones, AreRoundOf, IsRoundError};
 
 use crate::desk::Desk;
@@ -33,7 +33,7 @@ pub(crate) fn in_scope<
 ) -> Result<Vec<Done<T>>, RoundError>
     requires { AllCanBegin T.standing works.items }
     ensures round { IfOk result (λ dones. AreRoundOf T.standing works.items dones.items) }
-    ensures in_order { Rise T.standing works.items → IfOk result (λ dones. AreDones T.standing works.items dones.items) }
+    ensures in_order { RiseByPartition T.standing works.items → IfOk result (λ dones. AreDones T.standing works.items dones.items) }
     ensures closed { OnOk result (IsAccepted Round) }
     ensures error { IfErr result (λ error. IsRoundError T.standing works.items error) }
 {
@@ -43,7 +43,7 @@ pub(crate) fn in_scope<
         |scope| -> Result<Vec<Done<T>>, RoundError>
             requires { AllCanBegin T.standing works.items }
             ensures { IfOk result (λ dones. AreRoundOf T.standing works.items dones.items)
-                × (Rise T.standing works.items → IfOk result (λ dones. AreDones T.standing works.items dones.items))
+                × (RiseByPartition T.standing works.items → IfOk result (λ dones. AreDones T.standing works.items dones.items))
                 × OnOk result (IsAccepted Round)
                 × IfErr result (λ error. IsRoundError T.standing works.items error) }
         { by_new_pool(scope, desk, rt, alloc, gate, works) },
@@ -68,7 +68,7 @@ fn by_new_pool<
 ) -> Result<Vec<Done<T>>, RoundError>
     requires { AllCanBegin T.standing works.items }
     ensures round { IfOk result (λ dones. AreRoundOf T.standing works.items dones.items) }
-    ensures in_order { Rise T.standing works.items → IfOk result (λ dones. AreDones T.standing works.items dones.items) }
+    ensures in_order { RiseByPartition T.standing works.items → IfOk result (λ dones. AreDones T.standing works.items dones.items) }
     ensures closed { OnOk result (IsAccepted Round) }
     ensures error { IfErr result (λ error. IsRoundError T.standing works.items error) }
 {

@@ -1,11 +1,13 @@
-use Rattle.std.proofs.Common.{Result, Ok, Err, IfOk, OnErr, length, ap, sym, ◌∙◌, subst, arith}
+use Rattle.std.proofs.Common.{◌≡◌, ◌-◌, Result, Ok, Err, IfOk, OnErr, length, ap, sym, ◌∙◌, subst, arith}
 use Rattle.jb_base.specs.declared.range.Range.{Range}
 use Rattle.jb_chunk.specs.inside.Repeats.{IsFinishAfter}
 use Rattle.jb_chunk.specs.inside.Gathering.{yield_of}
 use Rattle.jb_chunk.specs.inside.TriedChunk.{task_at}
-use Rattle.jb_chunk.proofs.TriedChunk.{tally-records}
+use Rattle.jb_chunk.proofs.RecordCounts.{AreFew}
+use Rattle.jb_chunk.proofs.TriedChunk.{few-tally}
 use Rattle.jb_chunk.proofs.WriteRepeats.{stopped-tried, finished-tried, settled-within, whole-within, whole-tally, whole-torn}
 use Rattle.jb_chunk.proofs.block.try_records.Goals as goal
+use Rattle.jb_chunk.proofs.block.try_records.Goals.{After-tally-in-Ok-Whole-1}
 
 if_ok-map : {T E : Type 0} {P Q : T → Type 0} (r : Result T E) → ((v : T) → P v → Q v) → IfOk r P → IfOk r Q
 if_ok-map (Ok v) f p = f v p
@@ -15,46 +17,44 @@ on_err-map : {T E : Type 0} {P Q : Type 0} (r : Result T E) → (P → Q) → On
 on_err-map (Ok v) f p = tt
 on_err-map (Err e) f p = f p
 
-pub finish_block-requires-clause-few : goal.finish_block-requires-clause-few
-finish_block-requires-clause-few g c =
+-- of a chunk whose records were all tried: how few skips and results it came to, and where its artifacts stand
+tried : (g : _) (c : After-tally-in-Ok-Whole-1 g) → (few : AreFew (c.block-block.result.hi - c.args.row.now.at) c.in-Ok-Whole.tally.skips c.in-Ok-Whole.tally.read_skips (length (g.A.Results.ChunkResults.pairs c.gather.new.results)))
+    × (c.gather.new.row.at ≡ c.args.row.now.at) × ((g.A.Meaning.meaning c.gather.new.artifacts).reader.place ≡ c.block-block.result.hi)
+tried g c =
     let t = task_at 0 c.args.row.now c.args.rules.now c.args.item_count (g.A.Meaning.meaning c.args.artifacts.now) in
     let came_to = yield_of c.in-Ok-Whole.tally (g.A.Results.ChunkResults.pairs c.gather.new.results) in
     let gathered = rw c.in-Ok-Whole.field-0-is at c.in-Ok-Whole.ensures.ok in
     let counted = whole-tally t came_to _ _ (gathered 0) in
+    let within = whole-within t came_to _ _ (gathered 0) in
     let hi = ap (λ (b : Range). b.hi) c.block-block.ensures.block in
-    let records = tally-records counted.0 c.args.row.now.at _ came_to (omega (arith, hi)) counted.1 in
-    record {
-      read_skips = omega (arith, records, hi);
-      process_skips = omega (arith, records, hi);
-      filtered = omega (arith, records, hi);
-    }
+    let few = few-tally counted.0 c.args.row.now.at _ came_to (omega (arith, hi)) counted.1 in
+    (subst (λ n. AreFew (n - c.args.row.now.at) came_to.skips came_to.read_skips (length came_to.found)) (sym hi) few, within.0.at, within.1 ∙ sym hi)
+
+pub finish_block-requires-clause-few : goal.finish_block-requires-clause-few
+finish_block-requires-clause-few g c =
+    let few = (tried g c).0 in
+    let reads = few.reads in
+    let all = few.all in
+    record { skips = omega (arith, all); read_skips = omega (arith, reads, all) }
 
 pub finish_block-requires-clause-records : goal.finish_block-requires-clause-records
 finish_block-requires-clause-records g c =
-    let t = task_at 0 c.args.row.now c.args.rules.now c.args.item_count (g.A.Meaning.meaning c.args.artifacts.now) in
-    let came_to = yield_of c.in-Ok-Whole.tally (g.A.Results.ChunkResults.pairs c.gather.new.results) in
-    let gathered = rw c.in-Ok-Whole.field-0-is at c.in-Ok-Whole.ensures.ok in
-    let counted = whole-tally t came_to _ _ (gathered 0) in
-    let hi = ap (λ (b : Range). b.hi) c.block-block.ensures.block in
-    let records = tally-records counted.0 c.args.row.now.at _ came_to (omega (arith, hi)) counted.1 in
-    let at = (whole-within t came_to _ _ (gathered 0)).0.at in
-    omega (arith, records, at, hi)
+    let at = (tried g c).1 in
+    let all = (tried g c).0.all in
+    omega (arith, all, at)
+
+pub finish_block-requires-clause-reads : goal.finish_block-requires-clause-reads
+finish_block-requires-clause-reads g c = (tried g c).0.reads
 
 pub finish_block-requires-clause-place : goal.finish_block-requires-clause-place
-finish_block-requires-clause-place g c =
-    let t = task_at 0 c.args.row.now c.args.rules.now c.args.item_count (g.A.Meaning.meaning c.args.artifacts.now) in
-    let came_to = yield_of c.in-Ok-Whole.tally (g.A.Results.ChunkResults.pairs c.gather.new.results) in
-    let gathered = rw c.in-Ok-Whole.field-0-is at c.in-Ok-Whole.ensures.ok in
-    let hi = ap (λ (b : Range). b.hi) c.block-block.ensures.block in
-    let place = (whole-within t came_to _ _ (gathered 0)).1 in
-    omega (arith, place, hi)
+finish_block-requires-clause-place g c = (tried g c).2
 
 pub returns-in-Ok-Settled-clause-ok : goal.returns-in-Ok-Settled-clause-ok
 returns-in-Ok-Settled-clause-ok g c = λ partition.
     let meaning = g.A.Meaning.meaning in
     let t = task_at partition c.args.row.now c.args.rules.now c.args.item_count (meaning c.args.artifacts.now) in
     let gathered = rw c.in-Ok-Settled.field-0-is at c.in-Ok-Settled.ensures.ok in
-    stopped-tried t _ c.in-Ok-Settled.class c.in-Ok-Settled.choice c.gather.new.row (meaning c.gather.new.artifacts) _ _ (g.A.Results.ChunkResults.pairs c.gather.new.results) (gathered partition) c.end_by_choice.ensures c.open_reader_at.ensures
+    stopped-tried t _ c.in-Ok-Settled.class c.in-Ok-Settled.choice c.gather.new.row (meaning c.gather.new.artifacts) _ _ (g.A.Results.ChunkResults.pairs c.gather.new.results) c.requires.count (gathered partition) c.end_by_choice.ensures c.open_reader_at.ensures
 
 pub returns-in-Ok-Whole-clause-ok : goal.returns-in-Ok-Whole-clause-ok
 returns-in-Ok-Whole-clause-ok g c = λ partition.

@@ -11,12 +11,11 @@ loop-number-init g c =
     let old = g.A.Meaning.meaning c.args.artifacts.now in
     let hi = ap (λ (b : Range). b.hi) c.block-block.ensures.block in
     record {
-      gathering = λ partition. gathering-none (task_at partition c.args.row.now c.args.rules.now c.args.item_count old) _ c.requires.place (omega (arith, hi)) (tally-none old _ _ c.requires.none c.new-tally.ensures.read_skips c.new-tally.ensures.process_skips c.new-tally.ensures.filtered);
+      gathering = λ partition. gathering-none (task_at partition c.args.row.now c.args.rules.now c.args.item_count old) _ c.requires.place (omega (arith, hi)) (tally-none old _ _ c.requires.none c.new-tally.ensures.skips c.new-tally.ensures.read_skips);
       sound = c.requires.sound;
       room = c.requires.room;
+      skips = let none = c.new-tally.ensures.skips in omega (arith, none);
       read_skips = let none = c.new-tally.ensures.read_skips in omega (arith, none);
-      process_skips = let none = c.new-tally.ensures.process_skips in omega (arith, none);
-      filtered = let none = c.new-tally.ensures.filtered in omega (arith, none);
     }
 
 pub settle_record-requires-clause-place : goal.settle_record-requires-clause-place
@@ -59,9 +58,8 @@ loop-number-preserved g c =
       gathering = λ partition. gathering-more (task_at partition c.args.row.now c.args.rules.now c.args.item_count (meaning c.args.artifacts.now)) c.loop-number.number (yield_of c.loop-number.tally (pairs c.loop-number.results)) (yield_of c.settle_record.new.tally (pairs c.settle_record.new.results)) c.loop-number.row c.settle_record.new.row (meaning c.loop-number.artifacts) (meaning c.settle_record.new.artifacts) stepped.0 (c.loop-number.invariant.gathering partition) (omega arith) (omega (arith, hi)) stepped.1 stepped.2;
       sound = c.in-Ok-None.ensures.sound;
       room = c.in-Ok-None.ensures.room;
+      skips = let up = stepped.2.1.skips in omega (arith, up, one_if-le);
       read_skips = let up = stepped.2.1.read_skips in omega (arith, up, one_if-le);
-      process_skips = let up = stepped.2.1.process_skips in omega (arith, up, one_if-le);
-      filtered = let up = stepped.2.1.filtered in omega (arith, up, one_if-le);
     }
 
 pub returns-clause-ok : goal.returns-clause-ok

@@ -14,7 +14,6 @@ invariant-loop-number g l =
       gathering : OfTask l.rules l.fn.row l.item_count (meaning l.fn.artifacts) (λ t. IsGathering t l.number (yield_of l.tally (g.A.Results.ChunkResults.pairs l.results)) l.row (meaning l.artifacts));
       sound : IsSoundRow l.row;
       room : HasRepeats l.rules l.row;
+      skips : l.tally.skips ≤ l.number - l.fn.row.at;
       read_skips : l.tally.read_skips ≤ l.number - l.fn.row.at;
-      process_skips : l.tally.process_skips ≤ l.number - l.fn.row.at;
-      filtered : l.tally.filtered ≤ l.number - l.fn.row.at;
     }

@@ -1,5 +1,5 @@
 use Rattle.std.proofs.Common.{arith}
-use Rattle.jb_chunk.proofs.DoneRecords.{read-fault-entered, process-fault-entered, found-entered, filtered-entered, read-same, read-there, read-worn, process-worn}
+use Rattle.jb_chunk.proofs.DoneRecords.{read-fault-entered, process-fault-entered, processed-entered, read-same, read-there, read-worn, process-worn}
 use Rattle.jb_chunk.proofs.gather.read_and_process.Goals as goal
 
 pub returns-in-Err-Fault-clause-done : goal.returns-in-Err-Fault-clause-done
@@ -23,23 +23,13 @@ process_in_place-requires-clause-to g c =
     let same = (read-there _ _ _ _ _ _ _ _ c.in-Ok.ensures.read).1 in
     omega (arith, same, c.requires.to)
 
-pub returns-in-Ok-true-clause-done : goal.returns-in-Ok-true-clause-done
-returns-in-Ok-true-clause-done g c =
+pub returns-in-Ok-process_in_place-clause-done : goal.returns-in-Ok-process_in_place-clause-done
+returns-in-Ok-process_in_place-clause-done g c =
     let meaning = g.A.Meaning.meaning in
     let pairs = g.A.Results.ChunkResults.pairs in
     let bytes = g.A.PartitionArtifacts.bytes c.in-Ok.item in
     let same = read-same c.args.rules.now c.args.skips c.args.row.now c.read_in_place.new.row (meaning c.args.artifacts.now) (meaning c.read_in_place.new.artifacts) c.args.number _ bytes c.in-Ok.ensures.read in
-    let processed = rw c.in-Ok-true.field-0-test at c.in-Ok-true.ensures.processed in
-    found-entered c.args.rules.now c.args.skips c.args.row.now c.read_in_place.new.row c.process_in_place.new.row (meaning c.args.artifacts.now) (meaning c.read_in_place.new.artifacts) (meaning c.process_in_place.new.artifacts) c.args.number _ _ (pairs c.args.results.now) (pairs c.process_in_place.new.results) c.requires.place c.in-Ok.ensures.read same processed c.in-Ok-true.ensures.results
-
-pub returns-in-Ok-false-clause-done : goal.returns-in-Ok-false-clause-done
-returns-in-Ok-false-clause-done g c =
-    let meaning = g.A.Meaning.meaning in
-    let pairs = g.A.Results.ChunkResults.pairs in
-    let bytes = g.A.PartitionArtifacts.bytes c.in-Ok.item in
-    let same = read-same c.args.rules.now c.args.skips c.args.row.now c.read_in_place.new.row (meaning c.args.artifacts.now) (meaning c.read_in_place.new.artifacts) c.args.number _ bytes c.in-Ok.ensures.read in
-    let processed = rw c.in-Ok-false.field-0-test at c.in-Ok-false.ensures.processed in
-    filtered-entered c.args.rules.now c.args.skips c.args.row.now c.read_in_place.new.row c.process_in_place.new.row (meaning c.args.artifacts.now) (meaning c.read_in_place.new.artifacts) (meaning c.process_in_place.new.artifacts) c.args.number _ _ (pairs c.args.results.now) (pairs c.process_in_place.new.results) c.requires.place c.in-Ok.ensures.read same processed c.in-Ok-false.ensures.results
+    processed-entered c.args.rules.now c.args.skips c.args.row.now c.read_in_place.new.row c.process_in_place.new.row (meaning c.args.artifacts.now) (meaning c.read_in_place.new.artifacts) (meaning c.process_in_place.new.artifacts) c.args.number _ _ _ (pairs c.args.results.now) (pairs c.process_in_place.new.results) c.requires.place c.in-Ok.ensures.read same c.in-Ok-process_in_place.ensures.processed c.in-Ok-process_in_place.ensures.results
 
 pub returns-in-Err-Fault-process_in_place-clause-done : goal.returns-in-Err-Fault-process_in_place-clause-done
 returns-in-Err-Fault-process_in_place-clause-done g c =

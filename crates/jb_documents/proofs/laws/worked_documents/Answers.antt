@@ -11,12 +11,12 @@ use Rattle.jb_rules.specs.declared.row.RowState.TheVariants.{Waiting}
 use Rattle.jb_saved.specs.Worked.{row, stopped}
 use Rattle.jb_base.specs.Classes.{class_of}
 use Rattle.jb_documents.specs.declared.run.faults.PlannedFault.{PlannedFault}
-use Rattle.jb_documents.specs.DocumentRanges.{HoldsResults, IsFault, AreFaults}
+use Rattle.jb_documents.specs.DocumentRanges.{HoldsResults, IsPlannedFault, AreFaults}
 use Rattle.jb_documents.specs.Worked.{bad_record, two_texts}
 use Rattle.jb_documents.proofs.laws.worked_documents.Goals as goal
 
 abbrev Fits : PlannedFault → Type 0
-Fits = IsFault classes_job.classes 3
+Fits = IsPlannedFault classes_job.classes 3
 
 two-rise : (a b : ℕ) → a < b → IsStrictlyIncreasing (a ∷ b ∷ [])
 two-rise a b lt zero within = lt

@@ -11,9 +11,10 @@ use Rattle.jb_durable.specs.Watched.{disk_of}
 use Rattle.jb_durable.proofs.Opens.{cut_goes_on, cut_may_go_on, cut_run, found_run}
 use Rattle.jb_durable.proofs.Somes.{some_both, some_from}
 use Rattle.jb_durable.proofs.cut.open_watched.Goals as goal
+use Rattle.jb_durable.proofs.cut.open_watched.Goals.{After-cut_short}
 
-pub returns-then-takes-clause-found : goal.returns-then-takes-clause-found
-returns-then-takes-clause-found g c clean leaves =
+pub returns-in-Ok-clause-found : goal.returns-in-Ok-clause-found
+returns-in-Ok-clause-found g c clean leaves =
     let so_far = g.G.Given.is_so_far in
     let disk = g.D.Disk in
     let files = c.args.files in
@@ -23,16 +24,16 @@ returns-then-takes-clause-found g c clean leaves =
     let s = file_state c.in-Ok.conn in
     let image = λ (log db : List ℕ). let i : Image = record { log = log; db = db } in i in
     let may = subst₂ (λ log db. MayGoOn so_far (image (disk.seen log) (disk.seen db))) (sym c.watch.ensures.log) (sym c.watch.ensures.db) (leaves (image_of disk files) (stays files.log, stays files.db)) in
-    let ours = subst (λ (d : Database). (d.schema ≡ no_schema) ⊎ (d.schema ≡ checkpoint_schema)) opened.0.clean (c.takes.ensures.0 c.if-takes.true) in
+    let ours = subst (λ (d : Database). (d.schema ≡ no_schema) ⊎ (d.schema ≡ checkpoint_schema)) opened.0.clean c.in-Ok.ensures.own in
     subst (λ (d : Database). ∥ IsOfARun so_far d.trees ∥₁) (sym opened.0.clean) (found_run so_far _ s.committed.trees may found.reads found.holds s.committed.schema (opened.1 opened.0.is_open).1 ours)
 
 -- what the disks that are watched may leave, the files may
-passes : (g : _) (c : goal.After-cut_short g) (image : Image) → g.D.Disk.may_leave (disk_of c.watch.result.log) image.log × g.D.Disk.may_leave (disk_of c.watch.result.db) image.db
+passes : (g : _) (c : After-cut_short g) (image : Image) → g.D.Disk.may_leave (disk_of c.watch.result.log) image.log × g.D.Disk.may_leave (disk_of c.watch.result.db) image.db
     → outcomes g.D.Disk c.args.files.log c.args.files.db image
 passes g c image may = (subst (λ log. g.D.Disk.may_leave log image.log) c.watch.ensures.log may.0, subst (λ db. g.D.Disk.may_leave db image.db) c.watch.ensures.db may.1)
 
 -- what the files may leave that nothing was written to, they could leave before
-as_before : (g : _) (c : goal.After-cut_short g) (Held : Image → Type 0) (image : Image) → ∥ g.G.Given.could_leave true image.log × g.G.Given.could_leave false image.db ∥₁
+as_before : (g : _) (c : After-cut_short g) (Held : Image → Type 0) (image : Image) → ∥ g.G.Given.could_leave true image.log × g.G.Given.could_leave false image.db ∥₁
     → Leaves g.D.Disk (λ i. ∥ Held i ∥₁) c.args.files → ∥ Held image ∥₁
 as_before g c Held image could leaves =
     let given = c.requires.given.left in
@@ -43,13 +44,14 @@ by_stage : {A : Type 0} (is_behind : Bool) → (IsTrue is_behind → A) → (is_
 by_stage true behind before = behind refl
 by_stage false behind before = before refl
 
-pub returns-in-Err-clause-over : goal.returns-in-Err-clause-over
-returns-in-Err-clause-over g c =
+pub returns-in-Err-Some-clause-over : goal.returns-in-Err-Some-clause-over
+returns-in-Err-Some-clause-over g c =
     let life = c.cut_short.result in
     let e = c.cut_short.ensures in
     let so_far = g.G.Given.is_so_far in
     let given = c.requires.given in
-    let rest = c.in-Err.left in
+    let rest = c.in-Err-Some.left in
+    let unharmed = rw c.in-Err-Some.field-0-is at c.in-Err-Some.ensures.unharmed in
     let behind = has_store rest in
     let kept = as_before g c in
     some_from life _ _ (λ life is. record {
@@ -58,14 +60,14 @@ returns-in-Err-clause-over g c =
       ran = λ runs. absurd (true≢false (sym runs ∙ is.1.1.0));
       cut = λ sure clean leaves image may. by_stage behind
           (λ store. kept _ image (is.1.1.1.1.1 sure store image may) leaves)
-          (λ bare. cut_run so_far (λ w. g.met.D.Disk.seen_may_stay w.disk) c.watch.result rest bare (c.in-Err.ensures.unharmed (is.1.1.1.0 clean)) image (is.1.1.1.1.0 clean image may) (λ i m. leaves i (passes g c i m)));
+          (λ bare. cut_run so_far (λ w. g.met.D.Disk.seen_may_stay w.disk) c.watch.result rest bare (unharmed (is.1.1.1.0 clean)) image (is.1.1.1.1.0 clean image may) (λ i m. leaves i (passes g c i m)));
       first = λ sure clean leaves image may. by_stage behind
           (λ store. kept _ image (is.1.1.1.1.1 sure store image may) leaves)
-          (λ bare. cut_goes_on so_far (λ w. g.met.D.Disk.seen_may_stay w.disk) c.watch.result true rest bare (c.in-Err.ensures.unharmed (is.1.1.1.0 clean)) image (is.1.1.1.1.0 clean image may) (λ i m. leaves i (passes g c i m)));
+          (λ bare. cut_goes_on so_far (λ w. g.met.D.Disk.seen_may_stay w.disk) c.watch.result true rest bare (unharmed (is.1.1.1.0 clean)) image (is.1.1.1.1.0 clean image may) (λ i m. leaves i (passes g c i m)));
       again = λ sure clean leaves image may. by_stage behind
           (λ store. kept _ image (is.1.1.1.1.1 sure store image may) leaves)
-          (λ bare. cut_goes_on so_far (λ w. g.met.D.Disk.seen_may_stay w.disk) c.watch.result false rest bare (c.in-Err.ensures.unharmed (is.1.1.1.0 clean)) image (is.1.1.1.1.0 clean image may) (λ i m. leaves i (passes g c i m)));
+          (λ bare. cut_goes_on so_far (λ w. g.met.D.Disk.seen_may_stay w.disk) c.watch.result false rest bare (unharmed (is.1.1.1.0 clean)) image (is.1.1.1.1.0 clean image may) (λ i m. leaves i (passes g c i m)));
       loose = λ clean leaves image may.
-          cut_may_go_on so_far (λ w. g.met.D.Disk.seen_may_stay w.disk) c.watch.result rest (c.in-Err.ensures.unharmed (is.1.1.1.0 clean)) image (is.1.1.1.1.0 clean image may) (λ i m. leaves i (passes g c i m));
+          cut_may_go_on so_far (λ w. g.met.D.Disk.seen_may_stay w.disk) c.watch.result rest (unharmed (is.1.1.1.0 clean)) image (is.1.1.1.1.0 clean image may) (λ i m. leaves i (passes g c i m));
     })
     (some_both life _ _ e.usable (some_both life _ _ e.clean (some_both life _ _ e.cut (some_both life _ _ e.rest (some_both life _ _ e.left e.same)))))

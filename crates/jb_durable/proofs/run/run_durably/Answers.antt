@@ -8,7 +8,7 @@ pub returns-in_err-advance-clause-crash : goal.returns-in_err-advance-clause-cra
 returns-in_err-advance-clause-crash g c clean opened all shows so_far db may =
     let early : HasCleanDisk (state g.S.Store c.stretches.conn) = omega (arith, c.advance.ensures.clean, clean) in
     let at = c.stretches.invariant.stands early opened all shows so_far in
-    let here : StandsAt (g.W.Work.is_so_far c.stretches.work) (g.W.Work.stands_at c.stretches.work) (state g.S.Store c.stretches.conn) c.stretches.count at.0 =
+    let here : StandsAt (g.W.DurableWork.is_so_far c.stretches.work) (g.W.DurableWork.stands_at c.stretches.work) (state g.S.Store c.stretches.conn) c.stretches.count at.0 =
     record { keeps = at.1.keeps; run = (c.stretches.invariant.so_far at.0).0 at.1.run; place = at.1.place; number = at.1.number } in
     let left = c.advance.ensures.crash clean at.0 here db may in
     (left.0, left.1, (c.stretches.invariant.so_far left.0).1 left.2)
@@ -17,7 +17,7 @@ pub returns-then-not-branch-clause-crash : goal.returns-then-not-branch-clause-c
 returns-then-not-branch-clause-crash g c clean opened all shows so_far db may =
     let early : HasCleanDisk (state g.S.Store c.stretches.conn) = omega (arith, c.advance.ensures.clean, clean) in
     let at = c.stretches.invariant.stands early opened all shows so_far in
-    let here : StandsAt (g.W.Work.is_so_far c.stretches.work) (g.W.Work.stands_at c.stretches.work) (state g.S.Store c.stretches.conn) c.stretches.count at.0 =
+    let here : StandsAt (g.W.DurableWork.is_so_far c.stretches.work) (g.W.DurableWork.stands_at c.stretches.work) (state g.S.Store c.stretches.conn) c.stretches.count at.0 =
     record { keeps = at.1.keeps; run = (c.stretches.invariant.so_far at.0).0 at.1.run; place = at.1.place; number = at.1.number } in
     let left = c.advance.ensures.crash clean at.0 here db may in
     (left.0, left.1, (c.stretches.invariant.so_far left.0).1 left.2)

@@ -10,8 +10,8 @@ use Rattle.jb_durable.proofs.run.run_durably.Given as goal
 abbrev pub invariant-stretches : goal.invariant-stretches
 invariant-stretches g l = record {
   clean : doubt (state g.S.Store l.fn.conn).is_clean ≤ doubt (state g.S.Store l.conn).is_clean;
-  so_far : IsSame (g.W.Work.is_so_far l.fn.work) (g.W.Work.is_so_far l.work);
-  whole : IsSame (g.W.Work.is_whole l.fn.work) (g.W.Work.is_whole l.work);
-  stands : HasCleanDisk (state g.S.Store l.conn) → IsJustOpened (state g.S.Store l.fn.conn) → (all : List Kept) → ShowsList (state g.S.Store l.fn.conn).now all → g.W.Work.is_so_far l.fn.work all
-      → (now : List Kept) × StandsAt (g.W.Work.is_so_far l.fn.work) (g.W.Work.stands_at l.work) (state g.S.Store l.conn) l.count now × (l.count ≡ length all + l.counter);
+  so_far : IsSame (g.W.DurableWork.is_so_far l.fn.work) (g.W.DurableWork.is_so_far l.work);
+  whole : IsSame (g.W.DurableWork.is_whole l.fn.work) (g.W.DurableWork.is_whole l.work);
+  stands : HasCleanDisk (state g.S.Store l.conn) → IsJustOpened (state g.S.Store l.fn.conn) → (all : List Kept) → ShowsList (state g.S.Store l.fn.conn).now all → g.W.DurableWork.is_so_far l.fn.work all
+      → (now : List Kept) × StandsAt (g.W.DurableWork.is_so_far l.fn.work) (g.W.DurableWork.stands_at l.work) (state g.S.Store l.conn) l.count now × (l.count ≡ length all + l.counter);
 }

@@ -45,7 +45,7 @@ returns-in-Ok-lived g c = record {
       let opened = c.in-Ok.ensures.opened early in
       let found = c.in-Ok.ensures.found early in
       let at = c.lives.invariant.stands found.honest begun in
-      let ours = subst (λ (d : Database). (d.schema ≡ no_schema) ⊎ (d.schema ≡ checkpoint_schema)) opened.0.clean (c.takes.ensures.0 c.if-not-takes.false) in
+      let ours = subst (λ (d : Database). (d.schema ≡ no_schema) ⊎ (d.schema ≡ checkpoint_schema)) opened.0.clean c.in-Ok.ensures.own in
       let run = found_run (IsRunSoFar f step records) _ s.committed.trees (at.all (image_of g.D.Disk left) (stays left.log, stays left.db)) found.reads found.holds s.committed.schema
       (opened.1 opened.0.is_open).1 ours in
       ∥∥₁_map run (λ h.

@@ -1,6 +1,6 @@
 use Rattle.std.proofs.Common.{refl, rules, ap, subst, ◌∙◌, string_bytes}
 use Rattle.jb_durable_records.specs.Coding.{AreCodable, coded}
-use Rattle.jb_records.specs.Shares.{AreWhole}
+use Rattle.jb_records.specs.Shares.{AreAtTheirEnds}
 use Rattle.jb_durable_records.proofs.Behind.{one_stretch, whole_before}
 use Rattle.jb_durable_records.proofs.place.stretched.Goals as goal
 
@@ -15,5 +15,5 @@ pub returns-clause-told : goal.returns-clause-told
 returns-clause-told g c = record {
   failed = search (rules, c.in_ok-run.ensures.status);
   kept = λ _. refl;
-  whole = λ whole. whole_before c.in_ok-run.stretch.snapshot.rows.items (subst AreWhole c.in_ok-run.ensures.made.rows whole);
+  whole = λ whole. whole_before c.in_ok-run.stretch.snapshot.rows.items (subst AreAtTheirEnds c.in_ok-run.ensures.made.rows whole);
 }

@@ -7,7 +7,7 @@ use Rattle.jb_records.specs.contracts.kept.RecordsRunStanding.TheImpl as run_of
 use Rattle.jb_records.specs.declared.step.RecordsStep.{RecordsStep}
 use Rattle.jb_records.specs.Function.{Function}
 use Rattle.jb_store.specs.Checkpoints.{Kept}
-use Rattle.jb_durable_records.specs.Work.{IsAtRest, IsDone, IsTold}
+use Rattle.jb_durable_records.specs.Work.{IsAtRest, IsRunDone, IsTold}
 use Rattle.jb_durable_records.proofs.run.run.Given as goal
 
 -- the connection keeps the checkpoints so far, and the run stands behind them
@@ -25,6 +25,6 @@ invariant-stretches g l =
       number : l.count ≡ l.fn.count + l.counter;
       told : IsTold l.fn.place.has_failed l.fn.place.stage (standing l.fn.place.run) l.fn.place.rows.items
           → IsTold l.place.has_failed l.place.stage (standing l.place.run) l.place.rows.items;
-      again : IsDone l.fn.place.has_failed l.fn.place.stage (standing l.fn.place.run)
-          → (l.counter ≡ 0) × IsDone l.place.has_failed l.place.stage (standing l.place.run) × (l.conn ≡ l.fn.conn);
+      again : IsRunDone l.fn.place.has_failed l.fn.place.stage (standing l.fn.place.run)
+          → (l.counter ≡ 0) × IsRunDone l.place.has_failed l.place.stage (standing l.place.run) × (l.conn ≡ l.fn.conn);
     }

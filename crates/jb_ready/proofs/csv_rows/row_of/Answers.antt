@@ -1,10 +1,10 @@
 use Rattle.std.proofs.Common.{◌≢◌, ◌∙◌}
 use Rattle.csv.specs.declared.writer.QuoteStyle.TheVariants as style
-use Rattle.jb_ready.specs.Csv.{row_of}
+use Rattle.jb_ready.specs.Csv.{csv_row}
 use Rattle.jb_ready.proofs.csv_rows.row_of.Goals as goal
 
 pub returns-in-Ok-into_inner : goal.returns-in-Ok-into_inner
-unfolding row_of
+unfolding csv_row
 returns-in-Ok-into_inner c =
     let from = c.from_writer-writer.ensures in
     let plain : c.from_writer-writer.result.cfg.style ≢ style.NonNumeric = rw (from.cfg, c.new.ensures) (λ e. cc e) in

@@ -4,7 +4,7 @@ use Rattle.jb_base.specs.declared.range.Range.{Range}
 use Rattle.jb_rules.specs.declared.row.Row.{Row}
 use Rattle.jb_saved.specs.GoingOn.{rows_restarted}
 use Rattle.jb_saved.specs.SavedRows.{SavedRows}
-use Rattle.jb_step.specs.Setup.{gone_on, opening_rows}
+use Rattle.jb_step.specs.preparing.Setup.{gone_on, opening_rows}
 use Rattle.jb_records.specs.declared.error.RecordsStepError.TheVariants.{Step}
 use Rattle.jb_records.proofs.Causes.{handed-on, unprepared}
 use Rattle.jb_records.proofs.Evenly.{none-replaced, ranges-in-order}

@@ -11,7 +11,7 @@ returns-after-index-shares g t c =
     putting _ _ _ _ _ _ all (
     elim c.if-index-shares.branch [
       | then-index-shares w ↦ w.shares-is ∙ ap (set c.args.shares.now c.in-Some.partition) w.into_written.ensures
-          ∙ (λ i. set c.args.shares.now c.in-Some.partition ((w.into_artifacts.ensures i).writer.written))
+          ∙ (λ i. set c.args.shares.now c.in-Some.partition ((w.into_artifacts.ensures i).inner.writer.written))
       | else-index-shares w ↦ w.shares-is ∙ not-put c.args.shares.now c.in-Some.partition _ (let past = w.if-index-shares.false in omega (arith, past))
     ]) c.put_all.ensures
 

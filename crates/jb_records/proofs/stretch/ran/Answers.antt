@@ -1,5 +1,5 @@
 use Rattle.std.proofs.Common.{rules, ◌≡◌, ◌∙◌, ap, refl, sym, Ok, Err}
-use Rattle.jb_step.specs.Setup.{rows_now}
+use Rattle.jb_step.specs.preparing.Setup.{rows_now}
 use Rattle.jb_records.specs.declared.error.RecordsStepError.TheVariants.{Step}
 use Rattle.jb_records.proofs.Answered.{err-of, ok-of}
 use Rattle.jb_records.proofs.Breaking.{run-broken}

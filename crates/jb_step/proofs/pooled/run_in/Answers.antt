@@ -2,9 +2,8 @@ use Rattle.std.proofs.Common.{IfErr, IfOk, List, ap, map, refl, sym, ◌∙◌}
 use borrow.Pointer.Hide.{carried_sameᵐ}
 use Rattle.jb_collect.specs.declared.calls.AnalyzerCall.{AnalyzerCall}
 use Rattle.jb_collect.specs.declared.calls.ReducerCall.{ReducerCall}
-use Rattle.jb_collect.specs.Taken.{Taken}
+use Rattle.jb_collect.specs.Taken.{Taken, Grew, since}
 use Rattle.jb_step.specs.Answers.{given_back, AreCallsAfter, AreCallsUndone, IsRunOfStep, IsStatus}
-use Rattle.jb_step.specs.Callbacks.{Grew, since}
 use Rattle.jb_step.specs.Headline.{Headline}
 use Rattle.jb_step.proofs.Pooling.{both-given-back, given-back, same-calls}
 use Rattle.jb_step.proofs.pooled.run_in.Goals as goal

@@ -3,8 +3,8 @@ use Rattle.jb_chunk.specs.Standing.{TaskState}
 use Rattle.jb_step.specs.Answers.{StepRun, given_back}
 use Rattle.jb_step.specs.Statuses.{status_of}
 use Rattle.jb_step.specs.inside.Finish.{AreHeardToEnd}
-use Rattle.jb_step.specs.inside.Head.{progress, table_of}
-use Rattle.jb_step.specs.PlanLaws.{IsTable}
+use Rattle.jb_step.specs.inside.Round.{progress, table_of}
+use Rattle.jb_step.specs.rounds.PlanLaws.{IsTaskTable}
 use Rattle.jb_step.proofs.Heading.{headline-of}
 use Rattle.jb_step.proofs.Stepping.{IsLeft, run-is, way-is, heard-fault}
 use Rattle.jb_step.proofs.step.run_tasks.Goals as goal
@@ -45,7 +45,7 @@ returns-clause-run g c = run-is (run-of g c) c.in_ok-ran.ran.fault (left g c)
 pub returns-clause-headline : goal.returns-clause-headline
 returns-clause-headline g c =
     let r = run-of g c in
-    let first = subst (λ (ts : List TaskState). IsTable r.setup ts) c.in_ok-tasks.ensures.tasks c.in_ok-tasks.ensures.table in
+    let first = subst (λ (ts : List TaskState). IsTaskTable r.setup ts) c.in_ok-tasks.ensures.tasks c.in_ok-tasks.ensures.table in
     headline-of c.laws_below.ensures r first (run-is r c.in_ok-ran.ran.fault (left g c))
 
 pub returns-clause-on_the_way : goal.returns-clause-on_the_way

@@ -2,4 +2,4 @@ use Rattle.jb_step.proofs.Computed.{worked}
 use Rattle.jb_step.proofs.worked.worked_rows.Goals as goal
 
 pub returns : goal.returns
-returns c = worked c.wrap_around_is_least.ensures.least
+returns c = worked c.laws_below.ensures

@@ -5,7 +5,7 @@ use Rattle.sqlite.specs.Tree.{Trees}
 use Rattle.jb_store.specs.declared.error.StoreError.TheVariants.{Foreign, Version, Gap}
 use Rattle.jb_store.specs.Errors.{IsOpenCause}
 use Rattle.jb_store.specs.Form.{checkpoint_schema, no_schema}
-use Rattle.jb_store.specs.Checkpoints.{Kept, kept, AreIn, Holds}
+use Rattle.jb_store.specs.Checkpoints.{Kept, kept, AreIn, HoldsList}
 use Rattle.jb_store.specs.Connections.{Keeps, IsJustOpened}
 use Rattle.jb_store.proofs.Opened.{is_left, is_sound, keeps_found, apart, shows_now, has_left}
 use Rattle.jb_store.proofs.CausedOpen.{later_fault}
@@ -57,8 +57,8 @@ module _ (g : _) (c : goal.After-list g) where
   same : c.args.conn.now.schema ≡ checkpoint_schema → c.make.new.conn ≡ c.args.conn.now
   same ours = (c.make.ensures.defined (λ none. apart (sym ours ∙ none))).1
 
-  holds : (ours : c.args.conn.now.schema ≡ checkpoint_schema) → (all : List Kept) → AreIn before.now.trees all → Holds between.now all
-  holds ours all rows = subst (λ h. Holds (state g.S.Store h).now all) (sym (same ours)) (record { schema = ours; rows = rows })
+  holds : (ours : c.args.conn.now.schema ≡ checkpoint_schema) → (all : List Kept) → AreIn before.now.trees all → HoldsList between.now all
+  holds ours all rows = subst (λ h. HoldsList (state g.S.Store h).now all) (sym (same ours)) (record { schema = ours; rows = rows })
 
   still : c.args.conn.now.schema ≡ checkpoint_schema → between.now.schema ≡ checkpoint_schema
   still ours = subst (λ h. (state g.S.Store h).now.schema ≡ checkpoint_schema) (sym (same ours)) ours

@@ -17,7 +17,7 @@ use Rattle.jb_collect.specs.declared.calls.Status.TheVariants.{Completed}
 use Rattle.jb_cert.specs.declared.certificates.Certificate.TheVariants.{Longest}
 use Rattle.jb_cert.specs.declared.notes.PlanNote.{PlanNote}
 use Rattle.jb_saved.specs.SavedTree.{list_tree, saved_tree}
-use Rattle.jb_texts.specs.Report.{PartitionReport, heard_tree, outputs_tree, plans_tree, reducer_tree, report_text, texts_tree}
+use Rattle.jb_texts.specs.Report.{PartitionReport, heard_tree, outputs_tree, plans_tree, reducer_tree, report_text, results_tree}
 use Rattle.jb_texts.specs.Worked.{finished_row, seven_records, seven_records_text}
 use Rattle.jb_tests.proofs.texts.worked_report.Goals as goal
 
@@ -38,15 +38,15 @@ calls = heard.Collected 0 (codes "0:2:2") ∷ heard.Collected 1 (codes "1:5:2") 
 -- what was heard of each partition, as it is written
 abbrev told : Data
 told = list_tree
-    (texts_tree (codes "0:2:2" ∷ codes "0:3:3" ∷ codes "0:3:3:end" ∷ codes "COMPLETED" ∷ [])
-    ∷ texts_tree (codes "1:5:2" ∷ codes "1:5:2:end" ∷ codes "COMPLETED" ∷ [])
-    ∷ texts_tree (codes "2:7:2" ∷ codes "2:7:2:end" ∷ codes "COMPLETED" ∷ []) ∷ [])
+    (results_tree (codes "0:2:2" ∷ codes "0:3:3" ∷ codes "0:3:3:end" ∷ codes "COMPLETED" ∷ [])
+    ∷ results_tree (codes "1:5:2" ∷ codes "1:5:2:end" ∷ codes "COMPLETED" ∷ [])
+    ∷ results_tree (codes "2:7:2" ∷ codes "2:7:2:end" ∷ codes "COMPLETED" ∷ []) ∷ [])
 
 heard-told : heard_tree 3 calls ≡ told
 heard-told i = list_tree
-    (texts_tree (same (codes "0:2:2") refl i ∷ same (codes "0:3:3") refl i ∷ same (codes "0:3:3:end") refl i ∷ codes "COMPLETED" ∷ [])
-    ∷ texts_tree (same (codes "1:5:2") refl i ∷ same (codes "1:5:2:end") refl i ∷ codes "COMPLETED" ∷ [])
-    ∷ texts_tree (same (codes "2:7:2") refl i ∷ same (codes "2:7:2:end") refl i ∷ codes "COMPLETED" ∷ []) ∷ [])
+    (results_tree (same (codes "0:2:2") refl i ∷ same (codes "0:3:3") refl i ∷ same (codes "0:3:3:end") refl i ∷ codes "COMPLETED" ∷ [])
+    ∷ results_tree (same (codes "1:5:2") refl i ∷ same (codes "1:5:2:end") refl i ∷ codes "COMPLETED" ∷ [])
+    ∷ results_tree (same (codes "2:7:2") refl i ∷ same (codes "2:7:2:end") refl i ∷ codes "COMPLETED" ∷ []) ∷ [])
 
 abbrev partitions : List PartitionReport
 partitions = record { row = finished_row 0 3 0 2; outputs = codes "xa" ∷ codes "xb" ∷ codes "xc" ∷ [] }

@@ -3,7 +3,7 @@ use Rattle.std.specs.Prelude.{slice_get}
 use Rattle.std.specs.List.{insert}
 use Rattle.jb_artifacts.specs.declared.faults.FaultPlan.{FaultPlan}
 use Rattle.jb_artifacts.specs.Faults.{plans_of, with_plan}
-use Rattle.jb_artifacts.specs.inside.FaultPlaces.{Entries, AreInOrder, IsGapFor}
+use Rattle.jb_artifacts.specs.inside.FaultPlaces.{Entries, DoNumbersRise, IsGapFor}
 use Rattle.jb_artifacts.proofs.FaultPlaces.{read-is, changed-at, changed-order, inserted-at, inserted-order}
 use Rattle.jb_artifacts.proofs.FaultTables.{planned}
 use Rattle.jb_artifacts.proofs.fault_plans.FaultPlans.insert.Goals as goal
@@ -22,7 +22,7 @@ invariant_of-self c =
     let entries : Entries = c.self.inside.table.items in
     let found = c.in-Ok.ensures in
     let is = place-of (goal.at.invariant_of-self c).In-Ok in
-    subst (λ (e : ℕ × FaultPlan). AreInOrder (set entries c.in-Ok.place (e.0, c.args.plan))) (sym (read-is c.args.number entries c.in-Ok.place found.0 c.index_mut.result.now is c.index_mut.ensures.value))
+    subst (λ (e : ℕ × FaultPlan). DoNumbersRise (set entries c.in-Ok.place (e.0, c.args.plan))) (sym (read-is c.args.number entries c.in-Ok.place found.0 c.index_mut.result.now is c.index_mut.ensures.value))
     (changed-order c.args.number entries c.in-Ok.place found.0 c.args.plan c.self.invariant is)
 
 pub returns-in-Ok-clause-ok : goal.returns-in-Ok-clause-ok
@@ -37,7 +37,7 @@ returns-in-Ok-clause-ok c =
 
 pub invariant_of-self-in-Err : goal.invariant_of-self-in-Err
 invariant_of-self-in-Err c =
-    subst AreInOrder (sym c.in_ok-insert-in-Err.ensures.items)
+    subst DoNumbersRise (sym c.in_ok-insert-in-Err.ensures.items)
     (inserted-order c.args.number c.self.inside.table.items c.in-Err.place c.args.plan c.self.invariant (gap-of (goal.at.invariant_of-self-in-Err c).In-Err))
 
 pub returns-in_ok-insert-in-Err-clause-ok : goal.returns-in_ok-insert-in-Err-clause-ok

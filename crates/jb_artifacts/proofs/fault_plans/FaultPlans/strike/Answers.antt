@@ -6,7 +6,7 @@ use Rattle.std.specs.Map.{lookup}
 use Rattle.std.proofs.lemmas.Option.{slice_get_within}
 use Rattle.jb_artifacts.specs.declared.faults.FaultPlan.{FaultPlan}
 use Rattle.jb_artifacts.specs.Faults.{live, plans_of, used, used_at}
-use Rattle.jb_artifacts.specs.inside.FaultPlaces.{Entries, AreInOrder, IsGapFor}
+use Rattle.jb_artifacts.specs.inside.FaultPlaces.{Entries, DoNumbersRise, IsGapFor}
 use Rattle.jb_artifacts.proofs.FaultPlaces.{found-at, none-at, read-is, changed-at, changed-order, live-where}
 use Rattle.jb_artifacts.proofs.FaultTables.{idle, none-planned, struck, used_at-sound}
 use Rattle.jb_artifacts.proofs.fault_plans.FaultPlans.strike.Goals as goal
@@ -39,7 +39,7 @@ invariant_of-self c =
     let entries : Entries = c.self.inside.table.items in
     let found = c.in-Ok.ensures in
     let is = place-of (goal.at.invariant_of-self c).In-Ok in
-    subst (λ (e : ℕ × FaultPlan). AreInOrder (set entries c.in-Ok.place (e.0, c.strike.new.self))) (sym (read-is c.args.number entries c.in-Ok.place found.0 c.index_mut.result.now is c.index_mut.ensures.value))
+    subst (λ (e : ℕ × FaultPlan). DoNumbersRise (set entries c.in-Ok.place (e.0, c.strike.new.self))) (sym (read-is c.args.number entries c.in-Ok.place found.0 c.index_mut.result.now is c.index_mut.ensures.value))
     (changed-order c.args.number entries c.in-Ok.place found.0 c.strike.new.self c.self.invariant is)
 
 pub returns-in-Ok-clause-class : goal.returns-in-Ok-clause-class

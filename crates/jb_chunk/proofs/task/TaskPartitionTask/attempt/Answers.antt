@@ -30,7 +30,7 @@ ended_row-after-requires-clause-counted g c =
     let lt = left-waiting c.args.self.row c.requires.ready.sound c.requires.waiting in
     let some = c.block-block.ensures.some lt in
     let from : c.args.self.row.at ≤ c.block-block.result.hi = omega (arith, some) in
-    counted-row _ _ c.try_block.new.row c.in-Ok.end _ hi from (c.in-Ok.ensures.ok c.args.self.partition)
+    counted-row _ _ c.try_block.new.row c.in-Ok.end _ c.requires.ready hi from (c.in-Ok.ensures.ok c.args.self.partition)
 
 pub overflow_sub-result : goal.overflow_sub-result
 overflow_sub-result g c =
@@ -40,7 +40,10 @@ overflow_sub-result g c =
 pub returns-in-Ok-values_after-clause-attempt : goal.returns-in-Ok-values_after-clause-attempt
 returns-in-Ok-values_after-clause-attempt g c =
     let hi = ap (λ (b : Range). b.hi) c.block-block.ensures.block in
-    done-attempt _ _ c.try_block.new.row c.in-Ok.end _ c.ended_row-after.result _ _ _ _ hi (c.in-Ok.ensures.ok c.args.self.partition) c.ended_row-after.ensures.row c.outcome_of.ensures c.in-Ok-values_after.ensures refl refl
+    let lt = left-waiting c.args.self.row c.requires.ready.sound c.requires.waiting in
+    let some = c.block-block.ensures.some lt in
+    let from : c.args.self.row.at ≤ c.block-block.result.hi = omega (arith, some) in
+    done-attempt _ _ c.try_block.new.row c.in-Ok.end _ c.ended_row-after.result _ _ _ c.requires.ready hi from (c.in-Ok.ensures.ok c.args.self.partition) c.ended_row-after.ensures.row c.in-Ok-values_after.ensures refl refl
 
 pub returns-in-Ok-values_after-clause-ready : goal.returns-in-Ok-values_after-clause-ready
 returns-in-Ok-values_after-clause-ready g c =

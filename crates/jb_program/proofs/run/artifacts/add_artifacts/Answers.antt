@@ -1,7 +1,7 @@
 use Rattle.std.proofs.Common.{◌≡◌, ◌+◌, ◌∷◌, drop, length, map, get_or, slice_get, Some, ap, sym, ◌∙◌}
 use Rattle.std.specs.Arc.{arc_value}
 use Rattle.std.specs.Option.{option_copied}
-use Rattle.jb_step.specs.Setup.{needs, unfinished}
+use Rattle.jb_step.specs.preparing.Setup.{needs, unfinished}
 use Rattle.jb_rules.specs.Rows.{range_of}
 use Rattle.jb_program.specs.PartitionRun.{records_in, work_for, workplace_of}
 use Rattle.jb_program.proofs.Works.{listed-at, next-row, no-row, works-added, works-more}

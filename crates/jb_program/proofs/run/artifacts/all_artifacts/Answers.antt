@@ -1,7 +1,7 @@
 use Rattle.std.proofs.Common.{◌≡◌, ℕ, List, ◌++◌, [], drop, length, map, ap, sym, ◌∙◌, append-nil, arith}
 use Rattle.std.specs.Arc.{arc_value}
 use Rattle.std.proofs.lemmas.List.{drop_all, length-map}
-use Rattle.jb_step.specs.Setup.{unfinished}
+use Rattle.jb_step.specs.preparing.Setup.{unfinished}
 use Rattle.jb_program.specs.PartitionRun.{work_for}
 use Rattle.jb_program.proofs.Own.{own_work}
 use Rattle.jb_program.proofs.run.artifacts.all_artifacts.Goals as goal

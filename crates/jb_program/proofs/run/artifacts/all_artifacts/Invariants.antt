@@ -1,6 +1,6 @@
 use Rattle.std.proofs.Common.{◌≡◌, ◌++◌, drop, map}
 use Rattle.std.specs.Arc.{arc_value}
-use Rattle.jb_step.specs.Setup.{unfinished}
+use Rattle.jb_step.specs.preparing.Setup.{unfinished}
 use Rattle.jb_program.specs.PartitionRun.{work_for}
 use Rattle.jb_program.proofs.Own.{own_work}
 use Rattle.jb_program.proofs.run.artifacts.all_artifacts.Given as goal

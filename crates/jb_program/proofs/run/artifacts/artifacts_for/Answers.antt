@@ -6,7 +6,7 @@ use Rattle.jb_program.proofs.run.artifacts.artifacts_for.Goals as goal
 
 pub returns : goal.returns
 returns c =
-    let made : own_work (record { reader = c.in_ok-reader_for.field-0; processor = c.in_ok-processor_for.field-0; writer = c.in_ok-writer_for.field-0; collector = c.new.result }) ≡ workplace_of c.args.step.now (records_in (arc_value c.args.records) c.args.range) c.args.held c.args.range = λ i. record {
+    let made : own_work (record { inner = record { reader = c.in_ok-reader_for.field-0; processor = c.in_ok-processor_for.field-0; writer = c.in_ok-writer_for.field-0; collector = c.new.result } }) ≡ workplace_of c.args.step.now (records_in (arc_value c.args.records) c.args.range) c.args.held c.args.range = λ i. record {
       reader = c.in_ok-reader_for.ensures i;
       processor = c.in_ok-processor_for.ensures i;
       writer = c.in_ok-writer_for.ensures i;

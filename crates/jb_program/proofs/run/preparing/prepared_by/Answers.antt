@@ -4,7 +4,7 @@ use denote.Param.Object.{read_made}
 use Rattle.jb_collect.specs.declared.calls.ReducerCall.{ReducerCall}
 use Rattle.jb_collect.specs.Taken.{Taken, calls_of, well}
 use Rattle.jb_collect.specs.ReducerCalls.{calls_before}
-use Rattle.jb_step.specs.Prepare.{discards_by}
+use Rattle.jb_step.specs.preparing.Prepare.{discards_by}
 use Rattle.jb_program.proofs.Callbacks.{well-calls}
 use Rattle.jb_program.proofs.Prepared.{begun, other-refusal}
 use Rattle.jb_program.proofs.run.preparing.prepared_by.Goals as goal

@@ -3,7 +3,7 @@ use Rattle.std.specs.List.{enumerate_from}
 use Rattle.std.specs.Str.Lossy.{utf8_lossy}
 use Rattle.std.proofs.lemmas.List.{take_all}
 use Rattle.jb_saved.specs.SavedTree.{tokens_of}
-use Rattle.jb_texts.specs.Report.{texts_tree}
+use Rattle.jb_texts.specs.Report.{results_tree}
 use Rattle.jb_program.specs.StepRun.{committed_of}
 use Rattle.jb_program.specs.inside.Written.{outputs_by, written_at}
 use Rattle.jb_program.proofs.Told.{outputs-more}
@@ -20,7 +20,7 @@ loop-place-preserved c =
     let so_far = c.loop-place.invariant in
     let results = c.in_ok-results.ensures.results ∙ ap (outputs_by (committed_of outputs (k, row))) (so_far.others k (omega arith)) in
     record {
-      text = c.in_ok-add_outputs.ensures ∙ ap (λ outs. c.loop-place.text ++ tokens_of (texts_tree outs)) results ∙ ap (λ ts. ts ++ one (k, row)) so_far.text
+      text = c.in_ok-add_outputs.ensures ∙ ap (λ outs. c.loop-place.text ++ tokens_of (results_tree outs)) results ∙ ap (λ ts. ts ++ one (k, row)) so_far.text
           ∙ append_assoc old (flat_map one (enumerate_from 0 (take k rows))) (one (k, row))
           ∙ ap (λ r. old ++ (flat_map one (enumerate_from 0 (take k rows)) ++ one (k, r))) c.in-Some.ensures.lookup.1
           ∙ ap (λ ts. old ++ ts) (sym (outputs-more one rows k row c.loop-place-test.true));

@@ -1,6 +1,6 @@
 use Rattle.std.proofs.Common.{◌≡◌, ◌<◌, ◌+◌, arith, inl, length, refl, rules, subst, take}
 use Rattle.std.specs.String.{string_bytes}
-use Rattle.jb_program.specs.CommandLine.{CanGoOn, CannotGoOn}
+use Rattle.jb_program.specs.CommandLine.{CanBeCompleted, CannotGoOn}
 use Rattle.jb_program.proofs.CommandLines.{GoOnUpTo, goes-on-more, last-wrong, stuck-up-to, text-at, texts}
 use Rattle.jb_program.proofs.words.line.fault_in.Goals as goal
 
@@ -22,7 +22,7 @@ pub loop-place-preserved : goal.loop-place-preserved
 loop-place-preserved c =
     let words = c.args.words.now in
     let front = take (c.loop-place.place + 1) words in
-    let can : CanGoOn (texts front) = c.in_ok-can_go_on.ensures.yes (search rules) in
+    let can : CanBeCompleted (texts front) = c.in_ok-can_go_on.ensures.yes (search rules) in
     goes-on-more words front c.loop-place.place refl can c.loop-place.invariant
 
 pub returns-clause-wrong : goal.returns-clause-wrong

@@ -5,11 +5,11 @@ use Rattle.std.proofs.lemmas.List.{at_drop_more}
 use Rattle.std.proofs.lemmas.Bool.Decides.{nat_tests}
 use Rattle.clap.specs.Words.{Text}
 use Rattle.jb_base.specs.Limits.{max_rounds}
-use Rattle.jb_program.specs.CommandLine.{rounds_from, rounds_in}
+use Rattle.jb_program.specs.CommandLine.{rounds_from, rounds_of_word}
 use Rattle.jb_program.proofs.words.line.rounds_of.Goals as goal
 
 -- a text that isn't empty is digits from its first byte on
-filled : (text : Text) → length text ≢ 0 → rounds_in text ≡ rounds_from 0 text
+filled : (text : Text) → length text ≢ 0 → rounds_of_word text ≡ rounds_from 0 text
 filled [] some = absurd (some refl)
 filled (digit ∷ digits) some = refl
 
@@ -38,14 +38,14 @@ returns-then-not-is_ascii_digit c =
     let digits = c.as_bytes-digits.result.now in
     let i = c.loop-digit.digit-index in
     let n = c.loop-digit.value in
-    let whole = ap rounds_in (sym c.as_bytes-digits.ensures.value) ∙ filled digits (not-empty _ _ c.is_empty.ensures c.if-is_empty.false) ∙ c.loop-digit.invariant in
+    let whole = ap rounds_of_word (sym c.as_bytes-digits.ensures.value) ∙ filled digits (not-empty _ _ c.is_empty.ensures c.if-is_empty.false) ∙ c.loop-digit.invariant in
     let none : rounds_from n (drop i digits) ≡ None = taken digits i n false c.loop-digit-test.true (sym c.if-not-is_ascii_digit.true ∙ c.is_ascii_digit.ensures.value) in
     sym (whole ∙ none)
 
 pub returns-then-value-gt-MAX_ROUNDS : goal.returns-then-value-gt-MAX_ROUNDS
 returns-then-value-gt-MAX_ROUNDS c =
     let digits = c.as_bytes-digits.result.now in
-    let whole = ap rounds_in (sym c.as_bytes-digits.ensures.value) ∙ filled digits (not-empty _ _ c.is_empty.ensures c.if-is_empty.false) ∙ c.loop-digit.invariant in
+    let whole = ap rounds_of_word (sym c.as_bytes-digits.ensures.value) ∙ filled digits (not-empty _ _ c.is_empty.ensures c.if-is_empty.false) ∙ c.loop-digit.invariant in
     sym (whole ∙ past c.loop-digit.value (drop c.loop-digit.digit-index digits) c.if-value-gt-MAX_ROUNDS.true)
 
 pub loop-digit-preserved : goal.loop-digit-preserved

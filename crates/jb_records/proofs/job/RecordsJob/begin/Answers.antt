@@ -1,5 +1,5 @@
 use Rattle.std.proofs.Common.{Ok, length, subst}
-use Rattle.jb_step.specs.Prepare.{IsPreparation}
+use Rattle.jb_step.specs.preparing.Prepare.{IsPreparation}
 use Rattle.jb_records.specs.Made.{even_partitions, step_record}
 use Rattle.jb_records.specs.Steps.{BeginsAnew}
 use Rattle.jb_records.proofs.Counting.{anew-counted}

@@ -1,7 +1,7 @@
 use Rattle.std.proofs.Common.{◌∙◌, ap, subst}
 use Rattle.std.proofs.lemmas.Result.{IfOk-weaker}
-use Rattle.jb_step.specs.Setup.{Setup}
-use Rattle.jb_records.specs.Shares.{AreWhole}
+use Rattle.jb_step.specs.preparing.Setup.{Setup}
+use Rattle.jb_records.specs.Shares.{AreAtTheirEnds}
 use Rattle.jb_records.proofs.Beginning.{behind-stands, whole-before}
 use Rattle.jb_records.proofs.Calling.{can-begin}
 use Rattle.jb_records.proofs.kept.RecordsRun.begin_behind.Goals as goal
@@ -20,7 +20,7 @@ returns-clause-behind g c =
       rows = rows;
       shares_are = kept.shares_are ∙ c.in_ok-job.ensures.results;
       numbered = c.in_ok-job.ensures.numbered;
-      whole = λ whole. whole-before c.in_ok-held.held.rows (subst AreWhole rows whole);
+      whole = λ whole. whole-before c.in_ok-held.held.rows (subst AreAtTheirEnds rows whole);
     }) c.over.ensures.kept
 
 pub returns-clause-stands : goal.returns-clause-stands

@@ -1,5 +1,5 @@
 use Rattle.std.proofs.Common.{◌∙◌, ap, map, refl, subst, sym}
-use Rattle.jb_step.specs.Prepare.{DoFit}
+use Rattle.jb_step.specs.preparing.Prepare.{DoFit}
 use Rattle.jb_records.proofs.Breaking.{broke-off}
 use Rattle.jb_records.proofs.Causes.{handed-on}
 use Rattle.jb_records.proofs.Stretching.{goes-on, made-of, ran-same}

@@ -1,6 +1,6 @@
 use Rattle.std.proofs.Common.{◌∙◌, ap, length, refl, sym}
 use Rattle.std.proofs.lemmas.List.{length-map}
-use Rattle.jb_step.specs.Setup.{unfinished}
+use Rattle.jb_step.specs.preparing.Setup.{unfinished}
 use Rattle.jb_records.specs.declared.step.RecordsStep.{RecordsStep}
 use Rattle.jb_records.proofs.Beginning.{as-many, kept-first, names-length}
 use Rattle.jb_records.proofs.Begun.{same-works}

@@ -1,7 +1,7 @@
 use Rattle.std.proofs.Common.{◌≡◌, ◌<◌, List, length, take, sym, ◌∙◌, ap, arith}
 use Rattle.jb_base.specs.Limits.{max_events}
 use Rattle.jb_rules.specs.declared.row.Row.{Row}
-use Rattle.jb_repo.specs.History.{partition_of, is_plan, is_round, since}
+use Rattle.jb_repo.specs.History.{partition_of, is_plan, is_round, events_since}
 use Rattle.jb_repo.specs.Table.{Journal}
 use Rattle.jb_repo.specs.inside.Projection.{CanEnter}
 use Rattle.jb_repo.proofs.Noting.{any_row, number-few, since-few, own-few, totals_after, sums_fit}
@@ -64,7 +64,7 @@ pub note-requires-3-clause-used : goal.note-requires-3-clause-used
 note-requires-3-clause-used c =
     let k = (goal.at.note-requires-3-clause-used c).After-partition_of-partition in
     let past = c.requires.0.past in
-    omega (arith, c.requires.1.shows.plan.used, number-few is_round (since is_plan past), since-few is_plan past, more k)
+    omega (arith, c.requires.1.shows.plan.used, number-few is_round (events_since is_plan past), since-few is_plan past, more k)
 
 pub returns : goal.returns
 returns c =

@@ -1,0 +1,73 @@
+-- What a filter keeps.
+use Rattle.std.proofs.Common.{◌≡◌, ℕ, ◌+◌, ◌≤◌, Bool, true, false, cond, List, [], ◌∷◌, map, refl, ap, ap₂, sym, ◌∙◌, arith}
+use Rattle.std.specs.Prelude.{filter}
+use Rattle.std.specs.List.{AllByRecursion}
+use Rattle.jb_cert.specs.Rising.{RiseFrom}
+use Rattle.jb_chunk.specs.Standing.{TaskState}
+use Rattle.jb_step.specs.inside.Round.{partitions_of}
+
+-- what is so of all is so of those that are kept
+pub filter-all : {X : Type 0} (P : X → Type 0) (keep : X → Bool) (xs : List X) → AllByRecursion P xs → AllByRecursion P (filter keep xs)
+filter-all P keep [] h = tt
+filter-all P keep (x ∷ xs) h = by (keep x) (filter-all P keep xs h.1)
+  where
+    by : (b : Bool) → AllByRecursion P (filter keep xs) → AllByRecursion P (cond b (x ∷ filter keep xs) (filter keep xs))
+    by true rest = (h.0, rest)
+    by false rest = rest
+
+-- what is so of all images
+pub all-map : {X Y : Type 0} (P : Y → Type 0) (f : X → Y) (xs : List X) → AllByRecursion (λ (x : X). P (f x)) xs → AllByRecursion P (map f xs)
+all-map P f [] h = tt
+all-map P f (x ∷ xs) h = (h.0, all-map P f xs h.1)
+
+pub all-back : {X Y : Type 0} (P : Y → Type 0) (f : X → Y) (xs : List X) → AllByRecursion P (map f xs) → AllByRecursion (λ (x : X). P (f x)) xs
+all-back P f [] h = tt
+all-back P f (x ∷ xs) h = (h.0, all-back P f xs h.1)
+
+-- each that is kept passes
+pub each-passes : {X : Type 0} (keep : X → Bool) (xs : List X) → AllByRecursion (λ (x : X). keep x ≡ true) (filter keep xs)
+each-passes keep [] = tt
+each-passes keep (x ∷ xs) = by (keep x) refl (each-passes keep xs)
+  where
+    by : (b : Bool) → keep x ≡ b → AllByRecursion (λ y. keep y ≡ true) (filter keep xs) → AllByRecursion (λ y. keep y ≡ true) (cond b (x ∷ filter keep xs) (filter keep xs))
+    by true e rest = (e, rest)
+    by false e rest = rest
+
+-- what leaves each element as it is leaves the list
+pub map-stays : {X : Type 0} (f : X → X) (xs : List X) → AllByRecursion (λ (x : X). f x ≡ x) xs → map f xs ≡ xs
+map-stays f [] all = refl
+map-stays f (x ∷ xs) all = ap₂ (λ y ys. y ∷ ys) all.0 (map-stays f xs all.1)
+
+-- those of the images that are kept, where the test of an image is one of the element
+pub filter-map : {X Y : Type 0} (keep : Y → Bool) (own : X → Bool) (f : X → Y) → ((x : X) → keep (f x) ≡ own x) → (xs : List X) → filter keep (map f xs) ≡ map f (filter own xs)
+filter-map keep own f same [] = refl
+filter-map keep own f same (x ∷ xs) =
+    ap₂ (λ (b : Bool) (ys : List _). cond b (f x ∷ ys) ys) (same x) (filter-map keep own f same xs) ∙ by (own x)
+  where
+    by : (b : Bool) → cond b (f x ∷ map f (filter own xs)) (map f (filter own xs)) ≡ map f (cond b (x ∷ filter own xs) (filter own xs))
+    by true = refl
+    by false = refl
+
+-- one filter after another, in either order
+pub filter-swap : {X : Type 0} (h k : X → Bool) (xs : List X) → filter h (filter k xs) ≡ filter k (filter h xs)
+filter-swap h k [] = refl
+filter-swap h k (x ∷ xs) = by (h x) (k x) refl refl (filter-swap h k xs)
+  where
+    by : (b c : Bool) → h x ≡ b → k x ≡ c → filter h (filter k xs) ≡ filter k (filter h xs) → filter h (cond c (x ∷ filter k xs) (filter k xs)) ≡ filter k (cond b (x ∷ filter h xs) (filter h xs))
+    by true true e d rest = ap₂ (λ (b : Bool) (ys : List _). cond b (x ∷ ys) ys) e rest ∙ sym (ap (λ (c : Bool). cond c (x ∷ filter k (filter h xs)) (filter k (filter h xs))) d)
+    by true false e d rest = rest ∙ sym (ap (λ (c : Bool). cond c (x ∷ filter k (filter h xs)) (filter k (filter h xs))) d)
+    by false true e d rest = ap (λ (b : Bool). cond b (x ∷ filter h (filter k xs)) (filter h (filter k xs))) e ∙ rest
+    by false false e d rest = rest
+
+-- what rises, where from, and from how low
+pub rise-lower : (j k : ℕ) (ns : List ℕ) → j ≤ k → RiseFrom k ns → RiseFrom j ns
+rise-lower j k [] le h = tt
+rise-lower j k (n ∷ ns) le h = (let from = h.0 in omega arith, h.1)
+
+pub rise-filter : (keep : TaskState → Bool) (k : ℕ) (ts : List TaskState) → RiseFrom k (partitions_of ts) → RiseFrom k (partitions_of (filter keep ts))
+rise-filter keep k [] h = tt
+rise-filter keep k (t ∷ ts) h = by (keep t) (rise-filter keep (t.partition + 1) ts h.1)
+  where
+    by : (b : Bool) → RiseFrom (t.partition + 1) (partitions_of (filter keep ts)) → RiseFrom k (partitions_of (cond b (t ∷ filter keep ts) (filter keep ts)))
+    by true rest = (h.0, rest)
+    by false rest = let from = h.0 in rise-lower k (t.partition + 1) (partitions_of (filter keep ts)) (omega (arith, from)) rest

@@ -1,7 +1,0 @@
-use Rattle.jb_step.proofs.Beginning.{saved-may-open}
-use Rattle.jb_step.proofs.prepared.Prepared.resumed.Goals as goal
-
-pub with_rows-requires : goal.with_rows-requires
-with_rows-requires c =
-    let rows = c.in_ok-rows.ensures in
-    saved-may-open (record { step = c.args.saved.now.step; rows = c.in_ok-rows.rows.items }) rows.kept rows.unfailed

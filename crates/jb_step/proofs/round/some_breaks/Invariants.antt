@@ -1,8 +1,0 @@
-use Rattle.std.proofs.Common.{◌≡◌, drop}
-use Rattle.jb_collect.specs.Heard.{endings_of}
-use Rattle.jb_step.specs.inside.Round.{breaks_in}
-use Rattle.jb_step.proofs.round.some_breaks.Given as goal
-
-abbrev pub invariant-loop-done : goal.invariant-loop-done
-invariant-loop-done g l =
-    breaks_in (endings_of g.T.PartitionTask.standing (drop l.done-index l.dones)) ≡ breaks_in (endings_of g.T.PartitionTask.standing l.dones)

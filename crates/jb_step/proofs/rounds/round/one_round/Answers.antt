@@ -1,0 +1,24 @@
+use Rattle.std.proofs.Common.{length, map, ap, subst}
+use Rattle.jb_cert.specs.Plans.{slot_pair}
+use Rattle.jb_step.specs.inside.Round.{AreDonesOf}
+use Rattle.jb_step.proofs.Placing.{IsPutBack, in-turn, put-back}
+use Rattle.jb_step.proofs.Rounding.{round-is}
+use Rattle.jb_step.proofs.Splitting.{done-by}
+use Rattle.jb_step.proofs.rounds.round.one_round.Goals as goal
+use Rattle.jb_step.proofs.rounds.round.one_round.Goals.{After-put_back}
+
+-- The round's attempts are those of the tasks that were taken out, and each had memory.
+back : (g : _) (c : After-put_back g) → IsPutBack g.T.PartitionTask.standing (map slot_pair c.args.slots.now) c.args.ran.now.held.items c.in_ok-dones.dones.items c.put_back.new.places.items
+back g c =
+    let standing = g.T.PartitionTask.standing in
+    let done = subst (λ us. AreDonesOf standing us c.in_ok-dones.dones.items) c.in_ok-works.ensures.works (done-by standing c.in_ok-works.works.items c.in_ok-dones.dones.items c.in_ok-dones.ensures.dones) in
+    rw (c.put_back.ensures, c.in_ok-works.ensures.places)
+    (put-back standing (map slot_pair c.args.slots.now) c.args.ran.now.held.items c.in_ok-dones.dones.items (in-turn c.args.slots.now c.requires.in_turn) c.requires.placed done c.in_ok-dones.ensures.whole)
+
+pub returns-clause-round : goal.returns-clause-round
+returns-clause-round g c =
+    round-is _ _ _ _ _ (back g c) _ _ _ _ _ _ c.requires.ready (rw c.as_slice-3.ensures.value at c.some_breaks-broke.ensures) (rw (← c.as_slice.ensures.value) c.in_ok-ran.ensures.heard) c.in_ok-ran-2.ensures
+    (rw (ap length c.as_slice-2.ensures.value) at c.in_ok-ran-3.ensures)
+
+pub returns-clause-placed : goal.returns-clause-placed
+returns-clause-placed g c = (back g c).placed

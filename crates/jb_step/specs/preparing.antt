@@ -1,0 +1,2 @@
+pub mod Prepare
+pub mod Setup

@@ -1,0 +1,8 @@
+//! What is told of a step.
+//!
+//! - `tell`: what the analyzer is told of each round; `reduce`: what the reducer is told of the step, and how it stands.
+//! - `finish`: what is told and compared at the end.
+
+pub(crate) mod finish;
+pub(crate) mod reduce;
+pub(crate) mod tell;

@@ -1,0 +1,10 @@
+//! The rounds of a step.
+//!
+//! - `run`: all of them; `plan`: the plan whose rounds are run; `round`: one of them; `runner`: the desk that runs them.
+//! - `ran`: what they have left so far, the tasks in a table with a place for each partition.
+
+pub(crate) mod plan;
+pub(crate) mod ran;
+pub(crate) mod round;
+pub(crate) mod run;
+pub(crate) mod runner;
