@@ -2,6 +2,7 @@ pub mod Left
 pub mod Opens
 pub mod Over
 pub mod Pages
+pub mod Same
 pub mod Somes
 pub mod Stages
 pub mod Tables

@@ -12,7 +12,7 @@ ghost use Rattle.sqlite_wal.specs.Files.{outcomes};
 ghost use Rattle.sqlite_wal.specs.Reads.{AreClean};
 ghost use Rattle.sqlite_wal.specs.Recovery.{Image};
 
-use crate::stop::{Life, has_store, stop_cut, unwatch, watch};
+use crate::stop::{Life, closed, has_store, stop_cut, unwatch, watch};
 use crate::watched::{Given, Watched};
 use jb_store::takes;
 use sqlite::{Connection, FileStore, Leftover, Options};
@@ -34,7 +34,13 @@ pub fn open_own<D: Disk + Drop>(
     ensures unharmed { IfErr result (λ rest. IfSome rest (λ left. IsCleanLeft left → LeavesFiles files left)) }
 {
     match Connection::open_files(alloc, files, options) {
-        Ok(conn) => { if takes(&conn) { Ok(conn) } else { Err(None) } }
+        Ok(conn) => {
+            if takes(&conn) {
+                return Ok(conn);
+            }
+            let _files = closed(conn);
+            Err(None)
+        }
         Err((_, left)) => Err(Some(left)),
     }
 }

@@ -6,7 +6,7 @@ ghost use Rattle.jb_durable.specs.Watching.{AreGiven};
 ghost use Rattle.jb_durable.specs.Works.{IsSame};
 
 use crate::cut::open_watched;
-use crate::run::run_durably;
+use crate::run::run_over_files;
 use crate::stop::{Life, stop_watched};
 use crate::watched::Given;
 use crate::work::DurableWork;
@@ -36,7 +36,7 @@ fn watched_life<R: Threads + Wait + Sync, W: DurableWork, D: Crash + Drop, G: Gi
 {
     match open_watched::<D, G>(alloc, files, options) {
         Ok(mut conn) => {
-            let _ = run_durably(rt, alloc, &mut conn, work, stretches);
+            let _ = run_over_files(rt, alloc, &mut conn, work, stretches);
             stop_watched(conn)
         }
         Err(life) => life,

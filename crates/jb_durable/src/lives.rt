@@ -9,7 +9,8 @@ ghost use Rattle.sqlite.specs.State.{HasCleanDisk};
 
 use crate::cut::open_own;
 use crate::life::live_and_crash;
-use crate::run::run_durably;
+use crate::run::run_over_files;
+use crate::stop::closed;
 use crate::work::DurableWork;
 use sqlite::{Connection, FileStore, Options};
 use sqlite_disk::{Crash, Disk, Files};
@@ -55,8 +56,9 @@ pub fn work_through_crashes<R: Threads + Wait + Sync, W: DurableWork, D: Crash +
         Ok(conn) => conn,
         Err(_) => return None,
     };
-    match run_durably(rt, alloc, &mut conn, work, stretches) {
-        Ok(is_done) => Some(LastLife { conn, is_done }),
-        Err(_) => None,
-    }
+    let Ok(is_done) = run_over_files(rt, alloc, &mut conn, work, stretches) else {
+        let _files = closed(conn);
+        return None;
+    };
+    Some(LastLife { conn, is_done })
 }

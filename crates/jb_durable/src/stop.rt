@@ -51,6 +51,15 @@ fn crash<D: Crash>(mut files: Files<D>) -> Files<D>
     files
 }
 
+/// The files of a connection that ends. Each place where one over files ends, or is handed to a call over any store, is dear to prove.
+pub(crate) fn closed<D: Disk + Drop>(conn: Connection<FileStore<D>>) -> Files<D>
+    ensures clean { AreClean D.Disk result.log result.db → HasCleanDisk (file_state conn) }
+    ensures left { AreClean D.Disk result.log result.db → (image : Image) → outcomes D.Disk result.log result.db image
+        → ∥ ((db : Trees) × HoldsWhole image db × (file_state conn).may_leave db) ∥₁ }
+{
+    conn.into_store().close()
+}
+
 /// It stops while the connection is open.
 pub fn stop<D: Crash + Drop>(conn: Connection<FileStore<D>>) -> Files<D>
     ensures usable { IsTrue (D.Disk.is_usable result.log) × IsTrue (D.Disk.is_usable result.db) }
@@ -58,7 +67,7 @@ pub fn stop<D: Crash + Drop>(conn: Connection<FileStore<D>>) -> Files<D>
     ensures left { AreClean D.Disk result.log result.db → (image : Image) → outcomes D.Disk result.log result.db image
         → ∥ ((db : Trees) × HoldsWhole image db × (file_state conn).may_leave db) ∥₁ }
 {
-    crash(conn.into_store().close())
+    crash(closed(conn))
 }
 
 /// A store stands over the files.

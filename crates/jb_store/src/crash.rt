@@ -1,15 +1,16 @@
 //! A crash at any moment of an append, and the next open.
 
 ghost use Rattle.std.specs.Prelude.{◌≡◌, ◌⊎◌, ◌++◌, ◌+◌, [], ◌∷◌, length, map, IfSome, IsTrue};
-ghost use Rattle.jb_store.specs.Checkpoints.{kept};
+ghost use Rattle.jb_store.specs.Checkpoints.{StandsFor, kept};
 ghost use Rattle.jb_store.specs.Connections.{Keeps};
 ghost use Rattle.sqlite.specs.Files.{file_state};
+ghost use Rattle.sqlite.specs.Held.{state};
 ghost use Rattle.sqlite.specs.State.{HasCleanDisk};
 
 use crate::checkpoint::Checkpoint;
-use crate::files::open_files;
+use crate::files::{closed, open_files};
 use crate::statements::append;
-use sqlite::{Connection, FileStore, Options};
+use sqlite::{Alter, Connection, FileStore, Options};
 use sqlite_disk::Crash;
 use std::alloc::Global;
 
@@ -19,6 +20,17 @@ pub struct Found {
     /// The append had answered Ok.
     pub was_told: bool,
     pub checkpoints: Vec<Checkpoint>,
+}
+
+/// Adds a checkpoint behind the others, and says whether that was told.
+fn is_appended<S: Alter>(conn: &mut Connection<S>, number: u32, saved: &str, results: &[u8]) -> bool
+    ensures added { HasCleanDisk (state S.Store conn.new) → (all : _) → Keeps (state S.Store conn.old) all → number ≡ length all + 1
+        → IsTrue result → Keeps (state S.Store conn.new) (all ++ (record { saved = saved.now; results = results.now }) ∷ []) }
+    ensures crash { HasCleanDisk (state S.Store conn.new) → (all : _) → Keeps (state S.Store conn.old) all → number ≡ length all + 1
+        → (db : _) → (state S.Store conn.new).may_leave db
+        → StandsFor db all ⊎ StandsFor db (all ++ (record { saved = saved.now; results = results.now }) ∷ []) }
+{
+    append(conn, number, saved, results).is_ok()
 }
 
 /// The machine stops somewhere in an append, or right behind it: `D` may be a disk that fails from some call on. The next open finds
@@ -36,8 +48,8 @@ pub fn append_over_crash<D: Crash + Drop>(
     ensures told { IfSome result (λ r. HasCleanDisk (file_state r.0) → (all : _) → Keeps (file_state conn) all → number ≡ length all + 1 → IsTrue r.1.was_told
         → ∥ (map kept r.1.checkpoints.items ≡ all ++ (record { saved = saved.now; results = results.now }) ∷ []) ∥₁) }
 {
-    let was_told = append(&mut conn, number, saved, results).is_ok();
-    let mut files = conn.into_store().close();
+    let was_told = is_appended(&mut conn, number, saved, results);
+    let mut files = closed(conn);
     files.log.crash();
     files.db.crash();
     match open_files(alloc, files, options) {

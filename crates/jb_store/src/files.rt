@@ -5,8 +5,10 @@ ghost use Rattle.jb_store.specs.Checkpoints.{Has, ShowsList, kept};
 ghost use Rattle.jb_store.specs.Connections.{IsJustOpened, Keeps};
 ghost use Rattle.sqlite.specs.Files.{HoldsDatabase, file_state, image_of};
 ghost use Rattle.sqlite.specs.State.{HasCleanDisk};
-ghost use Rattle.sqlite_wal.specs.Files.{image_at};
+ghost use Rattle.sqlite_trees.specs.Tree.{Trees};
+ghost use Rattle.sqlite_wal.specs.Files.{image_at, outcomes};
 ghost use Rattle.sqlite_wal.specs.Reads.{AreClean};
+ghost use Rattle.sqlite_wal.specs.Recovery.{Image};
 
 use crate::checkpoint::Checkpoint;
 use crate::error::StoreError;
@@ -14,6 +16,15 @@ use crate::opening::begin;
 use sqlite::{Connection, FileFrom, FileStore, Files, Options, Start};
 use sqlite_disk::Disk;
 use std::alloc::Global;
+
+/// The files of a connection that ends. Each place where one over files ends, or is handed to a call over any store, is dear to prove.
+pub(crate) fn closed<D: Disk + Drop>(conn: Connection<FileStore<D>>) -> Files<D>
+    ensures clean { AreClean D.Disk result.log result.db → HasCleanDisk (file_state conn) }
+    ensures left { AreClean D.Disk result.log result.db → (image : Image) → outcomes D.Disk result.log result.db image
+        → ∥ ((db : Trees) × HoldsDatabase image db × (file_state conn).may_leave db) ∥₁ }
+{
+    conn.into_store().close()
+}
 
 /// The list of a connection that was just opened, and the connection. Where there is none, it is shut.
 fn with_list<D: Disk + Drop>(
@@ -24,8 +35,13 @@ fn with_list<D: Disk + Drop>(
         × (IsJustOpened (file_state conn) → Keeps (file_state r.0) (map kept r.1.items) × ((all : _) → ShowsList (file_state conn).now all → map kept r.1.items ≡ all))) }
 {
     let mut conn = conn;
-    let found = begin(alloc, &mut conn)?;
-    Ok((conn, found))
+    match begin(alloc, &mut conn) {
+        Ok(found) => Ok((conn, found)),
+        Err(error) => {
+            let _files = closed(conn);
+            Err(error)
+        }
+    }
 }
 
 /// Opens a log and its database file, and takes the list: of an empty file none.

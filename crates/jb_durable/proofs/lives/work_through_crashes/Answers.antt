@@ -37,23 +37,23 @@ lives-preserved g c =
           (c.lives.invariant.stands (over.clean clean) begun));
     }
 
-pub returns-in-Ok-run_durably : goal.returns-in-Ok-run_durably
-returns-in-Ok-run_durably g c = record {
+pub returns : goal.returns
+returns g c = record {
   whole = λ clean begun done.
       let so_far = g.W.DurableWork.is_so_far c.args.work.now in
       let left = c.lives.left in
       let conn = c.in-Ok.conn in
       let s = file_state conn in
       let stays = g.met.D.Disk.seen_may_stay in
-      let early : HasCleanDisk s = omega (arith, clean, c.run_durably.ensures.clean) in
+      let early : HasCleanDisk s = omega (arith, clean, c.run_over_files.ensures.clean) in
       let opened = c.in-Ok.ensures.opened early in
       let found = c.in-Ok.ensures.found early in
       let at = c.lives.invariant.stands found.honest begun in
       let ours = subst (λ (d : Database). (d.schema ≡ no_schema) ⊎ (d.schema ≡ checkpoint_schema)) opened.0.clean c.in-Ok.ensures.own in
       let run = found_run so_far _ s.committed.trees (at.all (image_of g.D.Disk left) (stays left.log, stays left.db)) found.reads found.holds s.committed.schema (opened.1 opened.0.is_open).1 ours in
       ∥∥₁_map run (λ h.
-      let shows = c.in-Ok-run_durably.ensures.shown opened h.0 (subst (λ t. Has t h.0) (sym (ap (λ (d : Database). d.trees) opened.0.clean)) h.1) in
-      let r = c.in-Ok-run_durably.ensures.done clean opened h.0 shows ((c.lives.invariant.so_far h.0).0 h.2) in
-      let w : (all : List Kept) × Keeps (file_state c.run_durably.new.conn) all × g.W.DurableWork.is_whole c.args.work.now all × g.W.DurableWork.stands_at c.run_durably.new.work all =
-      (r.0, r.1, (c.lives.invariant.whole r.0).1 (r.4 done), r.3) in w);
+      let has = subst (λ t. Has t h.0) (sym (ap (λ (d : Database). d.trees) opened.0.clean)) h.1 in
+      let r = c.in-Ok-run_over_files.ensures.done clean opened h.0 has ((c.lives.invariant.so_far h.0).0 h.2) done in
+      let w : (all : List Kept) × Keeps (file_state c.run_over_files.new.conn) all × g.W.DurableWork.is_whole c.args.work.now all × g.W.DurableWork.stands_at c.run_over_files.new.work all =
+      (r.0, r.1, (c.lives.invariant.whole r.0).1 r.2, r.3) in w);
 }

@@ -1,30 +1,40 @@
 use Rattle.std.proofs.Common.{◌≡◌, Err, arith, rules}
+use Rattle.std.proofs.lemmas.Result.{IfErr-weaker, IfOk-weaker}
 use Rattle.sqlite.specs.Held.{state}
 use Rattle.sqlite.specs.State.{HasCleanDisk}
-use Rattle.jb_durable.specs.Works.{StandsAt}
+use Rattle.jb_durable.proofs.Same.{same_on, stands_now}
 use Rattle.jb_durable.proofs.run.run_durably.Goals as goal
 
-pub returns-in_err-advance-clause-crash : goal.returns-in_err-advance-clause-crash
-returns-in_err-advance-clause-crash g c clean opened all shows so_far db may =
-    let early : HasCleanDisk (state g.S.Store c.stretches.conn) = omega (arith, c.advance.ensures.clean, clean) in
-    let at = c.stretches.invariant.stands early opened all shows so_far in
-    let here : StandsAt (g.W.DurableWork.is_so_far c.stretches.work) (g.W.DurableWork.stands_at c.stretches.work) (state g.S.Store c.stretches.conn) c.stretches.count at.0 =
-    record { keeps = at.1.keeps; run = (c.stretches.invariant.so_far at.0).0 at.1.run; place = at.1.place; number = at.1.number } in
-    let left = c.advance.ensures.crash clean at.0 here db may in
-    (left.0, left.1, (c.stretches.invariant.so_far left.0).1 left.2)
+pub returns-clause-done : goal.returns-clause-done
+returns-clause-done g c clean opened all shows so_far =
+    let early : HasCleanDisk (state g.S.Store c.taken_up.new.conn) = omega (arith, clean, c.go_on.ensures.clean) in
+    let at = stands_now _ _ _ _ _ _ c.taken_up.ensures.so_far (c.in_ok-count.ensures.stands early opened all shows so_far) in
+    IfOk-weaker c.go_on.result _ _
+    (λ is_done d. (d.0, d.1, (c.taken_up.ensures.so_far d.0).1 d.2, d.3, λ done. (c.taken_up.ensures.whole d.0).1 (d.4 done), d.5))
+    (c.go_on.ensures.done clean all at)
 
-pub returns-then-not-branch-clause-crash : goal.returns-then-not-branch-clause-crash
-returns-then-not-branch-clause-crash g c clean opened all shows so_far db may =
-    let early : HasCleanDisk (state g.S.Store c.stretches.conn) = omega (arith, c.advance.ensures.clean, clean) in
-    let at = c.stretches.invariant.stands early opened all shows so_far in
-    let here : StandsAt (g.W.DurableWork.is_so_far c.stretches.work) (g.W.DurableWork.stands_at c.stretches.work) (state g.S.Store c.stretches.conn) c.stretches.count at.0 =
-    record { keeps = at.1.keeps; run = (c.stretches.invariant.so_far at.0).0 at.1.run; place = at.1.place; number = at.1.number } in
-    let left = c.advance.ensures.crash clean at.0 here db may in
-    (left.0, left.1, (c.stretches.invariant.so_far left.0).1 left.2)
+pub returns-clause-many : goal.returns-clause-many
+returns-clause-many g c clean opened all shows so_far =
+    let early : HasCleanDisk (state g.S.Store c.taken_up.new.conn) = omega (arith, clean, c.go_on.ensures.clean) in
+    let at = stands_now _ _ _ _ _ _ c.taken_up.ensures.so_far (c.in_ok-count.ensures.stands early opened all shows so_far) in
+    IfErr-weaker c.go_on.result _ _
+    (λ e each many. let full = each many in record { all = full.all; run = (c.taken_up.ensures.so_far full.all).1 full.run; full = full.full })
+    (c.go_on.ensures.many clean all at)
 
-pub returns-in_err-advance-clause-many : goal.returns-in_err-advance-clause-many
-returns-in_err-advance-clause-many g c clean opened all shows so_far =
-    let early : HasCleanDisk (state g.S.Store c.stretches.conn) = omega (arith, c.advance.ensures.clean, clean) in
-    let at = c.stretches.invariant.stands early opened all shows so_far in
-    let told : c.from_residual.result ≡ Err c.in_err-advance.field-0.0 = search rules in
-    rw told (λ many. record { all = at.0; run = at.1.run; full = (let full = c.in_err-advance.ensures.many many in omega (arith, full, at.1.number)) })
+pub returns-clause-so_far : goal.returns-clause-so_far
+returns-clause-so_far g c = same_on _ _ _ c.taken_up.ensures.so_far c.go_on.ensures.so_far
+
+pub returns-clause-whole : goal.returns-clause-whole
+returns-clause-whole g c = same_on _ _ _ c.taken_up.ensures.whole c.go_on.ensures.whole
+
+pub returns-clause-crash : goal.returns-clause-crash
+returns-clause-crash g c clean opened all shows so_far db may =
+    let early : HasCleanDisk (state g.S.Store c.taken_up.new.conn) = omega (arith, clean, c.go_on.ensures.clean) in
+    let at = stands_now _ _ _ _ _ _ c.taken_up.ensures.so_far (c.in_ok-count.ensures.stands early opened all shows so_far) in
+    let left = c.go_on.ensures.crash clean all at db may in
+    (left.0, left.1, (c.taken_up.ensures.so_far left.0).1 left.2)
+
+pub returns-in_err-count-clause-many : goal.returns-in_err-count-clause-many
+returns-in_err-count-clause-many g c clean opened all shows so_far =
+    let told : c.from_residual.result ≡ Err c.in_err-count.field-0.0 = search rules in
+    rw told (c.in_err-count.ensures.many clean opened all shows so_far)

@@ -3,7 +3,7 @@ use Rattle.sqlite.specs.Files.{file_state}
 use Rattle.sqlite.specs.State.{HasCleanDisk}
 use Rattle.jb_store.proofs.files.with_list.Goals as goal
 
-pub returns : goal.returns
-returns g c clean =
+pub returns-in-Ok : goal.returns-in-Ok
+returns-in-Ok g c clean =
     let early : HasCleanDisk (file_state c.args.conn) = omega (arith, clean, c.begin.ensures.clean) in
-    (early, λ opened. ((c.in_ok-found.ensures.begun clean opened).0, c.in_ok-found.ensures.listed clean opened))
+    (early, λ opened. ((c.in-Ok.ensures.begun clean opened).0, c.in-Ok.ensures.listed clean opened))

@@ -1,0 +1,19 @@
+use Rattle.std.proofs.Common.{◌≡◌, List, ap, length, map, rules, subst, sym, ◌∙◌}
+use Rattle.std.proofs.lemmas.List.{length-map}
+use Rattle.sqlite.specs.Held.{state}
+use Rattle.jb_store.specs.Checkpoints.{Kept, kept}
+use Rattle.jb_store.specs.Connections.{Keeps}
+use Rattle.jb_durable.proofs.run.taken_up.Goals as goal
+
+pub returns-in-Ok-restart-clause-stands : goal.returns-in-Ok-restart-clause-stands
+returns-in-Ok-restart-clause-stands g c clean opened all shows so_far =
+    let done = c.in-Ok.done.items in
+    let listed : map kept done ≡ all = c.in-Ok.ensures.listed clean opened all shows in
+    let found : map kept c.deref.result.now ≡ all = ap (map kept) c.deref.ensures.value ∙ listed in
+    let count : c.in-Ok-try_from.count ≡ length done = search rules in
+    record {
+      keeps = subst (λ (l : List Kept). Keeps (state g.S.Store c.begin.new.conn) l) listed (c.in-Ok.ensures.begun clean opened).0;
+      run = so_far;
+      place = subst (g.W.DurableWork.stands_at c.restart.new.self) found (c.in-Ok-restart.ensures.stands (subst (g.W.DurableWork.is_so_far c.args.work.now) (sym found) so_far));
+      number = count ∙ sym (length-map done kept) ∙ ap length listed;
+    }
