@@ -9,5 +9,7 @@ returns c = record {
   many = λ class. refl;
   room = refl;
   no_room = refl;
+  below_limit = refl;
+  most = λ class. refl;
   counted = λ class. refl;
 }

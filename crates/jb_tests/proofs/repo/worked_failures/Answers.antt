@@ -3,7 +3,7 @@ use Rattle.jb_base.specs.declared.class.ClassId.{ClassId}
 use Rattle.jb_plan.specs.Blocks.{blocks}
 use Rattle.jb_repo.specs.Table.{failure}
 use Rattle.jb_repo.specs.Worked.{two_partitions, walk, one_failed, journal_after}
-use Rattle.jb_tests.proofs.repo.kept.worked_failures.Goals as goal
+use Rattle.jb_tests.proofs.repo.worked_failures.Goals as goal
 
 done : failure (journal_after two_partitions (walk 0 1)) 0 ≡ None
 unfolding blocks
