@@ -5,7 +5,8 @@ ghost use Rattle.jb_rules.specs.declared.row.RowState.TheVariants.{Waiting};
 ghost use Rattle.jb_base.specs.Limits.{max_rollbacks, max_retry_limit, max_in_place};
 
 use super::counted::{
-    AllCalls, CountedCollector, CountedProcessor, CountedReader, CountedWriter, Counting,
+    AllCalls, Call, Calls, CountedCollector, CountedProcessor, CountedReader, CountedWriter,
+    Counting,
 };
 use jb_artifacts::{
     Artifacts, ArtifactsOf, CountCollector, FaultList, FaultPlan, FaultPlans, Item, ItemWriter,
@@ -17,6 +18,7 @@ use jb_base::{
 use jb_chunk::{ChunkResults, Done, Outcome, PartitionArtifacts, PartitionTask, Task};
 use jb_rules::{Counts, Row};
 use std::alloc::{AllocError, Global};
+use std::sync::Arc;
 use std::test::*;
 
 /// The fault of a record's calls.
@@ -78,8 +80,7 @@ fn plans(alloc: Global, faults: &[Fault]) -> Result<FaultPlans, Fail> {
     Ok(plans)
 }
 
-fn reader_of(alloc: Global, told: &Told<'_>, all: &AllCalls) -> Result<CountedReader, Fail> {
-    let calls = all.reads.shared()?;
+fn reader_of(alloc: Global, told: &Told<'_>, calls: &AllCalls) -> Result<CountedReader, Fail> {
     let faults = plans(alloc, told.reads)?;
     let mut lines = PackedList::new(alloc);
     for line in told.lines.lines() {
@@ -88,8 +89,7 @@ fn reader_of(alloc: Global, told: &Told<'_>, all: &AllCalls) -> Result<CountedRe
     let table = TableReader::new(alloc, 0, lines, faults);
     Ok(CountedReader {
         table,
-        calls,
-        lends: all.lends.shared()?,
+        calls: Arc::try_clone(calls)?,
         noted: Vec::new(alloc),
     })
 }
@@ -100,24 +100,22 @@ fn processor_of(
     told: &Told<'_>,
     calls: &AllCalls,
 ) -> Result<CountedProcessor, Fail> {
-    let calls = calls.processes.shared()?;
     let faults = plans(alloc, told.processes)?;
     let prefix = Item::copy_of(alloc, b"x")?;
     let dropped = Some(Item::copy_of(alloc, b"z")?);
     Ok(CountedProcessor {
         prefixer: PrefixProcessor::new(alloc, prefix, dropped, faults),
         forgets: told.forgets,
-        calls,
+        calls: Arc::try_clone(calls)?,
         noted: Vec::new(alloc),
     })
 }
 
 fn writer_of(alloc: Global, told: &Told<'_>, calls: &AllCalls) -> Result<CountedWriter, Fail> {
-    let calls = calls.writes.shared()?;
     let list = ListWriter::new(PackedList::new(alloc), plans(alloc, told.writes)?);
     Ok(CountedWriter {
         list,
-        calls,
+        calls: Arc::try_clone(calls)?,
         noted: Vec::new(alloc),
     })
 }
@@ -130,7 +128,7 @@ fn counting(alloc: Global, told: &Told<'_>, calls: &AllCalls) -> Result<Counting
         writer: writer_of(alloc, told, calls)?,
         collector: CountedCollector {
             counter: CountCollector::new(alloc),
-            calls: calls.collects.shared()?,
+            calls: Arc::try_clone(calls)?,
         },
     })
 }
@@ -181,11 +179,15 @@ fn name_of(outcome: &Outcome) -> &'static str {
 
 /// What came of attempts.
 #[derive(Drop)]
-struct Course {
+pub(super) struct Course {
     /// A line for each: how it ended, the calls in it, and where the row stands.
     lines: String,
     /// What each answered: its outcome, the row, how often calls were repeated in place, and the collector's texts.
     answers: Vec<u8>,
+    /// The calls of the reader, then those of the processor and of the writer.
+    noted: Vec<Call>,
+    /// The row's numbers, and the outputs.
+    left: String,
 }
 
 impl Course {
@@ -193,7 +195,34 @@ impl Course {
         Course {
             lines: String::new(alloc),
             answers: Vec::new(alloc),
+            noted: Vec::new(alloc),
+            left: String::new(alloc),
         }
+    }
+
+    /// Whether the attempts came to the same, by the same calls.
+    fn is_as(&self, other: &Course) -> bool {
+        self.lines.as_str() == other.lines.as_str()
+            && self.answers.as_slice() == other.answers.as_slice()
+            && self.noted.as_slice() == other.noted.as_slice()
+            && self.left.as_str() == other.left.as_str()
+    }
+
+    /// Adds what the attempts left.
+    fn end(&mut self, alloc: Global, row: &Row, artifacts: &Counting) -> Result<(), Fail> {
+        self.noted.extend_from_slice(&artifacts.reader.noted)?;
+        self.noted.extend_from_slice(&artifacts.processor.noted)?;
+        self.noted.extend_from_slice(&artifacts.writer.noted)?;
+        let numbers = format!(in alloc; "{:?}", row.numbers())?;
+        self.left.push_str(numbers.as_str())?;
+        for number in 0..artifacts.writer.count() {
+            let output = artifacts.writer.item_at(number).ok_or("an output")?;
+            self.left.push_str(" ")?;
+            self.left
+                .push_str(str::from_utf8(output).ok().ok_or("a text")?)?;
+        }
+        self.left.push_str("\n")?;
+        Ok(())
     }
 
     fn add<T: PartitionTask>(
@@ -242,77 +271,21 @@ fn attempts<T: PartitionTask>(
     Ok(task)
 }
 
-/// A partition whose chunks were attempted: its row, what came of the attempts, its outputs, each with a blank behind it, and the
-/// artifacts, which noted their calls.
-#[derive(Drop)]
-pub(super) struct Ran {
-    row: Row,
-    course: Course,
-    outputs: Vec<u8>,
-    artifacts: Counting,
-}
-
-impl Ran {
-    /// Whether the attempts came to the same, by the same calls.
-    fn is_as(&self, other: &Ran) -> bool {
-        self.row == other.row
-            && self.course.lines.as_str() == other.course.lines.as_str()
-            && self.course.answers.as_slice() == other.course.answers.as_slice()
-            && self.outputs.as_slice() == other.outputs.as_slice()
-            && self.artifacts.reader.noted.as_slice() == other.artifacts.reader.noted.as_slice()
-            && self.artifacts.processor.noted.as_slice()
-                == other.artifacts.processor.noted.as_slice()
-            && self.artifacts.writer.noted.as_slice() == other.artifacts.writer.noted.as_slice()
-    }
-}
-
-fn add_output(outputs: &mut Vec<u8>, text: Option<&[u8]>) -> Result<(), Fail> {
-    outputs.extend_from_slice(text.ok_or("an output")?)?;
-    outputs.push(b' ')?;
-    Ok(())
-}
-
-/// The outputs, each with a blank behind it.
-fn outputs_of(alloc: Global, writer: &CountedWriter) -> Result<Vec<u8>, Fail> {
-    let mut outputs = Vec::new(alloc);
-    for i in 0..writer.count() {
-        add_output(&mut outputs, writer.item_at(i))?;
-    }
-    Ok(outputs)
-}
-
-/// The calls of reader, processor and writer.
-fn noted_in(alloc: Global, artifacts: &Counting) -> Result<String, AllocError> {
-    format!(in alloc;
-        "{:?}\n{:?}\n{:?}\n",
-        artifacts.reader.noted, artifacts.processor.noted, artifacts.writer.noted
-    )
-}
-
-fn came_of(alloc: Global, row: Row, course: Course, artifacts: Counting) -> Result<Ran, Fail> {
-    let outputs = outputs_of(alloc, &artifacts.writer)?;
-    Ok(Ran {
-        row,
-        course,
-        outputs,
-        artifacts,
-    })
-}
-
 /// Attempts what was told with artifacts that own what they carry.
-fn owned(alloc: Global, told: &Told<'_>) -> Result<Ran, Fail> {
-    let calls = AllCalls::new(alloc)?;
+fn owned(alloc: Global, told: &Told<'_>) -> Result<Course, Fail> {
+    let calls = Calls::new(alloc)?;
     let mut course = Course::new(alloc);
     let artifacts = counting(alloc, told, &calls)?;
     let task = begun(told.records(), told.item_count, artifacts).ok_or("a task")?;
     let task = attempts(alloc, task, &calls, &mut course)?;
     let row = *task.row();
-    came_of(alloc, row, course, task.into_artifacts())
+    course.end(alloc, &row, &task.into_artifacts())?;
+    Ok(course)
 }
 
 /// And with the same artifacts where they lend and pack it: a record is lent for each call that processes it.
-fn lent(alloc: Global, told: &Told<'_>) -> Result<Ran, Fail> {
-    let calls = AllCalls::new(alloc)?;
+fn lent(alloc: Global, told: &Told<'_>) -> Result<Course, Fail> {
+    let calls = Calls::new(alloc)?;
     let mut course = Course::new(alloc);
     let inner = counting(alloc, told, &calls)?;
     let artifacts = PackedArtifacts { inner };
@@ -320,14 +293,15 @@ fn lent(alloc: Global, told: &Told<'_>) -> Result<Ran, Fail> {
     let task = attempts(alloc, task, &calls, &mut course)?;
     let row = *task.row();
     let PackedArtifacts { inner: artifacts } = task.into_artifacts();
-    if calls.lends.taken() != artifacts.processor.noted.len() as u64 {
+    if calls.lent() != artifacts.processor.noted.len() as u64 {
         return Err(Fail::from("a record lent for each call that processes it"));
     }
-    came_of(alloc, row, course, artifacts)
+    course.end(alloc, &row, &artifacts)?;
+    Ok(course)
 }
 
 /// Attempts what was told with both: they come to the same, by the same calls.
-pub(super) fn run(alloc: Global, told: &Told<'_>) -> Result<Ran, Fail> {
+pub(super) fn run(alloc: Global, told: &Told<'_>) -> Result<Course, Fail> {
     let ran = owned(alloc, told)?;
     if !ran.is_as(&lent(alloc, told)?) {
         return Err(Fail::from("the same where records are lent"));
@@ -351,17 +325,8 @@ committed 1 1 1 1 at 12, 6 written
 committed 1 1 1 2 at 13, 7 written
 ";
 
-/// What those attempts counted.
-const COUNTS: Counts = Counts {
-    read: 12,
-    write: 7,
-    commit: 9,
-    rollback: 2,
-    read_skip: 1,
-    process_skip: 0,
-    filter: 3,
-    write_skip: 1,
-};
+/// The row that those attempts leave, and the outputs.
+const LEFT: &str = "[0, 13, 13, 12, 2, 7, 12, 7, 9, 2, 1, 0, 3, 1, 0] xa xd xe xf xk xl xm\n";
 
 /// Each record that is tried is read once, and processed once if it was read. The writer is called once for a chunk that has a
 /// result, the collector once for each that is committed and once more at the end. After an attempt that found no memory the next
@@ -378,16 +343,14 @@ fn a_partition_with_skips_and_rollbacks(rt: HostRuntime) -> Result<(), Fail> {
         forgets: Some(3),
     };
     let ran = run(rt.alloc(), &told)?;
-    assert!(rt; ran.course.lines.as_str() == LOG);
-    assert!(rt; ran.row.counts == COUNTS);
-    assert!(rt; ran.outputs.as_slice() == b"xa xd xe xf xk xl xm ".as_slice());
+    assert!(rt; ran.lines.as_str() == LOG && ran.left.as_str().ends_with(LEFT));
     Ok(())
 }
 
 /// Whether the attempts at what was told are these lines.
 pub(super) fn is_logged(alloc: Global, told: &Told<'_>, lines: &str) -> Result<bool, Fail> {
     let ran = run(alloc, told)?;
-    Ok(ran.course.lines.as_str() == lines)
+    Ok(ran.lines.as_str() == lines)
 }
 
 /// Three records without a fault, two at a time.
@@ -443,53 +406,34 @@ fn faults<'a>(reads: &'a [Fault], processes: &'a [Fault], writes: &'a [Fault]) -
     }
 }
 
-/// What comes of a partition: a line for each attempt, the calls of reader, processor and writer, and the row's numbers.
+/// What comes of a partition: a line for each attempt, the calls of reader, processor and writer, the row's numbers and the outputs.
 fn story_of(alloc: Global, told: &Told<'_>) -> Result<String, Fail> {
-    let Ran {
-        row,
-        course,
-        outputs: _outputs,
-        artifacts,
-    } = run(alloc, told)?;
-    let Course {
-        lines: mut story,
-        answers: _answers,
-    } = course;
-    story.push_str(noted_in(alloc, &artifacts)?.as_str())?;
-    story.push_str(format!(in alloc; "{:?}\n", row.numbers())?.as_str())?;
-    Ok(story)
+    let ran = run(alloc, told)?;
+    Ok(format!(in alloc; "{}{:?}\n{}", ran.lines, ran.noted, ran.left)?)
 }
 
 const READ_AGAIN: &str = "committed 2 2 1 1 at 2, 2 written
 committed 3 2 1 2 at 4, 4 written
-[Open(0), Read(0), Read(1), Read(2), Read(3), Open(3), Read(3)]
-[Process(0, 'a'), Process(1, 'b'), Process(2, 'c'), Process(3, 'd')]
-[Open(0), Write(2), Write(2)]
-[0, 4, 4, 0, 1, 4, 4, 4, 2, 0, 0, 0, 0, 0, 1]
+[Open(0), Read(0), Read(1), Read(2), Read(3), Open(3), Read(3), Process(0, 'a'), Process(1, 'b'), Process(2, 'c'), Process(3, 'd'), Open(0), Write(2), Write(2)]
+[0, 4, 4, 0, 1, 4, 4, 4, 2, 0, 0, 0, 0, 0, 1] xa xb xc xd
 ";
 
 const PROCESSED_AGAIN: &str = "committed 2 2 1 1 at 2, 2 written
 committed 2 3 1 2 at 4, 4 written
-[Open(0), Read(0), Read(1), Read(2), Read(3)]
-[Process(0, 'a'), Process(1, 'b'), Process(2, 'c'), Process(2, 'c'), Process(3, 'd')]
-[Open(0), Write(2), Write(2)]
-[0, 4, 4, 0, 1, 4, 4, 4, 2, 0, 0, 0, 0, 0, 1]
+[Open(0), Read(0), Read(1), Read(2), Read(3), Process(0, 'a'), Process(1, 'b'), Process(2, 'c'), Process(2, 'c'), Process(3, 'd'), Open(0), Write(2), Write(2)]
+[0, 4, 4, 0, 1, 4, 4, 4, 2, 0, 0, 0, 0, 0, 1] xa xb xc xd
 ";
 
 const WRITTEN_AGAIN: &str = "committed 2 2 1 1 at 2, 2 written
 committed 2 2 2 2 at 4, 4 written
-[Open(0), Read(0), Read(1), Read(2), Read(3)]
-[Process(0, 'a'), Process(1, 'b'), Process(2, 'c'), Process(3, 'd')]
-[Open(0), Write(2), Write(2), Open(2), Write(2)]
-[0, 4, 4, 0, 1, 4, 4, 4, 2, 0, 0, 0, 0, 0, 1]
+[Open(0), Read(0), Read(1), Read(2), Read(3), Process(0, 'a'), Process(1, 'b'), Process(2, 'c'), Process(3, 'd'), Open(0), Write(2), Write(2), Open(2), Write(2)]
+[0, 4, 4, 0, 1, 4, 4, 4, 2, 0, 0, 0, 0, 0, 1] xa xb xc xd
 ";
 
 const ALL_AGAIN: &str = "committed 2 2 1 1 at 2, 2 written
 committed 3 3 2 2 at 4, 4 written
-[Open(0), Read(0), Read(1), Read(2), Open(2), Read(2), Read(3)]
-[Process(0, 'a'), Process(1, 'b'), Process(2, 'c'), Process(3, 'd'), Process(3, 'd')]
-[Open(0), Write(2), Write(2), Open(2), Write(2)]
-[0, 4, 4, 0, 3, 4, 4, 4, 2, 0, 0, 0, 0, 0, 3]
+[Open(0), Read(0), Read(1), Read(2), Open(2), Read(2), Read(3), Process(0, 'a'), Process(1, 'b'), Process(2, 'c'), Process(3, 'd'), Process(3, 'd'), Open(0), Write(2), Write(2), Open(2), Write(2)]
+[0, 4, 4, 0, 3, 4, 4, 4, 2, 0, 0, 0, 0, 0, 3] xa xb xc xd
 ";
 
 /// A call that is repeated in place is made once more, with the same record, item or list; before a read the reader is opened at the
@@ -589,7 +533,7 @@ enum Form {
 
 /// The calls of the artifacts when a record was done.
 fn calls_at_a_record(alloc: Global, form: Form) -> Result<String, Fail> {
-    let calls = AllCalls::new(alloc)?;
+    let calls = Calls::new(alloc)?;
     let told = no_fault();
     match form {
         Form::Bare => do_a_record(alloc, counting(alloc, &told, &calls)?)?,

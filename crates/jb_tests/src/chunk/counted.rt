@@ -12,32 +12,57 @@ use jb_rules::Row;
 use std::alloc::{AllocError, Global};
 use std::sync::Arc;
 use std::sync::atomic::{AtomicU64, Ordering};
-use std::test::*;
 
-/// The calls of an artifact so far.
+/// How often reader, processor, writer and collector were called since this was asked last, and how often a record was lent.
 #[derive(Drop)]
 pub(super) struct Calls {
-    made: Arc<AtomicU64, Global>,
+    reads: AtomicU64,
+    processes: AtomicU64,
+    writes: AtomicU64,
+    collects: AtomicU64,
+    lends: AtomicU64,
+}
+
+/// The calls of artifacts that work on the same partition.
+pub(super) type AllCalls = Arc<Calls, Global>;
+
+fn count(made: &AtomicU64) {
+    made.fetch_add(1, Ordering::SeqCst);
+}
+
+fn taken(made: &AtomicU64) -> u64 {
+    made.swap(0, Ordering::SeqCst)
 }
 
 impl Calls {
-    fn new(alloc: Global) -> Result<Calls, AllocError> {
-        let made = Arc::new(alloc, AtomicU64::new(0))?;
-        Ok(Calls { made })
+    pub(super) fn new(alloc: Global) -> Result<AllCalls, AllocError> {
+        let calls = Calls {
+            reads: AtomicU64::new(0),
+            processes: AtomicU64::new(0),
+            writes: AtomicU64::new(0),
+            collects: AtomicU64::new(0),
+            lends: AtomicU64::new(0),
+        };
+        Ok(Arc::new(alloc, calls)?)
     }
 
-    pub(super) fn shared(&self) -> Result<Calls, Fail> {
-        let made = Arc::try_clone(&self.made)?;
-        Ok(Calls { made })
+    /// How often a record was lent.
+    pub(super) fn lent(&self) -> u64 {
+        taken(&self.lends)
     }
 
-    fn count(&self) {
-        self.made.fetch_add(1, Ordering::SeqCst);
-    }
-
-    /// How many were made since this was asked last.
-    pub(super) fn taken(&self) -> u64 {
-        self.made.swap(0, Ordering::SeqCst)
+    /// A line of an attempt that ended so and left this row: the calls in it, of reader, processor, writer and collector, and
+    /// where the row stands.
+    pub(super) fn line(&self, alloc: Global, end: &str, row: &Row) -> Result<String, AllocError> {
+        let reads = taken(&self.reads);
+        let processes = taken(&self.processes);
+        let writes = taken(&self.writes);
+        let collects = taken(&self.collects);
+        let at = row.at;
+        let written = row.written;
+        format!(in alloc;
+            "{end} {reads} {processes} {writes} {collects} at {at}, {written} written\n"
+        )
     }
 }
 
@@ -62,9 +87,7 @@ fn note(noted: &mut Vec<Call>, call: Call) {
 #[derive(Drop)]
 pub(super) struct CountedReader {
     pub(super) table: TableReader,
-    pub(super) calls: Calls,
-    /// How often a record was lent.
-    pub(super) lends: Calls,
+    pub(super) calls: AllCalls,
     pub(super) noted: Vec<Call>,
 }
 
@@ -89,7 +112,7 @@ impl ItemReader for CountedReader {
     }
 
     fn read_item(&mut self) -> Result<Option<Item>, ArtifactError> {
-        self.calls.count();
+        count(&self.calls.reads);
         note(&mut self.noted, Call::Read(self.table.place()));
         self.table.read_item()
     }
@@ -97,13 +120,13 @@ impl ItemReader for CountedReader {
 
 impl LendingReader for CountedReader {
     fn pass_item(&mut self) -> Result<(), ArtifactError> {
-        self.calls.count();
+        count(&self.calls.reads);
         note(&mut self.noted, Call::Read(self.table.place()));
         self.table.pass_item()
     }
 
     fn record(&self, number: u64) -> &[u8] {
-        self.lends.count();
+        count(&self.calls.lends);
         self.table.record(number)
     }
 }
@@ -113,7 +136,7 @@ impl LendingReader for CountedReader {
 pub(super) struct CountedProcessor {
     pub(super) prefixer: PrefixProcessor,
     pub(super) forgets: Option<u64>,
-    pub(super) calls: Calls,
+    pub(super) calls: AllCalls,
     pub(super) noted: Vec<Call>,
 }
 
@@ -122,7 +145,7 @@ impl CountedProcessor {
     fn finds_memory(&mut self, number: u64, item: &[u8]) -> bool
         ensures { self.new.prefixer ≡ self.old.prefixer }
     {
-        self.calls.count();
+        count(&self.calls.processes);
         let letter = item.first().map_or(' ', |letter| char::from(*letter));
         note(&mut self.noted, Call::Process(number, letter));
         if self.forgets != Some(number) {
@@ -161,7 +184,7 @@ impl PackingProcessor for CountedProcessor {
 #[derive(Drop)]
 pub(super) struct CountedWriter {
     pub(super) list: ListWriter,
-    pub(super) calls: Calls,
+    pub(super) calls: AllCalls,
     pub(super) noted: Vec<Call>,
 }
 
@@ -178,7 +201,7 @@ impl ItemWriter for CountedWriter {
     }
 
     fn write_items(&mut self, results: &[(u64, Item)]) -> Result<(), ArtifactError> {
-        self.calls.count();
+        count(&self.calls.writes);
         note(&mut self.noted, Call::Write(results.len()));
         self.list.write_items(results)
     }
@@ -190,7 +213,7 @@ impl ItemWriter for CountedWriter {
 
 impl PackedWriter for CountedWriter {
     fn write_packed(&mut self, results: &PackedResults) -> Result<(), ArtifactError> {
-        self.calls.count();
+        count(&self.calls.writes);
         note(&mut self.noted, Call::Write(results.len()));
         self.list.write_packed(results)
     }
@@ -199,14 +222,14 @@ impl PackedWriter for CountedWriter {
 #[derive(Drop)]
 pub(super) struct CountedCollector {
     pub(super) counter: CountCollector,
-    pub(super) calls: Calls,
+    pub(super) calls: AllCalls,
 }
 
 impl Collector for CountedCollector {
     ghost collected = { λ c. ⟦<CountCollector as Collector>⟧.collected c.counter };
 
     fn collect(&self, view: &RowView) -> Result<Item, AllocError> {
-        self.calls.count();
+        count(&self.calls.collects);
         self.counter.collect(view)
     }
 }
@@ -217,39 +240,3 @@ pub(super) type Counting = ArtifactsOf<
     CountedWriter,
     CountedCollector,
 >;
-
-/// The calls of reader, processor, writer and collector, and how often a record was lent.
-#[derive(Drop)]
-pub(super) struct AllCalls {
-    pub(super) reads: Calls,
-    pub(super) processes: Calls,
-    pub(super) writes: Calls,
-    pub(super) collects: Calls,
-    pub(super) lends: Calls,
-}
-
-impl AllCalls {
-    pub(super) fn new(alloc: Global) -> Result<AllCalls, AllocError> {
-        Ok(AllCalls {
-            reads: Calls::new(alloc)?,
-            processes: Calls::new(alloc)?,
-            writes: Calls::new(alloc)?,
-            collects: Calls::new(alloc)?,
-            lends: Calls::new(alloc)?,
-        })
-    }
-
-    /// A line of an attempt that ended so and left this row: the calls in it, of reader, processor, writer and collector, and
-    /// where the row stands.
-    pub(super) fn line(&self, alloc: Global, end: &str, row: &Row) -> Result<String, AllocError> {
-        let reads = self.reads.taken();
-        let processes = self.processes.taken();
-        let writes = self.writes.taken();
-        let collects = self.collects.taken();
-        let at = row.at;
-        let written = row.written;
-        format!(in alloc;
-            "{end} {reads} {processes} {writes} {collects} at {at}, {written} written\n"
-        )
-    }
-}

@@ -1,32 +1,20 @@
 //! An attempt whose memory is refused, and the one after it.
 
 use super::calls::{begun, waits};
-use jb_artifacts::{
-    ArtifactsOf, CountCollector, FaultPlans, Item, ItemWriter, ListWriter, PrefixProcessor,
-    TableReader,
-};
-use jb_base::PackedList;
+use super::rows::{Works, works};
+use crate::artifacts::records;
+use jb_artifacts::ItemWriter;
 use jb_chunk::{Done, Outcome, PartitionTask, Task};
 use std::alloc::Global;
 use std::process::Abort;
 use std::test::*;
 
-pub(crate) type Plain = Task<ArtifactsOf<TableReader, PrefixProcessor, ListWriter, CountCollector>>;
+pub(crate) type Plain = Task<Works>;
 
 /// A task over two letters, which are one chunk, with a processor that puts an x before each.
 fn letters(alloc: Global) -> Option<Plain> {
-    let mut records = PackedList::new(alloc);
-    for byte in b"ab" {
-        records.push(&[*byte]).ok()?;
-    }
-    let prefix = Item::copy_of(alloc, b"x").ok()?;
-    let artifacts = ArtifactsOf {
-        reader: TableReader::new(alloc, 0, records, FaultPlans::new(alloc)),
-        processor: PrefixProcessor::new(alloc, prefix, None, FaultPlans::new(alloc)),
-        writer: ListWriter::new(PackedList::new(alloc), FaultPlans::new(alloc)),
-        collector: CountCollector::new(alloc),
-    };
-    begun(2, 2, artifacts)
+    let records = records(alloc, &["a", "b"]).ok()?;
+    begun(2, 2, works(alloc, records).ok()?)
 }
 
 /// An attempt at the task's chunk, if it may be attempted.

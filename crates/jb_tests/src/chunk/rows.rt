@@ -11,7 +11,7 @@ use std::alloc::{AllocError, Global};
 use std::test::*;
 
 /// What a partition works with.
-type Works = ArtifactsOf<TableReader, PrefixProcessor, ListWriter, CountCollector>;
+pub(super) type Works = ArtifactsOf<TableReader, PrefixProcessor, ListWriter, CountCollector>;
 
 /// What a partition that ran alone left.
 #[derive(Drop)]
@@ -30,7 +30,7 @@ fn letters(alloc: Global) -> Result<PackedList, Fail> {
 }
 
 /// What a partition of these records works with.
-fn works(alloc: Global, records: PackedList) -> Result<Works, Fail> {
+pub(super) fn works(alloc: Global, records: PackedList) -> Result<Works, AllocError> {
     let prefix = Item::copy_of(alloc, b"x")?;
     Ok(ArtifactsOf {
         reader: TableReader::new(alloc, 0, records, FaultPlans::new(alloc)),
