@@ -1,21 +1,18 @@
 -- The partitions of a step's run, each by itself.
 use Rattle.std.proofs.Common.{◌≡◌, ℕ, ◌+◌, ◌≤◌, ◌<◌, Bool, true, false, cond, List, [], ◌∷◌, length, map, take, Option, Some, None, refl, ap, ap₂, sym, ◌∙◌, subst, arith}
-use Rattle.std.specs.Prelude.{◌==◌, nat_eq, find, slice_index_or}
+use Rattle.std.specs.Prelude.{◌==◌, nat_eq, find}
 use Rattle.std.proofs.lemmas.List.{length-take-le}
 use Rattle.std.specs.List.{enumerate_from, zip, AllByRecursion}
-use Rattle.std.specs.Str.Lossy.{utf8_lossy}
 use Rattle.std.proofs.lemmas.Bool.Decides.{nat_tests}
 use Rattle.jb_base.specs.Limits.{max_retry_limit}
 use Rattle.jb_job.specs.Records.{StepRecord}
-use Rattle.jb_rules.specs.Rows.{fresh_row}
 use Rattle.jb_rules.specs.States.{has_ended, is_finished}
 use Rattle.jb_rules.specs.declared.row.Row.{Row}
 use Rattle.jb_artifacts.specs.Meaning.{ArtifactsMeaning}
 use Rattle.jb_chunk.specs.Alone.{IsAlone, IsOnTheWay, IsRunOf}
 use Rattle.jb_chunk.specs.Attempt.{AttemptEnd}
 use Rattle.jb_chunk.specs.Standing.{HasItemCount, IsReady, TaskState, started}
-use Rattle.jb_repo.specs.declared.snapshot.Snapshot.{Snapshot}
-use Rattle.jb_step.specs.Answers.{tasks_left}
+use Rattle.jb_step.specs.Answers.{artifacts_of}
 use Rattle.jb_step.specs.preparing.Setup.{Setup, row_now, rows_now}
 use Rattle.jb_step.specs.Alone.{AreOnTheWay}
 use Rattle.jb_documents.specs.declared.run.step_data.StepData.{StepData}
@@ -89,111 +86,109 @@ abbrev tasks_of : StepRecord → StepData → (outputs : List (List (List ℕ)))
 tasks_of step supply outputs ns = map (λ n. started n.0.0 n.0.1 step.rules step.item_count n.1) (zip ns (map (work_for (settings_of step supply) supply.records outputs) ns))
 
 -- a partition that is not among these has its first row, and no writer came back from it
-abbrev IsAbove : ℕ → List (ℕ × ArtifactsMeaning) → Type 0
-IsAbove k left = AllByRecursion (λ (a : ℕ × ArtifactsMeaning). k < a.0) left
+abbrev IsAbove : ℕ → List TaskState → Type 0
+IsAbove k ends = AllByRecursion (λ (t : TaskState). k < t.partition) ends
 
 none-now : (b : Bool) (row other rest : Row) → b ≡ false → rest ≡ other → cond b row rest ≡ other
 none-now true row other rest e is = let never : ⊥ = cc in absurd never
 none-now false row other rest e is = is
 
-other-now : (s : Setup) (snapshot : Snapshot) (k : ℕ) (row : Row) (left : List (ℕ × ArtifactsMeaning)) → IsAbove k left → row_now (tasks_left s snapshot left) k row ≡ row
-other-now s snapshot k row [] above = refl
-other-now s snapshot k row (a ∷ left) above =
+other-now : (k : ℕ) (row : Row) (ends : List TaskState) → IsAbove k ends → row_now ends k row ≡ row
+other-now k row [] above = refl
+other-now k row (t ∷ ends) above =
     let here = above.0 in
-    let differs : nat_eq a.0 k ≡ false = grind (arith, nat_tests, here) in
-    none-now (nat_eq a.0 k) _ row (row_now (tasks_left s snapshot left) k row) differs (other-now s snapshot k row left above.1)
+    let differs : nat_eq t.partition k ≡ false = grind (arith, nat_tests, here) in
+    none-now (nat_eq t.partition k) _ row (row_now ends k row) differs (other-now k row ends above.1)
 
 none-found : (b : Bool) (a : ℕ × ArtifactsMeaning) (rest : Option (ℕ × ArtifactsMeaning)) → b ≡ false → rest ≡ None → cond b (Some a) rest ≡ None
 none-found true a rest e is = let never : ⊥ = cc in absurd never
 none-found false a rest e is = is
 
-other-found : (k : ℕ) (left : List (ℕ × ArtifactsMeaning)) → IsAbove k left → find (λ one. one.0 == k) left ≡ None
+other-found : (k : ℕ) (ends : List TaskState) → IsAbove k ends → find (λ one. one.0 == k) (artifacts_of ends) ≡ None
 other-found k [] above = refl
-other-found k (a ∷ left) above =
+other-found k (t ∷ ends) above =
     let here = above.0 in
-    let differs : (a.0 == k) ≡ false = grind (arith, nat_tests, here) in
-    none-found (a.0 == k) a (find (λ one. one.0 == k) left) differs (other-found k left above.1)
+    let differs : (t.partition == k) ≡ false = grind (arith, nat_tests, here) in
+    none-found (t.partition == k) (t.partition, t.work) (find (λ one. one.0 == k) (artifacts_of ends)) differs (other-found k ends above.1)
 
 -- what is left of a partition doesn't count for the ones behind it
-rest-from : (outputs : List (List (List ℕ))) (s : Setup) (snapshot : Snapshot) (a : ℕ × ArtifactsMeaning) (left : List (ℕ × ArtifactsMeaning)) (k : ℕ) (rows : List Row) → a.0 < k
-    → reports_from outputs (tasks_left s snapshot (a ∷ left)) (a ∷ left) k rows ≡ reports_from outputs (tasks_left s snapshot left) left k rows
-rest-from outputs s snapshot a left k [] before = refl
-rest-from outputs s snapshot a left k (row ∷ rows) before =
-    let now : nat_eq a.0 k ≡ false = grind (arith, nat_tests, before) in
-    let found : (a.0 == k) ≡ false = now in
-    let same : row_now (tasks_left s snapshot (a ∷ left)) k row ≡ row_now (tasks_left s snapshot left) k row =
-    ap (λ b. cond b (slice_index_or snapshot.rows.items a.0 (fresh_row (record { lo = 0; hi = 0 }))) (row_now (tasks_left s snapshot left) k row)) now in
-    let other : find (λ one. one.0 == k) (a ∷ left) ≡ find (λ one. one.0 == k) left = ap (λ b. cond b (Some a) (find (λ one. one.0 == k) left)) found in
+rest-from : (outputs : List (List (List ℕ))) (t : TaskState) (ends : List TaskState) (k : ℕ) (rows : List Row) → t.partition < k
+    → reports_from outputs (t ∷ ends) (artifacts_of (t ∷ ends)) k rows ≡ reports_from outputs ends (artifacts_of ends) k rows
+rest-from outputs t ends k [] before = refl
+rest-from outputs t ends k (row ∷ rows) before =
+    let now : nat_eq t.partition k ≡ false = grind (arith, nat_tests, before) in
+    let found : (t.partition == k) ≡ false = now in
+    let same : row_now (t ∷ ends) k row ≡ row_now ends k row = ap (λ b. cond b t.row (row_now ends k row)) now in
+    let left = artifacts_of ends in
+    let other : find (λ one. one.0 == k) (artifacts_of (t ∷ ends)) ≡ find (λ one. one.0 == k) left = ap (λ b. cond b (Some (t.partition, t.work)) (find (λ one. one.0 == k) left)) found in
     ap₂ ◌∷◌
     (λ i. record { row = same i; outputs = outputs_in (committed_of outputs (k, same i)) (other i) })
-    (rest-from outputs s snapshot a left (k + 1) rows (omega (arith, before)))
+    (rest-from outputs t ends (k + 1) rows (omega (arith, before)))
 
--- all that came back is behind a partition, if all that began is
-left-above : (step : StepRecord) (supply : StepData) (outputs : List (List (List ℕ))) (s : Setup) (snapshot : Snapshot) (k : ℕ) (ns : List (ℕ × Row)) (left : List (ℕ × ArtifactsMeaning)) → AllByRecursion (λ (m : ℕ × Row). k < m.0) ns
-    → AreOnTheWay (tasks_of step supply outputs ns) (tasks_left s snapshot left) → IsAbove k left
-left-above step supply outputs s snapshot k [] [] above way = tt
-left-above step supply outputs s snapshot k [] (a ∷ left) above way = absurd way
-left-above step supply outputs s snapshot k (n ∷ ns) [] above way = tt
-left-above step supply outputs s snapshot k (n ∷ ns) (a ∷ left) above way =
-    let same : a.0 ≡ n.0 = same-number _ _ way.0.attempts way.0.run in
+-- all that was left is behind a partition, if all that began is
+ends-above : (step : StepRecord) (supply : StepData) (outputs : List (List (List ℕ))) (k : ℕ) (ns : List (ℕ × Row)) (ends : List TaskState) → AllByRecursion (λ (m : ℕ × Row). k < m.0) ns
+    → AreOnTheWay (tasks_of step supply outputs ns) ends → IsAbove k ends
+ends-above step supply outputs k [] [] above way = tt
+ends-above step supply outputs k [] (t ∷ ends) above way = absurd way
+ends-above step supply outputs k (n ∷ ns) [] above way = tt
+ends-above step supply outputs k (n ∷ ns) (t ∷ ends) above way =
+    let same : t.partition ≡ n.0 = same-number _ t way.0.attempts way.0.run in
     let here = above.0 in
-    (omega (arith, same, here), left-above step supply outputs s snapshot k ns left above.1 way.1)
+    (omega (arith, same, here), ends-above step supply outputs k ns ends above.1 way.1)
 
 -- ---- the induction
 
-abbrev Runs : StepRecord → StepData → (outputs : List (List (List ℕ))) → Setup → Snapshot → ℕ → List Row → List (ℕ × Row) → Type 0
-Runs step supply outputs s snapshot k rows ns =
-    (left : List (ℕ × ArtifactsMeaning)) → AreOnTheWay (tasks_of step supply outputs ns) (tasks_left s snapshot left)
-    → ArePartitionRuns (begun_with (settings_of step supply) supply.records outputs) k rows (reports_from outputs (tasks_left s snapshot left) left k rows)
+abbrev Runs : StepRecord → StepData → (outputs : List (List (List ℕ))) → ℕ → List Row → List (ℕ × Row) → Type 0
+Runs step supply outputs k rows ns =
+    (ends : List TaskState) → AreOnTheWay (tasks_of step supply outputs ns) ends
+    → ArePartitionRuns (begun_with (settings_of step supply) supply.records outputs) k rows (reports_from outputs ends (artifacts_of ends) k rows)
 
 -- one partition more, which was finished before
-none-more : LawsOfTheCratesBelow → (step : StepRecord) (supply : StepData) (outputs : List (List (List ℕ))) (s : Setup) (snapshot : Snapshot) (k : ℕ) (row : Row) (rows : List Row) → AreKept (settings_of step supply)
-    → IsOpening (length supply.records) outputs k row → Runs step supply outputs s snapshot (k + 1) rows (open_from (k + 1) rows) → Runs step supply outputs s snapshot k (row ∷ rows) (open_from (k + 1) rows)
-none-more below step supply outputs s snapshot k row rows kept opens rest left way =
+none-more : LawsOfTheCratesBelow → (step : StepRecord) (supply : StepData) (outputs : List (List (List ℕ))) (k : ℕ) (row : Row) (rows : List Row) → AreKept (settings_of step supply)
+    → IsOpening (length supply.records) outputs k row → Runs step supply outputs (k + 1) rows (open_from (k + 1) rows) → Runs step supply outputs k (row ∷ rows) (open_from (k + 1) rows)
+none-more below step supply outputs k row rows kept opens rest ends way =
     let settings = settings_of step supply in
     let begun = begun_with settings supply.records outputs k row in
-    let above = left-above step supply outputs s snapshot k (open_from (k + 1) rows) left (open-above k (k + 1) rows (omega arith)) way in
-    let table = tasks_left s snapshot left in
-    let now : row ≡ row_now table k row = sym (other-now s snapshot k row left above) in
-    let found : None ≡ find (λ one. one.0 == k) left = sym (other-found k left above) in
-    let is : report_of begun ≡ report_at outputs table left (k, row) = λ i. record { row = now i; outputs = outputs_in (committed_of outputs (k, now i)) (found i) } in (
+    let above = ends-above step supply outputs k (open_from (k + 1) rows) ends (open-above k (k + 1) rows (omega arith)) way in
+    let now : row ≡ row_now ends k row = sym (other-now k row ends above) in
+    let found : None ≡ find (λ one. one.0 == k) (artifacts_of ends) = sym (other-found k ends above) in
+    let is : report_of begun ≡ report_at outputs ends (artifacts_of ends) (k, row) = λ i. record { row = now i; outputs = outputs_in (committed_of outputs (k, now i)) (found i) } in (
       subst (λ (one : PartitionReport). IsPartitionRun begun one) is (leaves below settings supply.records outputs k row begun kept opens (record { attempts = []; run = refl })),
-      rest left way,
+      rest ends way,
     )
 
 -- one partition more, which was run
-one-more : LawsOfTheCratesBelow → (step : StepRecord) (supply : StepData) (outputs : List (List (List ℕ))) (s : Setup) (snapshot : Snapshot) (k : ℕ) (row : Row) (rows : List Row) → AreKept (settings_of step supply)
-    → IsOpening (length supply.records) outputs k row → Runs step supply outputs s snapshot (k + 1) rows (open_from (k + 1) rows) → Runs step supply outputs s snapshot k (row ∷ rows) ((k, row) ∷ open_from (k + 1) rows)
-one-more below step supply outputs s snapshot k row rows kept opens rest [] way = absurd way
-one-more below step supply outputs s snapshot k row rows kept opens rest (a ∷ left) way =
+one-more : LawsOfTheCratesBelow → (step : StepRecord) (supply : StepData) (outputs : List (List (List ℕ))) (k : ℕ) (row : Row) (rows : List Row) → AreKept (settings_of step supply)
+    → IsOpening (length supply.records) outputs k row → Runs step supply outputs (k + 1) rows (open_from (k + 1) rows) → Runs step supply outputs k (row ∷ rows) ((k, row) ∷ open_from (k + 1) rows)
+one-more below step supply outputs k row rows kept opens rest [] way = absurd way
+one-more below step supply outputs k row rows kept opens rest (t ∷ ends) way =
     let settings = settings_of step supply in
     let begun = begun_with settings supply.records outputs k row in
-    let same : a.0 ≡ k = same-number _ _ way.0.attempts way.0.run in
-    let before : a.0 < k + 1 = omega (arith, same) in
-    let yes : nat_eq a.0 k ≡ true = grind (arith, nat_tests, same) in
-    let found : (a.0 == k) ≡ true = yes in
-    let table = tasks_left s snapshot (a ∷ left) in
-    let after = slice_index_or snapshot.rows.items a.0 (fresh_row (record { lo = 0; hi = 0 })) in
-    let is : record { row = after; outputs = map utf8_lossy a.1.writer.written } ≡ report_at outputs table (a ∷ left) (k, row) = λ i. record {
-      row = ap (λ b. cond b after (row_now (tasks_left s snapshot left) k row)) (sym yes) i;
-      outputs = ap (λ b. outputs_in (committed_of outputs (k, row_now table k row)) (cond b (Some a) (find (λ one. one.0 == k) left))) (sym found) i;
+    let same : t.partition ≡ k = same-number _ t way.0.attempts way.0.run in
+    let before : t.partition < k + 1 = omega (arith, same) in
+    let yes : nat_eq t.partition k ≡ true = grind (arith, nat_tests, same) in
+    let found : (t.partition == k) ≡ true = yes in
+    let left = artifacts_of ends in
+    let is : report_of t ≡ report_at outputs (t ∷ ends) (artifacts_of (t ∷ ends)) (k, row) = λ i. record {
+      row = ap (λ b. cond b t.row (row_now ends k row)) (sym yes) i;
+      outputs = ap (λ b. outputs_in (committed_of outputs (k, row_now (t ∷ ends) k row)) (cond b (Some (t.partition, t.work)) (find (λ one. one.0 == k) left))) (sym found) i;
     } in (
-      subst (λ (one : PartitionReport). IsPartitionRun begun one) is (leaves below settings supply.records outputs k row _ kept opens way.0),
-      subst (λ (others : List PartitionReport). ArePartitionRuns (begun_with settings supply.records outputs) (k + 1) rows others) (sym (rest-from outputs s snapshot a left (k + 1) rows before)) (rest left way.1),
+      subst (λ (one : PartitionReport). IsPartitionRun begun one) is (leaves below settings supply.records outputs k row t kept opens way.0),
+      subst (λ (others : List PartitionReport). ArePartitionRuns (begun_with settings supply.records outputs) (k + 1) rows others) (sym (rest-from outputs t ends (k + 1) rows before)) (rest ends way.1),
     )
 
-next : LawsOfTheCratesBelow → (step : StepRecord) (supply : StepData) (outputs : List (List (List ℕ))) (s : Setup) (snapshot : Snapshot) (k : ℕ) (row : Row) (rows : List Row) (finished : Bool) → AreKept (settings_of step supply)
-    → IsOpening (length supply.records) outputs k row → is_finished row.state ≡ finished → Runs step supply outputs s snapshot (k + 1) rows (open_from (k + 1) rows) → Runs step supply outputs s snapshot k (row ∷ rows) (open_from k (row ∷ rows))
-next below step supply outputs s snapshot k row rows true kept opens is rest =
-    subst (λ ns. Runs step supply outputs s snapshot k (row ∷ rows) ns) (sym (open-none k row rows is)) (none-more below step supply outputs s snapshot k row rows kept opens rest)
-next below step supply outputs s snapshot k row rows false kept opens is rest =
-    subst (λ ns. Runs step supply outputs s snapshot k (row ∷ rows) ns) (sym (open-more k row rows is)) (one-more below step supply outputs s snapshot k row rows kept opens rest)
+next : LawsOfTheCratesBelow → (step : StepRecord) (supply : StepData) (outputs : List (List (List ℕ))) (k : ℕ) (row : Row) (rows : List Row) (finished : Bool) → AreKept (settings_of step supply)
+    → IsOpening (length supply.records) outputs k row → is_finished row.state ≡ finished → Runs step supply outputs (k + 1) rows (open_from (k + 1) rows) → Runs step supply outputs k (row ∷ rows) (open_from k (row ∷ rows))
+next below step supply outputs k row rows true kept opens is rest =
+    subst (λ ns. Runs step supply outputs k (row ∷ rows) ns) (sym (open-none k row rows is)) (none-more below step supply outputs k row rows kept opens rest)
+next below step supply outputs k row rows false kept opens is rest =
+    subst (λ ns. Runs step supply outputs k (row ∷ rows) ns) (sym (open-more k row rows is)) (one-more below step supply outputs k row rows kept opens rest)
 
-runs-from : LawsOfTheCratesBelow → (step : StepRecord) (supply : StepData) (outputs : List (List (List ℕ))) (s : Setup) (snapshot : Snapshot) (k : ℕ) (rows : List Row) → AreKept (settings_of step supply)
-    → AreOpening (length supply.records) outputs k rows → Runs step supply outputs s snapshot k rows (open_from k rows)
-runs-from below step supply outputs s snapshot k [] kept opens = λ left way. refl
-runs-from below step supply outputs s snapshot k (row ∷ rows) kept opens =
-    next below step supply outputs s snapshot k row rows (is_finished row.state) kept opens.0 refl (runs-from below step supply outputs s snapshot (k + 1) rows kept opens.1)
+runs-from : LawsOfTheCratesBelow → (step : StepRecord) (supply : StepData) (outputs : List (List (List ℕ))) (k : ℕ) (rows : List Row) → AreKept (settings_of step supply)
+    → AreOpening (length supply.records) outputs k rows → Runs step supply outputs k rows (open_from k rows)
+runs-from below step supply outputs k [] kept opens = λ ends way. refl
+runs-from below step supply outputs k (row ∷ rows) kept opens =
+    next below step supply outputs k row rows (is_finished row.state) kept opens.0 refl (runs-from below step supply outputs (k + 1) rows kept opens.1)
 
 -- ---- as the report has them
 
@@ -203,12 +198,10 @@ left-from outputs table left k [] = refl
 left-from outputs table left k (row ∷ rows) = ap (λ others. report_at outputs table left (k, row) ∷ others) (left-from outputs table left (k + 1) rows)
 
 -- each partition left what it leaves by itself
-pub partition-runs : LawsOfTheCratesBelow → (step : StepRecord) (supply : StepData) (outputs : List (List (List ℕ))) (s : Setup) (snapshot : Snapshot) (left : List (ℕ × ArtifactsMeaning)) → AreKept (settings_of step supply)
-    → AreOpening (length supply.records) outputs 0 s.rows → AreOnTheWay (tasks_of step supply outputs (open_from 0 s.rows)) (tasks_left s snapshot left)
-    → snapshot.rows.items ≡ rows_now s.rows (tasks_left s snapshot left)
-    → ArePartitionRuns (begun_with (settings_of step supply) supply.records outputs) 0 s.rows (partitions_left outputs snapshot.rows.items left)
-partition-runs below step supply outputs s snapshot left kept opens way rows =
-    let table = tasks_left s snapshot left in
+pub partition-runs : LawsOfTheCratesBelow → (step : StepRecord) (supply : StepData) (outputs : List (List (List ℕ))) (s : Setup) (rows : List Row) (left : List (ℕ × ArtifactsMeaning)) (ends : List TaskState) → AreKept (settings_of step supply)
+    → AreOpening (length supply.records) outputs 0 s.rows → AreOnTheWay (tasks_of step supply outputs (open_from 0 s.rows)) ends → rows ≡ rows_now s.rows ends → left ≡ artifacts_of ends
+    → ArePartitionRuns (begun_with (settings_of step supply) supply.records outputs) 0 s.rows (partitions_left outputs rows left)
+partition-runs below step supply outputs s rows left ends kept opens way are came_back =
     subst (λ (reports : List PartitionReport). ArePartitionRuns (begun_with (settings_of step supply) supply.records outputs) 0 s.rows reports)
-    (sym (ap (λ all. partitions_left outputs all left) rows ∙ left-from outputs table left 0 s.rows))
-    (runs-from below step supply outputs s snapshot 0 s.rows kept opens left way)
+    (sym (ap₂ (partitions_left outputs) are came_back ∙ left-from outputs ends (artifacts_of ends) 0 s.rows))
+    (runs-from below step supply outputs 0 s.rows kept opens ends way)

@@ -17,12 +17,11 @@ use Rattle.jb_collect.specs.Taken.{calls_of, well}
 use Rattle.jb_repo.specs.declared.snapshot.Snapshot.{Snapshot}
 use Rattle.jb_saved.specs.SavedRows.{SavedRows}
 use Rattle.jb_cert.specs.declared.notes.PlanNote.{PlanNote}
-use Rattle.jb_step.specs.Answers.{IsRunOfStep, tasks_left}
+use Rattle.jb_step.specs.Answers.{AreLeftOnTheWay, IsRunOfStep, tasks_left}
 use Rattle.jb_step.specs.Headline.{Headline}
 use Rattle.jb_step.specs.preparing.Prepare.{DoFit}
 use Rattle.jb_step.specs.preparing.Setup.{IsSetup, Setup, discards, first_tasks, gone_on, row_now, rows_now, saved_faults}
 use Rattle.jb_step.specs.Statuses.{status_of}
-use Rattle.jb_step.specs.Alone.{AreOnTheWay}
 use Rattle.jb_documents.specs.declared.restart.resume.Resume.{Resume}
 use Rattle.jb_documents.specs.declared.run.step_data.StepData.{StepData}
 use Rattle.jb_program.specs.declared.run.settings.StepSettings.{StepSettings}
@@ -99,7 +98,7 @@ pub step-run : LawsOfTheCratesBelow → (step : StepRecord) (supply : StepData) 
     (works : List ArtifactsMeaning) (snapshot : Snapshot) (left : List (ℕ × ArtifactsMeaning)) (id : List ℕ) (status : Status) (plans : List PlanNote) (heard silent listened : List AnalyzerCall) (reducer begun recorded : List ReducerCall)
     → AreGiven step resume count prepared records outputs → records ≡ supply.records → settings ≡ settings_of step supply → AreKept settings → works ≡ works_for settings records outputs prepared.rows
     → silent ≡ [] → IsRunOfStep (run_with prepared works round_limit (map well silent) (map well listened) plans snapshot left)
-    → Headline (run_with prepared works round_limit (map well silent) (map well listened) plans snapshot left) → AreOnTheWay (first_tasks prepared works) (tasks_left prepared snapshot left)
+    → Headline (run_with prepared works round_limit (map well silent) (map well listened) plans snapshot left) → AreLeftOnTheWay (first_tasks prepared works) snapshot.rows.items left
     → status ≡ status_of snapshot.rows.items false → begun ≡ calls_before (discards step.spec.replace (rows_saved resume)) → recorded ≡ begun ++ calls_after (status_of snapshot.rows.items false) false
     → id ≡ step.id → heard ≡ calls_of (map well listened) → reducer ≡ calls_of (map well recorded)
     → IsStepRun step supply round_limit resume (record { id = id; status = status; partitions = partitions_left outputs snapshot.rows.items left; heard = heard; plans = plans; reducer = reducer })
@@ -110,8 +109,8 @@ step-run below step supply round_limit resume count prepared records outputs set
     let prepares : IsPreparedWith step (length supply.records) (plan_of_step step supply) resume prepared = subst (λ n. IsPreparedWith step n (plan_for step.spec n) resume prepared) all given.prepares in
     let setup : prepared ≡ s = prepares.is in
     let works-are : works ≡ works_of step supply resume = are ∙ (λ i. works_for (settings-are i) (records-are i) (given.outputs_are i) (setup i).rows) in
-    let on : AreOnTheWay (first_tasks s (works_of step supply resume)) (tasks_left s snapshot left) =
-    subst (λ (t : Setup). AreOnTheWay (first_tasks t (works_of step supply resume)) (tasks_left t snapshot left)) setup (subst (λ ws. AreOnTheWay (first_tasks prepared ws) (tasks_left prepared snapshot left)) works-are way) in
+    let on : AreLeftOnTheWay (first_tasks s (works_of step supply resume)) snapshot.rows.items left =
+    subst (λ (ts : List TaskState). AreLeftOnTheWay ts snapshot.rows.items left) (λ i. first_tasks (setup i) (works-are i)) way in
     let keeps : AreKept (settings_of step supply) = subst (λ (t : StepSettings). AreKept t) settings-are kept in
     let stand : AreOpening (length supply.records) theirs 0 s.rows = subst (λ (t : Setup). AreOpening (length supply.records) theirs 0 t.rows) setup (opening step (length supply.records) (plan_of_step step supply) resume prepared prepares) in
     let heard-all : heard ≡ listened = heard-is ∙ well-calls listened in
@@ -123,7 +122,7 @@ step-run below step supply round_limit resume count prepared records outputs set
       runnable = prepares.runnable;
       accepted = prepares.accepted;
       id = id-is;
-      partitions = rw (← whole) (partition-runs below step supply theirs s snapshot left keeps stand on led.rows);
+      partitions = rw (← whole) (partition-runs below step supply theirs s snapshot.rows.items left (tasks_left (first_tasks s (works_of step supply resume)) snapshot.rows.items left) keeps stand on led.rows led.came_back);
       told = record {
         snapshot = snapshot;
         left = left;

@@ -24,7 +24,7 @@ use Rattle.jb_chunk.specs.declared.outcome.Outcome.{Outcome}
 use Rattle.jb_chunk.specs.declared.outcome.Outcome.TheVariants.{Committed, Rolled, Failed, NoMemory}
 use Rattle.jb_chunk.proofs.SettlingRecord.{numbers-split}
 use Rattle.jb_step.specs.Alone.{AreOnTheWay}
-use Rattle.jb_step.specs.Answers.{IsRunOfStep, StepRun, tasks_left}
+use Rattle.jb_step.specs.Answers.{IsRunOfStep, StepRun, tasks_after, tasks_before}
 use Rattle.jb_step.specs.rounds.PlanLaws.{AreTasksOf, BeginsWithRows, BeginsWithTable}
 use Rattle.jb_step.specs.preparing.Prepare.{DoFit}
 use Rattle.jb_step.specs.preparing.Setup.{IsSetup, Setup, first_tasks, fresh_rows, row_now, rows_now, unfinished}
@@ -185,14 +185,12 @@ rows-stay f records ts now k [] stay are = tt
 rows-stay f records ts now k (row ∷ rows) stay are = (stay k row are.0, rows-stay f records ts now (k + 1) rows stay are.1)
 
 pub skips-counted : TasksStandAtCheckpoints → WaysJoin → RepeatsAreRetries → ResultsGoOn → PartsStay → BeginsWithTable → BeginsWithRows → SkipsAreCounted
-skips-counted stand join law goes parts begins same f records shares s works snapshot left is fit are ways rows so-far counted =
+skips-counted stand join law goes parts begins same f records shares s works ends is fit are ways so-far counted =
     let ready = (begins s works is fit).tasks in
     let ts = first_tasks s works in
-    let now = tasks_left s snapshot left in
     let begun = all-begun f records shares s 0 s.rows shares works so-far.each (λ i share get. let e : i ≡ 0 + i = omega arith in subst (λ m. slice_get shares m ≡ Some share) e get) are ready in
-    let stay = tasks-stay stand join law goes parts f records s ts now ready begun ways in
-    let first : AreCounted f records (rows_now s.rows ts) = subst (AreCounted f records) (sym (same s works fit)) counted in
-    subst (AreCounted f records) (sym rows) (rows-stay f records ts now 0 s.rows stay first)
+    let stay = tasks-stay stand join law goes parts f records s ts ends ready begun ways in
+    rows-stay f records ts ends 0 s.rows stay (subst (AreCounted f records) (sym (same s works fit)) counted)
 
 -- ---- A STEP THAT BEGINS ANEW
 
@@ -206,6 +204,6 @@ anew-counted law f records count s anew = subst (AreCounted f records) (sym anew
 -- ---- HOW IT ENDS
 
 pub led-counted : SkipsAreCounted → (f : Function) (records : List (List ℕ)) (shares : List (List (List ℕ))) (r : StepRun) → IsRunOfStep r → AreWorks f r.setup.rules records shares (unfinished r.setup.rows) r.works → DoFit r.setup r.works
-    → AreOnTheWay (first_tasks r.setup r.works) (tasks_left r.setup r.snapshot r.left) → IsSetup r.setup → IsSoFar f records r.setup.rows shares → AreCounted f records r.setup.rows → AreCounted f records r.snapshot.rows.items
+    → AreOnTheWay (tasks_before r) (tasks_after r) → IsSetup r.setup → IsSoFar f records r.setup.rows shares → AreCounted f records r.setup.rows → AreCounted f records r.snapshot.rows.items
 led-counted law f records shares r run are fit ways is so-far counted =
-    law f records shares r.setup r.works r.snapshot r.left is fit are ways (run.rows ∙ ap (rows_now r.setup.rows) (sym run.tasks)) so-far counted
+    subst (AreCounted f records) (sym (run.rows ∙ ap (rows_now r.setup.rows) (sym run.tasks))) (law f records shares r.setup r.works (tasks_after r) is fit are ways so-far counted)

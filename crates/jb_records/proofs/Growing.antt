@@ -9,6 +9,8 @@ use Rattle.jb_base.specs.Pairwise.{Pairwise}
 use Rattle.jb_rules.specs.declared.row.Row.{Row}
 use Rattle.jb_rules.specs.States.{is_finished}
 use Rattle.jb_artifacts.specs.Meaning.{ArtifactsMeaning}
+use Rattle.jb_chunk.specs.Standing.{TaskState}
+use Rattle.jb_step.specs.Answers.{artifacts_of}
 use Rattle.jb_step.specs.preparing.Setup.{Setup}
 use Rattle.jb_records.specs.Function.{Function}
 use Rattle.jb_records.specs.Shares.{AreShares, IsShare, results_so_far}
@@ -17,9 +19,9 @@ use Rattle.jb_records.specs.Works.{own_records, results_between}
 use Rattle.jb_records.specs.inside.Kept.{news_from}
 use Rattle.jb_records.proofs.Ahead.{IsAhead}
 use Rattle.jb_records.proofs.Going.{results-join}
-use Rattle.jb_records.proofs.Keeping.{row-at, task-of}
+use Rattle.jb_records.proofs.Keeping.{AreDone, done-row}
 use Rattle.jb_records.proofs.Staying.{AreFrom, Stays, head-is, left-numbers, numbers-from, tail-is}
-use Rattle.jb_records.proofs.Steps.{HaveResults, left-of}
+use Rattle.jb_records.proofs.Steps.{left-of}
 
 -- nothing came back of a partition before all that did
 none-new : (k count : ℕ) (told : List ℕ) (ls : List (ℕ × ArtifactsMeaning)) → AreFrom (k + 1) (numbers_in ls) → news_from k (count ∷ told) ls ≡ [] ∷ news_from (k + 1) told ls
@@ -56,38 +58,39 @@ abbrev told-of : List Row → List ℕ
 told-of rows = map (λ row. row.written) rows
 
 module _ (f : Function) (records : List (List ℕ)) (s : Setup) (rows : List Row) where
-  grown-by : (b : Bool) (k : ℕ) (old new : Row) (olds : List Row) (share now : List (List ℕ)) (shares nows : List (List (List ℕ))) (ls : List (ℕ × ArtifactsMeaning)) → is_finished old.state ≡ b
-      → numbers_in ls ≡ map (λ n. n.0) (cond (not b) ((k, old) ∷ left-of (enumerate_from (k + 1) olds)) (left-of (enumerate_from (k + 1) olds)))
-      → IsAhead old new → Stays old new → old.lo ≤ old.at → IsShare f records old share → IsShare f records new now → slice_get rows k ≡ Some new → HaveResults f records (map (task-of s rows) ls)
-      → ((us : List (ℕ × ArtifactsMeaning)) → numbers_in us ≡ left-numbers (k + 1) olds → HaveResults f records (map (task-of s rows) us) → nows ≡ grown shares (news_from (k + 1) (told-of olds) us))
-      → now ∷ nows ≡ grown (share ∷ shares) (news_from k (told-of (old ∷ olds)) ls)
-  grown-by true k old new olds share now shares nows ls is named ahead stays from own own-now at have more =
+  grown-by : (b : Bool) (k : ℕ) (old new : Row) (olds : List Row) (share now : List (List ℕ)) (shares nows : List (List (List ℕ))) (ts : List TaskState) → is_finished old.state ≡ b
+      → numbers_in (artifacts_of ts) ≡ map (λ n. n.0) (cond (not b) ((k, old) ∷ left-of (enumerate_from (k + 1) olds)) (left-of (enumerate_from (k + 1) olds)))
+      → IsAhead old new → Stays old new → old.lo ≤ old.at → IsShare f records old share → IsShare f records new now → slice_get rows k ≡ Some new → AreDone f records s rows ts
+      → ((us : List TaskState) → numbers_in (artifacts_of us) ≡ left-numbers (k + 1) olds → AreDone f records s rows us → nows ≡ grown shares (news_from (k + 1) (told-of olds) (artifacts_of us)))
+      → now ∷ nows ≡ grown (share ∷ shares) (news_from k (told-of (old ∷ olds)) (artifacts_of ts))
+  grown-by true k old new olds share now shares nows ts is named ahead stays from own own-now at have more =
       let above = subst (AreFrom (k + 1)) (sym named) (numbers-from (k + 1) (k + 1) olds (omega arith)) in
-      ap₂ (λ (x : List (List ℕ)) (xs : List (List (List ℕ))). x ∷ xs) (same-share f records old new share now (stays is) own own-now) (more ls named have)
-      ∙ ap (grown (share ∷ shares)) (sym (none-new k old.written (told-of olds) ls above))
+      ap₂ (λ (x : List (List ℕ)) (xs : List (List (List ℕ))). x ∷ xs) (same-share f records old new share now (stays is) own own-now) (more ts named have)
+      ∙ ap (grown (share ∷ shares)) (sym (none-new k old.written (told-of olds) (artifacts_of ts) above))
   grown-by false k old new olds share now shares nows [] is named ahead stays from own own-now at have more = let none : ⊥ = cc in absurd none
-  grown-by false k old new olds share now shares nows (a ∷ ls) is named ahead stays from own own-now at have more =
-      let here = head-is a.0 k (numbers_in ls) (left-numbers (k + 1) olds) named in
-      let row = row-at rows a k new here at in
-      let written : a.1.writer.written ≡ now = have.0.results ∙ ap (results_so_far f records) row ∙ sym own-now.results in
-      ap₂ (λ (x : List (List ℕ)) (xs : List (List (List ℕ))). x ∷ xs) (grown-one f records old new share now a.1.writer.written ahead from own own-now written)
-      (more ls (tail-is a.0 k (numbers_in ls) (left-numbers (k + 1) olds) named) have.1)
-      ∙ ap (grown (share ∷ shares)) (sym (one-new k old.written (told-of olds) a ls here))
+  grown-by false k old new olds share now shares nows (t ∷ ts) is named ahead stays from own own-now at have more =
+      let ls = artifacts_of ts in
+      let here = head-is t.partition k (numbers_in ls) (left-numbers (k + 1) olds) named in
+      let row = done-row f records s rows t k new have.0 here at in
+      let written : t.work.writer.written ≡ now = have.0.has.results ∙ ap (results_so_far f records) row ∙ sym own-now.results in
+      ap₂ (λ (x : List (List ℕ)) (xs : List (List (List ℕ))). x ∷ xs) (grown-one f records old new share now t.work.writer.written ahead from own own-now written)
+      (more ts (tail-is t.partition k (numbers_in ls) (left-numbers (k + 1) olds) named) have.1)
+      ∙ ap (grown (share ∷ shares)) (sym (one-new k old.written (told-of olds) (t.partition, t.work) ls here))
 
-  pub grown-all : (k : ℕ) (olds news : List Row) (shares nows : List (List (List ℕ))) (ls : List (ℕ × ArtifactsMeaning)) → numbers_in ls ≡ left-numbers k olds → Pairwise IsAhead olds news → Pairwise Stays olds news
+  pub grown-all : (k : ℕ) (olds news : List Row) (shares nows : List (List (List ℕ))) (ts : List TaskState) → numbers_in (artifacts_of ts) ≡ left-numbers k olds → Pairwise IsAhead olds news → Pairwise Stays olds news
       → ((i : ℕ) (row : Row) → slice_get olds i ≡ Some row → row.lo ≤ row.at) → AreShares f records olds shares → AreShares f records news nows
-      → ((i : ℕ) (row : Row) → slice_get news i ≡ Some row → slice_get rows (k + i) ≡ Some row) → HaveResults f records (map (task-of s rows) ls)
-      → nows ≡ grown shares (news_from k (told-of olds) ls)
-  grown-all k [] [] [] [] ls named ahead stay from own own-now at have = refl
-  grown-all k [] [] [] (now ∷ nows) ls named ahead stay from own own-now at have = absurd own-now
-  grown-all k [] [] (share ∷ shares) nows ls named ahead stay from own own-now at have = absurd own
-  grown-all k [] (new ∷ news) shares nows ls named ahead stay from own own-now at have = absurd ahead
-  grown-all k (old ∷ olds) [] shares nows ls named ahead stay from own own-now at have = absurd ahead
-  grown-all k (old ∷ olds) (new ∷ news) [] nows ls named ahead stay from own own-now at have = absurd own
-  grown-all k (old ∷ olds) (new ∷ news) (share ∷ shares) [] ls named ahead stay from own own-now at have = absurd own-now
-  grown-all k (old ∷ olds) (new ∷ news) (share ∷ shares) (now ∷ nows) ls named ahead stay from own own-now at have =
+      → ((i : ℕ) (row : Row) → slice_get news i ≡ Some row → slice_get rows (k + i) ≡ Some row) → AreDone f records s rows ts
+      → nows ≡ grown shares (news_from k (told-of olds) (artifacts_of ts))
+  grown-all k [] [] [] [] ts named ahead stay from own own-now at have = refl
+  grown-all k [] [] [] (now ∷ nows) ts named ahead stay from own own-now at have = absurd own-now
+  grown-all k [] [] (share ∷ shares) nows ts named ahead stay from own own-now at have = absurd own
+  grown-all k [] (new ∷ news) shares nows ts named ahead stay from own own-now at have = absurd ahead
+  grown-all k (old ∷ olds) [] shares nows ts named ahead stay from own own-now at have = absurd ahead
+  grown-all k (old ∷ olds) (new ∷ news) [] nows ts named ahead stay from own own-now at have = absurd own
+  grown-all k (old ∷ olds) (new ∷ news) (share ∷ shares) [] ts named ahead stay from own own-now at have = absurd own-now
+  grown-all k (old ∷ olds) (new ∷ news) (share ∷ shares) (now ∷ nows) ts named ahead stay from own own-now at have =
       let first : k + 0 ≡ k = omega arith in
-      grown-by (is_finished old.state) k old new olds share now shares nows ls refl named ahead.0 stay.0 (from zero old refl) own.0 own-now.0
+      grown-by (is_finished old.state) k old new olds share now shares nows ts refl named ahead.0 stay.0 (from zero old refl) own.0 own-now.0
       (subst (λ m. slice_get rows m ≡ Some new) first (at zero new refl)) have
       (λ us is has. grown-all (k + 1) olds news shares nows us is ahead.1 stay.1 (λ i r get. from (suc i) r get) own.1 own-now.1
       (λ i r get. let e : k + suc i ≡ (k + 1) + i = omega arith in subst (λ m. slice_get rows m ≡ Some r) e (at (suc i) r get)) has)

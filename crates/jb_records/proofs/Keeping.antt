@@ -1,10 +1,11 @@
 -- What is kept of a stretch: the results of the partitions that are finished, and what the others work with.
 use Rattle.std.proofs.Common.{◌≡◌, ℕ, zero, suc, ◌+◌, Bool, true, false, not, cond, List, [], ◌∷◌, map, Some, refl, ap, sym, subst, ◌∙◌, arith}
 use Rattle.std.specs.Prelude.{filter, nat_eq, slice_get, slice_index_or}
-use Rattle.std.specs.List.{enumerate_from}
+use Rattle.std.specs.List.{AllByRecursion, enumerate_from}
 use Rattle.std.proofs.lemmas.Bool.Decides.{nat_tests}
 use Rattle.std.proofs.lemmas.Option.{get_or_from_slice_get}
 use Rattle.jb_base.specs.Pairwise.{Pairwise}
+use Rattle.jb_base.specs.Rules.{RulesRecord}
 use Rattle.jb_rules.specs.declared.row.Row.{Row}
 use Rattle.jb_rules.specs.declared.row.RowState.{RowState}
 use Rattle.jb_rules.specs.declared.row.RowState.TheVariants as state
@@ -13,8 +14,10 @@ use Rattle.jb_rules.specs.States.{is_failed, is_finished}
 use Rattle.jb_artifacts.specs.Meaning.{ArtifactsMeaning}
 use Rattle.jb_chunk.specs.Standing.{TaskState}
 use Rattle.jb_saved.specs.GoingOn.{restarted}
+use Rattle.jb_step.specs.Answers.{artifacts_of, tasks_left}
 use Rattle.jb_step.specs.preparing.Setup.{Setup}
 use Rattle.jb_records.specs.Function.{Function}
+use Rattle.jb_records.specs.Runs.{HasResults}
 use Rattle.jb_records.specs.Shares.{AreShares, IsShare, newer_share, newer_shares, results_so_far}
 use Rattle.jb_records.specs.Steps.{AreWorks, IsWorkFor}
 use Rattle.jb_records.specs.Stretches.{numbers_in, works_in}
@@ -114,18 +117,28 @@ work-by : (f : Function) (s : Setup) (records : List (List ℕ)) (w : ArtifactsM
 work-by f s records w true row is = is
 work-by f s records w false row is = is
 
--- the task that came back of a partition, with its row
-abbrev pub task-of : Setup → List Row → ℕ × ArtifactsMeaning → TaskState
-task-of s rows a = record {
-  partition = a.0;
-  row = slice_index_or rows a.0 (fresh_row (record { lo = 0; hi = 0 }));
-  rules = s.rules;
-  item_count = s.item_count;
-  work = a.1;
-}
+pub row-at : (rows : List Row) (p k : ℕ) (row : Row) → p ≡ k → slice_get rows k ≡ Some row → slice_index_or rows p (fresh_row (record { lo = 0; hi = 0 })) ≡ row
+row-at rows p k row here at = ap (λ n. slice_index_or rows n (fresh_row (record { lo = 0; hi = 0 }))) here ∙ get_or_from_slice_get rows k row (fresh_row (record { lo = 0; hi = 0 })) at
 
-pub row-at : (rows : List Row) (a : ℕ × ArtifactsMeaning) (k : ℕ) (row : Row) → a.0 ≡ k → slice_get rows k ≡ Some row → slice_index_or rows a.0 (fresh_row (record { lo = 0; hi = 0 })) ≡ row
-row-at rows a k row here at = ap (λ n. slice_index_or rows n (fresh_row (record { lo = 0; hi = 0 }))) here ∙ get_or_from_slice_get rows k row (fresh_row (record { lo = 0; hi = 0 })) at
+-- the task has the results of the records before its checkpoint, the step's rules, and its partition's row
+pub record IsDone (f : Function) (records : List (List ℕ)) (s : Setup) (rows : List Row) (t : TaskState) : Type 0 where
+  pub has : HasResults f records t
+  pub rules : t.rules ≡ s.rules
+  pub row : (now : Row) → slice_get rows t.partition ≡ Some now → t.row ≡ now
+
+abbrev pub AreDone : Function → (records : List (List ℕ)) → Setup → List Row → List TaskState → Type 0
+AreDone f records s rows ts = AllByRecursion (IsDone f records s rows) ts
+
+-- as what came back of tasks with the step's rules
+pub all-done : (f : Function) (records : List (List ℕ)) (s : Setup) (rows : List Row) (left : List (ℕ × ArtifactsMeaning)) (ts : List TaskState) → AllByRecursion (λ (t : TaskState). t.rules ≡ s.rules) ts
+    → HaveResults f records (tasks_left ts rows left) → AreDone f records s rows (tasks_left ts rows left)
+all-done f records s rows left [] ruled have = tt
+all-done f records s rows left (t ∷ ts) ruled have =
+    (record { has = have.0; rules = ruled.0; row = λ now at. get_or_from_slice_get rows t.partition now t.row at }, all-done f records s rows left ts ruled.1 have.1)
+
+-- the row of the task of the partition with this number
+pub done-row : (f : Function) (records : List (List ℕ)) (s : Setup) (rows : List Row) (t : TaskState) (k : ℕ) (now : Row) → IsDone f records s rows t → t.partition ≡ k → slice_get rows k ≡ Some now → t.row ≡ now
+done-row f records s rows t k now is here at = is.row now (subst (λ p. slice_get rows p ≡ Some now) (sym here) at)
 
 module _ (f : Function) (records : List (List ℕ)) (s : Setup) (rows : List Row) (all : List (List (List ℕ))) where
   -- these artifacts are those of these unfinished partitions
@@ -143,37 +156,40 @@ module _ (f : Function) (records : List (List ℕ)) (s : Setup) (rows : List Row
   skip-one true n ls ns is are = are
   skip-one false n ls ns is are = let none : ⊥ = cc in absurd none
 
-  works-by : (b : Bool) (k : ℕ) (old new : Row) (olds news : List Row) (share : List (List ℕ)) (ls : List (ℕ × ArtifactsMeaning)) → is_finished old.state ≡ b
-      → numbers_in ls ≡ map (λ n. n.0) (cond (not b) ((k, old) ∷ left-of (enumerate_from (k + 1) olds)) (left-of (enumerate_from (k + 1) olds)))
-      → Stays old new → IsShare f records new share → slice_get rows k ≡ Some new → slice_get all k ≡ Some share → HaveResults f records (map (task-of s rows) ls)
-      → ((us : List (ℕ × ArtifactsMeaning)) → numbers_in us ≡ left-numbers (k + 1) olds → HaveResults f records (map (task-of s rows) us) → AreKept (filter (is_left rows) us) (left-of (enumerate_from (k + 1) (map restarted news))))
-      → AreKept (filter (is_left rows) ls) (left-of (enumerate_from k (map restarted (new ∷ news))))
-  works-by true k old new olds news share ls is named stays own at there have more =
+  works-by : (b : Bool) (k : ℕ) (old new : Row) (olds news : List Row) (share : List (List ℕ)) (ts : List TaskState) → is_finished old.state ≡ b
+      → numbers_in (artifacts_of ts) ≡ map (λ n. n.0) (cond (not b) ((k, old) ∷ left-of (enumerate_from (k + 1) olds)) (left-of (enumerate_from (k + 1) olds)))
+      → Stays old new → IsShare f records new share → slice_get rows k ≡ Some new → slice_get all k ≡ Some share → AreDone f records s rows ts
+      → ((us : List TaskState) → numbers_in (artifacts_of us) ≡ left-numbers (k + 1) olds → AreDone f records s rows us → AreKept (filter (is_left rows) (artifacts_of us)) (left-of (enumerate_from (k + 1) (map restarted news))))
+      → AreKept (filter (is_left rows) (artifacts_of ts)) (left-of (enumerate_from k (map restarted (new ∷ news))))
+  works-by true k old new olds news share ts is named stays own at there have more =
       let finished = finished-again new ∙ ap (λ (r : Row). is_finished r.state) (stays is) ∙ is in
-      skip-one (is_finished (restarted new).state) (k, restarted new) (filter (is_left rows) ls) (left-of (enumerate_from (k + 1) (map restarted news))) finished (more ls named have)
+      skip-one (is_finished (restarted new).state) (k, restarted new) (filter (is_left rows) (artifacts_of ts)) (left-of (enumerate_from (k + 1) (map restarted news))) finished (more ts named have)
   works-by false k old new olds news share [] is named stays own at there have more = let none : ⊥ = cc in absurd none
-  works-by false k old new olds news share (a ∷ ls) is named stays own at there have more =
-      let here = head-is a.0 k (numbers_in ls) (left-numbers (k + 1) olds) named in
-      let others = more ls (tail-is a.0 k (numbers_in ls) (left-numbers (k + 1) olds) named) have.1 in
-      let row = row-at rows a k new here at in
-      let work = work-by f s records a.1 (is_failed new.state) new (subst (λ (r : Row). IsWork f s.rules r.lo (own_records records r) a.1) row have.0.work) in
-      let written : share ≡ a.1.writer.written = own.results ∙ ap (λ (r : Row). results_so_far f records r) (sym row) ∙ sym have.0.results in
-      let same = ap (λ (r : Row). not (is_finished r.state)) row ∙ ap not (sym (finished-again new)) in
-      kept-one (is_left rows a) (not (is_finished (restarted new).state)) a (k, restarted new) (filter (is_left rows) ls) (left-of (enumerate_from (k + 1) (map restarted news))) same here
+  works-by false k old new olds news share (t ∷ ts) is named stays own at there have more =
+      let ls = artifacts_of ts in
+      let here = head-is t.partition k (numbers_in ls) (left-numbers (k + 1) olds) named in
+      let others = more ts (tail-is t.partition k (numbers_in ls) (left-numbers (k + 1) olds) named) have.1 in
+      let has = have.0.has in
+      let row : t.row ≡ new = done-row f records s rows t k new have.0 here at in
+      let kept = subst (λ (r : Row). IsWork f t.rules r.lo (own_records records r) t.work) row has.work in
+      let work = work-by f s records t.work (is_failed new.state) new (subst (λ (rules : RulesRecord). IsWork f rules new.lo (own_records records new) t.work) have.0.rules kept) in
+      let written : share ≡ t.work.writer.written = own.results ∙ ap (λ (r : Row). results_so_far f records r) (sym row) ∙ sym has.results in
+      let same = ap (λ (r : Row). not (is_finished r.state)) (row-at rows t.partition k new here at) ∙ ap not (sym (finished-again new)) in
+      kept-one (is_left rows (t.partition, t.work)) (not (is_finished (restarted new).state)) (t.partition, t.work) (k, restarted new) (filter (is_left rows) ls) (left-of (enumerate_from (k + 1) (map restarted news))) same here
       (work, there ∙ ap Some written) others
 
-  pub works-kept : (k : ℕ) (olds news : List Row) (shares : List (List (List ℕ))) (ls : List (ℕ × ArtifactsMeaning)) → numbers_in ls ≡ left-numbers k olds → Pairwise Stays olds news → AreShares f records news shares
+  pub works-kept : (k : ℕ) (olds news : List Row) (shares : List (List (List ℕ))) (ts : List TaskState) → numbers_in (artifacts_of ts) ≡ left-numbers k olds → Pairwise Stays olds news → AreShares f records news shares
       → ((i : ℕ) (row : Row) → slice_get news i ≡ Some row → slice_get rows (k + i) ≡ Some row) → ((i : ℕ) (share : List (List ℕ)) → slice_get shares i ≡ Some share → slice_get all (k + i) ≡ Some share)
-      → HaveResults f records (map (task-of s rows) ls)
-      → (numbers_in (filter (is_left rows) ls) ≡ left-numbers k (map restarted news)) × AreWorks f s.rules records all (left-of (enumerate_from k (map restarted news))) (works_in (filter (is_left rows) ls))
+      → AreDone f records s rows ts
+      → (numbers_in (filter (is_left rows) (artifacts_of ts)) ≡ left-numbers k (map restarted news)) × AreWorks f s.rules records all (left-of (enumerate_from k (map restarted news))) (works_in (filter (is_left rows) (artifacts_of ts)))
   works-kept k [] [] shares [] named stay own at there have = (refl, tt)
-  works-kept k [] [] shares (a ∷ ls) named stay own at there have = let none : ⊥ = cc in absurd none
-  works-kept k [] (new ∷ news) shares ls named stay own at there have = absurd stay
-  works-kept k (old ∷ olds) [] shares ls named stay own at there have = absurd stay
-  works-kept k (old ∷ olds) (new ∷ news) [] ls named stay own at there have = absurd own
-  works-kept k (old ∷ olds) (new ∷ news) (share ∷ shares) ls named stay own at there have =
+  works-kept k [] [] shares (t ∷ ts) named stay own at there have = let none : ⊥ = cc in absurd none
+  works-kept k [] (new ∷ news) shares ts named stay own at there have = absurd stay
+  works-kept k (old ∷ olds) [] shares ts named stay own at there have = absurd stay
+  works-kept k (old ∷ olds) (new ∷ news) [] ts named stay own at there have = absurd own
+  works-kept k (old ∷ olds) (new ∷ news) (share ∷ shares) ts named stay own at there have =
       let first : k + 0 ≡ k = omega arith in
-      works-by (is_finished old.state) k old new olds news share ls refl named stay.0 own.0
+      works-by (is_finished old.state) k old new olds news share ts refl named stay.0 own.0
       (subst (λ m. slice_get rows m ≡ Some new) first (at zero new refl)) (subst (λ m. slice_get all m ≡ Some share) first (there zero share refl)) have
       (λ us is has. works-kept (k + 1) olds news shares us is stay.1 own.1
       (λ i r get. let e : k + suc i ≡ (k + 1) + i = omega arith in subst (λ m. slice_get rows m ≡ Some r) e (at (suc i) r get))

@@ -6,12 +6,10 @@ use Rattle.std.proofs.lemmas.Bool.Decides.{nat_tests}
 use Rattle.jb_base.specs.Pairwise.{Pairwise}
 use Rattle.jb_rules.specs.declared.row.Row.{Row}
 use Rattle.jb_rules.specs.States.{is_finished}
-use Rattle.jb_artifacts.specs.Meaning.{ArtifactsMeaning}
 use Rattle.jb_chunk.specs.Standing.{TaskState}
-use Rattle.jb_repo.specs.declared.snapshot.Snapshot.{Snapshot}
 use Rattle.jb_step.specs.Alone.{AreOnTheWay}
-use Rattle.jb_step.specs.Answers.{tasks_left}
-use Rattle.jb_step.specs.preparing.Setup.{Setup, row_now}
+use Rattle.jb_step.specs.Answers.{artifacts_of}
+use Rattle.jb_step.specs.preparing.Setup.{row_now}
 use Rattle.jb_records.specs.Runs.{PartsStay}
 use Rattle.jb_records.specs.Stretches.{numbers_in}
 use Rattle.jb_records.proofs.Steps.{left-of}
@@ -43,9 +41,9 @@ same-partitions law [] (x ∷ xs) ways = absurd ways
 same-partitions law (t ∷ ts) [] ways = absurd ways
 same-partitions law (t ∷ ts) (x ∷ xs) ways = ap₂ (λ (n : ℕ) (ns : List ℕ). n ∷ ns) (law t x ways.0).partition (same-partitions law ts xs ways.1)
 
-pub numbers-left : (s : Setup) (snapshot : Snapshot) (left : List (ℕ × ArtifactsMeaning)) → partitions-of (tasks_left s snapshot left) ≡ numbers_in left
-numbers-left s snapshot [] = refl
-numbers-left s snapshot (a ∷ left) = ap (λ (ns : List ℕ). a.0 ∷ ns) (numbers-left s snapshot left)
+pub numbers-left : (ts : List TaskState) → numbers_in (artifacts_of ts) ≡ partitions-of ts
+numbers-left [] = refl
+numbers-left (t ∷ ts) = ap (λ (ns : List ℕ). t.partition ∷ ns) (numbers-left ts)
 
 -- ---- A ROW WITHOUT A TASK
 

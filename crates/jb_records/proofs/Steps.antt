@@ -19,7 +19,7 @@ use Rattle.jb_collect.specs.declared.calls.Status.{Status}
 use Rattle.jb_collect.specs.declared.calls.Status.TheVariants as status
 use Rattle.jb_collect.specs.Taken.{Taken, since, well}
 use Rattle.jb_step.specs.callbacks.Callbacks.{has_fault}
-use Rattle.jb_step.specs.Answers.{IsRunOfStep, IsStatus, StepRun, tasks_left}
+use Rattle.jb_step.specs.Answers.{IsRunOfStep, IsStatus, StepRun, artifacts_of, tasks_after, tasks_before}
 use Rattle.jb_step.specs.Statuses.{status_of}
 use Rattle.jb_step.specs.rounds.PlanLaws.{AreTasksOf, BeginsWithRows, BeginsWithTable}
 use Rattle.jb_step.specs.preparing.Prepare.{DoFit}
@@ -57,6 +57,12 @@ left-of ns = filter (λ n. not (is_finished n.1.state)) ns
 
 abbrev tasks-of : Setup → List (ℕ × Row) → List ArtifactsMeaning → List TaskState
 tasks-of s ns works = map (λ n. started n.0.0 n.0.1 s.rules s.item_count n.1) (zip ns works)
+
+-- they have its rules
+pub first-ruled : (s : Setup) (ns : List (ℕ × Row)) (works : List ArtifactsMeaning) → AllByRecursion (λ (t : TaskState). t.rules ≡ s.rules) (tasks-of s ns works)
+first-ruled s [] works = tt
+first-ruled s (n ∷ ns) [] = tt
+first-ruled s (n ∷ ns) (w ∷ ws) = (refl, first-ruled s ns ws)
 
 abbrev Begin : (f : Function) (records : List (List ℕ)) → (shares : List (List (List ℕ))) → Setup → List (ℕ × Row) → List ArtifactsMeaning → Type 0
 Begin f records shares s ns works = AreWorks f s.rules records shares ns works → AreTasksOf s (tasks-of s ns works) → HaveResults f records (tasks-of s ns works)
@@ -101,20 +107,17 @@ newer-by : (f : Function) (records : List (List ℕ)) (t : TaskState) (b : Bool)
 newer-by f records t true row share has is = record { results = has.results; number = has.number; whole = has.whole }
 newer-by f records t false row share has is = is
 
-newer-is : (f : Function) (records : List (List ℕ)) (s : Setup) (snapshot : Snapshot) (left : List (ℕ × ArtifactsMeaning)) (p : ℕ) (row : Row) (share : List (List ℕ)) → HaveResults f records (tasks_left s snapshot left)
-    → IsShare f records row share → IsShare f records (row_now (tasks_left s snapshot left) p row) (newer_share left p share)
-newer-is f records s snapshot [] p row share have is = is
-newer-is f records s snapshot (a ∷ left) p row share have is =
-    newer-by f records _ (nat_eq a.0 p) _ _ have.0 (newer-is f records s snapshot left p row share have.1 is)
+newer-is : (f : Function) (records : List (List ℕ)) (now : List TaskState) (p : ℕ) (row : Row) (share : List (List ℕ)) → HaveResults f records now
+    → IsShare f records row share → IsShare f records (row_now now p row) (newer_share (artifacts_of now) p share)
+newer-is f records [] p row share have is = is
+newer-is f records (t ∷ now) p row share have is = newer-by f records t (nat_eq t.partition p) _ _ have.0 (newer-is f records now p row share have.1 is)
 
-newer-all : (f : Function) (records : List (List ℕ)) (s : Setup) (snapshot : Snapshot) (left : List (ℕ × ArtifactsMeaning)) (k : ℕ) (rows : List Row) (shares : List (List (List ℕ))) → HaveResults f records (tasks_left s snapshot left)
-    → AreShares f records rows shares
-    → AreShares f records (map (λ n. row_now (tasks_left s snapshot left) n.0 n.1) (enumerate_from k rows)) (map (λ n. newer_share left n.0 n.1) (enumerate_from k shares))
-newer-all f records s snapshot left k [] [] have are = tt
-newer-all f records s snapshot left k [] (share ∷ shares) have are = absurd are
-newer-all f records s snapshot left k (row ∷ rows) [] have are = absurd are
-newer-all f records s snapshot left k (row ∷ rows) (share ∷ shares) have are =
-    (newer-is f records s snapshot left k row share have are.0, newer-all f records s snapshot left (k + 1) rows shares have are.1)
+newer-all : (f : Function) (records : List (List ℕ)) (now : List TaskState) (k : ℕ) (rows : List Row) (shares : List (List (List ℕ))) → HaveResults f records now → AreShares f records rows shares
+    → AreShares f records (map (λ n. row_now now n.0 n.1) (enumerate_from k rows)) (map (λ n. newer_share (artifacts_of now) n.0 n.1) (enumerate_from k shares))
+newer-all f records now k [] [] have are = tt
+newer-all f records now k [] (share ∷ shares) have are = absurd are
+newer-all f records now k (row ∷ rows) [] have are = absurd are
+newer-all f records now k (row ∷ rows) (share ∷ shares) have are = (newer-is f records now k row share have are.0, newer-all f records now (k + 1) rows shares have are.1)
 
 -- ---- THE RANGES STAY IN THEIR ORDER
 
@@ -151,17 +154,13 @@ order-kept law ts now k from to (row ∷ rows) ways order =
 -- ---- A WHOLE RUN
 
 pub shares-kept : ResultsGoOn → PartsStay → BeginsWithTable → BeginsWithRows → StepsKeepResults
-shares-kept law parts begins same f records shares s works snapshot left is fit are ways rows so-far =
+shares-kept law parts begins same f records shares s works ends is fit are ways so-far =
     let ready = (begins s works is fit).tasks in
     let ts = first_tasks s works in
-    let now = tasks_left s snapshot left in
     let begun = all-begun f records shares s 0 s.rows shares works so-far.each (λ i share get. let e : i ≡ 0 + i = omega arith in subst (λ m. slice_get shares m ≡ Some share) e get) are ready in
-    let have : HaveResults f records now = kept-by law f records s ts now ready begun ways in
+    let have : HaveResults f records ends = kept-by law f records s ts ends ready begun ways in
     let order : AreRowsInOrder 0 (length records) (rows_now s.rows ts) = subst (AreRowsInOrder 0 (length records)) (sym (same s works fit)) so-far.order in
-    record {
-      order = subst (AreRowsInOrder 0 (length records)) (sym rows) (order-kept parts ts now 0 0 (length records) s.rows ways order);
-      each = subst (λ (x : List Row). AreShares f records x (newer_shares left shares)) (sym rows) (newer-all f records s snapshot left 0 s.rows shares have so-far.each);
-    }
+    record { order = order-kept parts ts ends 0 0 (length records) s.rows ways order; each = newer-all f records ends 0 s.rows shares have so-far.each }
 
 -- ---- A STEP THAT BEGINS ANEW
 
@@ -204,9 +203,12 @@ begun-anew law f records s shares anew are =
 
 -- a run of the step leaves its partitions so far, if they were so when it began
 pub led : StepsKeepResults → (f : Function) (records : List (List ℕ)) (shares : List (List (List ℕ))) (r : StepRun) → IsRunOfStep r → AreWorks f r.setup.rules records shares (unfinished r.setup.rows) r.works → DoFit r.setup r.works
-    → AreOnTheWay (first_tasks r.setup r.works) (tasks_left r.setup r.snapshot r.left) → IsSetup r.setup → IsSoFar f records r.setup.rows shares → IsSoFar f records r.snapshot.rows.items (newer_shares r.left shares)
+    → AreOnTheWay (tasks_before r) (tasks_after r) → IsSetup r.setup → IsSoFar f records r.setup.rows shares → IsSoFar f records r.snapshot.rows.items (newer_shares r.left shares)
 led kept f records shares r run are fit ways is so-far =
-    kept f records shares r.setup r.works r.snapshot r.left is fit are ways (run.rows ∙ ap (rows_now r.setup.rows) (sym run.tasks)) so-far
+    let ends = sym run.tasks in
+    subst (λ (rows : List Row). IsSoFar f records rows (newer_shares r.left shares)) (sym (run.rows ∙ ap (rows_now r.setup.rows) ends))
+    (subst (λ (left : List (ℕ × ArtifactsMeaning)). IsSoFar f records (rows_now r.setup.rows (tasks_after r)) (newer_shares left shares)) (sym (run.came_back ∙ ap artifacts_of ends))
+    (kept f records shares r.setup r.works (tasks_after r) is fit are ways so-far))
 
 finished-is : (st : RowState) → not (is_finished st) ≡ false → st ≡ state.Finished
 finished-is state.Waiting e = absurd cc

@@ -12,23 +12,23 @@ use Rattle.jb_chunk.specs.Standing.{TaskState}
 use Rattle.jb_saved.specs.Answers.{first_running}
 use Rattle.jb_saved.specs.GoingOn.{ends_past, restarted, rows_restarted}
 use Rattle.jb_saved.specs.SavedRows.{SavedRows}
-use Rattle.jb_step.specs.Answers.{tasks_left}
+use Rattle.jb_step.specs.Answers.{artifacts_of, tasks_left}
 use Rattle.jb_step.specs.rounds.PlanLaws.{AreTasksOf, BeginsWithRows, BeginsWithTable}
 use Rattle.jb_step.specs.preparing.Setup.{Setup, first_tasks, needs, rows_now, unfinished}
 use Rattle.jb_records.specs.Function.{Function}
 use Rattle.jb_records.specs.Runs.{PartsStay, ResultsGoOn}
 use Rattle.jb_records.specs.Shares.{AreRowsInOrder, IsSoFar, newer_shares}
 use Rattle.jb_records.specs.Steps.{AreWorks, StepsKeepResults}
-use Rattle.jb_records.specs.Stretches.{HasGoneOn, IsStretchMade, RunState, StandsOver, numbers_in, works_in}
+use Rattle.jb_records.specs.Stretches.{HasGoneOn, IsStretchMade, RunState, StandsOver, grown, numbers_in, works_in}
 use Rattle.jb_records.specs.inside.Calls.{CanBeginOver}
 use Rattle.jb_records.specs.inside.Kept.{IsGoingOn, IsRanOver, RowsAreSaved, StretchesGoOn, WorksFit, is_done, is_left, news_from}
 use Rattle.jb_records.proofs.Ahead.{GoAhead, IsAhead, rows-ahead}
 use Rattle.jb_records.proofs.Calling.{works-fit}
 use Rattle.jb_records.proofs.Growing.{grown-all, news-length}
-use Rattle.jb_records.proofs.Keeping.{newer-again, newer-parts, works-kept}
+use Rattle.jb_records.proofs.Keeping.{AreDone, all-done, newer-again, newer-parts, works-kept}
 use Rattle.jb_records.proofs.Resuming.{numbered-so, so-far-again}
 use Rattle.jb_records.proofs.Staying.{Stays, left-numbers, numbers-left, rows-stay, same-partitions}
-use Rattle.jb_records.proofs.Steps.{HaveResults, all-begun, kept-by}
+use Rattle.jb_records.proofs.Steps.{HaveResults, all-begun, first-ruled, kept-by}
 
 -- ---- WHERE IT STANDS, ITS PARTITIONS HAVE THEIR RECORDS
 
@@ -82,11 +82,11 @@ none-past from to (row ∷ rows) order =
 module _ (going : ResultsGoOn) (parts : PartsStay) (begins : BeginsWithTable) (same : BeginsWithRows) (kept : StepsKeepResults) (ahead : GoAhead) where
   module _ (f : Function) (records : List (List ℕ)) (before : RunState) (rounds : Option ℕ) (snapshot : Snapshot) (left : List (ℕ × ArtifactsMeaning))
       (stands : StandsOver f records before) (ran : IsRanOver before.setup (works_in before.works) rounds snapshot left) where
-    abbrev now : List TaskState
-    now = tasks_left before.setup snapshot left
-
     abbrev first : List TaskState
     first = first_tasks before.setup (works_in before.works)
+
+    abbrev now : List TaskState
+    now = tasks_left first snapshot.rows.items left
 
     ready : AreTasksOf before.setup first
     ready = (begins before.setup (works_in before.works) stands.setup ran.fit).tasks
@@ -99,11 +99,17 @@ module _ (going : ResultsGoOn) (parts : PartsStay) (begins : BeginsWithTable) (s
         ran.ways
 
     so-far : IsSoFar f records snapshot.rows.items (newer_shares left before.shares)
-    so-far = kept f records before.shares before.setup (works_in before.works) snapshot left stands.setup ran.fit stands.works ran.ways ran.rows stands.so_far
+    so-far =
+        subst (λ (rows : List Row). IsSoFar f records rows (newer_shares left before.shares)) (sym ran.rows)
+        (subst (λ (ls : List (ℕ × ArtifactsMeaning)). IsSoFar f records (rows_now before.setup.rows now) (newer_shares ls before.shares)) (sym ran.came_back)
+        (kept f records before.shares before.setup (works_in before.works) now stands.setup ran.fit stands.works ran.ways stands.so_far))
 
-    named : numbers_in left ≡ needs before.setup.rows
+    done : AreDone f records before.setup snapshot.rows.items now
+    done = all-done f records before.setup snapshot.rows.items left first (first-ruled before.setup (unfinished before.setup.rows) (works_in before.works)) have
+
+    named : numbers_in (artifacts_of now) ≡ needs before.setup.rows
     named =
-        sym (numbers-left before.setup snapshot left)
+        numbers-left now
         ∙ same-partitions parts first now ran.ways
         ∙ (begins before.setup (works_in before.works) stands.setup ran.fit).partitions
 
@@ -114,7 +120,7 @@ module _ (going : ResultsGoOn) (parts : PartsStay) (begins : BeginsWithTable) (s
         (rows-ahead ahead parts before.setup first now 0 before.setup.rows ready ran.ways))
 
     stay : Pairwise Stays before.setup.rows snapshot.rows.items
-    stay = subst (Pairwise Stays before.setup.rows) (sym ran.rows) (rows-stay now 0 before.setup.rows (numbers-left before.setup snapshot left ∙ named))
+    stay = subst (Pairwise Stays before.setup.rows) (sym ran.rows) (rows-stay now 0 before.setup.rows (sym (numbers-left now) ∙ named))
 
     here : {A : Type 0} (xs : List A) (i : ℕ) (x : A) → slice_get xs i ≡ Some x → slice_get xs (0 + i) ≡ Some x
     here xs i x get = let e : i ≡ 0 + i = omega arith in subst (λ m. slice_get xs m ≡ Some x) e get
@@ -135,14 +141,16 @@ module _ (going : ResultsGoOn) (parts : PartsStay) (begins : BeginsWithTable) (s
       shares-now =
           on.shares_are
           ∙ newer-parts rows left results
-          ∙ sym (newer-again left before.works results (named ∙ sym stands.partitions))
+          ∙ sym (newer-again left before.works results (ap numbers_in ran.came_back ∙ named ∙ sym stands.partitions))
           ∙ ap (newer_shares left) (sym held)
 
       so-far-now : IsSoFar f records rows after.shares
       so-far-now = subst (IsSoFar f records rows) (sym shares-now) so-far
 
       kept-works : (numbers_in (filter (is_left rows) left) ≡ left-numbers 0 (map restarted rows)) × AreWorks f before.setup.rules records after.shares (unfinished (map restarted rows)) (works_in (filter (is_left rows) left))
-      kept-works = works-kept f records before.setup rows after.shares 0 before.setup.rows rows after.shares left named stay so-far-now.each (here rows) (here after.shares) have
+      kept-works =
+          subst (λ (ls : List (ℕ × ArtifactsMeaning)). (numbers_in (filter (is_left rows) ls) ≡ left-numbers 0 (map restarted rows)) × AreWorks f before.setup.rules records after.shares (unfinished (map restarted rows)) (works_in (filter (is_left rows) ls))) (sym ran.came_back)
+          (works-kept f records before.setup rows after.shares 0 before.setup.rows rows after.shares now named stay so-far-now.each (here rows) (here after.shares) done)
 
       abbrev held-rows : SavedRows
       held-rows = record { step = before.step; rows = rows }
@@ -161,8 +169,9 @@ module _ (going : ResultsGoOn) (parts : PartsStay) (begins : BeginsWithTable) (s
       gone-on : HasGoneOn f records before after rows (news_from 0 (map (λ row. row.written) before.setup.rows) left)
       gone-on = record {
         so_far = so-far-now;
-        shares_are = grown-all f records before.setup rows 0 before.setup.rows rows before.shares after.shares left named aheads stay
-            (λ i row get. (stands.setup.openable.idle i row get).0.placed.at_from) stands.so_far.each so-far-now.each (here rows) have;
+        shares_are = grown-all f records before.setup rows 0 before.setup.rows rows before.shares after.shares now named aheads stay
+            (λ i row get. (stands.setup.openable.idle i row get).0.placed.at_from) stands.so_far.each so-far-now.each (here rows) done
+            ∙ ap (λ (ls : List (ℕ × ArtifactsMeaning)). grown before.shares (news_from 0 (map (λ row. row.written) before.setup.rows) ls)) (sym ran.came_back);
         number = news-length 0 (map (λ row. row.written) before.setup.rows) left ∙ length-told before.setup.rows ∙ sym (same-length before.setup.rows rows aheads);
         same = same-length before.setup.rows rows aheads;
         stands = stands-now;

@@ -5,10 +5,9 @@ use Rattle.jb_artifacts.specs.Meaning.{ArtifactsMeaning}
 use Rattle.jb_base.specs.declared.class.ClassId.{ClassId}
 use Rattle.jb_base.specs.declared.range.Range.{Range}
 use Rattle.jb_ready.specs.declared.notes.Note.{Note}
-use Rattle.jb_repo.specs.declared.snapshot.Snapshot.{Snapshot}
 use Rattle.jb_rules.specs.declared.row.Row.{Row}
+use Rattle.jb_chunk.specs.Standing.{TaskState}
 use Rattle.jb_step.specs.Alone.{AreOnTheWay}
-use Rattle.jb_step.specs.Answers.{tasks_left}
 use Rattle.jb_step.specs.preparing.Prepare.{DoFit}
 use Rattle.jb_step.specs.preparing.Setup.{IsSetup, Setup, first_tasks, fresh_rows, rows_now, unfinished}
 use Rattle.jb_records.specs.Function.{Function}
@@ -38,13 +37,12 @@ AreSkipsCounted f records row = row.counts.read_skip ≡ length (skips_between f
 abbrev pub AreCounted : Function → (records : List (List ℕ)) → List Row → Type 0
 AreCounted f records rows = AllByRecursion (AreSkipsCounted f records) rows
 
--- THE LAW: where a run of the step ends, its rows count the skipped records, if they did when it began
+-- THE LAW: where a run of the step left its partitions, its rows count the skipped records, if they did when it began
 abbrev pub SkipsAreCounted : Type 0
 SkipsAreCounted =
-    (f : Function) (records : List (List ℕ)) (shares : List (List (List ℕ))) (s : Setup) (works : List ArtifactsMeaning) (snapshot : Snapshot) (left : List (ℕ × ArtifactsMeaning))
-    → IsSetup s → DoFit s works → AreWorks f s.rules records shares (unfinished s.rows) works
-    → AreOnTheWay (first_tasks s works) (tasks_left s snapshot left) → snapshot.rows.items ≡ rows_now s.rows (tasks_left s snapshot left)
-    → IsSoFar f records s.rows shares → AreCounted f records s.rows → AreCounted f records snapshot.rows.items
+    (f : Function) (records : List (List ℕ)) (shares : List (List (List ℕ))) (s : Setup) (works : List ArtifactsMeaning) (ends : List TaskState)
+    → IsSetup s → DoFit s works → AreWorks f s.rules records shares (unfinished s.rows) works → AreOnTheWay (first_tasks s works) ends
+    → IsSoFar f records s.rows shares → AreCounted f records s.rows → AreCounted f records (rows_now s.rows ends)
 
 -- and new rows do
 abbrev pub NewRowsAreCounted : Type 0

@@ -4,9 +4,9 @@ use Rattle.jb_base.specs.Pairwise.{Pairwise}
 use Rattle.jb_artifacts.specs.Meaning.{ArtifactsMeaning}
 use Rattle.jb_base.specs.declared.range.Range.{Range}
 use Rattle.jb_base.specs.Rules.{RulesRecord}
-use Rattle.jb_repo.specs.declared.snapshot.Snapshot.{Snapshot}
 use Rattle.jb_rules.specs.declared.row.Row.{Row}
-use Rattle.jb_step.specs.Answers.{tasks_left}
+use Rattle.jb_chunk.specs.Standing.{TaskState}
+use Rattle.jb_step.specs.Answers.{artifacts_of}
 use Rattle.jb_step.specs.preparing.Prepare.{DoFit}
 use Rattle.jb_step.specs.preparing.Setup.{IsSetup, Setup, first_tasks, fresh_rows, rows_now, unfinished}
 use Rattle.jb_step.specs.Alone.{AreOnTheWay}
@@ -42,10 +42,9 @@ pub record BeginsAnew (records : ℕ) (s : Setup) : Type 0 where
   pub order : AreRangesOf 0 records ranges
   pub rows : s.rows ≡ fresh_rows ranges
 
--- THE LAW: where a run of the step ends, its partitions are so far as its rows say, if they were so when it began
+-- THE LAW: where a run of the step left its partitions, they are so far as its rows say, if they were so when it began
 abbrev pub StepsKeepResults : Type 0
 StepsKeepResults =
-    (f : Function) (records : List (List ℕ)) (shares : List (List (List ℕ))) (s : Setup) (works : List ArtifactsMeaning) (snapshot : Snapshot) (left : List (ℕ × ArtifactsMeaning))
-    → IsSetup s → DoFit s works → AreWorks f s.rules records shares (unfinished s.rows) works
-    → AreOnTheWay (first_tasks s works) (tasks_left s snapshot left) → snapshot.rows.items ≡ rows_now s.rows (tasks_left s snapshot left)
-    → IsSoFar f records s.rows shares → IsSoFar f records snapshot.rows.items (newer_shares left shares)
+    (f : Function) (records : List (List ℕ)) (shares : List (List (List ℕ))) (s : Setup) (works : List ArtifactsMeaning) (ends : List TaskState)
+    → IsSetup s → DoFit s works → AreWorks f s.rules records shares (unfinished s.rows) works → AreOnTheWay (first_tasks s works) ends
+    → IsSoFar f records s.rows shares → IsSoFar f records (rows_now s.rows ends) (newer_shares (artifacts_of ends) shares)

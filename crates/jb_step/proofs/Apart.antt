@@ -23,7 +23,7 @@ use Rattle.jb_step.proofs.Filters.{filter-all, filter-map, filter-swap}
 use Rattle.jb_step.proofs.Steady.{waits, same-partition, row_waits}
 
 -- what passes among the images of what passes
-pick : {X Y : Type 0} (q : Y → Bool) (h k : X → Bool) (f : X → Y) → ((x : X) → q (f x) ≡ k x) → (xs : List X) → filter q (map f (filter h xs)) ≡ map f (filter h (filter k xs))
+pub pick : {X Y : Type 0} (q : Y → Bool) (h k : X → Bool) (f : X → Y) → ((x : X) → q (f x) ≡ k x) → (xs : List X) → filter q (map f (filter h xs)) ≡ map f (filter h (filter k xs))
 pick q h k f same xs = filter-map q k f same (filter h xs) ∙ ap (map f) (filter-swap k h xs)
 
 pub stays : (b : Bool) (t : TaskState) → (cond b (attempt_of t).task t).partition ≡ t.partition

@@ -25,6 +25,7 @@ use Rattle.jb_step.proofs.Apart.{AllIn, IsWaiting, all-at, at-rounds}
 use Rattle.jb_step.proofs.ChunkNumbers.{chunk-in, cnt, cnt-all, cnt-is, one_if, runs-cnt, runs_of}
 use Rattle.jb_step.proofs.Holding.{apart-of, rest-of}
 use Rattle.jb_step.proofs.Leading.{first-waits, others-wait}
+use Rattle.jb_step.proofs.Lookup.{first-now, none-now}
 use Rattle.jb_step.proofs.Filters.{each-passes, filter-all}
 use Rattle.jb_step.proofs.Staying.{steady-held}
 use Rattle.jb_step.proofs.Steady.{IsSteady, IsSteadyIn, IsSteadyTable, next-list, next-steady, waits, listing, rem, falls-one, drops-one, same-partition, same-count, row_waits}
@@ -121,25 +122,6 @@ count-at c ts (row ∷ rows) k (suc i) p e lt = count-at c ts rows (k + 1) i p (
 count-in : (s : Setup) (ts : List TaskState) (p : ℕ) → p < length s.rows → IsCount s.item_count ts s.rows 0 p p
 count-in s ts p lt = count-at s.item_count ts s.rows 0 p p (omega arith) lt
 
--- the row of a partition now is that of its first task
-abbrev first_row : List TaskState → Row → Row
-first_row [] row = row
-first_row (t ∷ ts) row = t.row
-
-now-is : (ts : List TaskState) (p : ℕ) (row : Row) → row_now ts p row ≡ first_row (tasks_at p ts) row
-now-is [] p row = refl
-now-is (t ∷ ts) p row = one (nat_eq t.partition p) (now-is ts p row)
-  where
-    one : (b : Bool) → row_now ts p row ≡ first_row (tasks_at p ts) row → cond b t.row (row_now ts p row) ≡ first_row (cond b (t ∷ tasks_at p ts) (tasks_at p ts)) row
-    one true e = refl
-    one false e = e
-
-pub none-now : (ts : List TaskState) (p : ℕ) (row : Row) → tasks_at p ts ≡ [] → row_now ts p row ≡ row
-none-now ts p row e = now-is ts p row ∙ ap (λ us. first_row us row) e
-
-pub first-now : (ts : List TaskState) (p : ℕ) (row : Row) (t : TaskState) (us : List TaskState) → tasks_at p ts ≡ t ∷ us → row_now ts p row ≡ t.row
-first-now ts p row t us e = now-is ts p row ∙ ap (λ vs. first_row vs row) e
-
 head-is : (u t : TaskState) (us vs : List TaskState) → u ∷ us ≡ t ∷ vs → u ≡ t
 head-is u t us vs e = cc
 
@@ -234,7 +216,7 @@ module _ (law : ChunkLaws) (s : Setup) (before : List TaskState) (rounds : List 
       let one = count-in s before p lt in
       let two = count-in s (after_rounds rounds before) p lt in
       let none : tasks_at p (after_rounds rounds before) ≡ [] = at-rounds p rounds before ∙ ap (after_rounds rounds) e ∙ none-left rounds in
-      let still : (row : Row) → slice_get s.rows p ≡ Some row → rem s.item_count row ≡ 0 = λ row get. none-by s.item_count row row.state (λ w. let both : true ≡ false = sym (ap is_waiting w) ∙ rest-of s before table p row get e in cc) in
+      let still : (row : Row) → slice_get s.rows p ≡ Some row → rem s.item_count row ≡ 0 = λ row get. none-by s.item_count row row.state (λ w. let both : true ≡ false = sym (ap is_waiting w) ∙ rest-of s.rows before table.partitions p row get e in cc) in
       inl (
         one.2 ∙ ap (rem s.item_count) (none-now before p one.0 e) ∙ still one.0 one.1,
         two.2 ∙ ap (rem s.item_count) (none-now (after_rounds rounds before) p two.0 none) ∙ still two.0 two.1,
@@ -256,7 +238,7 @@ module _ (law : ChunkLaws) (s : Setup) (before : List TaskState) (rounds : List 
         now = two.2 ∙ ap (rem s.item_count) (first-now (after_rounds rounds before) p two.0 end.0 [] stands);
       })
   goes-by p lt (t ∷ (v ∷ vs)) e =
-      let one = apart-of s before table p in
+      let one = apart-of s.rows before table.partitions p in
       let two = ap length e in
       absurd (omega (arith, one, two))
 

@@ -24,6 +24,11 @@ pub all-back : {X Y : Type 0} (P : Y → Type 0) (f : X → Y) (xs : List X) →
 all-back P f [] h = tt
 all-back P f (x ∷ xs) h = (h.0, all-back P f xs h.1)
 
+-- what follows for each
+pub all-so : {X : Type 0} (P Q : X → Type 0) → ((x : X) → P x → Q x) → (xs : List X) → AllByRecursion P xs → AllByRecursion Q xs
+all-so P Q law [] h = tt
+all-so P Q law (x ∷ xs) h = (law x h.0, all-so P Q law xs h.1)
+
 -- each that is kept passes
 pub each-passes : {X : Type 0} (keep : X → Bool) (xs : List X) → AllByRecursion (λ (x : X). keep x ≡ true) (filter keep xs)
 each-passes keep [] = tt
@@ -47,6 +52,15 @@ filter-map keep own f same (x ∷ xs) =
     by : (b : Bool) → cond b (f x ∷ map f (filter own xs)) (map f (filter own xs)) ≡ map f (cond b (x ∷ filter own xs) (filter own xs))
     by true = refl
     by false = refl
+
+-- of the images, where those that aren't kept stay as they are: those of the images of the others
+pub filter-again : {X : Type 0} (keep : X → Bool) (f : X → X) (xs : List X) → AllByRecursion (λ (x : X). keep x ≡ false → f x ≡ x) xs → filter keep (map f xs) ≡ filter keep (map f (filter keep xs))
+filter-again keep f [] stay = refl
+filter-again keep f (x ∷ xs) stay = by (keep x) refl (filter-again keep f xs stay.1)
+  where
+    by : (b : Bool) → keep x ≡ b → filter keep (map f xs) ≡ filter keep (map f (filter keep xs)) → filter keep (map f (x ∷ xs)) ≡ filter keep (map f (cond b (x ∷ filter keep xs) (filter keep xs)))
+    by true e rest = ap (λ (ys : List _). cond (keep (f x)) (f x ∷ ys) ys) rest
+    by false e rest = ap (λ (c : Bool). cond c (f x ∷ filter keep (map f xs)) (filter keep (map f xs))) (ap keep (stay.0 e) ∙ e) ∙ rest
 
 -- one filter after another, in either order
 pub filter-swap : {X : Type 0} (h k : X → Bool) (xs : List X) → filter h (filter k xs) ≡ filter k (filter h xs)

@@ -7,7 +7,7 @@ use Rattle.jb_cert.specs.Lawful.{Pair, IsLawful}
 use Rattle.jb_chunk.specs.Laws.{OneEnd}
 use Rattle.jb_chunk.specs.Standing.{TaskState}
 use Rattle.jb_step.specs.Alone.{AreAlone}
-use Rattle.jb_step.specs.Answers.{IsRunOfStep, StepRun, tasks_after, tasks_before}
+use Rattle.jb_step.specs.Answers.{IsRunOfStep, StepRun, artifacts_of, tasks_after, tasks_before}
 use Rattle.jb_step.specs.Headline.{ArePlansOf, Headline, HeadlineHolds, IsNextBlock, IsPlanOf, NoneIsLeft, RunInOrder, UnstoppedRunsAgree}
 use Rattle.jb_step.specs.rounds.PlanLaws.{IsTaskTable}
 use Rattle.jb_step.specs.rounds.Rounds.{AreRun, GoQuietly, after_round, after_rounds, attempts_of, breaks_in}
@@ -103,6 +103,7 @@ module _ (below : LawsBelow) (r : StepRun) where
         subst (λ (ts : List TaskState). AreAlone (tasks_before r) ts) (sym run.tasks)
         (steps_end_alone below.ends r.setup (tasks_before r) run.plans (ready-of r.setup (tasks_before r) first.tasks) run.run (run.unstopped going).ended);
     rows = run.rows ∙ ap (rows_now r.setup.rows) (sym run.tasks);
+    came_back = run.came_back ∙ ap artifacts_of (sym run.tasks);
   }
 
 pub headline_holds : LawsBelow → HeadlineHolds
@@ -113,5 +114,5 @@ unstopped_runs_agree law r other one two rows tasks going other_going =
     let there = subst (λ (ts : List TaskState). AreAlone ts (tasks_after other)) tasks (two.alone other_going) in
     let same : tasks_after other ≡ tasks_after r = alone_is_one_place law (tasks_before r) (tasks_after other) (tasks_after r) there (one.alone going) in (
       two.rows ∙ (ap (λ (rs : List Row). rows_now rs (tasks_after other)) rows ∙ (ap (rows_now r.setup.rows) same ∙ sym one.rows)),
-      same,
+      two.came_back ∙ ap artifacts_of same ∙ sym one.came_back,
     )

@@ -10,18 +10,18 @@ use Rattle.jb_rules.specs.Sound.{IsSoundRow}
 use Rattle.jb_rules.specs.States.{is_waiting, is_finished}
 use Rattle.jb_base.specs.Limits.{max_retry_limit}
 use Rattle.jb_artifacts.specs.Meaning.{ArtifactsMeaning, Fits}
+use Rattle.jb_cert.specs.Rising.{RiseFrom}
 use Rattle.jb_chunk.specs.Standing.{TaskState, IsReady, HasItemCount, started}
 use Rattle.jb_step.specs.rounds.PlanLaws.{AreTasksOf, BeginsWithTable, PartitionsStay}
 use Rattle.jb_step.specs.OnePartition.{tasks_at}
 use Rattle.jb_step.specs.preparing.Prepare.{FitRows}
 use Rattle.jb_step.specs.rounds.Rounds.{has_partition}
-use Rattle.jb_step.specs.preparing.Setup.{Setup, IsSetup, row_now, unfinished}
+use Rattle.jb_step.specs.preparing.Setup.{Setup, IsSetup, needs, row_now, unfinished}
 use Rattle.jb_step.specs.inside.Round.{partitions_of}
 use Rattle.jb_step.specs.inside.Starting.{IsRowBegun, AreBegun}
 use Rattle.jb_step.proofs.Apart.{stays}
-use Rattle.jb_step.proofs.Filters.{filter-all, filter-map, filter-swap}
+use Rattle.jb_step.proofs.Filters.{filter-all, filter-map, filter-swap, rise-lower}
 use Rattle.jb_step.proofs.Numbers.{differ, differ-back}
-use Rattle.jb_step.proofs.Steady.{IsSteadyTable}
 
 abbrev pub is_open : ℕ × Row → Bool
 is_open n = not (is_finished n.1.state)
@@ -49,16 +49,16 @@ numbered k (suc i) p (row ∷ rows) is =
     ap₂ (λ (b : Bool) (ns : List (ℕ × Row)). cond b ((k, row) ∷ ns) ns) (differ k p (omega (arith, is))) (numbered (k + 1) i p rows (omega (arith, is)))
 
 -- a partition's tasks, by their numbers: one, if its row is unfinished
-at-names : (s : Setup) (ts : List TaskState) → IsSteadyTable s ts → (p : ℕ) → partitions_of (tasks_at p ts) ≡ map (λ (n : ℕ × Row). n.0) (filter is_open (with_number p (slice_get s.rows p)))
-at-names s ts steady p =
+at-names : (rows : List Row) (ts : List TaskState) → partitions_of ts ≡ needs rows → (p : ℕ) → partitions_of (tasks_at p ts) ≡ map (λ (n : ℕ × Row). n.0) (filter is_open (with_number p (slice_get rows p)))
+at-names rows ts names p =
     sym (filter-map (λ (n : ℕ). nat_eq n p) (λ (t : TaskState). nat_eq t.partition p) _ (λ t. refl) ts)
-    ∙ ap (filter (λ (n : ℕ). nat_eq n p)) steady.partitions
-    ∙ filter-map (λ (n : ℕ). nat_eq n p) (has_number p) _ (λ n. refl) (unfinished s.rows)
-    ∙ ap (map (λ (n : ℕ × Row). n.0)) (filter-swap (has_number p) is_open (enumerate_from 0 s.rows) ∙ ap (filter is_open) (numbered 0 p p s.rows (zero-add p)))
+    ∙ ap (filter (λ (n : ℕ). nat_eq n p)) names
+    ∙ filter-map (λ (n : ℕ). nat_eq n p) (has_number p) _ (λ n. refl) (unfinished rows)
+    ∙ ap (map (λ (n : ℕ × Row). n.0)) (filter-swap (has_number p) is_open (enumerate_from 0 rows) ∙ ap (filter is_open) (numbered 0 p p rows (zero-add p)))
 
-pub apart-of : (s : Setup) (ts : List TaskState) → IsSteadyTable s ts → (p : ℕ) → length (tasks_at p ts) ≤ 1
-apart-of s ts table p =
-    subst (λ (n : ℕ). n ≤ 1) (sym (ap length (at-names s ts table p)) ∙ length-map (tasks_at p ts) (λ (u : TaskState). u.partition)) (few (slice_get s.rows p))
+pub apart-of : (rows : List Row) (ts : List TaskState) → partitions_of ts ≡ needs rows → (p : ℕ) → length (tasks_at p ts) ≤ 1
+apart-of rows ts names p =
+    subst (λ (n : ℕ). n ≤ 1) (sym (ap length (at-names rows ts names p)) ∙ length-map (tasks_at p ts) (λ (u : TaskState). u.partition)) (few (slice_get rows p))
   where
     one : (b : Bool) (row : Row) → length (map (λ (n : ℕ × Row). n.0) (cond b ((p, row) ∷ []) [])) ≤ 1
     one true row = omega arith
@@ -68,9 +68,18 @@ apart-of s ts table p =
     few None = omega arith
     few (Some row) = one (is_open (p, row)) row
 
-pub rest-of : (s : Setup) (ts : List TaskState) → IsSteadyTable s ts → (p : ℕ) (row : Row) → slice_get s.rows p ≡ Some row → tasks_at p ts ≡ [] → is_waiting row.state ≡ false
-rest-of s ts table p row get none =
-    closed row.state (ap (λ (o : Option Row). map (λ (n : ℕ × Row). n.0) (filter is_open (with_number p o))) (sym get) ∙ sym (at-names s ts table p) ∙ ap partitions_of none)
+-- a row that is finished has no task
+pub none-of : (rows : List Row) (ts : List TaskState) → partitions_of ts ≡ needs rows → (p : ℕ) (row : Row) → slice_get rows p ≡ Some row → not (is_finished row.state) ≡ false → tasks_at p ts ≡ []
+none-of rows ts names p row get closed =
+    unnamed (tasks_at p ts) (at-names rows ts names p ∙ ap (λ (o : Option Row). map (λ (n : ℕ × Row). n.0) (filter is_open (with_number p o))) get ∙ ap (λ (b : Bool). map (λ (n : ℕ × Row). n.0) (cond b ((p, row) ∷ []) [])) closed)
+  where
+    unnamed : (us : List TaskState) → partitions_of us ≡ [] → us ≡ []
+    unnamed [] e = refl
+    unnamed (u ∷ us) e = let never : ⊥ = cc in absurd never
+
+pub rest-of : (rows : List Row) (ts : List TaskState) → partitions_of ts ≡ needs rows → (p : ℕ) (row : Row) → slice_get rows p ≡ Some row → tasks_at p ts ≡ [] → is_waiting row.state ≡ false
+rest-of rows ts names p row get none =
+    closed row.state (ap (λ (o : Option Row). map (λ (n : ℕ × Row). n.0) (filter is_open (with_number p o))) (sym get) ∙ sym (at-names rows ts names p) ∙ ap partitions_of none)
   where
     closed : (st : RowState) → map (λ (n : ℕ × Row). n.0) (cond (not (is_finished st)) ((p, row) ∷ []) []) ≡ [] → is_waiting st ≡ false
     closed state.Waiting e = let never : ⊥ = cc in absurd never
@@ -81,6 +90,19 @@ rest-of s ts table p row get none =
 pub partitions_stay : PartitionsStay
 partitions_stay set [] = refl
 partitions_stay set (t ∷ ts) = let more = partitions_stay set ts in λ i. stays (has_partition set t.partition) t i ∷ more i
+
+-- THEY RISE
+
+abbrev named : List (ℕ × Row) → List ℕ
+named xs = map (λ (n : ℕ × Row). n.0) xs
+
+rise-row : (b : Bool) (k : ℕ) (row : Row) (xs : List (ℕ × Row)) → RiseFrom (k + 1) (named xs) → RiseFrom k (named (cond b ((k, row) ∷ xs) xs))
+rise-row true k row xs h = (omega arith, h)
+rise-row false k row xs h = rise-lower k (k + 1) (named xs) (omega arith) h
+
+pub rise-needs : (k : ℕ) (rows : List Row) → RiseFrom k (named (filter is_open (enumerate_from k rows)))
+rise-needs k [] = tt
+rise-needs k (row ∷ rows) = rise-row (not (is_finished row.state)) k row (filter is_open (enumerate_from (k + 1) rows)) (rise-needs (k + 1) rows)
 
 -- THE FIRST TABLE
 

@@ -2,7 +2,6 @@ mod Adding
 mod Apart
 mod Beginning
 mod Computed
-mod Filling
 mod Filters
 mod Finishing
 mod ChunkNumbers
@@ -13,6 +12,7 @@ mod Hearing
 mod Holding
 mod Leading
 mod Leftover
+mod Lookup
 mod Numbers
 mod Opening
 mod Overriding

@@ -8,14 +8,15 @@ use Rattle.jb_chunk.specs.Standing.{TaskState}
 use Rattle.jb_step.specs.rounds.PlanLaws.{BeginsWithRows}
 use Rattle.jb_step.specs.OnePartition.{tasks_at}
 use Rattle.jb_step.specs.preparing.Setup.{Setup, first_tasks, row_now, unfinished}
-use Rattle.jb_step.proofs.ChunksInOrder.{first-now, none-now, named, member}
+use Rattle.jb_step.proofs.ChunksInOrder.{named, member}
 use Rattle.jb_step.proofs.Filters.{filter-all}
 use Rattle.jb_step.proofs.Holding.{first_from, is_open}
+use Rattle.jb_step.proofs.Lookup.{first-now, none-now}
 
-abbrev IsRowAt : List Row → ℕ × Row → Type 0
+abbrev pub IsRowAt : List Row → ℕ × Row → Type 0
 IsRowAt rows n = slice_get rows n.0 ≡ Some n.1
 
-listed : (all : List Row) (k : ℕ) (rows : List Row) → ((i : ℕ) (row : Row) → slice_get rows i ≡ Some row → slice_get all (k + i) ≡ Some row) → AllByRecursion (IsRowAt all) (enumerate_from k rows)
+pub listed : (all : List Row) (k : ℕ) (rows : List Row) → ((i : ℕ) (row : Row) → slice_get rows i ≡ Some row → slice_get all (k + i) ≡ Some row) → AllByRecursion (IsRowAt all) (enumerate_from k rows)
 listed all k [] h = tt
 listed all k (row ∷ rows) h = (
   (let e : k + 0 ≡ k = omega arith in subst (λ m. slice_get all m ≡ Some row) e (h zero row refl)),

@@ -3,7 +3,6 @@ use Rattle.std.proofs.Common.{◌≡◌, ℕ, ◌+◌, ◌*◌, Bool, true, fals
 use Rattle.std.specs.Prelude.{MatchOption, if◌then◌else◌, is_some}
 use Rattle.std.proofs.lemmas.List.{length-map}
 use Rattle.jb_base.specs.declared.class.ClassId.{ClassId}
-use Rattle.jb_cert.specs.Rising.{RiseFrom}
 use Rattle.jb_rules.specs.declared.row.Row.{Row}
 use Rattle.jb_chunk.specs.Standing.{TaskState}
 use Rattle.jb_collect.specs.declared.calls.Status.{Status}
@@ -11,19 +10,18 @@ use Rattle.jb_collect.specs.declared.calls.Status.TheVariants.{Failed}
 use Rattle.jb_collect.specs.declared.calls.AnalyzerCall.{AnalyzerCall}
 use Rattle.jb_collect.specs.Taken.{Taken, AreTaken, HasTaken, since}
 use Rattle.jb_cert.specs.declared.notes.PlanNote.{PlanNote}
-use Rattle.jb_step.specs.Answers.{IsRunOfStep, IsUnstopped, StepRun, tasks_after, tasks_before}
+use Rattle.jb_step.specs.Answers.{IsRunOfStep, IsUnstopped, StepRun, artifacts_of, tasks_after, tasks_before}
 use Rattle.jb_step.specs.callbacks.Heard.{heard}
 use Rattle.jb_step.specs.callbacks.Callbacks.{has_fault}
 use Rattle.jb_step.specs.rounds.Runs.{PlanRun, note_of, table_after}
 use Rattle.jb_step.specs.preparing.Setup.{rows_now}
 use Rattle.jb_step.specs.Statuses.{status_of}
 use Rattle.jb_step.specs.Alone.{AreOnTheWay, have_ended}
-use Rattle.jb_step.specs.inside.Finish.{AreHeardToEnd, works_of_tasks}
+use Rattle.jb_step.specs.inside.Finish.{AreHeardToEnd}
 use Rattle.jb_step.specs.inside.Round.{partitions_of}
 use Rattle.jb_step.specs.inside.Telling.{moment}
 use Rattle.jb_step.proofs.Leftover.{left-again}
 use Rattle.jb_step.proofs.Leading.{steps_are_on_the_way}
-use Rattle.jb_step.proofs.Turning.{rise-needs}
 
 -- THE ANALYZER'S FAULT
 
@@ -58,18 +56,29 @@ pub record IsLeft (r : StepRun) (fault : Option ClassId) : Type 0 where
       AreHeardToEnd (record { setup = r.setup; start = tasks_before r; base = r.heard_before }) r.round_limit
       (record { moment = moment r.heard_after fault; table = table; ran = ran; notes = r.notes }) stopped
   pub rows : r.snapshot.rows.items ≡ rows_now r.setup.rows table
-  pub left_is : r.left ≡ works_of_tasks table
+  pub left_is : r.left ≡ artifacts_of table
   pub agree : r.snapshot.stopping ≡ false → (stopped ≡ false) × (r.snapshot.plans ≡ length r.notes) × (r.snapshot.events ≡ length r.notes + ran.0 + 2 * ran.1)
 
 number-of : (notes : List PlanNote) (plans : List PlanRun) → notes ≡ map note_of plans → length notes ≡ length plans
 number-of notes plans is = ap length is ∙ length-map plans note_of
 
 module _ (r : StepRun) (fault : Option ClassId) (h : IsLeft r fault) where
-  rise : RiseFrom 0 (partitions_of h.table)
-  rise = subst (λ (ns : List ℕ). RiseFrom 0 ns) (sym h.told.rounds.left.holds.partitions) (rise-needs 0 r.setup.rows)
+  abbrev ends : List TaskState
+  ends = table_after h.told.rounds.plans (tasks_before r)
 
-  again : tasks_after r ≡ table_after h.told.rounds.plans (tasks_before r)
-  again = left-again r.setup r.works h.told.rounds.plans r.snapshot r.left h.table h.told.rounds.left.table_is h.told.rounds.left.holds rise h.rows h.left_is
+  are : r.snapshot.rows.items ≡ rows_now r.setup.rows ends
+  are = h.rows ∙ ap (rows_now r.setup.rows) h.told.rounds.left.table_is
+
+  came-back : r.left ≡ artifacts_of ends
+  came-back = h.left_is ∙ ap artifacts_of h.told.rounds.left.table_is
+
+  on-the-way : AreOnTheWay (tasks_before r) ends
+  on-the-way = steps_are_on_the_way r.setup (tasks_before r) h.told.rounds.plans h.told.rounds.run
+
+  again : tasks_after r ≡ ends
+  again =
+      left-again r.setup.rows r.snapshot.rows.items r.left (tasks_before r) ends on-the-way
+      (ap partitions_of (sym h.told.rounds.left.table_is) ∙ h.told.rounds.left.holds.partitions) are came-back
 
   unstopped : r.snapshot.stopping ≡ false → IsUnstopped (tasks_before r) h.told.rounds.plans r.snapshot
   unstopped going =
@@ -92,14 +101,15 @@ module _ (r : StepRun) (fault : Option ClassId) (h : IsLeft r fault) where
     run = h.told.rounds.run;
     notes_are = h.told.rounds.notes_are;
     few = h.told.rounds.few;
-    rows = h.rows ∙ ap (λ (ts : List TaskState). rows_now r.setup.rows ts) h.told.rounds.left.table_is;
+    rows = are;
     tasks = again;
+    came_back = came-back;
     heard_is = (fault, h.told.heard_is);
     unstopped = unstopped;
   }
 
   pub way-is : AreOnTheWay (tasks_before r) (tasks_after r)
-  way-is = subst (λ (ts : List TaskState). AreOnTheWay (tasks_before r) ts) (sym again) (steps_are_on_the_way r.setup (tasks_before r) h.told.rounds.plans h.told.rounds.run)
+  way-is = subst (λ (ts : List TaskState). AreOnTheWay (tasks_before r) ts) (sym again) on-the-way
 
   pub heard-fault : is_some fault ≡ has_fault (since r.heard_before r.heard_after)
   heard-fault = fault-since r.heard_before r.heard_after (heard r.setup (tasks_before r) h.told.rounds.plans) fault h.told.heard_is

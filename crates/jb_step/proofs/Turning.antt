@@ -1,7 +1,7 @@
 -- The turns of the loop, at its head.
-use Rattle.std.proofs.Common.{◌≡◌, ℕ, ◌+◌, ◌<◌, ◌≤◌, ◌⊎◌, inl, inr, Bool, true, false, cond, Option, Some, None, List, [], ◌∷◌, ◌++◌, length, map, filter, not, drop, take, refl, ap, ap₂, sym, ◌∙◌, subst, arith, append-nil, append_assoc, get_or, zero-add}
+use Rattle.std.proofs.Common.{◌≡◌, ℕ, ◌+◌, ◌<◌, ◌≤◌, ◌⊎◌, inl, inr, Bool, true, false, cond, Option, Some, None, List, [], ◌∷◌, ◌++◌, length, map, drop, take, refl, ap, ap₂, sym, ◌∙◌, subst, arith, append-nil, append_assoc, get_or, zero-add}
 use Rattle.std.specs.Prelude.{MatchOption, IsSome}
-use Rattle.std.specs.List.{range_with_len, enumerate_from}
+use Rattle.std.specs.List.{range_with_len}
 use Rattle.std.proofs.lemmas.Grind.{flat_map-append}
 use Rattle.std.proofs.lemmas.List.{drop_more, get_or-map, length-append, length-drop, map-append, take-append-drop, take_more}
 use Rattle.std.proofs.lemmas.List.FromFn.{get_or-range_with_len, length-map-range_with_len, length-range_with_len}
@@ -11,8 +11,6 @@ use Rattle.jb_cert.specs.Load.{Load, mcnaughton}
 use Rattle.jb_cert.specs.Rising.{RiseFrom}
 use Rattle.jb_chunk.specs.Attempt.{attempt_of}
 use Rattle.jb_chunk.specs.Standing.{TaskState}
-use Rattle.jb_rules.specs.States.{is_finished}
-use Rattle.jb_rules.specs.declared.row.Row.{Row}
 use Rattle.jb_cert.specs.declared.notes.PlanNote.{PlanNote}
 use Rattle.jb_step.specs.rounds.PlanLaws.{AreTasksOf, IsQuietSoFar, IsTaskTable}
 use Rattle.jb_collect.specs.declared.calls.AnalyzerCall.{AnalyzerCall}
@@ -28,11 +26,10 @@ use Rattle.jb_step.specs.inside.Round.{IsRound, Progress, heard_in_round, partit
 use Rattle.jb_step.specs.inside.Telling.{Moment, IsHeard}
 use Rattle.jb_step.proofs.Adding.{after-append, attempts-append, breaks-more, over-more, plan-more, rounds-more, run-more}
 use Rattle.jb_step.proofs.ChunksInOrder.{next_can_run}
-use Rattle.jb_step.proofs.Holding.{partitions_stay}
+use Rattle.jb_step.proofs.Holding.{partitions_stay, rise-needs}
 use Rattle.jb_step.proofs.Planning.{least-planned}
 use Rattle.jb_step.proofs.Steady.{same-count}
 use Rattle.jb_step.proofs.Hearing.{heard-more}
-use Rattle.jb_step.proofs.Filters.{rise-lower}
 use Rattle.jb_step.proofs.Whole.{ends_whole}
 
 -- TABLES
@@ -51,17 +48,6 @@ table-round s set ts table r = record { tasks = table-tasks s set ts table.tasks
 pub ready-of : (s : Setup) (ts : List TaskState) → AreTasksOf s ts → AreReady ts
 ready-of s [] h = tt
 ready-of s (t ∷ ts) h = (h.0.0, ready-of s ts h.1)
-
-abbrev named : List (ℕ × Row) → List ℕ
-named xs = map (λ (n : ℕ × Row). n.0) xs
-
-rise-row : (b : Bool) (k : ℕ) (row : Row) (xs : List (ℕ × Row)) → RiseFrom (k + 1) (named xs) → RiseFrom k (named (cond b ((k, row) ∷ xs) xs))
-rise-row true k row xs h = (omega arith, h)
-rise-row false k row xs h = rise-lower k (k + 1) (named xs) (omega arith) h
-
-pub rise-needs : (k : ℕ) (rows : List Row) → RiseFrom k (named (filter (λ (n : ℕ × Row). not (is_finished n.1.state)) (enumerate_from k rows)))
-rise-needs k [] = tt
-rise-needs k (row ∷ rows) = rise-row (not (is_finished row.state)) k row (filter (λ (n : ℕ × Row). not (is_finished n.1.state)) (enumerate_from (k + 1) rows)) (rise-needs (k + 1) rows)
 
 -- ONE ROUND MORE
 

@@ -1,6 +1,6 @@
 -- What `run_step` answers.
-use Rattle.std.specs.Prelude.{◌≡◌, ℕ, ◌≤◌, true, false, ◌||◌, MatchOption, Option, List, [], ◌∷◌, map, length, slice_index_or}
-use Rattle.jb_rules.specs.Rows.{fresh_row}
+use Rattle.std.specs.Prelude.{◌≡◌, ℕ, nat_eq, ◌≤◌, true, false, ◌||◌, if◌then◌else◌, MatchOption, Option, List, [], ◌∷◌, map, length, slice_index_or}
+use Rattle.jb_rules.specs.declared.row.Row.{Row}
 use Rattle.jb_artifacts.specs.Meaning.{ArtifactsMeaning}
 use Rattle.jb_chunk.specs.Standing.{TaskState}
 use Rattle.jb_repo.specs.declared.snapshot.Snapshot.{Snapshot}
@@ -18,24 +18,32 @@ use Rattle.jb_step.specs.callbacks.Callbacks.{AreSome, has_fault}
 use Rattle.jb_step.specs.rounds.Runs.{PlanRun, AreOver, ArePlanRuns, note_of, rounds_of, table_after, events_of}
 use Rattle.jb_step.specs.preparing.Setup.{Setup, first_tasks, rows_now}
 use Rattle.jb_step.specs.Statuses.{status_of}
-use Rattle.jb_step.specs.Alone.{have_ended}
+use Rattle.jb_step.specs.Alone.{AreOnTheWay, have_ended}
 
 -- the artifacts that came back, each with its partition
 abbrev pub given_back : {A : Type 0} → (A → ArtifactsMeaning) → List (ℕ × A) → List (ℕ × ArtifactsMeaning)
 given_back meaning left = map (λ a. (a.0, meaning a.1)) left
 
--- the tasks as they were left: the artifacts that came back, each with its partition, and the rows
-abbrev pub tasks_left : Setup → Snapshot → List (ℕ × ArtifactsMeaning) → List TaskState
-tasks_left s snapshot left =
-    map
-    (λ a. record {
-      partition = a.0;
-      row = slice_index_or snapshot.rows.items a.0 (fresh_row (record { lo = 0; hi = 0 }));
-      rules = s.rules;
-      item_count = s.item_count;
-      work = a.1;
-    })
-    left
+-- the artifacts of these tasks, each with its partition
+abbrev pub artifacts_of : List TaskState → List (ℕ × ArtifactsMeaning)
+artifacts_of ts = map (λ t. (t.partition, t.work)) ts
+
+-- a partition's artifacts as they came back, or these, where none of the partition did
+abbrev pub newer : List (ℕ × ArtifactsMeaning) → ℕ → ArtifactsMeaning → ArtifactsMeaning
+newer [] p work = work
+newer (a ∷ left) p work = if nat_eq a.0 p then a.1 else newer left p work
+
+-- a task as it was left: with its partition's row, and with the artifacts that came back
+abbrev pub task_left : List Row → List (ℕ × ArtifactsMeaning) → TaskState → TaskState
+task_left rows left t = record t { row = slice_index_or rows t.partition t.row; work = newer left t.partition t.work }
+
+-- the tasks that were begun with, as they were left
+abbrev pub tasks_left : List TaskState → List Row → List (ℕ × ArtifactsMeaning) → List TaskState
+tasks_left ts rows left = map (task_left rows left) ts
+
+-- and each of them was left on the way to where its attempts alone end
+abbrev pub AreLeftOnTheWay : List TaskState → List Row → List (ℕ × ArtifactsMeaning) → Type 0
+AreLeftOnTheWay ts rows left = AreOnTheWay ts (tasks_left ts rows left)
 
 -- what holds where nothing stopped the run: all partitions ended, and all plans are over; and the history's numbers
 pub record IsUnstopped (start : List TaskState) (plans : List PlanRun) (snapshot : Snapshot) : Type 0 where
@@ -61,7 +69,7 @@ abbrev pub tasks_before : StepRun → List TaskState
 tasks_before r = first_tasks r.setup r.works
 
 abbrev pub tasks_after : StepRun → List TaskState
-tasks_after r = tasks_left r.setup r.snapshot r.left
+tasks_after r = tasks_left (tasks_before r) r.snapshot.rows.items r.left
 
 -- Run of a step: some plans were run, one after another, each a least one for what was left; these are its notes, its
 -- rows, its artifacts, and what the analyzer was told
@@ -72,6 +80,7 @@ pub record IsRunOfStep (r : StepRun) : Type 0 where
   pub few : MatchOption r.round_limit (Unit {0}) (λ limit. length (rounds_of plans) ≤ limit)
   pub rows : r.snapshot.rows.items ≡ rows_now r.setup.rows (table_after plans (tasks_before r))
   pub tasks : tasks_after r ≡ table_after plans (tasks_before r)
+  pub came_back : r.left ≡ artifacts_of (table_after plans (tasks_before r))
   pub heard_is : HasHeard r.heard_before (heard r.setup (tasks_before r) plans) r.heard_after
   pub unstopped : r.snapshot.stopping ≡ false → IsUnstopped (tasks_before r) plans r.snapshot
 

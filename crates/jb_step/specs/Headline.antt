@@ -7,7 +7,7 @@ use Rattle.jb_cert.specs.Lawful.{Pair, IsLawful, NoneIsShorter}
 use Rattle.jb_chunk.specs.Attempt.{block_of}
 use Rattle.jb_chunk.specs.Standing.{TaskState}
 use Rattle.jb_step.specs.Alone.{AreAlone}
-use Rattle.jb_step.specs.Answers.{StepRun, tasks_before, tasks_after}
+use Rattle.jb_step.specs.Answers.{StepRun, artifacts_of, tasks_before, tasks_after}
 use Rattle.jb_step.specs.OnePartition.{tasks_at}
 use Rattle.jb_step.specs.rounds.Rounds.{GoQuietly, after_round, after_rounds}
 use Rattle.jb_step.specs.rounds.Runs.{PlanRun, note_of, rounds_run}
@@ -77,16 +77,19 @@ pub record Headline (r : StepRun) : Type 0 where
   -- a step that returns unstopped has, for every thread number and order of commits, the artifacts (the outputs) and the rows (the
   -- checkpoints and the counts) of its partitions run alone,
   pub alone : r.snapshot.stopping ≡ false → AreAlone (tasks_before r) (tasks_after r)
-  -- and the rows are the tasks' own; a partition without a task has the one that was prepared
+  -- and the rows are the tasks' own; a partition without a task has the one that was prepared;
   pub rows : r.snapshot.rows.items ≡ rows_now r.setup.rows (tasks_after r)
+  -- and so are the artifacts that came back: each task's once, in their order, and no others
+  pub came_back : r.left ≡ artifacts_of (tasks_after r)
 
 -- it holds of each run that `run_step` answers, on rows that `prepare` gave
 abbrev pub HeadlineHolds : Type 0
 HeadlineHolds = (r : StepRun) → IsSetup r.setup → IsAnswered r → Headline r
 
--- two unstopped runs that began alike end alike, whatever their threads, their plans and the order of their commits were
+-- two unstopped runs that began alike end alike, with the same rows and artifacts, whatever their threads, their plans and the
+-- order of their commits were
 abbrev pub UnstoppedRunsAgree : Type 0
 UnstoppedRunsAgree =
     (r other : StepRun) → Headline r → Headline other → other.setup.rows ≡ r.setup.rows → tasks_before other ≡ tasks_before r
     → r.snapshot.stopping ≡ false → other.snapshot.stopping ≡ false
-    → (other.snapshot.rows.items ≡ r.snapshot.rows.items) × (tasks_after other ≡ tasks_after r)
+    → (other.snapshot.rows.items ≡ r.snapshot.rows.items) × (other.left ≡ r.left)

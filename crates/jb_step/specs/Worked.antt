@@ -24,13 +24,13 @@ use Rattle.jb_rules.specs.declared.row.Row.{Row}
 use Rattle.jb_saved.specs.SavedRows.{SavedRows}
 use Rattle.jb_saved.specs.declared.error.StepError.TheVariants as step_error
 use Rattle.jb_cert.specs.declared.notes.PlanNote.{PlanNote}
-use Rattle.jb_step.specs.Answers.{AreCallsInPart}
+use Rattle.jb_step.specs.Answers.{AreCallsInPart, artifacts_of, tasks_left}
 use Rattle.jb_step.specs.callbacks.Heard.{heard}
 use Rattle.jb_step.specs.preparing.Prepare.{AreCallsAtRefusal, AreCallsBefore}
 use Rattle.jb_step.specs.rounds.Runs.{PlanRun, AreOver, ArePlanRuns, IsPlanRun, note_of, table_after, events_of}
 use Rattle.jb_step.specs.preparing.Setup.{Setup, discards, needs, first_tasks, fresh_rows, gone_on, opening_rows, rows_now}
 use Rattle.jb_step.specs.Statuses.{status_of}
-use Rattle.jb_step.specs.restarts.StepRuns.{all_newer, works_restarted}
+use Rattle.jb_step.specs.restarts.StepRuns.{works_restarted}
 
 -- THE STEPS
 
@@ -56,12 +56,15 @@ pub record WorkedRun : Type 0 where
 abbrev pub run_of : Setup → List ArtifactsMeaning → List PlanRun → WorkedRun
 run_of step works plans = record { step = step; tasks = first_tasks step works; plans = plans }
 
--- its rows at its end, and the artifacts as it hands them back
+-- its tasks and all rows at its end, and the artifacts as it hands them back
+abbrev pub tasks_at_end : WorkedRun → List TaskState
+tasks_at_end r = table_after r.plans r.tasks
+
 abbrev pub rows_at_last : WorkedRun → List Row
-rows_at_last r = rows_now r.step.rows (table_after r.plans r.tasks)
+rows_at_last r = rows_now r.step.rows (tasks_at_end r)
 
 abbrev pub handed_back : WorkedRun → List (ℕ × ArtifactsMeaning)
-handed_back r = map (λ t. (t.partition, t.work)) (table_after r.plans r.tasks)
+handed_back r = artifacts_of (tasks_at_end r)
 
 abbrev pub saved_of : WorkedRun → SavedRows
 saved_of r = record { step = codes "s"; rows = rows_at_last r }
@@ -71,7 +74,11 @@ abbrev pub taken_up : WorkedRun → List ArtifactsMeaning → List PlanRun → W
 taken_up r works plans = run_of (record r.step { rows = opening_rows [] (Some (saved_of r)); begun_anew = false }) works plans
 
 abbrev pub taken_up_again : WorkedRun → List PlanRun → WorkedRun
-taken_up_again r plans = taken_up r (works_restarted (rows_at_last r) (handed_back r)) plans
+taken_up_again r plans = taken_up r (works_restarted (tasks_at_end r)) plans
+
+-- the tasks of a run, as one that took them up again left them
+abbrev pub left_by_both : WorkedRun → WorkedRun → List TaskState
+left_by_both first later = tasks_left (tasks_at_end first) (rows_at_last later) (handed_back later)
 
 abbrev pub outputs_left : List (ℕ × ArtifactsMeaning) → List (ℕ × List (List ℕ))
 outputs_left left = map (λ a. (a.0, a.1.writer.written)) left
@@ -236,7 +243,7 @@ pub record StoppedAndRestarted : Type 0 where
   -- the rows are those of the run that nothing stopped, and so are the outputs
   pub rows : rows_at_last rest_of_seven ≡ rows_at_last whole_seven
   pub outputs :
-      outputs_left (all_newer (handed_back (taken_up_again stopped_seven rest_plans)) (handed_back stopped_seven))
+      outputs_left (artifacts_of (left_by_both stopped_seven (taken_up_again stopped_seven rest_plans)))
       ≡ (0, codes "xa" ∷ codes "xb" ∷ codes "xc" ∷ []) ∷ (1, codes "xd" ∷ codes "xe" ∷ []) ∷ (2, codes "xf" ∷ codes "xg" ∷ []) ∷ []
 
 -- on one thread, with a limit of one round, in four runs

@@ -2,11 +2,10 @@
 
 ghost use Rattle.std.specs.Prelude.{◌≡◌, ◌⊎◌, IfOk, IfErr, OnOk, map};
 ghost use Rattle.jb_collect.specs.Taken.{Grew, since, well};
-ghost use Rattle.jb_step.specs.Answers.{given_back, AreCallsAfter, AreCallsUndone, IsRunError, IsRunOfStep, IsStatus, tasks_left};
+ghost use Rattle.jb_step.specs.Answers.{given_back, AreCallsAfter, AreCallsUndone, AreLeftOnTheWay, IsRunError, IsRunOfStep, IsStatus};
 ghost use Rattle.jb_step.specs.Headline.{Headline};
 ghost use Rattle.jb_step.specs.preparing.Prepare.{DoFit};
 ghost use Rattle.jb_step.specs.preparing.Setup.{first_tasks};
-ghost use Rattle.jb_step.specs.Alone.{AreOnTheWay};
 ghost use Rattle.jb_saved.specs.declared.error.StepError.TheVariants.{WrongArtifacts, Memory};
 
 use crate::preparing::prepared::Prepared;
@@ -62,7 +61,7 @@ fn run_in<
       snapshot = end.snapshot;
       left = given_back T.Artifacts.meaning end.artifacts.items;
     })) }
-    ensures on_the_way { IfOk result (λ end. AreOnTheWay (first_tasks prepared (map T.Artifacts.meaning artifacts.items)) (tasks_left prepared end.snapshot (given_back T.Artifacts.meaning end.artifacts.items))) }
+    ensures on_the_way { IfOk result (λ end. AreLeftOnTheWay (first_tasks prepared (map T.Artifacts.meaning artifacts.items)) end.snapshot.rows.items (given_back T.Artifacts.meaning end.artifacts.items)) }
     ensures status { IfOk result (λ end. IsStatus end.snapshot (since (map well analyzer.old) (map well analyzer.new)) (since (map well reducer.old) (map well reducer.new)) end.status) }
     ensures reducer { IfOk result (λ end. AreCallsAfter end.snapshot (since (map well analyzer.old) (map well analyzer.new)) (since (map well reducer.old) (map well reducer.new))) }
     ensures undone { IfErr result (λ e. AreCallsUndone e (since (map well reducer.old) (map well reducer.new))) }
@@ -139,7 +138,7 @@ pub fn run_pooled_step<
       snapshot = end.snapshot;
       left = given_back T.Artifacts.meaning end.artifacts.items;
     })) }
-    ensures on_the_way { IfOk result.0 (λ end. AreOnTheWay (first_tasks prepared (map T.Artifacts.meaning artifacts.items)) (tasks_left prepared end.snapshot (given_back T.Artifacts.meaning end.artifacts.items))) }
+    ensures on_the_way { IfOk result.0 (λ end. AreLeftOnTheWay (first_tasks prepared (map T.Artifacts.meaning artifacts.items)) end.snapshot.rows.items (given_back T.Artifacts.meaning end.artifacts.items)) }
     ensures status { IfOk result.0 (λ end. IsStatus end.snapshot (since (map well analyzer) (map well result.1)) (since (map well reducer) (map well result.2)) end.status) }
     ensures reducer { IfOk result.0 (λ end. AreCallsAfter end.snapshot (since (map well analyzer) (map well result.1)) (since (map well reducer) (map well result.2))) }
     ensures undone { IfErr result.0 (λ e. AreCallsUndone e (since (map well reducer) (map well result.2))) }
@@ -178,7 +177,7 @@ pub fn run_pooled_step<
                   snapshot = end.snapshot;
                   left = given_back T.Artifacts.meaning end.artifacts.items;
                 })))
-                × (IfOk result.0 (λ end. AreOnTheWay (first_tasks prepared (map T.Artifacts.meaning artifacts.items)) (tasks_left prepared end.snapshot (given_back T.Artifacts.meaning end.artifacts.items))))
+                × (IfOk result.0 (λ end. AreLeftOnTheWay (first_tasks prepared (map T.Artifacts.meaning artifacts.items)) end.snapshot.rows.items (given_back T.Artifacts.meaning end.artifacts.items)))
                 × (IfOk result.0 (λ end. IsStatus end.snapshot (since (map well analyzer) (map well result.1)) (since (map well reducer) (map well result.2)) end.status))
                 × (IfOk result.0 (λ end. AreCallsAfter end.snapshot (since (map well analyzer) (map well result.1)) (since (map well reducer) (map well result.2))))
                 × (IfErr result.0 (λ e. AreCallsUndone e (since (map well reducer) (map well result.2))))

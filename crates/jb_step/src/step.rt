@@ -1,16 +1,14 @@
 //! A step, from its artifacts to its end.
 
 ghost use Rattle.std.specs.Prelude.{◌≡◌, ◌⊎◌, ◌+◌, ◌*◌, ◌++◌, ◌∷◌, [], true, false, IfOk, IfErr, OnOk, length, map};
-ghost use Rattle.jb_step.specs.inside.Finish.{works_of_tasks};
 ghost use Rattle.jb_step.specs.inside.Places.{held_in};
-ghost use Rattle.jb_step.specs.Answers.{given_back, AreCallsAfter, AreCallsUndone, IsRunError, IsRunOfStep, IsStatus, tasks_left};
+ghost use Rattle.jb_step.specs.Answers.{artifacts_of, given_back, AreCallsAfter, AreCallsUndone, AreLeftOnTheWay, IsRunError, IsRunOfStep, IsStatus};
 ghost use Rattle.jb_step.specs.preparing.Prepare.{DoFit};
 ghost use Rattle.jb_collect.specs.Taken.{Grew, since};
 ghost use Rattle.jb_step.specs.callbacks.Callbacks.{has_fault};
 ghost use Rattle.jb_step.specs.Headline.{Headline};
 ghost use Rattle.jb_step.specs.preparing.Setup.{first_tasks};
 ghost use Rattle.jb_step.specs.Statuses.{status_of};
-ghost use Rattle.jb_step.specs.Alone.{AreOnTheWay};
 ghost use Rattle.jb_saved.specs.declared.error.StepError.TheVariants.{WrongArtifacts, Memory};
 
 use crate::callbacks::finish::{rows_shown, run_to_end};
@@ -51,7 +49,7 @@ fn give_back<T: PartitionTask>(
     alloc: Global,
     held: Vec<Option<T>>,
 ) -> Result<Vec<(u32, T::Artifacts)>, RunError>
-    ensures { IfOk result (λ left. given_back T.Artifacts.meaning left.items ≡ works_of_tasks (map T.standing (held_in held.items))) }
+    ensures { IfOk result (λ left. given_back T.Artifacts.meaning left.items ≡ artifacts_of (map T.standing (held_in held.items))) }
 {
     let mut left = Vec::new(alloc);
     for place in held {
@@ -65,7 +63,7 @@ fn give_one<T: PartitionTask>(
     left: &mut Vec<(u32, T::Artifacts)>,
     place: Option<T>,
 ) -> Result<(), RunError>
-    ensures { OnOk result (given_back T.Artifacts.meaning left.new.items ≡ given_back T.Artifacts.meaning left.old.items ++ works_of_tasks (map T.standing (held_in (place ∷ [])))) }
+    ensures { OnOk result (given_back T.Artifacts.meaning left.new.items ≡ given_back T.Artifacts.meaning left.old.items ++ artifacts_of (map T.standing (held_in (place ∷ [])))) }
 {
     if let Some(task) = place {
         let partition = task.partition();
@@ -133,7 +131,7 @@ fn run_tasks<T: StepTask, L: StepLedger, G: StepGate, R: StepThreads>(
       left = given_back T.Artifacts.meaning end.artifacts.items;
     })) }
     ensures on_the_way { IfOk result (λ end.
-        AreOnTheWay (first_tasks prepared.now (map T.Artifacts.meaning artifacts.items)) (tasks_left prepared.now end.snapshot (given_back T.Artifacts.meaning end.artifacts.items))) }
+        AreLeftOnTheWay (first_tasks prepared.now (map T.Artifacts.meaning artifacts.items)) end.snapshot.rows.items (given_back T.Artifacts.meaning end.artifacts.items)) }
     ensures status { IfOk result (λ end. end.status ≡ status_of end.snapshot.rows.items (has_fault (since (analyzed analyzer.old) (analyzed analyzer.new)))) }
     ensures grew { Grew (analyzed analyzer.old) (analyzed analyzer.new) }
 {
@@ -205,7 +203,7 @@ pub fn run_step<
 
     // Stopped, each partition stands on the way to where its attempts alone end.
     ensures on_the_way { IfOk result (λ end.
-        AreOnTheWay (first_tasks prepared (map T.Artifacts.meaning artifacts.items)) (tasks_left prepared end.snapshot (given_back T.Artifacts.meaning end.artifacts.items))) }
+        AreLeftOnTheWay (first_tasks prepared (map T.Artifacts.meaning artifacts.items)) end.snapshot.rows.items (given_back T.Artifacts.meaning end.artifacts.items)) }
 
     // How the step stands, and what the reducer was called with.
     ensures status { IfOk result (λ end. IsStatus end.snapshot (since (analyzed analyzer.old) (analyzed analyzer.new)) (since (reduced reducer.old) (reduced reducer.new)) end.status) }
@@ -286,7 +284,7 @@ pub fn run_step_by<
 
     // Stopped, each partition stands on the way to where its attempts alone end.
     ensures on_the_way { IfOk result (λ end.
-        AreOnTheWay (first_tasks prepared (map T.Artifacts.meaning artifacts.items)) (tasks_left prepared end.snapshot (given_back T.Artifacts.meaning end.artifacts.items))) }
+        AreLeftOnTheWay (first_tasks prepared (map T.Artifacts.meaning artifacts.items)) end.snapshot.rows.items (given_back T.Artifacts.meaning end.artifacts.items)) }
 
     // How the step stands, and what the reducer was called with.
     ensures status { IfOk result (λ end. IsStatus end.snapshot (since (analyzed analyzer.old) (analyzed analyzer.new)) (since (reduced reducer.old) (reduced reducer.new)) end.status) }

@@ -4,12 +4,11 @@ ghost use Rattle.std.specs.Prelude.{◌≡◌, ◌++◌, false, map, IfErr, IfOk
 ghost use Rattle.jb_base.specs.Limits.{max_parts};
 ghost use Rattle.jb_collect.specs.ReducerCalls.{calls_after};
 ghost use Rattle.jb_collect.specs.Taken.{well};
-ghost use Rattle.jb_step.specs.Answers.{IsRunError, IsRunOfStep, given_back, tasks_left};
+ghost use Rattle.jb_step.specs.Answers.{AreLeftOnTheWay, IsRunError, IsRunOfStep, given_back};
 ghost use Rattle.jb_step.specs.Headline.{Headline};
 ghost use Rattle.jb_step.specs.preparing.Prepare.{DoFit};
 ghost use Rattle.jb_step.specs.preparing.Setup.{first_tasks};
 ghost use Rattle.jb_step.specs.Statuses.{status_of};
-ghost use Rattle.jb_step.specs.Alone.{AreOnTheWay};
 ghost use Rattle.jb_saved.specs.declared.error.StepError.TheVariants.{WrongArtifacts};
 ghost use Rattle.jb_program.specs.Refusals.{IsBreakOff, IsFailureOf};
 
@@ -80,8 +79,8 @@ pub fn run_over_desk<T: Threads + Wait + Sync, L: Ledger + Send + Sync + 'static
       snapshot = ended.0.snapshot;
       left = given_back ⟦<OwnArtifacts as Meaning>⟧.meaning ended.0.artifacts.items;
     })) }
-    ensures on_the_way { IfOk result (λ ended. AreOnTheWay (first_tasks prepared (map ⟦<OwnArtifacts as Meaning>⟧.meaning artifacts.items))
-        (tasks_left prepared ended.0.snapshot (given_back ⟦<OwnArtifacts as Meaning>⟧.meaning ended.0.artifacts.items))) }
+    ensures on_the_way { IfOk result (λ ended. AreLeftOnTheWay (first_tasks prepared (map ⟦<OwnArtifacts as Meaning>⟧.meaning artifacts.items))
+        ended.0.snapshot.rows.items (given_back ⟦<OwnArtifacts as Meaning>⟧.meaning ended.0.artifacts.items)) }
     ensures status { IfOk result (λ ended. ended.0.status ≡ status_of ended.0.snapshot.rows.items false) }
     ensures reducer { IfOk result (λ ended. ended.2 ≡ reducer ++ calls_after (status_of ended.0.snapshot.rows.items false) false) }
     ensures why { IfErr result IsBreakOff }

@@ -6,7 +6,7 @@ use Rattle.jb_saved.specs.declared.error.StepError.TheVariants as error
 use Rattle.jb_saved.specs.Answers.{first_running}
 use Rattle.jb_saved.specs.GoingOn.{ends_past, rows_restarted}
 use Rattle.jb_step.specs.Alone.{AreOnTheWay}
-use Rattle.jb_step.specs.Answers.{StepRun, tasks_after, tasks_before, tasks_left}
+use Rattle.jb_step.specs.Answers.{AreLeftOnTheWay, StepRun, artifacts_of, tasks_after, tasks_before, tasks_left}
 use Rattle.jb_step.specs.Headline.{Headline}
 use Rattle.jb_step.specs.preparing.Prepare.{DoFit}
 use Rattle.jb_step.specs.restarts.StepRuns.{IsAnswered}
@@ -42,8 +42,9 @@ pub record IsRanOver (s : Setup) (works : List ArtifactsMeaning) (rounds : Optio
   pub on_the_way : AreOnTheWay (tasks_before run) (tasks_after run)
   pub snapshot_is : run.snapshot ≡ snapshot
   pub fit : DoFit s works
-  pub ways : AreOnTheWay (first_tasks s works) (tasks_left s snapshot left)
-  pub rows : snapshot.rows.items ≡ rows_now s.rows (tasks_left s snapshot left)
+  pub ways : AreLeftOnTheWay (first_tasks s works) snapshot.rows.items left
+  pub rows : snapshot.rows.items ≡ rows_now s.rows (tasks_left (first_tasks s works) snapshot.rows.items left)
+  pub came_back : left ≡ artifacts_of (tasks_left (first_tasks s works) snapshot.rows.items left)
 
 -- a run broke off: its artifacts don't fit, its desk wasn't its own, a worker could not be started, or memory lacked
 abbrev pub IsRunBroken : (Fit : Type 0) → RecordsStepError → Type 0

@@ -1,15 +1,9 @@
 -- What a step's rounds left, once all is told.
-use Rattle.std.specs.Prelude.{ℕ, Bool, Option, List, map}
-use Rattle.jb_artifacts.specs.Meaning.{ArtifactsMeaning}
-use Rattle.jb_chunk.specs.Standing.{TaskState}
+use Rattle.std.specs.Prelude.{ℕ, Bool, Option}
 use Rattle.jb_step.specs.callbacks.Heard.{heard}
 use Rattle.jb_step.specs.inside.Head.{AreRounds, Beginning}
 use Rattle.jb_step.specs.inside.Round.{Progress}
 use Rattle.jb_step.specs.inside.Telling.{Moment, IsHeard}
-
--- what tasks work with, each with its partition
-abbrev pub works_of_tasks : List TaskState → List (ℕ × ArtifactsMeaning)
-works_of_tasks ts = map (λ t. (t.partition, t.work)) ts
 
 -- the rounds of a step, and what was heard behind them: the analyzer heard all of it
 pub record AreHeardToEnd (b : Beginning) (round_limit : Option ℕ) (now : Progress) (stopped : Bool) : Type 0 where

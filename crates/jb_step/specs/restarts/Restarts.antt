@@ -8,10 +8,10 @@ use Rattle.jb_saved.specs.GoingOn.{AreUnfailed, rows_restarted}
 use Rattle.jb_saved.specs.Reading.{answer_of}
 use Rattle.jb_saved.specs.SavedRows.{SavedRows, IsSaved}
 use Rattle.jb_saved.specs.SavedTree.{saved_tree}
-use Rattle.jb_step.specs.Answers.{StepRun, tasks_before}
+use Rattle.jb_step.specs.Answers.{StepRun, artifacts_of, tasks_after, tasks_before}
 use Rattle.jb_step.specs.preparing.Prepare.{DoFit, IsPreparation}
 use Rattle.jb_step.specs.preparing.Setup.{IsSetup, Setup, first_tasks}
-use Rattle.jb_step.specs.restarts.StepRuns.{IsAnswered, StandAtTheEnd, StandOnTheWay, artifacts_left, newest, works_restarted}
+use Rattle.jb_step.specs.restarts.StepRuns.{IsAnswered, StandAtTheEnd, StandOnTheWay, last_run, tasks_at_last, works_restarted}
 
 -- what `prepare` says of what the run began with, whatever its mapper was
 pub record IsPreparedFor (step : StepRecord) (saved : Option SavedRows) (r : StepRun) : Type 0 where
@@ -39,12 +39,12 @@ pub record IsRestart (step : StepRecord) (before next : StepRun) : Type 0 where
   pub prepared : IsPreparedFor step (Some read) next
   pub goes_on : prepared.prepared.plan.replace ≡ false
   -- what `run_step` takes
-  pub tasks : tasks_before next ≡ first_tasks next.setup (works_restarted before.snapshot.rows.items before.left)
+  pub tasks : tasks_before next ≡ first_tasks next.setup (works_restarted (tasks_after before))
 
 -- each later run is a restart from what the run before it left, and `run_step` answered
-abbrev pub AreRestarts : StepRecord → StepRun → List StepRun → Type 0
-AreRestarts step first [] = Unit {0}
-AreRestarts step first (run ∷ earlier) = AreRestarts step first earlier × IsRestart step (newest first earlier) run × IsAnswered run
+abbrev pub AreRestarts : StepRecord → (before : StepRun) → List StepRun → Type 0
+AreRestarts step before [] = Unit {0}
+AreRestarts step before (run ∷ later) = IsRestart step before run × IsAnswered run × AreRestarts step run later
 
 -- a first run of the step, or one that begins anew, and its restarts
 pub record IsChain (step : StepRecord) (first : StepRun) (later : List StepRun) : Type 0 where
@@ -59,9 +59,9 @@ pub record IsChain (step : StepRecord) (first : StepRun) (later : List StepRun) 
 abbrev pub RestartsFit : Type 0
 RestartsFit =
     (step : StepRecord) (first : StepRun) (later : List StepRun) (saved : SavedRows) (s : Setup)
-    → IsChain step first later → AreUnfailed (newest first later).snapshot.rows.items
-    → IsSaved saved → saved.rows ≡ (newest first later).snapshot.rows.items → s.rows ≡ rows_restarted saved
-    → DoFit s (works_restarted (newest first later).snapshot.rows.items (newest first later).left)
+    → IsChain step first later → AreUnfailed (last_run first later).snapshot.rows.items
+    → IsSaved saved → saved.rows ≡ (last_run first later).snapshot.rows.items → s.rows ≡ rows_restarted saved
+    → DoFit s (works_restarted (tasks_after (last_run first later)))
 
 -- wherever the runs left a partition, some of its attempts alone from the first start lead there
 abbrev pub RestartsAreOnTheWay : Type 0
@@ -71,7 +71,7 @@ RestartsAreOnTheWay = (step : StepRecord) (first : StepRun) (later : List StepRu
 abbrev pub RestartsEndAlone : Type 0
 RestartsEndAlone =
     (step : StepRecord) (first : StepRun) (later : List StepRun)
-    → IsChain step first later → (newest first later).snapshot.stopping ≡ false → StandAtTheEnd first later
+    → IsChain step first later → (last_run first later).snapshot.stopping ≡ false → StandAtTheEnd first later
 
 -- the other run begins as the first one did; its number of threads may be another
 pub record BeginAlike (first other : StepRun) : Type 0 where
@@ -83,9 +83,9 @@ pub record BeginAlike (first other : StepRun) : Type 0 where
 abbrev pub RestartsEndAsUnstopped : Type 0
 RestartsEndAsUnstopped =
     (step : StepRecord) (first : StepRun) (later : List StepRun) (unstopped : StepRun)
-    → IsChain step first later → (newest first later).snapshot.stopping ≡ false
+    → IsChain step first later → (last_run first later).snapshot.stopping ≡ false
     → IsChain step unstopped [] → BeginAlike first unstopped → unstopped.snapshot.stopping ≡ false
-    → ((newest first later).snapshot.rows.items ≡ unstopped.snapshot.rows.items) × (artifacts_left first later ≡ unstopped.left)
+    → ((last_run first later).snapshot.rows.items ≡ unstopped.snapshot.rows.items) × (artifacts_of (tasks_at_last first later) ≡ unstopped.left)
 
 -- a restart whose plan discards what was saved is prepared as where nothing was saved: so it is the first run of a chain
 abbrev pub OverridesBeginAnew : Type 0

@@ -1,7 +1,5 @@
 -- Runs of a step, one after another.
-use Rattle.std.specs.Prelude.{◌≡◌, ℕ, nat_eq, not, if◌then◌else◌, List, [], ◌∷◌, map, filter, slice_index_or}
-use Rattle.jb_rules.specs.declared.row.Row.{Row}
-use Rattle.jb_rules.specs.Rows.{fresh_row}
+use Rattle.std.specs.Prelude.{◌≡◌, not, List, [], ◌∷◌, map, filter}
 use Rattle.jb_rules.specs.States.{is_finished}
 use Rattle.jb_artifacts.specs.Meaning.{ArtifactsMeaning}
 use Rattle.jb_chunk.specs.Standing.{TaskState}
@@ -15,40 +13,34 @@ pub record IsAnswered (r : StepRun) : Type 0 where
   pub fit : DoFit r.setup r.works
   pub run : IsRunOfStep r
 
--- of artifacts that were handed back, those of the partitions that these rows leave unfinished, in their order
-abbrev pub works_restarted : List Row → List (ℕ × ArtifactsMeaning) → List ArtifactsMeaning
-works_restarted rows left =
-    map (λ a. a.1) (filter (λ a. not (is_finished (slice_index_or rows a.0 (fresh_row (record { lo = 0; hi = 0 }))).state)) left)
+-- of tasks as a run left them, those that it left unfinished, and their artifacts
+abbrev pub tasks_unfinished : List TaskState → List TaskState
+tasks_unfinished ts = filter (λ t. not (is_finished t.row.state)) ts
 
--- SEVERAL RUNS: the first one, and later ones, the newest first
+abbrev pub works_restarted : List TaskState → List ArtifactsMeaning
+works_restarted ts = map (λ t. t.work) (tasks_unfinished ts)
 
-abbrev pub newest : StepRun → List StepRun → StepRun
-newest first [] = first
-newest first (run ∷ earlier) = run
+-- SEVERAL RUNS: a first one, and later ones, in the order of time
 
--- a partition's artifacts as they were handed back, or these, where none of the partition were
-abbrev pub newer : List (ℕ × ArtifactsMeaning) → ℕ → ArtifactsMeaning → ArtifactsMeaning
-newer [] p work = work
-newer (a ∷ left) p work = if nat_eq a.0 p then a.1 else newer left p work
+abbrev pub last_run : StepRun → List StepRun → StepRun
+last_run first [] = first
+last_run first (run ∷ later) = last_run run later
 
-abbrev pub all_newer : List (ℕ × ArtifactsMeaning) → List (ℕ × ArtifactsMeaning) → List (ℕ × ArtifactsMeaning)
-all_newer left older = map (λ a. (a.0, newer left a.0 a.1)) older
+-- tasks as the runs leave them, one after another
+abbrev pub tasks_through : List TaskState → List StepRun → List TaskState
+tasks_through ts [] = ts
+tasks_through ts (run ∷ later) = tasks_through (tasks_left ts run.snapshot.rows.items run.left) later
 
--- each partition's artifacts, as the newest run that had them handed them back
-abbrev pub artifacts_left : StepRun → List StepRun → List (ℕ × ArtifactsMeaning)
-artifacts_left first [] = first.left
-artifacts_left first (run ∷ earlier) = all_newer run.left (artifacts_left first earlier)
-
--- the tasks of the partitions that were unfinished at first, as the runs left them
+-- the tasks of the partitions that were unfinished at first, as all runs left them
 abbrev pub tasks_at_last : StepRun → List StepRun → List TaskState
-tasks_at_last first later = tasks_left first.setup (newest first later).snapshot (artifacts_left first later)
+tasks_at_last first later = tasks_through (tasks_before first) (first ∷ later)
 
 -- each of them stands after some of its attempts alone from the first start, and all other partitions as they were then
 pub record StandOnTheWay (first : StepRun) (later : List StepRun) : Type 0 where
   pub tasks : AreOnTheWay (tasks_before first) (tasks_at_last first later)
-  pub rows : (newest first later).snapshot.rows.items ≡ rows_now first.setup.rows (tasks_at_last first later)
+  pub rows : (last_run first later).snapshot.rows.items ≡ rows_now first.setup.rows (tasks_at_last first later)
 
 -- each of them stands where its attempts alone from the first start end, and all other partitions as they were then
 pub record StandAtTheEnd (first : StepRun) (later : List StepRun) : Type 0 where
   pub tasks : AreAlone (tasks_before first) (tasks_at_last first later)
-  pub rows : (newest first later).snapshot.rows.items ≡ rows_now first.setup.rows (tasks_at_last first later)
+  pub rows : (last_run first later).snapshot.rows.items ≡ rows_now first.setup.rows (tasks_at_last first later)

@@ -1,4 +1,5 @@
 use Rattle.std.proofs.Common.{rules, ◌≡◌, ◌∙◌, ap, refl, sym, Ok, Err}
+use Rattle.jb_step.specs.Answers.{artifacts_of}
 use Rattle.jb_step.specs.preparing.Setup.{rows_now}
 use Rattle.jb_records.specs.declared.error.RecordsStepError.TheVariants.{Step}
 use Rattle.jb_records.proofs.Answered.{err-of, ok-of}
@@ -24,6 +25,7 @@ returns-clause-ran g c =
       fit = fit;
       ways = ways;
       rows = run.rows ∙ ap (rows_now c.args.prepared.rows) (sym run.tasks);
+      came_back = run.came_back ∙ ap artifacts_of (sym run.tasks);
     }
 
 pub returns-clause-status : goal.returns-clause-status

@@ -1,11 +1,10 @@
 use Rattle.std.proofs.Common.{◌≡◌, ◌++◌, map}
 use Rattle.std.specs.Vec.Iter.{into_iter_items}
-use Rattle.jb_step.specs.Answers.{given_back}
-use Rattle.jb_step.specs.inside.Finish.{works_of_tasks}
+use Rattle.jb_step.specs.Answers.{artifacts_of, given_back}
 use Rattle.jb_step.specs.inside.Places.{held_in}
 use Rattle.jb_step.proofs.step.give_back.Given as goal
 
 abbrev pub invariant-loop-place : goal.invariant-loop-place
 invariant-loop-place g l =
-    given_back g.T.Artifacts.Meaning.meaning l.left.items ++ works_of_tasks (map g.T.PartitionTask.standing (held_in (into_iter_items l.place-iterator)))
-    ≡ works_of_tasks (map g.T.PartitionTask.standing (held_in l.fn.held.items))
+    given_back g.T.Artifacts.Meaning.meaning l.left.items ++ artifacts_of (map g.T.PartitionTask.standing (held_in (into_iter_items l.place-iterator)))
+    ≡ artifacts_of (map g.T.PartitionTask.standing (held_in l.fn.held.items))
