@@ -20,11 +20,15 @@ use std::process::ExitCode;
 use step::{BillArtifacts, run};
 
 /// Tells which lines a partition skipped, and writes its bills.
-fn write_bills<W: Write>(rt: &HostRuntime, works: &BillArtifacts, out: &mut W) -> io::Result<()> {
-    for note in works.reader.notes.kept() {
+fn write_bills<W: Write>(
+    rt: &HostRuntime,
+    artifacts: &BillArtifacts,
+    out: &mut W,
+) -> io::Result<()> {
+    for note in artifacts.reader.notes.kept() {
         eprintln!(rt; "record {} is skipped", note.number)?;
     }
-    let bills = &works.writer.bills;
+    let bills = &artifacts.writer.bills;
     for index in 0..bills.len() {
         out.write_all(bills.at(index))?;
     }
@@ -51,8 +55,8 @@ fn main(rt: HostRuntime) -> io::Result<ExitCode> {
         }
     };
     let mut out = rt.stdout();
-    for (_, works) in &end.artifacts {
-        write_bills(&rt, works, &mut out)?;
+    for (_, artifacts) in &end.artifacts {
+        write_bills(&rt, artifacts, &mut out)?;
     }
     Ok(ExitCode::from(if end.status == Status::Completed {
         0

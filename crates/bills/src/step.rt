@@ -51,7 +51,10 @@ const THREADS: u32 = 4;
 const ITEM_COUNT: u64 = 2;
 
 /// What a partition works with as it begins.
-fn new_works(alloc: Global, lines: &Arc<PackedList, Global>) -> Result<BillArtifacts, AllocError> {
+fn new_artifacts(
+    alloc: Global,
+    lines: &Arc<PackedList, Global>,
+) -> Result<BillArtifacts, AllocError> {
     Ok(ArtifactsOf {
         reader: NotingReader {
             inner: UsageReader {
@@ -93,12 +96,12 @@ pub fn run<R: Threads + Wait + Sync>(
     let mut mapper = EvenMapper::new(alloc, PARTITIONS, THREADS, false);
     let mut reducer = FaultlessReducer::new(alloc);
     let prepared = prepare(alloc, &step, count, &mut mapper, &mut reducer, None)?;
-    let mut works = Vec::new(alloc);
+    let mut artifacts = Vec::new(alloc);
     for _ in prepared.needs() {
-        works.push(new_works(alloc, &lines)?)?;
+        artifacts.push(new_artifacts(alloc, &lines)?)?;
     }
     let blank = Blank::new(MAX_PARTS);
-    over_desk::<Brand, R>(rt, alloc, blank, prepared, works, reducer)
+    over_desk::<Brand, R>(rt, alloc, blank, prepared, artifacts, reducer)
 }
 
 /// Runs it over a desk of its own, whose ledger has the name of `L`.
@@ -107,7 +110,7 @@ fn over_desk<L: Ledger + Send + Sync + 'static, R: Threads + Wait + Sync>(
     alloc: Global,
     blank: Blank,
     prepared: Prepared,
-    works: Vec<BillArtifacts>,
+    artifacts: Vec<BillArtifacts>,
     reducer: FaultlessReducer,
 ) -> Result<StepEnd<BillArtifacts>, StepError>
     requires name { blank.name ≡ L.name }
@@ -117,7 +120,7 @@ fn over_desk<L: Ledger + Send + Sync + 'static, R: Threads + Wait + Sync>(
     let desk = prepared.desk::<L>(alloc, blank)?;
     let analyzer = FaultlessAnalyzer::new(alloc);
     let (end, _, _) = run_pooled_step::<Task<BillArtifacts>, L, NoGate, R>(
-        rt, alloc, &desk, prepared, works, analyzer, reducer, None, &NoGate,
+        rt, alloc, &desk, prepared, artifacts, analyzer, reducer, None, &NoGate,
     );
     end
 }

@@ -11,7 +11,7 @@ use Rattle.jb_artifacts.specs.Faults.{is_live}
 use Rattle.jb_artifacts.specs.Writer.{Writer, Numbered, texts_of, write_fault, after_write}
 use Rattle.jb_artifacts.specs.Meaning.{ArtifactsMeaning}
 use Rattle.jb_chunk.specs.declared.outcome.Outcome.{Outcome}
-use Rattle.jb_chunk.specs.Attempt.{block_of, counts_of, end_of, end_at, end_by, fault_at, skips_at, settled_at, results_of, row_after, work_used}
+use Rattle.jb_chunk.specs.Attempt.{block_of, counts_of, end_of, end_at, end_by, fault_at, skips_at, settled_at, results_of, row_after, artifacts_used}
 use Rattle.jb_chunk.specs.Standing.{TaskState}
 use Rattle.jb_chunk.specs.Block.{entry, settles, settling, stops, skips_before, choice_at, is_skip}
 use Rattle.jb_chunk.specs.Entries.{fault_in}
@@ -30,14 +30,14 @@ IsAdded t written e =
 
 written-delta : (t : TaskState) → t.row.at ≤ (block_of t).hi → IsDelta ((block_of t).hi - t.row.at) (counts_of t (length (results_of t)) 0)
 written-delta t le =
-    let few = few-counted t.work t.row.at (block_of t).hi le in
+    let few = few-counted t.artifacts t.row.at (block_of t).hi le in
     let reads = few.reads in
     let all = few.all in
     record { passed = omega (arith, reads, all); commit = refl; rollback = refl; results = inl (refl, omega (arith, reads, all)) }
 
 unwritten-delta : (t : TaskState) → 1 ≤ length (results_of t) → t.row.at ≤ (block_of t).hi → IsDelta ((block_of t).hi - t.row.at) (counts_of t 0 1)
 unwritten-delta t some le =
-    let few = few-counted t.work t.row.at (block_of t).hi le in
+    let few = few-counted t.artifacts t.row.at (block_of t).hi le in
     let reads = few.reads in
     let all = few.all in
     record { passed = omega (arith, reads, all); commit = refl; rollback = refl; results = inr (refl, refl, omega (arith, reads, all, some)) }
@@ -60,11 +60,11 @@ some-written : (w : Writer) (found : Numbered) (class : ClassId) → write_fault
 some-written w [] class e = absurd cc
 some-written w (x ∷ xs) class e = omega arith
 
-added-written : (t : TaskState) (fault : Option ClassId) (skips : ℕ) → length t.work.writer.written ≡ t.row.written → write_fault t.work.writer (results_of t) ≡ fault → IsAdded t (length (after_write t.work.writer (results_of t)).written) (end_at t fault skips)
-added-written t None skips count e = let long = whole-long t.work.writer (results_of t) e in (omega (arith, count, long), written-delta t)
+added-written : (t : TaskState) (fault : Option ClassId) (skips : ℕ) → length t.artifacts.writer.written ≡ t.row.written → write_fault t.artifacts.writer (results_of t) ≡ fault → IsAdded t (length (after_write t.artifacts.writer (results_of t)).written) (end_at t fault skips)
+added-written t None skips count e = let long = whole-long t.artifacts.writer (results_of t) e in (omega (arith, count, long), written-delta t)
 added-written t (Some class) skips count e =
-    let longer = front-longer t.work.writer.written (texts_of (take_while (λ r. not (is_live t.work.writer.faults r.0)) (results_of t))) in
-    added-choice t _ class (choice_at t.rules t.row class skips) (omega (arith, count, longer)) (λ _. some-written t.work.writer (results_of t) class e)
+    let longer = front-longer t.artifacts.writer.written (texts_of (take_while (λ r. not (is_live t.artifacts.writer.faults r.0)) (results_of t))) in
+    added-choice t _ class (choice_at t.rules t.row class skips) (omega (arith, count, longer)) (λ _. some-written t.artifacts.writer (results_of t) class e)
 
 abbrev value_or : ℕ → Option ℕ → ℕ
 value_or n None = n
@@ -84,11 +84,11 @@ pub settling-stops : (rules : RulesRecord) (row : Row) (w : ArtifactsMeaning) (h
 unfolding settling settles
 settling-stops rules row w hi k e = found-passes (settles rules row w) (range_with_len row.at (hi - row.at)) k e
 
-added-after : (t : TaskState) (o : Option ℕ) → length t.work.writer.written ≡ t.row.written → settled_at t ≡ o → IsAdded t (length (work_used t o).writer.written) (end_at t (fault_at t o) (skips_at t o))
-unfolding work_used
+added-after : (t : TaskState) (o : Option ℕ) → length t.artifacts.writer.written ≡ t.row.written → settled_at t ≡ o → IsAdded t (length (artifacts_used t o).writer.written) (end_at t (fault_at t o) (skips_at t o))
+unfolding artifacts_used
 added-after t None count at = added-written t (fault_at t None) (skips_at t None) count refl
-added-after t (Some k) count at = added-stopped t _ (fault_at t (Some k)) (skips_at t (Some k)) (omega (arith, count)) (settling-stops t.rules t.row t.work (block_of t).hi k at)
+added-after t (Some k) count at = added-stopped t _ (fault_at t (Some k)) (skips_at t (Some k)) (omega (arith, count)) (settling-stops t.rules t.row t.artifacts (block_of t).hi k at)
 
-pub end-added : (t : TaskState) → length t.work.writer.written ≡ t.row.written → IsAdded t (length (work_used t (settled_at t)).writer.written) (end_of t)
+pub end-added : (t : TaskState) → length t.artifacts.writer.written ≡ t.row.written → IsAdded t (length (artifacts_used t (settled_at t)).writer.written) (end_of t)
 unfolding end_of
 end-added t count = added-after t (settled_at t) count refl

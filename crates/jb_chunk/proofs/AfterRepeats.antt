@@ -47,22 +47,22 @@ after_repeats-left t =
 pub after_repeats-in_place : (t : TaskState) → (after_repeats t).row.in_place ≡ t.row.in_place + again_of t
 after_repeats-in_place t = ap (λ (r : Row). r.in_place) (after_repeats-row t)
 
-pub after_repeats-work : (t : TaskState) → IsRestored t.row.at (block_of t).hi t.work (after_repeats t).work
-after_repeats-work t = (after_repeats-repeated t).work
+pub after_repeats-artifacts : (t : TaskState) → IsRestored t.row.at (block_of t).hi t.artifacts (after_repeats t).artifacts
+after_repeats-artifacts t = (after_repeats-repeated t).artifacts
 
 -- as many results are written as its row says
-pub repeats-count : (t : TaskState) → length t.work.writer.written ≡ t.row.written → length (after_repeats t).work.writer.written ≡ (after_repeats t).row.written
-repeats-count t count = ap (λ (r : Writer). length r.written) (after_repeats-work t).writer ∙ count ∙ sym (ap (λ (x : Row). x.written) (after_repeats-row t))
+pub repeats-count : (t : TaskState) → length t.artifacts.writer.written ≡ t.row.written → length (after_repeats t).artifacts.writer.written ≡ (after_repeats t).row.written
+repeats-count t count = ap (λ (r : Writer). length r.written) (after_repeats-artifacts t).writer ∙ count ∙ sym (ap (λ (x : Row). x.written) (after_repeats-row t))
 
 pub after_repeats-ready-by : (t : TaskState) → IsReady t → IsSoundRow (after_repeats t).row → IsReady (after_repeats t)
 after_repeats-ready-by t ready sound =
-    let restored = after_repeats-work t in
-    let work = (after_repeats t).work in
+    let restored = after_repeats-artifacts t in
+    let artifacts = (after_repeats t).artifacts in
     let row = after_repeats-row t in
-    let first : work.reader.first ≡ t.work.reader.first = ap (λ (r : Reader). r.first) restored.reader in
-    let place : work.reader.place ≡ t.work.reader.place = ap (λ (r : Reader). r.place) restored.reader in
-    let to : reader_end work.reader ≡ reader_end t.work.reader = ap (λ (r : Reader). reader_end r) restored.reader in
-    let written : length work.writer.written ≡ length t.work.writer.written = ap (λ (r : Writer). length r.written) restored.writer in
+    let first : artifacts.reader.first ≡ t.artifacts.reader.first = ap (λ (r : Reader). r.first) restored.reader in
+    let place : artifacts.reader.place ≡ t.artifacts.reader.place = ap (λ (r : Reader). r.place) restored.reader in
+    let to : reader_end artifacts.reader ≡ reader_end t.artifacts.reader = ap (λ (r : Reader). reader_end r) restored.reader in
+    let written : length artifacts.writer.written ≡ length t.artifacts.writer.written = ap (λ (r : Writer). length r.written) restored.writer in
     let lo = ap (λ (r : Row). r.lo) row in
     let at = ap (λ (r : Row). r.at) row in
     let hi = ap (λ (r : Row). r.hi) row in

@@ -8,12 +8,12 @@ use Rattle.jb_artifacts.specs.Writer.{failing}
 use Rattle.jb_artifacts.specs.Meaning.{ArtifactsMeaning}
 use Rattle.jb_chunk.specs.declared.outcome.Outcome.{Outcome}
 use Rattle.jb_chunk.specs.declared.outcome.Outcome.TheVariants.{Committed, Rolled, Failed, NoMemory}
-use Rattle.jb_chunk.specs.Attempt.{after_repeats, block_of, results_of, settled_at, work_used, row_after, values_of, IsRestored, again_of, ending_of, ending_by, attempt_of}
+use Rattle.jb_chunk.specs.Attempt.{after_repeats, block_of, results_of, settled_at, artifacts_used, row_after, values_of, IsRestored, again_of, ending_of, ending_by, attempt_of}
 use Rattle.jb_chunk.specs.Block.{passed, MayBeUsed}
 use Rattle.jb_chunk.specs.Standing.{TaskState, IsReady, at_checkpoint}
 use Rattle.jb_chunk.specs.inside.TriedChunk.{IsTried}
 use Rattle.jb_chunk.proofs.WrittenResults.{front-kept}
-use Rattle.jb_chunk.proofs.WorkUsed.{read_end, write_plans, more_written, used-as, used-there}
+use Rattle.jb_chunk.proofs.ArtifactsUsed.{read_end, write_plans, more_written, used-as, used-there}
 use Rattle.jb_chunk.proofs.ChunkRepeats.{may-same, may-used_for}
 use Rattle.jb_chunk.proofs.UsedPlans.{worn-passed}
 use Rattle.jb_chunk.proofs.OwnRecords.{read-in, failing-in}
@@ -31,11 +31,11 @@ after-row row hi (Failed class) = record { lo = refl; hi = refl; written = omega
 after-row row hi NoMemory = record { lo = refl; hi = refl; written = omega arith }
 
 -- where a chunk ended so, reader and writer stand at the checkpoint of its row
-pub ready-by : (t : TaskState) (again : ℕ) (e : Outcome) → (row_after t.row (block_of t).hi e).written ≤ length (work_used t (settled_at t)).writer.written → IsSoundRow (row_after t.row (block_of t).hi e) → IsReady t → IsReady (ending_by t again e).task
+pub ready-by : (t : TaskState) (again : ℕ) (e : Outcome) → (row_after t.row (block_of t).hi e).written ≤ length (artifacts_used t (settled_at t)).writer.written → IsSoundRow (row_after t.row (block_of t).hi e) → IsReady t → IsReady (ending_by t again e).task
 ready-by t again e kept sound r =
     let row = after-row t.row (block_of t).hi e in
     let there = used-there t (settled_at t) in
-    let count = length-take-le (row_after t.row (block_of t).hi e).written (work_used t (settled_at t)).writer.written kept in
+    let count = length-take-le (row_after t.row (block_of t).hi e).written (artifacts_used t (settled_at t)).writer.written kept in
     record {
       sound = sound;
       item_counted = r.item_counted;
@@ -50,27 +50,27 @@ ready-by t again e kept sound r =
     }
 
 -- a task whose chunk, after all its repeats, was tried to its end was attempted
-pub tried-attempt : (t : TaskState) (end : Outcome) (values : List (List ℕ)) (again : ℕ) (after : TaskState) → let s = after_repeats t in IsTried s end after.work → after ≡ record s { row = after.row; work = after.work } → after.row ≡ row_after s.row (block_of s).hi end → values ≡ values_of s.work.collector s.partition (row_after s.row (block_of s).hi end) end → again ≡ again_of t → ending_of after end values again ≡ attempt_of t
+pub tried-attempt : (t : TaskState) (end : Outcome) (values : List (List ℕ)) (again : ℕ) (after : TaskState) → let s = after_repeats t in IsTried s end after.artifacts → after ≡ record s { row = after.row; artifacts = after.artifacts } → after.row ≡ row_after s.row (block_of s).hi end → values ≡ values_of s.artifacts.collector s.partition (row_after s.row (block_of s).hi end) end → again ≡ again_of t → ending_of after end values again ≡ attempt_of t
 tried-attempt t end values again after done same row collected is =
     let s = after_repeats t in
-    let left : after ≡ (ending_by s again end).task = same ∙ (λ i. record s { row = row i; work = done.left i }) in
+    let left : after ≡ (ending_by s again end).task = same ∙ (λ i. record s { row = row i; artifacts = done.left i }) in
     (λ i. ending_of (left i) end (collected i) (is i)) ∙ ap (ending_by s (again_of t)) done.ended
 
-may-write : (t : TaskState) (settled : Option ℕ) → MayBeUsed t.row.at (block_of t).hi t.work.writer.faults (write_plans t settled)
-may-write t (Some k) = may-same t.row.at (block_of t).hi t.work.writer.faults
-may-write t None = may-used_for t.work.writer.faults (failing t.work.writer.faults (results_of t)) t.row.at (block_of t).hi (failing-in t)
+may-write : (t : TaskState) (settled : Option ℕ) → MayBeUsed t.row.at (block_of t).hi t.artifacts.writer.faults (write_plans t settled)
+may-write t (Some k) = may-same t.row.at (block_of t).hi t.artifacts.writer.faults
+may-write t None = may-used_for t.artifacts.writer.faults (failing t.artifacts.writer.faults (results_of t)) t.row.at (block_of t).hi (failing-in t)
 
 -- what an end leaves, opened again at the checkpoint
-pub restored-by : (t : TaskState) (again : ℕ) (e : Outcome) → IsReady t → IsRestored t.row.at (block_of t).hi t.work (at_checkpoint t.row (ending_by t again e).task.work)
+pub restored-by : (t : TaskState) (again : ℕ) (e : Outcome) → IsReady t → IsRestored t.row.at (block_of t).hi t.artifacts (at_checkpoint t.row (ending_by t again e).task.artifacts)
 restored-by t again e r =
     let s = settled_at t in
     let end = read_end t s in
     let row = row_after t.row (block_of t).hi e in
-    let worn = worn-passed t.work (passed t.work t.row.at end) t.row.at end (block_of t).hi (read-in t s refl) refl in
-    subst (λ (w : ArtifactsMeaning). IsRestored t.row.at (block_of t).hi t.work (at_checkpoint t.row (at_checkpoint row w))) (sym (used-as t s)) (record {
-      reader = λ i. record t.work.reader { place = sym r.place i; faults = (passed t.work t.row.at end).reader.faults };
+    let worn = worn-passed t.artifacts (passed t.artifacts t.row.at end) t.row.at end (block_of t).hi (read-in t s refl) refl in
+    subst (λ (w : ArtifactsMeaning). IsRestored t.row.at (block_of t).hi t.artifacts (at_checkpoint t.row (at_checkpoint row w))) (sym (used-as t s)) (record {
+      reader = λ i. record t.artifacts.reader { place = sym r.place i; faults = (passed t.artifacts t.row.at end).reader.faults };
       processor = refl;
-      writer = λ i. record { written = front-kept t.work.writer.written (more_written t s) t.row.written row.written r.count (after-row t.row (block_of t).hi e).written i; faults = write_plans t s };
+      writer = λ i. record { written = front-kept t.artifacts.writer.written (more_written t s) t.row.written row.written r.count (after-row t.row (block_of t).hi e).written i; faults = write_plans t s };
       collector = refl;
       read_plans = worn.read_plans;
       process_plans = worn.process_plans;
@@ -83,11 +83,11 @@ pub record CanReopen (row : Row) (now : ArtifactsMeaning) : Type 0 where
   pub to : row.at ≤ reader_end now.reader
   pub count : row.written ≤ length now.writer.written
 
-pub can-reopen-by : (t : TaskState) (again : ℕ) (e : Outcome) → IsReady t → CanReopen t.row (ending_by t again e).task.work
+pub can-reopen-by : (t : TaskState) (again : ℕ) (e : Outcome) → IsReady t → CanReopen t.row (ending_by t again e).task.artifacts
 can-reopen-by t again e r =
     let there = used-there t (settled_at t) in
     let row = row_after t.row (block_of t).hi e in
-    let used = work_used t (settled_at t) in
+    let used = artifacts_used t (settled_at t) in
     let from = r.fits.from in
     let to = r.fits.to in
     let count = r.count in
@@ -97,6 +97,6 @@ can-reopen-by t again e r =
     let at_to = r.sound.placed.at_to in
     let more = (after-row t.row (block_of t).hi e).written in
     let grown = ap (λ (w : ArtifactsMeaning). length w.writer.written) (used-as t (settled_at t)) in
-    let long = length-append t.work.writer.written (more_written t (settled_at t)) in
+    let long = length-append t.artifacts.writer.written (more_written t (settled_at t)) in
     let cut = length-take row.written used.writer.written in
     record { from = omega (arith, first, from, at_from); to = omega (arith, end, to, at_to); count = omega (arith, count, more, grown, long, cut) }

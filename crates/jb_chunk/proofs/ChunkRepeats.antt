@@ -13,7 +13,7 @@ use Rattle.jb_artifacts.specs.declared.faults.FaultPlan.{FaultPlan}
 use Rattle.jb_artifacts.specs.Faults.{FaultTable, used, used_at}
 use Rattle.jb_artifacts.specs.Writer.{failing, used_for}
 use Rattle.jb_artifacts.specs.Meaning.{ArtifactsMeaning}
-use Rattle.jb_chunk.specs.Attempt.{settled_at, results_of, fault_at, skips_at, called_again, repeated_work, repeated, asks_repeat, repeated_up_to, all_repeated, IsRestored, block_of}
+use Rattle.jb_chunk.specs.Attempt.{settled_at, results_of, fault_at, skips_at, called_again, repeated_artifacts, repeated, asks_repeat, repeated_up_to, all_repeated, IsRestored, block_of}
 use Rattle.jb_chunk.specs.Standing.{TaskState}
 use Rattle.jb_chunk.specs.Block.{entry, settles, settling, stops, repeats, choice_at, is_skip, is_again, used_times, MayBeUsed}
 use Rattle.jb_chunk.specs.inside.Repeats.{IsRepeated}
@@ -189,13 +189,13 @@ restored-call lo hi w k (ReadFault class) from to = record {
 restored-call lo hi w k (ProcessFault class) from to = restored-process lo hi w k from to
 restored-call lo hi w k (Processed answer) from to = restored-process lo hi w k from to
 
-restored-repeat : (t : TaskState) (o : Option ℕ) → settled_at t ≡ o → IsRestored t.row.at (block_of t).hi t.work (repeated_work t o)
+restored-repeat : (t : TaskState) (o : Option ℕ) → settled_at t ≡ o → IsRestored t.row.at (block_of t).hi t.artifacts (repeated_artifacts t o)
 unfolding settling
 restored-repeat t (Some k) at =
-    let is = found-of (settles t.rules t.row t.work) ((block_of t).hi - t.row.at) t.row.at k at in
+    let is = found-of (settles t.rules t.row t.artifacts) ((block_of t).hi - t.row.at) t.row.at k at in
     let from = is.0 in
     let to = is.1 in
-    restored-call t.row.at (block_of t).hi t.work k (entry t.work k) from (omega (arith, from, to))
+    restored-call t.row.at (block_of t).hi t.artifacts k (entry t.artifacts k) from (omega (arith, from, to))
 restored-repeat t None at = record {
   reader = refl;
   processor = refl;
@@ -203,7 +203,7 @@ restored-repeat t None at = record {
   collector = refl;
   read_plans = may-same _ _ _;
   process_plans = may-same _ _ _;
-  write_plans = may-used_for t.work.writer.faults (failing t.work.writer.faults (results_of t)) t.row.at (block_of t).hi (failing-in t);
+  write_plans = may-used_for t.artifacts.writer.faults (failing t.artifacts.writer.faults (results_of t)) t.row.at (block_of t).hi (failing-in t);
 }
 
 -- REPEATS ONE AFTER ANOTHER
@@ -224,7 +224,7 @@ repeated-none t =
       rest = refl;
       row = λ i. record t.row { retries = retries i; in_place = in_place i };
       few = inl refl;
-      work = restored-same _ _ _;
+      artifacts = restored-same _ _ _;
       same = refl;
     }
 
@@ -241,14 +241,14 @@ repeated-more t u r asks =
     let limit : u.rules.retry_limit ≡ t.rules.retry_limit = ap (λ (x : RulesRecord). x.retry_limit) (same-rules r) in
     let at : u.row.at ≡ t.row.at = ap (λ (x : Row). x.at) r.row in
     let here = restored-repeat u (settled_at u) refl in
-    let P : ℕ → Type 0 = λ lo. IsRestored lo (block_of u).hi u.work (repeated_work u (settled_at u)) in
-    let Q : ℕ → Type 0 = λ hi. IsRestored t.row.at hi u.work (repeated_work u (settled_at u)) in
+    let P : ℕ → Type 0 = λ lo. IsRestored lo (block_of u).hi u.artifacts (repeated_artifacts u (settled_at u)) in
+    let Q : ℕ → Type 0 = λ hi. IsRestored t.row.at hi u.artifacts (repeated_artifacts u (settled_at u)) in
     record {
       again = r.again + 1;
-      rest = λ i. record (r.rest i) { row = repeated_row u.row 1; work = repeated_work u (settled_at u) };
+      rest = λ i. record (r.rest i) { row = repeated_row u.row 1; artifacts = repeated_artifacts u (settled_at u) };
       row = ap (λ x. repeated_row x 1) r.row ∙ row-more t.row r.again;
       few = inr (omega (arith, below, retries, limit));
-      work = restored-trans t.row.at (block_of t).hi _ _ _ r.work (subst Q (same-hi r) (subst P at here));
+      artifacts = restored-trans t.row.at (block_of t).hi _ _ _ r.artifacts (subst Q (same-hi r) (subst P at here));
       same = after_repeats-more u asks ∙ r.same;
     }
 

@@ -188,14 +188,14 @@ done-worn rules skips row w k e now left place done =
 
 -- RECORD BY RECORD
 
-pub gathering-none : (t : TaskState) (tally : Yield) → t.work.reader.place ≡ t.row.at → t.row.at ≤ (block_of t).hi → IsTally t.work t.row.at t.row.at tally → IsGathering t t.row.at tally t.row t.work
+pub gathering-none : (t : TaskState) (tally : Yield) → t.artifacts.reader.place ≡ t.row.at → t.row.at ≤ (block_of t).hi → IsTally t.artifacts t.row.at t.row.at tally → IsGathering t t.row.at tally t.row t.artifacts
 gathering-none t tally place le counted = record {
   last = t;
   repeated = repeated-none t;
   row = refl;
-  passes = passed-none t.work t.row.at place;
+  passes = passed-none t.artifacts t.row.at place;
   counted = counted;
-  none = settling-none t.rules t.row t.work;
+  none = settling-none t.rules t.row t.artifacts;
 }
 
 abbrev skips_now : Row → Yield → ℕ
@@ -212,7 +212,7 @@ done-at t n tally now next w left e g from to done =
       from = omega (arith, at, from);
       to = omega (arith, hi, to);
       none = g.none;
-      skipped = skips-tally u.row u.work n tally g.counted ∙ ap (λ x. skips_now x tally) (sym g.row);
+      skipped = skips-tally u.row u.artifacts n tally g.counted ∙ ap (λ x. skips_now x tally) (sym g.row);
       counted = g.counted;
     } in
     let a = subst (λ x. IsDone x skips now w n e next left) (sym (same-rules g.repeated)) done in
@@ -226,7 +226,7 @@ gathering-more t n tally new now next w left e g from to done step =
     let v = after.0 in
     let a = after.1 in
     let b = a.between in
-    let place : e ≡ entry (passed v.work v.row.at n) n = a.becomes ∙ sym (entry-passed v.work v.row.at n) in
+    let place : e ≡ entry (passed v.artifacts v.row.at n) n = a.becomes ∙ sym (entry-passed v.artifacts v.row.at n) in
     let s1 = subst (λ x. IsGatheringStep x next e n tally None new) (sym (same-rules b.repeated)) step in
     let s2 = subst (λ x. IsGatheringStep v.rules x e n tally None new) a.row s1 in
     let s3 = subst (λ x. IsGatheringStep v.rules v.row x n tally None new) place s2 in
@@ -235,8 +235,8 @@ gathering-more t n tally new now next w left e g from to done step =
       repeated = b.repeated;
       row = a.row;
       passes = a.passes;
-      counted = tally-more v.work (passed v.work v.row.at n) v.row.at n tally new b.from refl b.counted s3.1;
-      none = step-none v.rules v.row v.work (passed v.work v.row.at n) n tally new b.from refl b.counted b.none s3;
+      counted = tally-more v.artifacts (passed v.artifacts v.row.at n) v.row.at n tally new b.from refl b.counted s3.1;
+      none = step-none v.rules v.row v.artifacts (passed v.artifacts v.row.at n) n tally new b.from refl b.counted b.none s3;
     }
 
 not-again : (rules : RulesRecord) (row : Row) (class : ClassId) (skips : ℕ) (fault : Option ClassId) → fault ≡ Some class → repeats rules row fault skips ≡ false → is_again (choice_at rules row class skips) ≡ false
@@ -248,12 +248,12 @@ gathering-settled t n tally new now next w left e class choice found g from to d
     let v = after.0 in
     let a = after.1 in
     let b = a.between in
-    let place : e ≡ entry (passed v.work v.row.at n) n = a.becomes ∙ sym (entry-passed v.work v.row.at n) in
+    let place : e ≡ entry (passed v.artifacts v.row.at n) n = a.becomes ∙ sym (entry-passed v.artifacts v.row.at n) in
     let s1 = subst (λ x. IsGatheringStep x next e n tally (Some (class, choice)) new) (sym (same-rules b.repeated)) step in
     let s2 = subst (λ x. IsGatheringStep v.rules x e n tally (Some (class, choice)) new) a.row s1 in
     let s3 = subst (λ x. IsGatheringStep v.rules v.row x n tally (Some (class, choice)) new) place s2 in
-    let settled = step-some v.rules v.row v.work (passed v.work v.row.at n) n (block_of v).hi tally new class choice b.from b.to refl b.counted b.none s3 in
-    let last = not-again v.rules v.row class (skips_now now tally) (fault_in (entry v.work n)) settled.1 a.last in (
+    let settled = step-some v.rules v.row v.artifacts (passed v.artifacts v.row.at n) n (block_of v).hi tally new class choice b.from b.to refl b.counted b.none s3 in
+    let last = not-again v.rules v.row class (skips_now now tally) (fault_in (entry v.artifacts n)) settled.1 a.last in (
       v,
       b.repeated,
       a.row,
@@ -273,22 +273,22 @@ gathering-whole t n tally now left end g =
       u,
       g.repeated,
       g.row,
-      ap (settling u.rules u.row u.work) (sym hi) ∙ g.none,
-      subst (λ x. IsTally u.work u.row.at x tally) hi g.counted,
-      g.passes ∙ ap (passed u.work u.row.at) hi,
+      ap (settling u.rules u.row u.artifacts) (sym hi) ∙ g.none,
+      subst (λ x. IsTally u.artifacts u.row.at x tally) hi g.counted,
+      g.passes ∙ ap (passed u.artifacts u.row.at) hi,
     )
 
 -- where the reader stands between two records
 pub record IsStanding (t : TaskState) (n : ℕ) (now : Row) (left : ArtifactsMeaning) : Type 0 where
   pub place : left.reader.place ≡ n
-  pub first : left.reader.first ≡ t.work.reader.first
-  pub end : reader_end left.reader ≡ reader_end t.work.reader
+  pub first : left.reader.first ≡ t.artifacts.reader.first
+  pub end : reader_end left.reader ≡ reader_end t.artifacts.reader
 
 pub gathering-stands : (t : TaskState) (n : ℕ) (tally : Yield) (now : Row) (left : ArtifactsMeaning) → IsGathering t n tally now left → IsStanding t n now left
 gathering-stands t n tally now left g = record {
   place = ap (λ (x : ArtifactsMeaning). x.reader.place) g.passes;
-  first = ap (λ (x : ArtifactsMeaning). x.reader.first) g.passes ∙ ap (λ (x : Reader). x.first) g.repeated.work.reader;
-  end = ap (λ (x : ArtifactsMeaning). reader_end x.reader) g.passes ∙ ap (λ (x : Reader). reader_end x) g.repeated.work.reader;
+  first = ap (λ (x : ArtifactsMeaning). x.reader.first) g.passes ∙ ap (λ (x : Reader). x.first) g.repeated.artifacts.reader;
+  end = ap (λ (x : ArtifactsMeaning). reader_end x.reader) g.passes ∙ ap (λ (x : Reader). reader_end x) g.repeated.artifacts.reader;
 }
 
 -- WITHOUT MEMORY
@@ -313,11 +313,11 @@ restored-worn lo hi a b c one two =
       longer = same-longer a.writer.written c.writer.written written;
     }
 
-pub gathering-torn : (t : TaskState) (n : ℕ) (tally : Yield) (now : Row) (w left : ArtifactsMeaning) → IsGathering t n tally now w → t.row.at ≤ n → n < (block_of t).hi → IsWornTo n (n + 1) w left → IsTorn t.row.at (block_of t).hi t.work left
+pub gathering-torn : (t : TaskState) (n : ℕ) (tally : Yield) (now : Row) (w left : ArtifactsMeaning) → IsGathering t n tally now w → t.row.at ≤ n → n < (block_of t).hi → IsWornTo n (n + 1) w left → IsTorn t.row.at (block_of t).hi t.artifacts left
 gathering-torn t n tally now w left g from to worn =
     let u = g.last in
     let at : u.row.at ≡ t.row.at = ap (λ (x : Row). x.at) g.repeated.row in
-    let first = worn-passed u.work w u.row.at n (block_of t).hi (omega (arith, to)) g.passes in
-    let here = subst (λ lo. IsWornTo lo (block_of t).hi u.work w) at first in
+    let first = worn-passed u.artifacts w u.row.at n (block_of t).hi (omega (arith, to)) g.passes in
+    let here = subst (λ lo. IsWornTo lo (block_of t).hi u.artifacts w) at first in
     let there = worn-wide n (n + 1) t.row.at (block_of t).hi w left from (omega (arith, to)) worn in
-    restored-worn t.row.at (block_of t).hi t.work u.work left g.repeated.work (worn-trans t.row.at (block_of t).hi u.work w left here there)
+    restored-worn t.row.at (block_of t).hi t.artifacts u.artifacts left g.repeated.artifacts (worn-trans t.row.at (block_of t).hi u.artifacts w left here there)

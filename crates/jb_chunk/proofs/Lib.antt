@@ -8,7 +8,7 @@ pub mod DoneRecords
 pub mod WriteRepeats
 pub mod AfterRepeats
 pub mod UsedPlans
-pub mod WorkUsed
+pub mod ArtifactsUsed
 pub mod OwnRecords
 pub mod WrittenResults
 pub mod TriedChunk

@@ -17,12 +17,12 @@ use Rattle.jb_chunk.specs.declared.outcome.Outcome.{Outcome}
 use Rattle.jb_chunk.specs.declared.outcome.Outcome.TheVariants.{Committed, Rolled, Failed, NoMemory}
 use Rattle.jb_chunk.specs.Alone.{is_rolled, retries_left, attempts_left}
 use Rattle.jb_chunk.specs.Entries.{one_if}
-use Rattle.jb_chunk.specs.Attempt.{AttemptEnd, after_repeats, block_of, again_of, end_of, attempt_of, ending_by, row_after, settled_at, work_used, IsAttemptBy}
+use Rattle.jb_chunk.specs.Attempt.{AttemptEnd, after_repeats, block_of, again_of, end_of, attempt_of, ending_by, row_after, settled_at, artifacts_used, IsAttemptBy}
 use Rattle.jb_chunk.specs.Laws.{blocks_of, CommitsHaveDeltas}
 use Rattle.jb_chunk.specs.Standing.{TaskState, IsReady, HasItemCount}
 use Rattle.jb_chunk.specs.inside.TriedChunk.{HasDelta}
 use Rattle.jb_chunk.proofs.AddedCounts.{end-added}
-use Rattle.jb_chunk.proofs.AfterRepeats.{after_repeats-row, after_repeats-block, after_repeats-work, after_repeats-left, after_repeats-in_place, after_repeats-ready}
+use Rattle.jb_chunk.proofs.AfterRepeats.{after_repeats-row, after_repeats-block, after_repeats-artifacts, after_repeats-left, after_repeats-in_place, after_repeats-ready}
 use Rattle.jb_chunk.proofs.AttemptLeaves.{ready-by}
 use Rattle.jb_chunk.proofs.WithoutRepeats.{in_place-kept}
 use Rattle.jb_chunk.proofs.RunsAlone.{block-in, rolled-below, below-at, left-waiting}
@@ -33,8 +33,8 @@ pub record IsOnCourse (t : TaskState) : Type 0 where
   pub redo_to : t.row.redo ≤ t.row.hi
   pub item_counted : HasItemCount t.item_count
   pub some_left : t.row.state ≡ state.Waiting → t.row.at < t.row.hi
-  pub place : t.work.reader.place ≡ t.row.at
-  pub count : length t.work.writer.written ≡ t.row.written
+  pub place : t.artifacts.reader.place ≡ t.row.at
+  pub count : length t.artifacts.writer.written ≡ t.row.written
 
 pub ready-course : (t : TaskState) → IsReady t → IsOnCourse t
 ready-course t ready = record {
@@ -97,7 +97,7 @@ course-by t again on b =
         item_counted = on.item_counted;
         some_left = row.some_left;
         place = refl;
-        count = length-take-le (row_after t.row (block_of t).hi (end_of t)).written (work_used t (settled_at t)).writer.written (end-added t on.count).0;
+        count = length-take-le (row_after t.row (block_of t).hi (end_of t)).written (artifacts_used t (settled_at t)).writer.written (end-added t on.count).0;
       },
       row.fewer,
     )
@@ -106,7 +106,7 @@ course-by t again on b =
 after_repeats-course : (t : TaskState) → IsOnCourse t → IsOnCourse (after_repeats t)
 after_repeats-course t on =
     let row = after_repeats-row t in
-    let work = after_repeats-work t in
+    let artifacts = after_repeats-artifacts t in
     let P : Row → Type 0 = λ x. (x.at ≤ x.hi) × (x.redo ≤ x.hi) × (x.state ≡ state.Waiting → x.at < x.hi) in
     let kept = subst P (sym row) (on.at_to, on.redo_to, on.some_left) in
     record {
@@ -114,8 +114,8 @@ after_repeats-course t on =
       redo_to = kept.1;
       item_counted = on.item_counted;
       some_left = kept.2;
-      place = ap (λ (r : Reader). r.place) work.reader ∙ on.place ∙ sym (ap (λ (x : Row). x.at) row);
-      count = ap (λ (r : Writer). length r.written) work.writer ∙ on.count ∙ sym (ap (λ (x : Row). x.written) row);
+      place = ap (λ (r : Reader). r.place) artifacts.reader ∙ on.place ∙ sym (ap (λ (x : Row). x.at) row);
+      count = ap (λ (r : Writer). length r.written) artifacts.writer ∙ on.count ∙ sym (ap (λ (x : Row). x.written) row);
     }
 
 after_repeats-waits : (t : TaskState) → t.row.state ≡ state.Waiting → (after_repeats t).row.state ≡ state.Waiting

@@ -6,7 +6,7 @@ use Rattle.jb_artifacts.specs.Writer.{Numbered, failing}
 use Rattle.jb_artifacts.specs.Meaning.{ArtifactsMeaning}
 use Rattle.jb_chunk.specs.Attempt.{results_of, settled_at, block_of}
 use Rattle.jb_chunk.specs.Standing.{TaskState}
-use Rattle.jb_chunk.proofs.WorkUsed.{read_end}
+use Rattle.jb_chunk.proofs.ArtifactsUsed.{read_end}
 use Rattle.jb_chunk.specs.Block.{entry, results, settles, settling}
 use Rattle.jb_chunk.specs.Entries.{text_in, numbered}
 
@@ -36,7 +36,7 @@ read-by t (Some k) within = let is = within k refl in let from = is.0 in let to 
 -- no record is read past the block's end
 pub read-in : (t : TaskState) (settled : Option ℕ) → settled_at t ≡ settled → read_end t settled ≤ (block_of t).hi
 unfolding settling
-read-in t settled at = read-by t settled (λ k e. found-of (settles t.rules t.row t.work) ((block_of t).hi - t.row.at) t.row.at k (at ∙ e))
+read-in t settled at = read-by t settled (λ k e. found-of (settles t.rules t.row t.artifacts) ((block_of t).hi - t.row.at) t.row.at k (at ∙ e))
 
 named-by : (b : Bool) (lo n : ℕ) (text : List ℕ) (others : Option (ℕ × List ℕ)) (r : ℕ × List ℕ) → cond b (Some (lo, text)) others ≡ Some r → (others ≡ Some r → IsOf (lo + 1) n r.0) → IsOf lo (suc n) r.0
 named-by true lo n text others r e more = let same : (lo, text) ≡ r = cc in of-first lo n r.0 (ap (λ (x : ℕ × List ℕ). x.0) same)
@@ -62,10 +62,10 @@ failing-of plans w lo hi r e =
     (from, omega (arith, from, to))
 
 -- a write fails at a record of the block
-pub failing-in : (t : TaskState) (r : ℕ × List ℕ) → failing t.work.writer.faults (results_of t) ≡ Some r → (t.row.at ≤ r.0) × (r.0 < (block_of t).hi)
+pub failing-in : (t : TaskState) (r : ℕ × List ℕ) → failing t.artifacts.writer.faults (results_of t) ≡ Some r → (t.row.at ≤ r.0) × (r.0 < (block_of t).hi)
 unfolding results
 failing-in t r e =
-    let is = named-of (λ x. is_live t.work.writer.faults x.0) t.work ((block_of t).hi - t.row.at) t.row.at r e in
+    let is = named-of (λ x. is_live t.artifacts.writer.faults x.0) t.artifacts ((block_of t).hi - t.row.at) t.row.at r e in
     let from = is.0 in
     let to = is.1 in
     (from, omega (arith, from, to))

@@ -14,7 +14,7 @@ use Rattle.jb_artifacts.specs.declared.faults.FaultPlan.{FaultPlan}
 use Rattle.jb_artifacts.specs.Faults.{FaultTable, used, used_at, live, is_live}
 use Rattle.jb_artifacts.specs.Reader.{record_at}
 use Rattle.jb_artifacts.specs.Meaning.{ArtifactsMeaning}
-use Rattle.jb_chunk.specs.Attempt.{settled_at, fault_at, skips_at, called_again, repeated_work, asks_repeat, block_of}
+use Rattle.jb_chunk.specs.Attempt.{settled_at, fault_at, skips_at, called_again, repeated_artifacts, asks_repeat, block_of}
 use Rattle.jb_chunk.specs.Standing.{TaskState}
 use Rattle.jb_chunk.specs.Block.{entry, entry_by, settles, settling, stops, repeats, skips_before, count_of, results, used_between, passed}
 use Rattle.jb_chunk.specs.Entries.{Entry, ReadFault, ProcessFault, Processed, fault_in, is_fault, is_read_fault, text_in, numbered}
@@ -122,35 +122,35 @@ pub record IsBetween (t u : TaskState) (n : ℕ) (skips : ℕ) (tally : Yield) :
   pub repeated : IsRepeated t u
   pub from : u.row.at ≤ n
   pub to : n < (block_of u).hi
-  pub none : settling u.rules u.row u.work n ≡ None
-  pub skipped : skips_before u.row u.work n ≡ skips
-  pub counted : IsTally u.work u.row.at n tally
+  pub none : settling u.rules u.row u.artifacts n ≡ None
+  pub skipped : skips_before u.row u.artifacts n ≡ skips
+  pub counted : IsTally u.artifacts u.row.at n tally
 
 -- the block when the failing call of record `n` is repeated
 abbrev pub recalled : TaskState → ℕ → TaskState
-recalled u n = record u { row = repeated_row u.row 1; work = called_again u.work n (entry u.work n) }
+recalled u n = record u { row = repeated_row u.row 1; artifacts = called_again u.artifacts n (entry u.artifacts n) }
 
-settled-here : (u : TaskState) (n : ℕ) → u.row.at ≤ n → n < (block_of u).hi → settling u.rules u.row u.work n ≡ None → stops u.rules u.row (fault_in (entry u.work n)) (skips_before u.row u.work n) ≡ true → settled_at u ≡ Some n
+settled-here : (u : TaskState) (n : ℕ) → u.row.at ≤ n → n < (block_of u).hi → settling u.rules u.row u.artifacts n ≡ None → stops u.rules u.row (fault_in (entry u.artifacts n)) (skips_before u.row u.artifacts n) ≡ true → settled_at u ≡ Some n
 unfolding settles
-settled-here u n from to none stops_here = settling-found u.rules u.row u.work n (block_of u).hi from to none stops_here
+settled-here u n from to none stops_here = settling-found u.rules u.row u.artifacts n (block_of u).hi from to none stops_here
 
-asks-here : (u : TaskState) (n : ℕ) → settled_at u ≡ Some n → repeats u.rules u.row (fault_in (entry u.work n)) (skips_before u.row u.work n) ≡ true → asks_repeat u ≡ true
+asks-here : (u : TaskState) (n : ℕ) → settled_at u ≡ Some n → repeats u.rules u.row (fault_in (entry u.artifacts n)) (skips_before u.row u.artifacts n) ≡ true → asks_repeat u ≡ true
 unfolding asks_repeat
 asks-here u n at e = ap (λ s. repeats u.rules u.row (fault_at u s) (skips_at u s)) at ∙ e
 
-pub called-more : (t u : TaskState) (n skips : ℕ) (tally : Yield) → IsBetween t u n skips tally → repeats u.rules u.row (fault_in (entry u.work n)) skips ≡ true → IsBetween t (recalled u n) n skips tally
+pub called-more : (t u : TaskState) (n skips : ℕ) (tally : Yield) → IsBetween t u n skips tally → repeats u.rules u.row (fault_in (entry u.artifacts n)) skips ≡ true → IsBetween t (recalled u n) n skips tally
 called-more t u n skips tally b asked =
-    let asks : repeats u.rules u.row (fault_in (entry u.work n)) (skips_before u.row u.work n) ≡ true = ap (repeats u.rules u.row (fault_in (entry u.work n))) b.skipped ∙ asked in
+    let asks : repeats u.rules u.row (fault_in (entry u.artifacts n)) (skips_before u.row u.artifacts n) ≡ true = ap (repeats u.rules u.row (fault_in (entry u.artifacts n))) b.skipped ∙ asked in
     let at = settled-here u n b.from b.to b.none (repeats-stops u.rules u.row _ _ asks) in
     let more = repeated-more t u b.repeated (asks-here u n at asks) in
-    let same = alike-call u.work u.row.at n (entry u.work n) b.from in
+    let same = alike-call u.artifacts u.row.at n (entry u.artifacts n) b.from in
     record {
-      repeated = subst (IsRepeated t) (ap (λ s. record u { row = repeated_row u.row 1; work = repeated_work u s }) at) more;
+      repeated = subst (IsRepeated t) (ap (λ s. record u { row = repeated_row u.row 1; artifacts = repeated_artifacts u s }) at) more;
       from = b.from;
       to = b.to;
-      none = settling-alike u.rules u.row u.work _ n b.from same b.none;
-      skipped = skips-alike u.row u.work _ n n b.from (omega arith) same ∙ b.skipped;
-      counted = tally-alike u.work _ u.row.at n tally b.from same b.counted;
+      none = settling-alike u.rules u.row u.artifacts _ n b.from same b.none;
+      skipped = skips-alike u.row u.artifacts _ n n b.from (omega arith) same ∙ b.skipped;
+      counted = tally-alike u.artifacts _ u.row.at n tally b.from same b.counted;
     }
 
 -- ALL REPEATS AT RECORD `n`
@@ -181,33 +181,33 @@ process-called rules row w n skips (Some class) read e asked =
     (class, (λ i. entry_by (read i) (e i) (w.processor.answer n (record_at w.reader n))), asked)
 
 abbrev after_calls : TaskState → (n reads processes : ℕ) → TaskState
-after_calls u n reads processes = record u { row = repeated_row (repeated_row u.row reads) processes; work = called u.work n reads processes }
+after_calls u n reads processes = record u { row = repeated_row (repeated_row u.row reads) processes; artifacts = called u.artifacts n reads processes }
 
 abbrev after_reads : TaskState → (n reads : ℕ) → TaskState
-after_reads u n reads = record u { row = repeated_row u.row reads; work = called u.work n reads 0 }
+after_reads u n reads = record u { row = repeated_row u.row reads; artifacts = called u.artifacts n reads 0 }
 
 fewer : (rules : RulesRecord) (skips : ℕ) (row : Row) (plans : FaultTable) (k m : ℕ) → AreRepeats rules skips row (next_fault plans k) (suc m) → AreRepeats rules skips row (next_fault plans k) m
 fewer rules skips row plans k m asked j lt = asked j (omega (arith, lt))
 
-reads-between : (t u : TaskState) (n skips : ℕ) (tally : Yield) (reads : ℕ) → IsBetween t u n skips tally → AreRepeats u.rules skips u.row (next_fault u.work.reader.faults n) reads → IsBetween t (after_reads u n reads) n skips tally
+reads-between : (t u : TaskState) (n skips : ℕ) (tally : Yield) (reads : ℕ) → IsBetween t u n skips tally → AreRepeats u.rules skips u.row (next_fault u.artifacts.reader.faults n) reads → IsBetween t (after_reads u n reads) n skips tally
 reads-between t u n skips tally zero b asked = subst (λ (row : Row). IsBetween t (record u { row = row }) n skips tally) (row-none u.row) b
 reads-between t u n skips tally (suc reads) b asked =
     let v = after_reads u n reads in
-    let here = reads-between t u n skips tally reads b (fewer u.rules skips u.row u.work.reader.faults n reads asked) in
-    let call = read-called u.rules v.row v.work n skips _ refl (asked reads (omega arith)) in
+    let here = reads-between t u n skips tally reads b (fewer u.rules skips u.row u.artifacts.reader.faults n reads asked) in
+    let call = read-called u.rules v.row v.artifacts n skips _ refl (asked reads (omega arith)) in
     let more = called-more t v n skips tally here (ap (λ e. repeats u.rules v.row (fault_in e) skips) call.1 ∙ call.2) in
-    let same : recalled v n ≡ after_reads u n (suc reads) = λ i. record u { row = row-suc u.row reads i; work = called_again v.work n (call.1 i) } in
+    let same : recalled v n ≡ after_reads u n (suc reads) = λ i. record u { row = row-suc u.row reads i; artifacts = called_again v.artifacts n (call.1 i) } in
     subst (λ x. IsBetween t x n skips tally) same more
 
-processes-between : (t u : TaskState) (n skips : ℕ) (tally : Yield) (reads processes : ℕ) → IsBetween t (after_reads u n reads) n skips tally → AreRepeats u.rules skips (repeated_row u.row reads) (next_fault u.work.processor.faults n) processes → (processes ≡ 0) ⊎ (live (called_times reads u.work.reader.faults n n) ≡ None) → IsBetween t (after_calls u n reads processes) n skips tally
+processes-between : (t u : TaskState) (n skips : ℕ) (tally : Yield) (reads processes : ℕ) → IsBetween t (after_reads u n reads) n skips tally → AreRepeats u.rules skips (repeated_row u.row reads) (next_fault u.artifacts.processor.faults n) processes → (processes ≡ 0) ⊎ (live (called_times reads u.artifacts.reader.faults n n) ≡ None) → IsBetween t (after_calls u n reads processes) n skips tally
 processes-between t u n skips tally reads zero b asked read = subst (λ (row : Row). IsBetween t (record (after_reads u n reads) { row = row }) n skips tally) (row-none (repeated_row u.row reads)) b
 processes-between t u n skips tally reads (suc processes) b asked (inl none) = absurd (omega (arith, none))
 processes-between t u n skips tally reads (suc processes) b asked (inr read) =
     let v = after_calls u n reads processes in
-    let here = processes-between t u n skips tally reads processes b (fewer u.rules skips (repeated_row u.row reads) u.work.processor.faults n processes asked) (inr read) in
-    let call = process-called u.rules v.row v.work n skips _ read refl (asked processes (omega arith)) in
+    let here = processes-between t u n skips tally reads processes b (fewer u.rules skips (repeated_row u.row reads) u.artifacts.processor.faults n processes asked) (inr read) in
+    let call = process-called u.rules v.row v.artifacts n skips _ read refl (asked processes (omega arith)) in
     let more = called-more t v n skips tally here (ap (λ e. repeats u.rules v.row (fault_in e) skips) call.1 ∙ call.2) in
-    let same : recalled v n ≡ after_calls u n reads (suc processes) = λ i. record u { row = row-suc (repeated_row u.row reads) processes i; work = called_again v.work n (call.1 i) } in
+    let same : recalled v n ≡ after_calls u n reads (suc processes) = λ i. record u { row = row-suc (repeated_row u.row reads) processes i; artifacts = called_again v.artifacts n (call.1 i) } in
     subst (λ x. IsBetween t x n skips tally) same more
 
 -- THE ARTIFACTS IN THE MIDDLE OF THE BLOCK
@@ -268,28 +268,28 @@ asked-passed rules skips row c plans lo n m asked j lt =
 pub record IsAfter (t v : TaskState) (n skips : ℕ) (tally : Yield) (e : Entry) (now : Row) (left : ArtifactsMeaning) : Type 0 where
   pub between : IsBetween t v n skips tally
   pub row : now ≡ v.row
-  pub becomes : e ≡ entry v.work n
-  pub last : repeats v.rules v.row (fault_in (entry v.work n)) skips ≡ false
-  pub passes : left ≡ passed v.work v.row.at (n + 1)
+  pub becomes : e ≡ entry v.artifacts n
+  pub last : repeats v.rules v.row (fault_in (entry v.artifacts n)) skips ≡ false
+  pub passes : left ≡ passed v.artifacts v.row.at (n + 1)
 
-pub done-after : (t u : TaskState) (n skips : ℕ) (tally : Yield) (e : Entry) (now : Row) (left : ArtifactsMeaning) → IsBetween t u n skips tally → IsDone u.rules skips u.row (passed u.work u.row.at n) n e now left → (v : TaskState) × IsAfter t v n skips tally e now left
+pub done-after : (t u : TaskState) (n skips : ℕ) (tally : Yield) (e : Entry) (now : Row) (left : ArtifactsMeaning) → IsBetween t u n skips tally → IsDone u.rules skips u.row (passed u.artifacts u.row.at n) n e now left → (v : TaskState) × IsAfter t v n skips tally e now left
 done-after t u n skips tally e now left b done =
     let lo = u.row.at in
     let reads = done.reads in
     let processes = done.processes in
     let v = after_calls u n reads processes in
-    let r = asked-passed u.rules skips u.row (λ _. true) u.work.reader.faults lo n reads done.read in
-    let p = asked-passed u.rules skips (repeated_row u.row reads) (λ k. not (is_live u.work.reader.faults k)) u.work.processor.faults lo n processes done.processed in
-    let first = ap (λ (x : FaultPlan). live x) (sym (times-alike reads _ _ n (between-outside (λ _. true) u.work.reader.faults lo n n (omega arith)))) in
-    let read : (processes ≡ 0) ⊎ (live (called_times reads u.work.reader.faults n n) ≡ None) = elim done.read_first [ inl none ↦ inl none | inr none ↦ inr (first ∙ none) ] in
+    let r = asked-passed u.rules skips u.row (λ _. true) u.artifacts.reader.faults lo n reads done.read in
+    let p = asked-passed u.rules skips (repeated_row u.row reads) (λ k. not (is_live u.artifacts.reader.faults k)) u.artifacts.processor.faults lo n processes done.processed in
+    let first = ap (λ (x : FaultPlan). live x) (sym (times-alike reads _ _ n (between-outside (λ _. true) u.artifacts.reader.faults lo n n (omega arith)))) in
+    let read : (processes ≡ 0) ⊎ (live (called_times reads u.artifacts.reader.faults n n) ≡ None) = elim done.read_first [ inl none ↦ inl none | inr none ↦ inr (first ∙ none) ] in
     let between = processes-between t u n skips tally reads processes (reads-between t u n skips tally reads b r) p read in
-    let becomes : e ≡ entry v.work n = done.becomes ∙ ap (λ x. entry x n) (called-passed u.work lo n reads processes) ∙ entry-passed v.work lo n in (
+    let becomes : e ≡ entry v.artifacts n = done.becomes ∙ ap (λ x. entry x n) (called-passed u.artifacts lo n reads processes) ∙ entry-passed v.artifacts lo n in (
       v,
       record {
         between = between;
         row = done.grown;
         becomes = becomes;
         last = (λ i. repeats u.rules (sym done.grown i) (fault_in (sym becomes i)) skips) ∙ done.last;
-        passes = done.passes ∙ ap (λ x. passed_one x n) (called-passed u.work lo n reads processes) ∙ passed-more v.work lo n b.from;
+        passes = done.passes ∙ ap (λ x. passed_one x n) (called-passed u.artifacts lo n reads processes) ∙ passed-more v.artifacts lo n b.from;
       },
     )

@@ -150,11 +150,11 @@ tasks-stay-ready law stay t s ready way room repeats = ready-run law stay t way.
 -- TAKING UP AGAIN
 
 -- a task at its checkpoint, taken up again, is where it was
-taken-up : (t : TaskState) → t.work.reader.place ≡ t.row.at → length t.work.writer.written ≡ t.row.written → taken_up t ≡ t
+taken-up : (t : TaskState) → t.artifacts.reader.place ≡ t.row.at → length t.artifacts.writer.written ≡ t.row.written → taken_up t ≡ t
 taken-up t place count = λ i. record t {
-  work = record t.work {
-    reader = record t.work.reader { place = sym place i };
-    writer = record t.work.writer { written = take_all t.row.written t.work.writer.written (omega (arith, count)) i };
+  artifacts = record t.artifacts {
+    reader = record t.artifacts.reader { place = sym place i };
+    writer = record t.artifacts.writer { written = take_all t.row.written t.artifacts.writer.written (omega (arith, count)) i };
   };
 }
 

@@ -38,7 +38,7 @@ asks-none t none = repeats-none t.rules t.row (fault_at t (settled_at t)) (skips
 
 pub attempts-without-repeats : AttemptsWithoutRepeats
 attempts-without-repeats t none =
-    let same = ap (λ (v : TaskState). record t { row = v.row; work = v.work }) (after_repeats-last t (asks-none t none)) in
+    let same = ap (λ (v : TaskState). record t { row = v.row; artifacts = v.artifacts }) (after_repeats-last t (asks-none t none)) in
     let no : t.row.in_place - t.row.in_place ≡ 0 = omega arith in
     ap (λ (s : TaskState). ending_by s (s.row.in_place - t.row.in_place) (end_of s)) same
     ∙ ap (λ n. ending_by t n (end_of t)) no

@@ -8,7 +8,7 @@ use Rattle.jb_rules.specs.declared.row.RowState.TheVariants.{Waiting, Running, F
 use Rattle.jb_artifacts.specs.Faults.{used_at}
 use Rattle.jb_rules.specs.States.{is_waiting, has_ended}
 use Rattle.jb_chunk.specs.Alone.{IsRunOf, attempts_left}
-use Rattle.jb_chunk.specs.Attempt.{AttemptEnd, attempt_of, end_of, asks_repeat, repeated_up_to, all_repeated, work_used}
+use Rattle.jb_chunk.specs.Attempt.{AttemptEnd, attempt_of, end_of, asks_repeat, repeated_up_to, all_repeated, artifacts_used}
 use Rattle.jb_chunk.specs.Block.{entry, results, count_of, settles, settling, used_between}
 use Rattle.jb_chunk.specs.Plain.{plain_answers}
 use Rattle.jb_chunk.specs.Standing.{TaskState}
@@ -41,7 +41,7 @@ run-of (suc n) t = one-more (is_waiting t.row.state) n t refl (run-of n (attempt
 
 -- a task whose first `n` attempts end it
 runs_to : (t : TaskState) (n : ℕ) {row : List ℕ} {end : RowState} {written collected : List (List ℕ)} → has_ended (place n t).row.state ≡ true → length (attempts n t) ≤ attempts_left t
-    → numbers (place n t).row ≡ row → (place n t).row.state ≡ end → (place n t).work.writer.written ≡ written → texts_in (attempts n t) ≡ collected → RunsTo t row end written collected
+    → numbers (place n t).row ≡ row → (place n t).row.state ≡ end → (place n t).artifacts.writer.written ≡ written → texts_in (attempts n t) ≡ collected → RunsTo t row end written collected
 runs_to t n ended few row state outputs texts = record {
   last = place n t;
   alone = record { attempts = attempts n t; run = run-of n t; ended = ended; few = few };
@@ -52,109 +52,109 @@ runs_to t n ended few row state outputs texts = record {
 }
 
 first_runs : RunsTo first_task (2 ∷ 0 ∷ 0 ∷ 2 ∷ 2 ∷ 2 ∷ 1 ∷ 0 ∷ 0 ∷ 0 ∷ 0 ∷ 0 ∷ 0 ∷ []) Finished (codes "xa" ∷ codes "xb" ∷ []) (codes "0:2:2" ∷ codes "0:2:2:end" ∷ [])
-unfolding attempts place end_of asks_repeat repeated_up_to all_repeated settling settles entry results count_of work_used used_between used_at digits blocks
+unfolding attempts place end_of asks_repeat repeated_up_to all_repeated settling settles entry results count_of artifacts_used used_between used_at digits blocks
 first_runs = runs_to first_task 1 refl (lit≤ tt) refl refl refl refl
 
 second_runs : RunsTo second_task (3 ∷ 2 ∷ 0 ∷ 1 ∷ 1 ∷ 1 ∷ 1 ∷ 0 ∷ 0 ∷ 0 ∷ 0 ∷ 0 ∷ 0 ∷ []) Finished (codes "xc" ∷ []) (codes "1:3:1" ∷ codes "1:3:1:end" ∷ [])
-unfolding attempts place end_of asks_repeat repeated_up_to all_repeated settling settles entry results count_of work_used used_between used_at digits blocks
+unfolding attempts place end_of asks_repeat repeated_up_to all_repeated settling settles entry results count_of artifacts_used used_between used_at digits blocks
 second_runs = runs_to second_task 1 refl (lit≤ tt) refl refl refl refl
 
 pub first_run : FirstRunAlone
 first_run = record { first = first_runs; second = second_runs }
 
 pub everything_filtered : EverythingFiltered
-unfolding attempts place end_of asks_repeat repeated_up_to all_repeated settling settles entry results count_of work_used used_between used_at digits blocks
+unfolding attempts place end_of asks_repeat repeated_up_to all_repeated settling settles entry results count_of artifacts_used used_between used_at digits blocks
 everything_filtered = runs_to filtered_task 1 refl (lit≤ tt) refl refl refl refl
 
 pub no_record : NoRecordAlone
-unfolding attempts place end_of asks_repeat repeated_up_to all_repeated settling settles entry results count_of work_used used_between used_at digits blocks
+unfolding attempts place end_of asks_repeat repeated_up_to all_repeated settling settles entry results count_of artifacts_used used_between used_at digits blocks
 no_record = runs_to recordless_task 0 refl (lit≤ tt) refl refl refl refl
 
 pub retry_to_singles : RetryToSingles
-unfolding attempts place end_of asks_repeat repeated_up_to all_repeated settling settles entry results count_of work_used used_between used_at digits blocks
+unfolding attempts place end_of asks_repeat repeated_up_to all_repeated settling settles entry results count_of artifacts_used used_between used_at digits blocks
 retry_to_singles = runs_to retried_task 5 refl (lit≤ tt) refl refl refl refl
 
 pub skip_in_redo : SkipInRedo
-unfolding attempts place end_of asks_repeat repeated_up_to all_repeated settling settles entry results count_of work_used used_between used_at digits blocks
+unfolding attempts place end_of asks_repeat repeated_up_to all_repeated settling settles entry results count_of artifacts_used used_between used_at digits blocks
 skip_in_redo = runs_to skipped_task 4 refl (lit≤ tt) refl refl refl refl
 
 pub torn_write : TornWrite
-unfolding attempts place end_of asks_repeat repeated_up_to all_repeated settling settles entry results count_of work_used used_between used_at digits blocks
+unfolding attempts place end_of asks_repeat repeated_up_to all_repeated settling settles entry results count_of artifacts_used used_between used_at digits blocks
 torn_write = runs_to torn_task 1 refl (lit≤ tt) refl refl refl refl
 
 pub write_retried : WriteRetried
-unfolding attempts place end_of asks_repeat repeated_up_to all_repeated settling settles entry results count_of work_used used_between used_at digits blocks
+unfolding attempts place end_of asks_repeat repeated_up_to all_repeated settling settles entry results count_of artifacts_used used_between used_at digits blocks
 write_retried = runs_to rewritten_task 4 refl (lit≤ tt) refl refl refl refl
 
 pub write_failed : WriteFailed
-unfolding attempts place end_of asks_repeat repeated_up_to all_repeated settling settles entry results count_of work_used used_between used_at digits blocks
+unfolding attempts place end_of asks_repeat repeated_up_to all_repeated settling settles entry results count_of artifacts_used used_between used_at digits blocks
 write_failed = runs_to unwritable_task 2 refl (lit≤ tt) refl refl refl refl
 
 pub shaky_write : ShakyWrite
-unfolding attempts place end_of asks_repeat repeated_up_to all_repeated settling settles entry results count_of work_used used_between used_at digits blocks
+unfolding attempts place end_of asks_repeat repeated_up_to all_repeated settling settles entry results count_of artifacts_used used_between used_at digits blocks
 shaky_write = runs_to shaky_writes_task 4 refl (lit≤ tt) refl refl refl refl
 
 pub retry_limit : RetryLimit
-unfolding attempts place end_of asks_repeat repeated_up_to all_repeated settling settles entry results count_of work_used used_between used_at digits blocks
+unfolding attempts place end_of asks_repeat repeated_up_to all_repeated settling settles entry results count_of artifacts_used used_between used_at digits blocks
 retry_limit = runs_to retried_out_task 3 refl (lit≤ tt) refl refl refl refl
 
 pub read_skip : ReadSkip
-unfolding attempts place end_of asks_repeat repeated_up_to all_repeated settling settles entry results count_of work_used used_between used_at digits blocks
+unfolding attempts place end_of asks_repeat repeated_up_to all_repeated settling settles entry results count_of artifacts_used used_between used_at digits blocks
 read_skip = runs_to read_skipped_task 2 refl (lit≤ tt) refl refl refl refl
 
 pub skipped_before_write : SkippedBeforeWrite
-unfolding attempts place end_of asks_repeat repeated_up_to all_repeated settling settles entry results count_of work_used used_between used_at digits blocks
+unfolding attempts place end_of asks_repeat repeated_up_to all_repeated settling settles entry results count_of artifacts_used used_between used_at digits blocks
 skipped_before_write = runs_to skipped_and_unwritable_task 1 refl (lit≤ tt) refl refl refl refl
 
 pub rolled_back_skip : RolledBackSkip
-unfolding attempts place end_of asks_repeat repeated_up_to all_repeated settling settles entry results count_of work_used used_between used_at digits blocks
+unfolding attempts place end_of asks_repeat repeated_up_to all_repeated settling settles entry results count_of artifacts_used used_between used_at digits blocks
 rolled_back_skip = runs_to rolled_back_task 4 refl (lit≤ tt) refl refl refl refl
 
 fails : RunsTo failed_task (2 ∷ 0 ∷ 0 ∷ 1 ∷ 2 ∷ 1 ∷ 1 ∷ 1 ∷ 0 ∷ 1 ∷ 0 ∷ 0 ∷ 0 ∷ []) Failed (codes "xb" ∷ []) (codes "0:2:1" ∷ [])
-unfolding attempts place end_of asks_repeat repeated_up_to all_repeated settling settles entry results count_of work_used used_between used_at digits blocks
+unfolding attempts place end_of asks_repeat repeated_up_to all_repeated settling settles entry results count_of artifacts_used used_between used_at digits blocks
 fails = runs_to failed_task 2 refl (lit≤ tt) refl refl refl refl
 
 goes_on : RunsTo beside_failed_task (6 ∷ 4 ∷ 0 ∷ 2 ∷ 2 ∷ 2 ∷ 1 ∷ 0 ∷ 0 ∷ 0 ∷ 0 ∷ 0 ∷ 0 ∷ []) Finished (codes "xe" ∷ codes "xf" ∷ []) (codes "1:6:2" ∷ codes "1:6:2:end" ∷ [])
-unfolding attempts place end_of asks_repeat repeated_up_to all_repeated settling settles entry results count_of work_used used_between used_at digits blocks
+unfolding attempts place end_of asks_repeat repeated_up_to all_repeated settling settles entry results count_of artifacts_used used_between used_at digits blocks
 goes_on = runs_to beside_failed_task 1 refl (lit≤ tt) refl refl refl refl
 
 pub one_failed : OneFailedAlone
 one_failed = record { failed = fails; finished = goes_on }
 
 pub repeat : Repeat
-unfolding attempts place end_of asks_repeat repeated_up_to all_repeated settling settles entry results count_of work_used used_between used_at digits blocks
+unfolding attempts place end_of asks_repeat repeated_up_to all_repeated settling settles entry results count_of artifacts_used used_between used_at digits blocks
 repeat = runs_to repeated_task 1 refl (lit≤ tt) refl refl refl refl
 
 pub repeat_limit : RepeatLimit
-unfolding attempts place end_of asks_repeat repeated_up_to all_repeated settling settles entry results count_of work_used used_between used_at digits blocks
+unfolding attempts place end_of asks_repeat repeated_up_to all_repeated settling settles entry results count_of artifacts_used used_between used_at digits blocks
 repeat_limit = runs_to repeated_out_task 1 refl (lit≤ tt) refl refl refl refl
 
 pub repeated_write : RepeatedWrite
-unfolding attempts place end_of asks_repeat repeated_up_to all_repeated settling settles entry results count_of work_used used_between used_at digits blocks
+unfolding attempts place end_of asks_repeat repeated_up_to all_repeated settling settles entry results count_of artifacts_used used_between used_at digits blocks
 repeated_write = runs_to repeated_write_task 1 refl (lit≤ tt) refl refl refl refl
 
 pub repeated_and_rolled : RepeatedAndRolled
-unfolding attempts place end_of asks_repeat repeated_up_to all_repeated settling settles entry results count_of work_used used_between used_at digits blocks
+unfolding attempts place end_of asks_repeat repeated_up_to all_repeated settling settles entry results count_of artifacts_used used_between used_at digits blocks
 repeated_and_rolled = runs_to repeated_and_rolled_task 3 refl (lit≤ tt) refl refl refl refl
 
 pub repeated_then_skipped : RepeatedThenSkipped
-unfolding attempts place end_of asks_repeat repeated_up_to all_repeated settling settles entry results count_of work_used used_between used_at digits blocks
+unfolding attempts place end_of asks_repeat repeated_up_to all_repeated settling settles entry results count_of artifacts_used used_between used_at digits blocks
 repeated_then_skipped = runs_to repeated_then_skipped_task 2 refl (lit≤ tt) refl refl refl refl
 
 pub skipped_and_repeated : SkippedAndRepeated
-unfolding attempts place end_of asks_repeat repeated_up_to all_repeated settling settles entry results count_of work_used used_between used_at digits blocks
+unfolding attempts place end_of asks_repeat repeated_up_to all_repeated settling settles entry results count_of artifacts_used used_between used_at digits blocks
 skipped_and_repeated = runs_to skipped_and_repeated_task 2 refl (lit≤ tt) refl refl refl refl
 
 pub skipped_in_redo : SkippedInRedo
-unfolding attempts place end_of asks_repeat repeated_up_to all_repeated settling settles entry results count_of work_used used_between used_at digits blocks
+unfolding attempts place end_of asks_repeat repeated_up_to all_repeated settling settles entry results count_of artifacts_used used_between used_at digits blocks
 skipped_in_redo = runs_to skipped_in_redo_task 3 refl (lit≤ tt) refl refl refl refl
 
 pub repeated_reads : RepeatedReads
-unfolding attempts place end_of asks_repeat repeated_up_to all_repeated settling settles entry results count_of work_used used_between used_at digits blocks
+unfolding attempts place end_of asks_repeat repeated_up_to all_repeated settling settles entry results count_of artifacts_used used_between used_at digits blocks
 repeated_reads = runs_to repeated_reads_task 1 refl (lit≤ tt) refl refl refl refl
 
 pub all_seen : AllSeen
-unfolding attempts place end_of asks_repeat repeated_up_to all_repeated settling settles entry results count_of work_used used_between used_at digits blocks
+unfolding attempts place end_of asks_repeat repeated_up_to all_repeated settling settles entry results count_of artifacts_used used_between used_at digits blocks
 all_seen = runs_to seen_task 2 refl (lit≤ tt) refl refl refl refl
 
 pub plain_runs : PlainRuns

@@ -68,6 +68,6 @@ EndsAlone t NoMemory s = IsBroken t s
 
 -- where no call in the range fails, the task does what its Plain run does, if there is memory
 abbrev pub KeepsPlain : TaskState → AloneEnd → TaskState → Type 0
-KeepsPlain t Finished s = IsCalm t.work t.row.at t.row.hi → IsPlain t s
-KeepsPlain t Failed s = IsCalm t.work t.row.at t.row.hi → ⊥
+KeepsPlain t Finished s = IsCalm t.artifacts t.row.at t.row.hi → IsPlain t s
+KeepsPlain t Failed s = IsCalm t.artifacts t.row.at t.row.hi → ⊥
 KeepsPlain t NoMemory s = ⊤

@@ -25,20 +25,20 @@ abbrev pub block_of : TaskState → Range
 block_of t = row_block t.item_count t.row
 
 abbrev pub results_of : TaskState → Numbered
-results_of t = results t.work t.row.at (block_of t).hi
+results_of t = results t.artifacts t.row.at (block_of t).hi
 
 -- its first record whose fault isn't skipped
 abbrev pub settled_at : TaskState → Option ℕ
-settled_at t = settling t.rules t.row t.work (block_of t).hi
+settled_at t = settling t.rules t.row t.artifacts (block_of t).hi
 
 -- the fault at which the chunk stands: that of its settling record, else its write's
 abbrev pub fault_at : TaskState → (settled : Option ℕ) → Option ClassId
-fault_at t (Some k) = fault_in (entry t.work k)
-fault_at t None = write_fault t.work.writer (results_of t)
+fault_at t (Some k) = fault_in (entry t.artifacts k)
+fault_at t None = write_fault t.artifacts.writer (results_of t)
 
 -- the skips before it: before the write, all faults of the chunk are counted as skips
 abbrev pub skips_at : TaskState → (settled : Option ℕ) → ℕ
-skips_at t settled = skips_before t.row t.work (unwrap_or settled (block_of t).hi)
+skips_at t settled = skips_before t.row t.artifacts (unwrap_or settled (block_of t).hi)
 
 -- HOW IT ENDS
 
@@ -59,7 +59,7 @@ counts_with records skips read_skips results written write_skips = record no_cou
 -- what the chunk adds
 abbrev pub counts_of : TaskState → (written write_skips : ℕ) → Counts
 counts_of t =
-    let counted : (Entry → Bool) → ℕ = λ p. count_of p t.work t.row.at (block_of t).hi in
+    let counted : (Entry → Bool) → ℕ = λ p. count_of p t.artifacts t.row.at (block_of t).hi in
     counts_with ((block_of t).hi - t.row.at) (counted is_fault) (counted is_read_fault) (length (results_of t))
 
 -- A chunk ends by a fault as is chosen for it, when no call of it is to be repeated any more (Jakarta Batch 2.1, "Chunk
@@ -87,15 +87,15 @@ called_again w k _ = record w { processor = record w.processor { faults = used_a
 
 -- the artifacts when the call at which the chunk stands is repeated: that of its settling record, else its write, of which
 -- nothing is kept
-abbrev pub repeated_work : TaskState → (settled : Option ℕ) → ArtifactsMeaning
-repeated_work t (Some k) = called_again t.work k (entry t.work k)
-repeated_work t None = record t.work { writer = record (after_write t.work.writer (results_of t)) { written = t.work.writer.written } }
+abbrev pub repeated_artifacts : TaskState → (settled : Option ℕ) → ArtifactsMeaning
+repeated_artifacts t (Some k) = called_again t.artifacts k (entry t.artifacts k)
+repeated_artifacts t None = record t.artifacts { writer = record (after_write t.artifacts.writer (results_of t)) { written = t.artifacts.writer.written } }
 
 -- The task when that call is repeated: its chunk is the same without the fault, and one retry is used (Jakarta Batch 2.1,
 -- "Preventing Rollback During Retry"; that the call alone is repeated, the reader or the writer being opened again before
 -- it, and that it uses a retry, is this project's choice).
 abbrev pub repeated : TaskState → TaskState
-repeated t = record t { row = repeated_row t.row 1; work = repeated_work t (settled_at t) }
+repeated t = record t { row = repeated_row t.row 1; artifacts = repeated_artifacts t (settled_at t) }
 
 -- the call at which the chunk stands has a fault, and is to be repeated
 unfoldable pub asks_repeat : TaskState → Bool
@@ -113,7 +113,7 @@ all_repeated t = repeated_up_to (t.rules.retry_limit - t.row.retries) t
 
 -- they change its row and its artifacts alone
 abbrev pub after_repeats : TaskState → TaskState
-after_repeats t = record t { row = (all_repeated t).row; work = (all_repeated t).work }
+after_repeats t = record t { row = (all_repeated t).row; artifacts = (all_repeated t).artifacts }
 
 -- how often a call of that chunk is repeated
 abbrev pub again_of : TaskState → ℕ
@@ -130,9 +130,9 @@ row_after row hi NoMemory = row
 
 -- The artifacts that a chunk used: its records up to the one that settles it, after which nothing is written; else all its
 -- records, and then the writer. So it is also where the chunk is rolled back.
-unfoldable pub work_used : TaskState → (settled : Option ℕ) → ArtifactsMeaning
-work_used t (Some k) = passed t.work t.row.at (k + 1)
-work_used t None = record (passed t.work t.row.at (block_of t).hi) { writer = after_write t.work.writer (results_of t) }
+unfoldable pub artifacts_used : TaskState → (settled : Option ℕ) → ArtifactsMeaning
+artifacts_used t (Some k) = passed t.artifacts t.row.at (k + 1)
+artifacts_used t None = record (passed t.artifacts t.row.at (block_of t).hi) { writer = after_write t.artifacts.writer (results_of t) }
 
 -- what the collector sees of a row
 abbrev pub view_of : (partition : ℕ) → Row → (last : Bool) → RowView
@@ -163,7 +163,7 @@ ending_of task out values again = record { task = task; outcome = out; values = 
 abbrev pub ending_by : TaskState → (again : ℕ) → Outcome → AttemptEnd
 ending_by t again out =
     let row = row_after t.row (block_of t).hi out in
-    ending_of (record t { row = row; work = at_checkpoint row (work_used t (settled_at t)) }) out (values_of t.work.collector t.partition row out) again
+    ending_of (record t { row = row; artifacts = at_checkpoint row (artifacts_used t (settled_at t)) }) out (values_of t.artifacts.collector t.partition row out) again
 
 -- the attempt at the task's next chunk, where it finds its memory: the chunk ends after all its repeats
 abbrev pub attempt_of : TaskState → AttemptEnd
@@ -182,8 +182,8 @@ pub record IsRestored (lo hi : ℕ) (before after : ArtifactsMeaning) : Type 0 w
 -- an attempt that found no memory left row and outputs as they were, and reader and writer at the checkpoint; of the fault
 -- plans it used its own block's alone
 pub record IsUnfinished (before after : TaskState) : Type 0 where
-  pub task : after ≡ record before { work = after.work }
-  pub work : IsRestored before.row.at (block_of before).hi before.work after.work
+  pub task : after ≡ record before { artifacts = after.artifacts }
+  pub artifacts : IsRestored before.row.at (block_of before).hi before.artifacts after.artifacts
 
 abbrev pub IsAttemptBy : Outcome → TaskState → AttemptEnd → Type 0
 IsAttemptBy NoMemory t e = (e.values ≡ []) × (e.again ≡ 0) × IsUnfinished t e.task

@@ -24,7 +24,7 @@ OneEnd = (t one other : TaskState) → IsAlone t one → IsAlone t other → one
 abbrev pub CalmRunsArePlain : Type 0
 CalmRunsArePlain =
     (t s : TaskState) → IsReady t → (t.row.state ≡ state.Waiting) ⊎ (t.row.state ≡ state.Finished)
-    → IsCalm t.work t.row.at t.row.hi → IsAlone t s → IsPlain t s
+    → IsCalm t.artifacts t.row.at t.row.hi → IsAlone t s → IsPlain t s
 
 -- THE WAY THERE
 
@@ -57,8 +57,8 @@ TasksStayReady = (t s : TaskState) → IsReady t → IsOnTheWay t s → s.row.co
 -- chunk has a record and lies in its range
 pub record IsAtCheckpoint (t : TaskState) : Type 0 where
   pub at_to : t.row.at ≤ t.row.hi
-  pub place : t.work.reader.place ≡ t.row.at
-  pub count : length t.work.writer.written ≡ t.row.written
+  pub place : t.artifacts.reader.place ≡ t.row.at
+  pub count : length t.artifacts.writer.written ≡ t.row.written
   pub chunk : t.row.state ≡ state.Waiting → (t.row.at < (block_of t).hi) × ((block_of t).hi ≤ t.row.hi)
 
 -- and however many its rollbacks are, it stands at its checkpoint

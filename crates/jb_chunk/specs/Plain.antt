@@ -23,11 +23,11 @@ plain_delta records found chunks = record no_counts { read = records; write = fo
 abbrev pub plain_row : TaskState → Row
 plain_row t =
     committed_row t.row t.row.hi
-    (plain_delta (t.row.hi - t.row.at) (length (plain_answers t.work t.row.at t.row.hi)) (left t.row.at t.row.redo t.row.hi t.item_count))
+    (plain_delta (t.row.hi - t.row.at) (length (plain_answers t.artifacts t.row.at t.row.hi)) (left t.row.at t.row.redo t.row.hi t.item_count))
 
 -- what was written, and the answers behind it
 abbrev pub plain_outputs : TaskState → List (List ℕ)
-plain_outputs t = t.work.writer.written ++ plain_answers t.work t.row.at t.row.hi
+plain_outputs t = t.artifacts.writer.written ++ plain_answers t.artifacts t.row.at t.row.hi
 
 -- no call for the records `lo` to `hi - 1` fails
 pub record IsCalm (w : ArtifactsMeaning) (lo hi : ℕ) : Type 0 where
@@ -37,4 +37,4 @@ pub record IsCalm (w : ArtifactsMeaning) (lo hi : ℕ) : Type 0 where
 
 -- the Plain run leads from one place to the other: its counts, with the whole row, and its outputs
 abbrev pub IsPlain : (before after : TaskState) → Type 0
-IsPlain before after = (after.row ≡ plain_row before) × (after.work.writer.written ≡ plain_outputs before)
+IsPlain before after = (after.row ≡ plain_row before) × (after.artifacts.writer.written ≡ plain_outputs before)

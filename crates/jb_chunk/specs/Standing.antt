@@ -14,7 +14,7 @@ pub record TaskState : Type 0 where
   pub row : Row
   pub rules : RulesRecord
   pub item_count : ℕ
-  pub work : ArtifactsMeaning
+  pub artifacts : ArtifactsMeaning
 
 -- the number of records in a chunk (Jakarta Batch 2.1, "Chunk"; the upper limit is this project's choice)
 pub record HasItemCount (item_count : ℕ) : Type 0 where
@@ -28,9 +28,9 @@ pub record IsReady (t : TaskState) : Type 0 where
   pub sound : IsSoundRow t.row
   pub item_counted : HasItemCount t.item_count
   pub retried : t.rules.retry_limit ≤ max_retry_limit
-  pub fits : Fits t.work t.row
-  pub place : t.work.reader.place ≡ t.row.at
-  pub count : length t.work.writer.written ≡ t.row.written
+  pub fits : Fits t.artifacts t.row
+  pub place : t.artifacts.reader.place ≡ t.row.at
+  pub count : length t.artifacts.writer.written ≡ t.row.written
 
 -- the number of repeats in place stays in its limit, also if each retry that is left is one
 abbrev pub HasRepeats : RulesRecord → Row → Type 0
@@ -50,9 +50,9 @@ started partition row rules item_count w = record {
   row = row;
   rules = rules;
   item_count = item_count;
-  work = at_checkpoint row w;
+  artifacts = at_checkpoint row w;
 }
 
 -- the task begun again from its row, with what it works with
 abbrev pub taken_up : TaskState → TaskState
-taken_up t = started t.partition t.row t.rules t.item_count t.work
+taken_up t = started t.partition t.row t.rules t.item_count t.artifacts

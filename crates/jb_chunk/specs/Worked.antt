@@ -60,8 +60,8 @@ abbrev pub two_retries : (skippable retryable : ℕ) → RulesRecord
 two_retries skippable retryable = record (rules_of skippable retryable) { retry_limit = 2 }
 
 -- the artifacts of a partition that begins at record `lo`
-abbrev pub works : (lo : ℕ) → (reads processes writes : FaultTable) → ArtifactsMeaning
-works lo reads processes writes = record {
+abbrev pub artifacts_from : (lo : ℕ) → (reads processes writes : FaultTable) → ArtifactsMeaning
+artifacts_from lo reads processes writes = record {
   reader = record { first = 0; records = letters; place = lo; faults = reads };
   processor = record { answer = λ _ item. prefixed (codes "x") None item; faults = processes };
   writer = record { written = []; faults = writes };
@@ -75,7 +75,7 @@ task partition lo hi item_count rules reads processes writes = record {
   row = fresh_row (record { lo = lo; hi = hi });
   rules = rules;
   item_count = item_count;
-  work = works lo reads processes writes;
+  artifacts = artifacts_from lo reads processes writes;
 }
 
 -- records 0 and 3 always fail
@@ -171,7 +171,7 @@ seen_task = record (task 8 10 46 1 strict sound sound sound) {
     written = 2;
     counts = record { read = 31; write = 2; commit = 9; rollback = 6; read_skip = 3; process_skip = 5; filter = 7; write_skip = 4 };
   };
-  work = record (works 44 sound sound sound) {
+  artifacts = record (artifacts_from 44 sound sound sound) {
     reader = record { first = 40; records = letters; place = 44; faults = sound };
     writer = record { written = codes "xm" ∷ codes "xn" ∷ []; faults = sound };
     collector = all_seen;
@@ -204,7 +204,7 @@ pub record RunsTo (t : TaskState) (row_numbers : List ℕ) (row_state : RowState
   pub alone : IsAlone t last
   pub row : numbers last.row ≡ row_numbers
   pub state : last.row.state ≡ row_state
-  pub outputs : last.work.writer.written ≡ written
+  pub outputs : last.artifacts.writer.written ≡ written
   pub texts : texts_in alone.attempts ≡ collected
 
 -- THE ROWS
@@ -223,7 +223,7 @@ pub record FirstRunAlone : Type 0 where
 -- everything filtered: each item of the only chunk begins with a z, so none has a result
 abbrev pub filtered_task : TaskState
 filtered_task = record (task 0 0 4 4 strict sound sound sound) {
-  work = record (works 0 sound sound sound) {
+  artifacts = record (artifacts_from 0 sound sound sound) {
     reader = record { first = 0; records = codes "za" ∷ codes "zb" ∷ codes "zc" ∷ codes "zd" ∷ []; place = 0; faults = sound };
     processor = record { answer = λ _ item. prefixed (codes "x") (Some (codes "z")) item; faults = sound };
   };

@@ -73,5 +73,5 @@ pub trait PartitionTask: Send + Drop {
 
     /// What the task worked with, as it now stands.
     fn into_artifacts(self) -> Self::Artifacts
-        ensures { Self.Artifacts.meaning result ≡ (standing self).work };
+        ensures { Self.Artifacts.meaning result ≡ (standing self).artifacts };
 }

@@ -38,7 +38,7 @@ impl<A: PartitionArtifacts + Send> PartitionTask for Task<A> {
       row = t.row;
       rules = t.rules;
       item_count = t.item_count;
-      work = A.Meaning.meaning t.artifacts;
+      artifacts = A.Meaning.meaning t.artifacts;
     } };
 
     fn fits(artifacts: &A, row: &Row) -> bool {
@@ -193,7 +193,7 @@ fn unfinished<A: PartitionArtifacts>(
     ensures row { result.task.row ≡ row }
     ensures rules { result.task.rules ≡ rules }
     ensures item_count { result.task.item_count ≡ item_count }
-    ensures work { A.meaning result.task.artifacts ≡ at_checkpoint row (A.meaning artifacts) }
+    ensures artifacts { A.meaning result.task.artifacts ≡ at_checkpoint row (A.meaning artifacts) }
 {
     let mut artifacts = artifacts;
     open_at_checkpoint(&mut artifacts, &row);

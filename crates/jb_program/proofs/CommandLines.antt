@@ -17,7 +17,7 @@ use Rattle.clap.specs.declared.error.kind.ErrorKind.TheVariants.{OutOfMemory}
 use Rattle.jb_program.specs.declared.words.request.Request.{Request}
 use Rattle.jb_program.specs.declared.words.request.Request.TheVariants.{Help, Version, Perform}
 use Rattle.jb_program.specs.declared.words.request.Word.{Word}
-use Rattle.jb_program.specs.CommandLine.{AreTakenAs, AreUnknown, Asks, CanBeCompleted, CannotGoOn, IsWrongWord, app, line_in, request_in, rounds_of_word, topic_in, work_in, word_in}
+use Rattle.jb_program.specs.CommandLine.{AreTakenAs, AreUnknown, Asks, CanBeCompleted, CannotGoOn, IsWrongWord, app, line_in, request_in, rounds_of_word, topic_in, perform_in, word_in}
 
 -- what the program may be asked is simple, and no argument of it has a rule on another
 pub is_free : is_simple_and_free app ≡ true
@@ -52,9 +52,9 @@ pub help-asks : (name : Text) (rows : List Row) → name ≡ codes "help" → re
 help-asks name rows is = rw is refl
 
 -- another word asks for what it says with its number of rounds
-pub word-asks : (name : Text) (rows : List Row) → name ≢ codes "help" → request_in (Some (name, rows)) ≡ work_in name (first_of (codes "rounds") rows)
+pub word-asks : (name : Text) (rows : List Row) → name ≢ codes "help" → request_in (Some (name, rows)) ≡ perform_in name (first_of (codes "rounds") rows)
 word-asks name rows other =
-    ap (λ b. if b then topic_in (first_of (codes "word") rows) else work_in name (first_of (codes "rounds") rows)) (not-same (bytes_eq name (codes "help")) (bytes_eq-Decides name (codes "help")))
+    ap (λ b. if b then topic_in (first_of (codes "word") rows) else perform_in name (first_of (codes "rounds") rows)) (not-same (bytes_eq name (codes "help")) (bytes_eq-Decides name (codes "help")))
   where
     not-same : (b : Bool) → Decides b (name ≡ codes "help") → b ≡ false
     not-same true decides = absurd (other (decides.0 refl))
@@ -74,17 +74,17 @@ line_is_no_version : (word : Word) (given : Option Text) → line_in word given 
 line_is_no_version word None e = cc
 line_is_no_version word (Some text) e = limit_is_no_version word (rounds_of_word text) e
 
-work_is_no_version : (given : Option Text) (o : Option Word) → option_and_then (λ word. line_in word given) o ≡ Some Version → ⊥
-work_is_no_version given None e = cc
-work_is_no_version given (Some word) e = line_is_no_version word given e
+perform_is_no_version : (given : Option Text) (o : Option Word) → option_and_then (λ word. line_in word given) o ≡ Some Version → ⊥
+perform_is_no_version given None e = cc
+perform_is_no_version given (Some word) e = line_is_no_version word given e
 
 topic_is_no_version : (o : Option Text) → topic_in o ≡ Some Version → ⊥
 topic_is_no_version None e = cc
 topic_is_no_version (Some name) e = help_is_no_version (word_in name) e
 
-either_is_no_version : (b : Bool) (name : Text) (rows : List Row) → (if b then topic_in (first_of (codes "word") rows) else work_in name (first_of (codes "rounds") rows)) ≡ Some Version → ⊥
+either_is_no_version : (b : Bool) (name : Text) (rows : List Row) → (if b then topic_in (first_of (codes "word") rows) else perform_in name (first_of (codes "rounds") rows)) ≡ Some Version → ⊥
 either_is_no_version true name rows e = topic_is_no_version (first_of (codes "word") rows) e
-either_is_no_version false name rows e = work_is_no_version (first_of (codes "rounds") rows) (word_in name) e
+either_is_no_version false name rows e = perform_is_no_version (first_of (codes "rounds") rows) (word_in name) e
 
 request_is_no_version : (found : Option (Text × List Row)) → request_in found ≡ Some Version → ⊥
 request_is_no_version None e = cc

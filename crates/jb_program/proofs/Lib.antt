@@ -18,5 +18,5 @@ pub mod Steps
 pub mod Told
 pub mod Unfinished
 pub mod Usage
-pub mod Works
+pub mod Artifacts
 pub mod WorkedLines

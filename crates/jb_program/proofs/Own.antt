@@ -10,8 +10,8 @@ use Rattle.jb_artifacts.specs.contracts.count_collector.CountCollectorCollector.
 use Rattle.jb_program.specs.declared.run.shared_reader.SharedReader.{SharedReader}
 use Rattle.jb_program.specs.contracts.run.shared_reader.SharedReaderItemReader.TheImpl as reader_of
 
-abbrev pub own_work : PackedArtifacts SharedReader PrefixProcessor ListWriter CountCollector → ArtifactsMeaning
-own_work own = record {
+abbrev pub own_artifacts : PackedArtifacts SharedReader PrefixProcessor ListWriter CountCollector → ArtifactsMeaning
+own_artifacts own = record {
   reader = (reader_of.ghosts).reader own.inner.reader;
   processor = (processor_of.ghosts).processor own.inner.processor;
   writer = (writer_of.ghosts).writer own.inner.writer;

@@ -20,7 +20,7 @@ use Rattle.jb_texts.specs.Report.{PartitionReport}
 use Rattle.jb_program.specs.declared.run.settings.StepSettings.{StepSettings}
 use Rattle.jb_program.specs.JobRun.{settings_of}
 use Rattle.jb_program.specs.inside.Below.{LawsOfTheCratesBelow}
-use Rattle.jb_program.specs.PartitionRun.{ArePartitionRuns, IsPartitionRun, begun_with, held_by, report_of, work_for}
+use Rattle.jb_program.specs.PartitionRun.{ArePartitionRuns, IsPartitionRun, begun_with, held_by, report_of, opening_artifacts_for}
 use Rattle.jb_program.specs.StepRun.{committed_of, outputs_in, partitions_left}
 use Rattle.jb_program.proofs.Opening.{AreOpening, IsOpening}
 use Rattle.jb_program.proofs.Partitions.{same-report}
@@ -83,7 +83,7 @@ reports_from outputs table left k rows = map (report_at outputs table left) (enu
 
 -- the first tasks, where these partitions are to be run
 abbrev tasks_of : StepRecord → StepData → (outputs : List (List (List ℕ))) → List (ℕ × Row) → List TaskState
-tasks_of step supply outputs ns = map (λ n. started n.0.0 n.0.1 step.rules step.item_count n.1) (zip ns (map (work_for (settings_of step supply) supply.records outputs) ns))
+tasks_of step supply outputs ns = map (λ n. started n.0.0 n.0.1 step.rules step.item_count n.1) (zip ns (map (opening_artifacts_for (settings_of step supply) supply.records outputs) ns))
 
 -- a partition that is not among these has its first row, and no writer came back from it
 abbrev IsAbove : ℕ → List TaskState → Type 0
@@ -109,7 +109,7 @@ other-found k [] above = refl
 other-found k (t ∷ ends) above =
     let here = above.0 in
     let differs : (t.partition == k) ≡ false = grind (arith, nat_tests, here) in
-    none-found (t.partition == k) (t.partition, t.work) (find (λ one. one.0 == k) (artifacts_of ends)) differs (other-found k ends above.1)
+    none-found (t.partition == k) (t.partition, t.artifacts) (find (λ one. one.0 == k) (artifacts_of ends)) differs (other-found k ends above.1)
 
 -- what is left of a partition doesn't count for the ones behind it
 rest-from : (outputs : List (List (List ℕ))) (t : TaskState) (ends : List TaskState) (k : ℕ) (rows : List Row) → t.partition < k
@@ -120,7 +120,7 @@ rest-from outputs t ends k (row ∷ rows) before =
     let found : (t.partition == k) ≡ false = now in
     let same : row_now (t ∷ ends) k row ≡ row_now ends k row = ap (λ b. cond b t.row (row_now ends k row)) now in
     let left = artifacts_of ends in
-    let other : find (λ one. one.0 == k) (artifacts_of (t ∷ ends)) ≡ find (λ one. one.0 == k) left = ap (λ b. cond b (Some (t.partition, t.work)) (find (λ one. one.0 == k) left)) found in
+    let other : find (λ one. one.0 == k) (artifacts_of (t ∷ ends)) ≡ find (λ one. one.0 == k) left = ap (λ b. cond b (Some (t.partition, t.artifacts)) (find (λ one. one.0 == k) left)) found in
     ap₂ ◌∷◌
     (λ i. record { row = same i; outputs = outputs_in (committed_of outputs (k, same i)) (other i) })
     (rest-from outputs t ends (k + 1) rows (omega (arith, before)))
@@ -171,7 +171,7 @@ one-more below step supply outputs k row rows kept opens rest (t ∷ ends) way =
     let left = artifacts_of ends in
     let is : report_of t ≡ report_at outputs (t ∷ ends) (artifacts_of (t ∷ ends)) (k, row) = λ i. record {
       row = ap (λ b. cond b t.row (row_now ends k row)) (sym yes) i;
-      outputs = ap (λ b. outputs_in (committed_of outputs (k, row_now (t ∷ ends) k row)) (cond b (Some (t.partition, t.work)) (find (λ one. one.0 == k) left))) (sym found) i;
+      outputs = ap (λ b. outputs_in (committed_of outputs (k, row_now (t ∷ ends) k row)) (cond b (Some (t.partition, t.artifacts)) (find (λ one. one.0 == k) left))) (sym found) i;
     } in (
       subst (λ (one : PartitionReport). IsPartitionRun begun one) is (leaves below settings supply.records outputs k row t kept opens way.0),
       subst (λ (others : List PartitionReport). ArePartitionRuns (begun_with settings supply.records outputs) (k + 1) rows others) (sym (rest-from outputs t ends (k + 1) rows before)) (rest ends way.1),

@@ -14,9 +14,9 @@ use Rattle.jb_program.proofs.Callbacks.{well-faults}
 
 -- the run that was handed this, and answered that
 abbrev pub run_with : Setup → List ArtifactsMeaning → Option ℕ → (before after : List (Taken AnalyzerCall)) → List PlanNote → Snapshot → List (ℕ × ArtifactsMeaning) → StepRun
-run_with setup works round_limit before after notes snapshot left = record {
+run_with setup artifacts round_limit before after notes snapshot left = record {
   setup = setup;
-  works = works;
+  artifacts = artifacts;
   round_limit = round_limit;
   heard_before = before;
   heard_after = after;

@@ -28,14 +28,14 @@ use Rattle.jb_program.specs.declared.run.settings.StepSettings.{StepSettings}
 use Rattle.jb_program.specs.declared.streams.failure.Failure.{Failure}
 use Rattle.jb_program.specs.declared.streams.failure.Failure.TheVariants as failure
 use Rattle.jb_program.specs.inside.Below.{LawsOfTheCratesBelow}
-use Rattle.jb_program.specs.JobRun.{IsStepRefused, IsStepRun, kept_of, plan_for, plan_of_step, settings_of, setup_of, works_of}
+use Rattle.jb_program.specs.JobRun.{IsStepRefused, IsStepRun, kept_of, plan_for, plan_of_step, settings_of, setup_of, opening_artifacts_of}
 use Rattle.jb_program.specs.Refusals.{IsBreakOff}
-use Rattle.jb_program.specs.StepRun.{AreHeld, IsNotBegun, gone_on_from, outputs_of, partitions_left, rows_saved, setup_with, works_for}
+use Rattle.jb_program.specs.StepRun.{AreHeld, IsNotBegun, gone_on_from, outputs_of, partitions_left, rows_saved, setup_with, all_opening_artifacts}
 use Rattle.jb_program.proofs.Callbacks.{well-calls}
 use Rattle.jb_program.proofs.Opening.{AreOpening, IsPreparedWith, opening, within-rows}
 use Rattle.jb_program.proofs.PartitionRuns.{AreKept, partition-runs}
 use Rattle.jb_program.proofs.Rounds.{run_with}
-use Rattle.jb_program.proofs.Unfinished.{works-fit}
+use Rattle.jb_program.proofs.Unfinished.{artifacts-fit}
 
 -- ---- what a step begins with
 
@@ -72,10 +72,10 @@ pub within-prepared : (step : StepRecord) (resume : Option Resume) (count : ℕ)
 within-prepared step resume count prepared records outputs given = within-rows (length records) outputs 0 prepared.rows (opens step resume count prepared records outputs given)
 
 -- the artifacts serve the rows
-pub works-serve : (step : StepRecord) (resume : Option Resume) (count : ℕ) (prepared : Setup) (records : List (List ℕ)) (outputs : List (List (List ℕ))) (settings : StepSettings) (works : List ArtifactsMeaning)
-    → AreGiven step resume count prepared records outputs → works ≡ works_for settings records outputs prepared.rows → DoFit prepared works
-works-serve step resume count prepared records outputs settings works given are =
-    subst (λ ws. DoFit prepared ws) (sym are) (works-fit settings records outputs 0 prepared.rows (opens step resume count prepared records outputs given))
+pub artifacts-serve : (step : StepRecord) (resume : Option Resume) (count : ℕ) (prepared : Setup) (records : List (List ℕ)) (outputs : List (List (List ℕ))) (settings : StepSettings) (artifacts : List ArtifactsMeaning)
+    → AreGiven step resume count prepared records outputs → artifacts ≡ all_opening_artifacts settings records outputs prepared.rows → DoFit prepared artifacts
+artifacts-serve step resume count prepared records outputs settings artifacts given are =
+    subst (λ ws. DoFit prepared ws) (sym are) (artifacts-fit settings records outputs 0 prepared.rows (opens step resume count prepared records outputs given))
 
 -- ---- its rows
 
@@ -95,34 +95,34 @@ few-rows prepared table rows setup are =
 
 -- the report that is written has the partitions, plans, calls and status of a run
 pub step-run : LawsOfTheCratesBelow → (step : StepRecord) (supply : StepData) (round_limit : Option ℕ) (resume : Option Resume) (count : ℕ) (prepared : Setup) (records : List (List ℕ)) (outputs : List (List (List ℕ))) (settings : StepSettings)
-    (works : List ArtifactsMeaning) (snapshot : Snapshot) (left : List (ℕ × ArtifactsMeaning)) (id : List ℕ) (status : Status) (plans : List PlanNote) (heard silent listened : List AnalyzerCall) (reducer begun recorded : List ReducerCall)
-    → AreGiven step resume count prepared records outputs → records ≡ supply.records → settings ≡ settings_of step supply → AreKept settings → works ≡ works_for settings records outputs prepared.rows
-    → silent ≡ [] → IsRunOfStep (run_with prepared works round_limit (map well silent) (map well listened) plans snapshot left)
-    → Headline (run_with prepared works round_limit (map well silent) (map well listened) plans snapshot left) → AreLeftOnTheWay (first_tasks prepared works) snapshot.rows.items left
+    (artifacts : List ArtifactsMeaning) (snapshot : Snapshot) (left : List (ℕ × ArtifactsMeaning)) (id : List ℕ) (status : Status) (plans : List PlanNote) (heard silent listened : List AnalyzerCall) (reducer begun recorded : List ReducerCall)
+    → AreGiven step resume count prepared records outputs → records ≡ supply.records → settings ≡ settings_of step supply → AreKept settings → artifacts ≡ all_opening_artifacts settings records outputs prepared.rows
+    → silent ≡ [] → IsRunOfStep (run_with prepared artifacts round_limit (map well silent) (map well listened) plans snapshot left)
+    → Headline (run_with prepared artifacts round_limit (map well silent) (map well listened) plans snapshot left) → AreLeftOnTheWay (first_tasks prepared artifacts) snapshot.rows.items left
     → status ≡ status_of snapshot.rows.items false → begun ≡ calls_before (discards step.spec.replace (rows_saved resume)) → recorded ≡ begun ++ calls_after (status_of snapshot.rows.items false) false
     → id ≡ step.id → heard ≡ calls_of (map well listened) → reducer ≡ calls_of (map well recorded)
     → IsStepRun step supply round_limit resume (record { id = id; status = status; partitions = partitions_left outputs snapshot.rows.items left; heard = heard; plans = plans; reducer = reducer })
-step-run below step supply round_limit resume count prepared records outputs settings works snapshot left id status plans heard silent listened reducer begun recorded given records-are settings-are kept are quiet run headline way stands begins calls id-is heard-is reducer-is =
+step-run below step supply round_limit resume count prepared records outputs settings artifacts snapshot left id status plans heard silent listened reducer begun recorded given records-are settings-are kept are quiet run headline way stands begins calls id-is heard-is reducer-is =
     let s = setup_of step supply resume in
     let theirs = outputs_of (kept_of step resume) in
     let all : count ≡ length supply.records = given.counted ∙ ap length records-are in
     let prepares : IsPreparedWith step (length supply.records) (plan_of_step step supply) resume prepared = subst (λ n. IsPreparedWith step n (plan_for step.spec n) resume prepared) all given.prepares in
     let setup : prepared ≡ s = prepares.is in
-    let works-are : works ≡ works_of step supply resume = are ∙ (λ i. works_for (settings-are i) (records-are i) (given.outputs_are i) (setup i).rows) in
-    let on : AreLeftOnTheWay (first_tasks s (works_of step supply resume)) snapshot.rows.items left =
-    subst (λ (ts : List TaskState). AreLeftOnTheWay ts snapshot.rows.items left) (λ i. first_tasks (setup i) (works-are i)) way in
+    let artifacts-are : artifacts ≡ opening_artifacts_of step supply resume = are ∙ (λ i. all_opening_artifacts (settings-are i) (records-are i) (given.outputs_are i) (setup i).rows) in
+    let on : AreLeftOnTheWay (first_tasks s (opening_artifacts_of step supply resume)) snapshot.rows.items left =
+    subst (λ (ts : List TaskState). AreLeftOnTheWay ts snapshot.rows.items left) (λ i. first_tasks (setup i) (artifacts-are i)) way in
     let keeps : AreKept (settings_of step supply) = subst (λ (t : StepSettings). AreKept t) settings-are kept in
     let stand : AreOpening (length supply.records) theirs 0 s.rows = subst (λ (t : Setup). AreOpening (length supply.records) theirs 0 t.rows) setup (opening step (length supply.records) (plan_of_step step supply) resume prepared prepares) in
     let heard-all : heard ≡ listened = heard-is ∙ well-calls listened in
-    let same-run : run_with prepared works round_limit (map well silent) (map well listened) plans snapshot left ≡ run_with s (works_of step supply resume) round_limit [] (map well heard) plans snapshot left =
-    λ i. run_with (setup i) (works-are i) round_limit (map well (quiet i)) (map well (sym heard-all i)) plans snapshot left in
-    let led : Headline (run_with s (works_of step supply resume) round_limit [] (map well heard) plans snapshot left) = subst Headline same-run headline in
+    let same-run : run_with prepared artifacts round_limit (map well silent) (map well listened) plans snapshot left ≡ run_with s (opening_artifacts_of step supply resume) round_limit [] (map well heard) plans snapshot left =
+    λ i. run_with (setup i) (artifacts-are i) round_limit (map well (quiet i)) (map well (sym heard-all i)) plans snapshot left in
+    let led : Headline (run_with s (opening_artifacts_of step supply resume) round_limit [] (map well heard) plans snapshot left) = subst Headline same-run headline in
     let whole : partitions_left theirs snapshot.rows.items left ≡ partitions_left outputs snapshot.rows.items left = ap (λ (os : List (List (List ℕ))). partitions_left os snapshot.rows.items left) (sym given.outputs_are) in
     record {
       runnable = prepares.runnable;
       accepted = prepares.accepted;
       id = id-is;
-      partitions = rw (← whole) (partition-runs below step supply theirs s snapshot.rows.items left (tasks_left (first_tasks s (works_of step supply resume)) snapshot.rows.items left) keeps stand on led.rows led.came_back);
+      partitions = rw (← whole) (partition-runs below step supply theirs s snapshot.rows.items left (tasks_left (first_tasks s (opening_artifacts_of step supply resume)) snapshot.rows.items left) keeps stand on led.rows led.came_back);
       told = record {
         snapshot = snapshot;
         left = left;

@@ -110,7 +110,7 @@ find-mapped held [] p = refl
 find-mapped held (a ∷ all) p =
     found-by (a.0 == p) a held (find (λ one. one.0 == p) all) (find (λ one. one.0 == p) (map (paired held) all)) (find-mapped held all p)
 
-by-writer : (before : Texts) (found : Option (ℕ × ArtifactsMeaning)) → outputs_by before (option_map (paired (λ (work : ArtifactsMeaning). work.writer.written)) found) ≡ outputs_in before found
+by-writer : (before : Texts) (found : Option (ℕ × ArtifactsMeaning)) → outputs_by before (option_map (paired (λ (artifacts : ArtifactsMeaning). artifacts.writer.written)) found) ≡ outputs_in before found
 by-writer before None = refl
 by-writer before (Some left) = refl
 
@@ -123,7 +123,7 @@ outputs_at outputs left n = tokens_of (results_tree (outputs_in (committed_of ou
 -- they are those of the writers
 written-left : (outputs : List (List (List ℕ))) (left : List (ℕ × ArtifactsMeaning)) (n : ℕ × Row) → written_at outputs (lists_left left) n ≡ outputs_at outputs left n
 written-left outputs left n = ap (λ outs. tokens_of (results_tree outs))
-    (sym (ap (outputs_by (committed_of outputs n)) (find-mapped (λ (work : ArtifactsMeaning). work.writer.written) left n.0)) ∙ by-writer (committed_of outputs n) (find (λ one. one.0 == n.0) left))
+    (sym (ap (outputs_by (committed_of outputs n)) (find-mapped (λ (artifacts : ArtifactsMeaning). artifacts.writer.written) left n.0)) ∙ by-writer (committed_of outputs n) (find (λ one. one.0 == n.0) left))
 
 -- of all partitions
 pub all-written : (outputs : List (List (List ℕ))) (left : List (ℕ × ArtifactsMeaning)) (lists : List (ℕ × Texts)) (rows : List Row) → lists ≡ lists_left left

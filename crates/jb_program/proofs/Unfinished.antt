@@ -8,7 +8,7 @@ use Rattle.jb_rules.specs.declared.row.Row.{Row}
 use Rattle.jb_artifacts.specs.Meaning.{Fits, ArtifactsMeaning}
 use Rattle.jb_step.specs.preparing.Prepare.{FitRows}
 use Rattle.jb_program.specs.declared.run.settings.StepSettings.{StepSettings}
-use Rattle.jb_program.specs.PartitionRun.{work_for}
+use Rattle.jb_program.specs.PartitionRun.{opening_artifacts_for}
 use Rattle.jb_program.proofs.Opening.{AreOpening, IsOpening, counted}
 
 abbrev pub is_open : ℕ × Row → Bool
@@ -34,7 +34,7 @@ open-above j k [] below = tt
 open-above j k (row ∷ rows) below = above-one (is_open (k, row)) j (k, row) (open_from (k + 1) rows) below (open-above j (k + 1) rows (omega (arith, below)))
 
 -- what a partition works with serves its row
-pub fits-row : (settings : StepSettings) (records : List (List ℕ)) (outputs : List (List (List ℕ))) (k : ℕ) (row : Row) → IsOpening (length records) outputs k row → Fits (work_for settings records outputs (k, row)) row
+pub fits-row : (settings : StepSettings) (records : List (List ℕ)) (outputs : List (List (List ℕ))) (k : ℕ) (row : Row) → IsOpening (length records) outputs k row → Fits (opening_artifacts_for settings records outputs (k, row)) row
 fits-row settings records outputs k row is =
     let order = is.within.0 in
     let long = counted records (range_of row) is.within in
@@ -44,13 +44,13 @@ fits-row settings records outputs k row is =
       count = is.served;
     }
 
-fits-one : (b : Bool) (work : ℕ × Row → ArtifactsMeaning) (n : ℕ × Row) (ns : List (ℕ × Row)) → Fits (work n) n.1 → FitRows ns (map work ns) → FitRows (cond b (n ∷ ns) ns) (map work (cond b (n ∷ ns) ns))
-fits-one true work n ns here rest = (here, rest)
-fits-one false work n ns here rest = rest
+fits-one : (b : Bool) (artifacts : ℕ × Row → ArtifactsMeaning) (n : ℕ × Row) (ns : List (ℕ × Row)) → Fits (artifacts n) n.1 → FitRows ns (map artifacts ns) → FitRows (cond b (n ∷ ns) ns) (map artifacts (cond b (n ∷ ns) ns))
+fits-one true artifacts n ns here rest = (here, rest)
+fits-one false artifacts n ns here rest = rest
 
-pub works-fit : (settings : StepSettings) (records : List (List ℕ)) (outputs : List (List (List ℕ))) (k : ℕ) (rows : List Row) → AreOpening (length records) outputs k rows
-    → FitRows (open_from k rows) (map (work_for settings records outputs) (open_from k rows))
-works-fit settings records outputs k [] are = tt
-works-fit settings records outputs k (row ∷ rows) are =
-    fits-one (is_open (k, row)) (work_for settings records outputs) (k, row) (open_from (k + 1) rows)
-    (fits-row settings records outputs k row are.0) (works-fit settings records outputs (k + 1) rows are.1)
+pub artifacts-fit : (settings : StepSettings) (records : List (List ℕ)) (outputs : List (List (List ℕ))) (k : ℕ) (rows : List Row) → AreOpening (length records) outputs k rows
+    → FitRows (open_from k rows) (map (opening_artifacts_for settings records outputs) (open_from k rows))
+artifacts-fit settings records outputs k [] are = tt
+artifacts-fit settings records outputs k (row ∷ rows) are =
+    fits-one (is_open (k, row)) (opening_artifacts_for settings records outputs) (k, row) (open_from (k + 1) rows)
+    (fits-row settings records outputs k row are.0) (artifacts-fit settings records outputs (k + 1) rows are.1)

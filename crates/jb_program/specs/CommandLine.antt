@@ -67,8 +67,8 @@ line_in word None = Some (Perform (record { word = word; rounds = None }))
 line_in word (Some text) = option_map (λ n. Perform (record { word = word; rounds = Some n })) (rounds_of_word text)
 
 -- a word's name, and the number of rounds that is given
-abbrev pub work_in : Text → (given : Option Text) → Option Request
-work_in name given = option_and_then (λ word. line_in word given) (word_in name)
+abbrev pub perform_in : Text → (given : Option Text) → Option Request
+perform_in name given = option_and_then (λ word. line_in word given) (word_in name)
 
 -- `help` alone tells of the program, and with a word of that word
 abbrev pub topic_in : Option Text → Option Request
@@ -79,7 +79,7 @@ topic_in (Some name) = option_map (λ word. Help (Some word)) (word_in name)
 abbrev pub request_in : Option (Text × List Row) → Option Request
 request_in None = None
 request_in (Some found) = if bytes_eq found.0 (codes "help") then topic_in (first_of (codes "word") found.1)
-    else work_in found.0 (first_of (codes "rounds") found.1)
+    else perform_in found.0 (first_of (codes "rounds") found.1)
 
 -- `clap` takes the words, and its matches of them ask for this
 abbrev pub AreTakenAs : List Text → Option Request → Type 0

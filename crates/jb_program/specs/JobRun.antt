@@ -19,7 +19,7 @@ use Rattle.jb_texts.specs.Report.{Report, StepReport}
 use Rattle.jb_program.specs.declared.run.settings.StepSettings.{StepSettings}
 use Rattle.jb_program.specs.declared.streams.failure.Failure.{Failure}
 use Rattle.jb_program.specs.PartitionRun.{ArePartitionRuns, begun_with}
-use Rattle.jb_program.specs.StepRun.{IsNotBegun, IsToldOf, gone_on_from, outputs_of, rows_saved, setup_with, works_for}
+use Rattle.jb_program.specs.StepRun.{IsNotBegun, IsToldOf, gone_on_from, outputs_of, rows_saved, setup_with, all_opening_artifacts}
 
 -- ---- a step
 
@@ -49,8 +49,8 @@ abbrev pub setup_of : StepRecord → StepData → Option Resume → Setup
 setup_of step supply resume = setup_with step (plan_of_step step supply) (rows_saved (kept_of step resume))
 
 -- what the partitions work with that aren't finished
-abbrev pub works_of : StepRecord → StepData → Option Resume → List ArtifactsMeaning
-works_of step supply resume = works_for (settings_of step supply) supply.records (outputs_of (kept_of step resume)) (setup_of step supply resume).rows
+abbrev pub opening_artifacts_of : StepRecord → StepData → Option Resume → List ArtifactsMeaning
+opening_artifacts_of step supply resume = all_opening_artifacts (settings_of step supply) supply.records (outputs_of (kept_of step resume)) (setup_of step supply resume).rows
 
 -- The step's plan can be run, nothing is wrong with the rows that it goes on from or discards, and its report tells of a run of it: each
 -- partition left what it leaves by itself, and the plans, what was heard, the reducer's calls and the status are the run's.
@@ -59,7 +59,7 @@ pub record IsStepRun (step : StepRecord) (supply : StepData) (round_limit : Opti
   pub accepted : saved_faults step (length supply.records) step.spec.replace (rows_saved resume) ≡ []
   pub id : report.id ≡ step.id
   pub partitions : ArePartitionRuns (begun_with (settings_of step supply) supply.records (outputs_of (kept_of step resume))) 0 (setup_of step supply resume).rows report.partitions
-  pub told : IsToldOf (discards step.spec.replace (rows_saved resume)) (setup_of step supply resume) (works_of step supply resume) (outputs_of (kept_of step resume)) round_limit report
+  pub told : IsToldOf (discards step.spec.replace (rows_saved resume)) (setup_of step supply resume) (opening_artifacts_of step supply resume) (outputs_of (kept_of step resume)) round_limit report
 
 -- The step is refused: its plan, or else what it would go on from, for the first fault.
 abbrev pub IsStepRefused : StepRecord → StepData → Option Resume → Failure → Type 0

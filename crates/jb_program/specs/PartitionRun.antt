@@ -51,8 +51,8 @@ plans_in faults range = fault_plans (filter (is_of_range range) faults)
 
 -- what a partition works with before it begins: its records, the prefix, the results that its writer holds, and the counts
 -- as texts
-abbrev pub workplace_of : StepSettings → (records held : List (List ℕ)) → Range → ArtifactsMeaning
-workplace_of step records held range = record {
+abbrev pub opening_artifacts : StepSettings → (records held : List (List ℕ)) → Range → ArtifactsMeaning
+opening_artifacts step records held range = record {
   reader = record { first = range.lo; records = records; place = range.lo; faults = plans_in step.faults.read range };
   processor = record { answer = λ _ item. prefixed step.prefix step.drop item; faults = plans_in step.faults.process range };
   writer = record { written = held; faults = plans_in step.faults.write range };
@@ -64,19 +64,19 @@ abbrev pub held_by : (outputs : List (List (List ℕ))) → (partition : ℕ) �
 held_by outputs partition = slice_index_or outputs partition []
 
 -- what a partition with this row works with: it has the records of its own range
-abbrev pub work_for : StepSettings → (records : List (List ℕ)) → (outputs : List (List (List ℕ))) → ℕ × Row → ArtifactsMeaning
-work_for step records outputs n = workplace_of step (records_in records (range_of n.1)) (held_by outputs n.0) (range_of n.1)
+abbrev pub opening_artifacts_for : StepSettings → (records : List (List ℕ)) → (outputs : List (List (List ℕ))) → ℕ × Row → ArtifactsMeaning
+opening_artifacts_for step records outputs n = opening_artifacts step (records_in records (range_of n.1)) (held_by outputs n.0) (range_of n.1)
 
 -- The task of a partition that begins with this row, or goes on from it: what its writer holds past the results that were
 -- committed is cut off.
 abbrev pub begun_with : StepSettings → (records : List (List ℕ)) → (outputs : List (List (List ℕ))) → (partition : ℕ) → Row → TaskState
-begun_with step records outputs partition row = started partition row step.rules step.item_count (work_for step records outputs (partition, row))
+begun_with step records outputs partition row = started partition row step.rules step.item_count (opening_artifacts_for step records outputs (partition, row))
 
 -- ---- what it leaves
 
 -- a task's row, and the results in its writer as texts
 abbrev pub report_of : TaskState → PartitionReport
-report_of task = record { row = task.row; outputs = map utf8_lossy task.work.writer.written }
+report_of task = record { row = task.row; outputs = map utf8_lossy task.artifacts.writer.written }
 
 -- what is left where no call fails: behind what was committed, the answers on all other records, however they are cut into
 -- chunks
@@ -91,7 +91,7 @@ pub record IsPartitionRun (begun : TaskState) (left : PartitionReport) : Type 0 
   pub is_left : left ≡ report_of task
   pub on_the_way : IsOnTheWay begun task
   pub alone : has_ended left.row.state ≡ true → IsAlone begun task
-  pub plain : has_ended left.row.state ≡ true → IsCalm begun.work begun.row.at begun.row.hi → left ≡ plain_report begun
+  pub plain : has_ended left.row.state ≡ true → IsCalm begun.artifacts begun.row.at begun.row.hi → left ≡ plain_report begun
 
 -- what the partitions of a step leave, in order, from this number on, where this is how each begins with its row
 abbrev pub ArePartitionRuns : (begun : (partition : ℕ) → Row → TaskState) → (partition : ℕ) → List Row → List PartitionReport → Type 0

@@ -23,7 +23,7 @@ use Rattle.jb_texts.specs.Report.{PartitionReport, StepReport}
 use Rattle.jb_program.specs.declared.run.settings.StepSettings.{StepSettings}
 use Rattle.jb_program.specs.declared.streams.failure.Failure.{Failure}
 use Rattle.jb_program.specs.declared.streams.failure.Failure.TheVariants as failure
-use Rattle.jb_program.specs.PartitionRun.{held_by, work_for}
+use Rattle.jb_program.specs.PartitionRun.{held_by, opening_artifacts_for}
 
 -- ---- what it goes on from
 
@@ -66,8 +66,8 @@ IsNotBegun step records plan saved (failure.Saved place) =
 IsNotBegun step records plan saved _ = ⊥
 
 -- what the partitions work with that aren't finished
-abbrev pub works_for : StepSettings → (records : List (List ℕ)) → (outputs : List (List (List ℕ))) → List Row → List ArtifactsMeaning
-works_for settings records outputs rows = map (work_for settings records outputs) (unfinished rows)
+abbrev pub all_opening_artifacts : StepSettings → (records : List (List ℕ)) → (outputs : List (List (List ℕ))) → List Row → List ArtifactsMeaning
+all_opening_artifacts settings records outputs rows = map (opening_artifacts_for settings records outputs) (unfinished rows)
 
 -- ---- what its report tells
 
@@ -87,9 +87,9 @@ partitions_left outputs rows left =
 
 -- the run of which the report tells, with what else it left
 abbrev pub run_told : Setup → List ArtifactsMeaning → (round_limit : Option ℕ) → StepReport → Snapshot → (left : List (ℕ × ArtifactsMeaning)) → StepRun
-run_told s works round_limit report snapshot left = record {
+run_told s artifacts round_limit report snapshot left = record {
   setup = s;
-  works = works;
+  artifacts = artifacts;
   round_limit = round_limit;
   heard_before = [];
   heard_after = map well report.heard;
@@ -102,11 +102,11 @@ run_told s works round_limit report snapshot left = record {
 -- its analyzer heard, and all calls of its reducer, the rollback of an earlier run's results among them where these are
 -- discarded. Each call of the two was answered well. Of the run the headline holds: each plan in the report has exactly the
 -- chunks not yet committed then, in the fewest rounds of all lawful plans, with its certificate.
-pub record IsToldOf (discards : Bool) (s : Setup) (works : List ArtifactsMeaning) (outputs : List (List (List ℕ))) (round_limit : Option ℕ) (report : StepReport) : Type 0 where
+pub record IsToldOf (discards : Bool) (s : Setup) (artifacts : List ArtifactsMeaning) (outputs : List (List (List ℕ))) (round_limit : Option ℕ) (report : StepReport) : Type 0 where
   pub snapshot : Snapshot
   pub left : List (ℕ × ArtifactsMeaning)
-  pub run : IsRunOfStep (run_told s works round_limit report snapshot left)
-  pub headline : Headline (run_told s works round_limit report snapshot left)
+  pub run : IsRunOfStep (run_told s artifacts round_limit report snapshot left)
+  pub headline : Headline (run_told s artifacts round_limit report snapshot left)
   pub partitions : report.partitions ≡ partitions_left outputs snapshot.rows.items left
   pub status : report.status ≡ status_of snapshot.rows.items false
   pub reducer : report.reducer ≡ reducer_calls true discards (status_of snapshot.rows.items false) false

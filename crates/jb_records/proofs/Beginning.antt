@@ -18,10 +18,10 @@ use Rattle.jb_saved.specs.SavedRows.{SavedRows}
 use Rattle.jb_step.specs.preparing.Setup.{IsSetup, Setup, needs, unfinished}
 use Rattle.jb_records.specs.Function.{Function}
 use Rattle.jb_records.specs.Shares.{AreNumbered, AreAtTheirEnds, IsSoFar, newer_share, newer_shares}
-use Rattle.jb_records.specs.Steps.{AreFirstWorks, AreWorks}
-use Rattle.jb_records.specs.Stretches.{RunState, StandsOver, numbers_in, works_in}
+use Rattle.jb_records.specs.Steps.{AreFirstArtifacts, AreArtifacts}
+use Rattle.jb_records.specs.Stretches.{RunState, StandsOver, numbers_in, artifacts_in}
 use Rattle.jb_records.specs.inside.Kept.{IsKept}
-use Rattle.jb_records.proofs.Begun.{works-at-first}
+use Rattle.jb_records.proofs.Begun.{artifacts-at-first}
 use Rattle.jb_records.proofs.Keeping.{finished-again}
 use Rattle.jb_records.proofs.Resuming.{same-held, so-far-again}
 use Rattle.jb_records.proofs.Steps.{left-of}
@@ -44,11 +44,11 @@ zip-names [] (w ∷ ws) long = let none : ⊥ = cc in absurd none
 zip-names (n ∷ ns) [] long = let none : ⊥ = cc in absurd none
 zip-names (n ∷ ns) (w ∷ ws) long = ap (λ (ms : List ℕ). n ∷ ms) (zip-names ns ws (omega (arith, long)))
 
-zip-works : (ns : List ℕ) (ws : List ArtifactsMeaning) → length ws ≡ length ns → works_in (zip ns ws) ≡ ws
-zip-works [] [] long = refl
-zip-works [] (w ∷ ws) long = let none : ⊥ = cc in absurd none
-zip-works (n ∷ ns) [] long = let none : ⊥ = cc in absurd none
-zip-works (n ∷ ns) (w ∷ ws) long = ap (λ (us : List ArtifactsMeaning). w ∷ us) (zip-works ns ws (omega (arith, long)))
+zip-artifacts : (ns : List ℕ) (ws : List ArtifactsMeaning) → length ws ≡ length ns → artifacts_in (zip ns ws) ≡ ws
+zip-artifacts [] [] long = refl
+zip-artifacts [] (w ∷ ws) long = let none : ⊥ = cc in absurd none
+zip-artifacts (n ∷ ns) [] long = let none : ⊥ = cc in absurd none
+zip-artifacts (n ∷ ns) (w ∷ ws) long = ap (λ (us : List ArtifactsMeaning). w ∷ us) (zip-artifacts ns ws (omega (arith, long)))
 
 same-share : (o : Option (List (List ℕ))) (share other : List (List ℕ)) → o ≡ Some share → o ≡ Some other → other ≡ share
 same-share o share other a b = cc
@@ -62,13 +62,13 @@ module _ (f : Function) (rules : RulesRecord) (records : List (List ℕ)) (share
       same-share (slice_get shares p) share written at (subst (λ m. slice_get shares m ≡ Some written) same own)
 
   -- each writer has the share that it began with
-  own-share : (p : ℕ) (share : List (List ℕ)) (ns : List (ℕ × Row)) (ws : List ArtifactsMeaning) → slice_get shares p ≡ Some share → AreWorks f rules records shares ns ws → newer_share (zip (map (λ n. n.0) ns) ws) p share ≡ share
+  own-share : (p : ℕ) (share : List (List ℕ)) (ns : List (ℕ × Row)) (ws : List ArtifactsMeaning) → slice_get shares p ≡ Some share → AreArtifacts f rules records shares ns ws → newer_share (zip (map (λ n. n.0) ns) ws) p share ≡ share
   own-share p share [] [] at are = refl
   own-share p share [] (w ∷ ws) at are = absurd are
   own-share p share (n ∷ ns) [] at are = absurd are
   own-share p share (n ∷ ns) (w ∷ ws) at are = share-by (nat_eq n.0 p) p n share w.writer.written _ refl at are.0.1 (own-share p share ns ws at are.1)
 
-  own-shares : (k : ℕ) (some : List (List (List ℕ))) (ns : List (ℕ × Row)) (ws : List ArtifactsMeaning) → ((i : ℕ) (share : List (List ℕ)) → slice_get some i ≡ Some share → slice_get shares (k + i) ≡ Some share) → AreWorks f rules records shares ns ws
+  own-shares : (k : ℕ) (some : List (List (List ℕ))) (ns : List (ℕ × Row)) (ws : List ArtifactsMeaning) → ((i : ℕ) (share : List (List ℕ)) → slice_get some i ≡ Some share → slice_get shares (k + i) ≡ Some share) → AreArtifacts f rules records shares ns ws
       → map (λ n. newer_share (zip (map (λ n. n.0) ns) ws) n.0 n.1) (enumerate_from k some) ≡ some
   own-shares k [] ns ws at are = refl
   own-shares k (share ∷ some) ns ws at are =
@@ -78,12 +78,12 @@ module _ (f : Function) (rules : RulesRecord) (records : List (List ℕ)) (share
       (own-shares (k + 1) some ns ws (λ i x get. let e : k + suc i ≡ (k + 1) + i = omega arith in subst (λ m. slice_get shares m ≡ Some x) e (at (suc i) x get)) are)
 
 pub kept-first : (f : Function) (rules : RulesRecord) (records : List (List ℕ)) (step : List ℕ) (setup : Setup) (shares : List (List (List ℕ))) (ns : List ℕ) (ws : List ArtifactsMeaning) (s : RunState)
-    → ns ≡ needs setup.rows → s.works ≡ zip ns ws → rules ≡ setup.rules → AreFirstWorks f rules records shares (unfinished setup.rows) ws
-    → s.step ≡ step → s.records ≡ length records → s.setup ≡ setup → s.shares ≡ newer_shares s.works shares → IsKept f records step setup shares s
+    → ns ≡ needs setup.rows → s.artifacts ≡ zip ns ws → rules ≡ setup.rules → AreFirstArtifacts f rules records shares (unfinished setup.rows) ws
+    → s.step ≡ step → s.records ≡ length records → s.setup ≡ setup → s.shares ≡ newer_shares s.artifacts shares → IsKept f records step setup shares s
 kept-first f rules records step setup shares ns ws s named zipped ruled are step-is number setup-is shares-are =
-    let first = subst (λ (r : RulesRecord). AreWorks f r records shares (unfinished setup.rows) ws) ruled (works-at-first f rules records shares (unfinished setup.rows) ws are) in
+    let first = subst (λ (r : RulesRecord). AreArtifacts f r records shares (unfinished setup.rows) ws) ruled (artifacts-at-first f rules records shares (unfinished setup.rows) ws are) in
     let long : length ws ≡ length (needs setup.rows) = as-many _ (unfinished setup.rows) ws first ∙ sym (names-length (unfinished setup.rows)) in
-    let own : s.works ≡ zip (needs setup.rows) ws = zipped ∙ ap (λ (ms : List ℕ). zip ms ws) named in
+    let own : s.artifacts ≡ zip (needs setup.rows) ws = zipped ∙ ap (λ (ms : List ℕ). zip ms ws) named in
     record {
       step_is = step-is;
       number = number;
@@ -92,7 +92,7 @@ kept-first f rules records step setup shares ns ws s named zipped ruled are step
           ∙ ap (λ (l : List (ℕ × ArtifactsMeaning)). newer_shares l shares) own
           ∙ own-shares f setup.rules records shares 0 shares (unfinished setup.rows) ws (λ i x get. let e : i ≡ 0 + i = omega arith in subst (λ m. slice_get shares m ≡ Some x) e get) first;
       partitions = ap numbers_in own ∙ zip-names (needs setup.rows) ws long;
-      works = subst (AreWorks f setup.rules records shares (unfinished setup.rows)) (sym (ap works_in own ∙ zip-works (needs setup.rows) ws long)) first;
+      artifacts = subst (AreArtifacts f setup.rules records shares (unfinished setup.rows)) (sym (ap artifacts_in own ∙ zip-artifacts (needs setup.rows) ws long)) first;
     }
 
 -- ---- WHERE IT STANDS
@@ -103,8 +103,8 @@ kept-stands f records step setup shares s kept is so = record {
   setup = subst IsSetup (sym kept.setup_is) is;
   so_far = subst (IsSoFar f records s.setup.rows) (sym kept.shares_are) (subst (λ (x : Setup). IsSoFar f records x.rows shares) (sym kept.setup_is) so);
   partitions = kept.partitions ∙ sym (ap (λ (x : Setup). needs x.rows) kept.setup_is);
-  works = subst (λ (xs : List (List (List ℕ))). AreWorks f s.setup.rules records xs (unfinished s.setup.rows) (works_in s.works)) (sym kept.shares_are)
-      (subst (λ (x : Setup). AreWorks f x.rules records shares (unfinished x.rows) (works_in s.works)) (sym kept.setup_is) kept.works);
+  artifacts = subst (λ (xs : List (List (List ℕ))). AreArtifacts f s.setup.rules records xs (unfinished s.setup.rows) (artifacts_in s.artifacts)) (sym kept.shares_are)
+      (subst (λ (x : Setup). AreArtifacts f x.rules records shares (unfinished x.rows) (artifacts_in s.artifacts)) (sym kept.setup_is) kept.artifacts);
 }
 
 -- behind the rows of a text

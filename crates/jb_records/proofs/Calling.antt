@@ -22,10 +22,10 @@ use Rattle.jb_records.specs.declared.step.RecordsStep.{RecordsStep}
 use Rattle.jb_records.specs.Function.{Function}
 use Rattle.jb_records.specs.Made.{IsStepBegun, step_record}
 use Rattle.jb_records.specs.Shares.{AreNumbered}
-use Rattle.jb_records.specs.Steps.{AreFirstWorks, AreWorks, IsWorkFor}
-use Rattle.jb_records.specs.Works.{own_records}
+use Rattle.jb_records.specs.Steps.{AreFirstArtifacts, AreArtifacts, IsArtifactsFor}
+use Rattle.jb_records.specs.Artifacts.{own_records}
 use Rattle.jb_records.specs.inside.Calls.{CanBeginOver, HasOwn, HaveOwn}
-use Rattle.jb_records.proofs.Begun.{works-at-first}
+use Rattle.jb_records.proofs.Begun.{artifacts-at-first}
 
 -- ---- NO ROW ENDS PAST THE LAST RECORD
 
@@ -122,7 +122,7 @@ same-given : (o : Option (List (List ℕ))) (share other : List (List ℕ)) → 
 same-given o share other a b = cc
 
 module _ (f : Function) (rules : RulesRecord) (records : List (List ℕ)) (rows : List Row) (shares : List (List (List ℕ))) where
-  fit-one : (n : ℕ × Row) (w : ArtifactsMeaning) → HasOwn (length records) rows shares n → IsWorkFor f rules records shares n w → Fits w n.1
+  fit-one : (n : ℕ × Row) (w : ArtifactsMeaning) → HasOwn (length records) rows shares n → IsArtifactsFor f rules records shares n w → Fits w n.1
   fit-one n w own first =
       let order = own.within.0 in
       let below = own.within.1 in
@@ -131,14 +131,14 @@ module _ (f : Function) (rules : RulesRecord) (records : List (List ℕ)) (rows 
       let number = ap length (same-given (slice_get shares n.0) own.share w.writer.written own.given first.1) ∙ own.number in
       record { from = omega (arith, from); to = omega (arith, from, long, order); count = omega (arith, number) }
 
-  all-fit : (ns : List (ℕ × Row)) (ws : List ArtifactsMeaning) → AllByRecursion (HasOwn (length records) rows shares) ns → AreWorks f rules records shares ns ws → FitRows ns ws
+  all-fit : (ns : List (ℕ × Row)) (ws : List ArtifactsMeaning) → AllByRecursion (HasOwn (length records) rows shares) ns → AreArtifacts f rules records shares ns ws → FitRows ns ws
   all-fit [] [] owns are = tt
   all-fit [] (w ∷ ws) owns are = absurd are
   all-fit (n ∷ ns) [] owns are = absurd are
   all-fit (n ∷ ns) (w ∷ ws) owns are = (fit-one n w owns.0 are.0, all-fit ns ws owns.1 are.1)
 
-pub works-fit : (f : Function) (rules : RulesRecord) (records : List (List ℕ)) (s : Setup) (shares : List (List (List ℕ))) (ws : List ArtifactsMeaning) → CanBeginOver (length records) s.rows shares → AreWorks f rules records shares (unfinished s.rows) ws → DoFit s ws
-works-fit f rules records s shares ws can are = all-fit f rules records s.rows shares (unfinished s.rows) ws (own-all (length records) s.rows shares can) are
+pub artifacts-fit : (f : Function) (rules : RulesRecord) (records : List (List ℕ)) (s : Setup) (shares : List (List (List ℕ))) (ws : List ArtifactsMeaning) → CanBeginOver (length records) s.rows shares → AreArtifacts f rules records shares (unfinished s.rows) ws → DoFit s ws
+artifacts-fit f rules records s shares ws can are = all-fit f rules records s.rows shares (unfinished s.rows) ws (own-all (length records) s.rows shares can) are
 
-pub first-works-fit : (f : Function) (rules : RulesRecord) (records : List (List ℕ)) (s : Setup) (shares : List (List (List ℕ))) (ws : List ArtifactsMeaning) → CanBeginOver (length records) s.rows shares → AreFirstWorks f rules records shares (unfinished s.rows) ws → DoFit s ws
-first-works-fit f rules records s shares ws can are = works-fit f rules records s shares ws can (works-at-first f rules records shares (unfinished s.rows) ws are)
+pub first-artifacts-fit : (f : Function) (rules : RulesRecord) (records : List (List ℕ)) (s : Setup) (shares : List (List (List ℕ))) (ws : List ArtifactsMeaning) → CanBeginOver (length records) s.rows shares → AreFirstArtifacts f rules records shares (unfinished s.rows) ws → DoFit s ws
+first-artifacts-fit f rules records s shares ws can are = artifacts-fit f rules records s shares ws can (artifacts-at-first f rules records shares (unfinished s.rows) ws are)

@@ -32,7 +32,7 @@ use Rattle.jb_records.specs.declared.error.RecordsStepError.TheVariants.{Memory,
 use Rattle.jb_records.specs.declared.step.RecordsStep.{RecordsStep}
 use Rattle.jb_records.specs.Function.{Function}
 use Rattle.jb_records.specs.Made.{even_partitions, step_record}
-use Rattle.jb_records.specs.Works.{AreNeverSkipped, own_records, record_of}
+use Rattle.jb_records.specs.Artifacts.{AreNeverSkipped, own_records, record_of}
 use Rattle.jb_records.specs.inside.Calls.{IsTryRefused, IsUnbegun, IsUnbegunBehind, HasNoEnd, IsUnprepared, IsUnpreparedFor, written_by}
 use Rattle.jb_records.specs.Shares.{AreNumbered, joined}
 use Rattle.jb_records.proofs.Calling.{own-length}

@@ -32,8 +32,8 @@ use Rattle.jb_records.specs.Function.{Function}
 use Rattle.jb_records.specs.Runs.{HasResults, PartsStay, ResultsGoOn}
 use Rattle.jb_records.specs.Shares.{IsSoFar}
 use Rattle.jb_records.specs.Skips.{AreCounted, AreSkipsCounted, NewRowsAreCounted, SkipsAreCounted, skip_by, skips_between}
-use Rattle.jb_records.specs.Steps.{AreWorks, BeginsAnew}
-use Rattle.jb_records.specs.Works.{IsWork, own_records, record_of}
+use Rattle.jb_records.specs.Steps.{AreArtifacts, BeginsAnew}
+use Rattle.jb_records.specs.Artifacts.{IsArtifactsOver, own_records, record_of}
 use Rattle.jb_records.proofs.Going.{Commits, HasBlock, all-written, repeated-task, repeats-have, same-task, way-on, whole_counts}
 use Rattle.jb_records.proofs.Joining.{own-record}
 use Rattle.jb_records.proofs.Skipping.{skips-none}
@@ -47,7 +47,7 @@ fault-by (Some class) fault answer = refl
 fault-by None (Some class) answer = refl
 fault-by None None answer = refl
 
-read-fault : (f : Function) (first : ℕ) (records : List (List ℕ)) (rules : RulesRecord) (w : ArtifactsMeaning) (k : ℕ) → IsWork f rules first records w
+read-fault : (f : Function) (first : ℕ) (records : List (List ℕ)) (rules : RulesRecord) (w : ArtifactsMeaning) (k : ℕ) → IsArtifactsOver f rules first records w
     → first ≤ k → k < first + length records → is_read_fault (entry w k) ≡ is_some (f.refusal (record_of first records k))
 unfolding entry
 read-fault f first records rules w k is from to =
@@ -71,18 +71,18 @@ counted-are p g (suc n) lo are =
     ∙ ap₂ (λ (b : Bool) (m : ℕ). cond b 1 0 + m) (are lo (omega arith) (omega arith)) rest
     ∙ one-more (g lo) (filter_map g (range_with_len (lo + 1) n))
 
-block-counted : (f : Function) (records : List (List ℕ)) (t : TaskState) (hi : ℕ) → HasResults f records t → hi ≤ t.row.hi → count_of is_read_fault t.work t.row.at hi ≡ length (skips_between f records t.row.at hi)
+block-counted : (f : Function) (records : List (List ℕ)) (t : TaskState) (hi : ℕ) → HasResults f records t → hi ≤ t.row.hi → count_of is_read_fault t.artifacts t.row.at hi ≡ length (skips_between f records t.row.at hi)
 unfolding count_of
 block-counted f records t hi has last =
     let own = own_records records t.row in
     let above = has.from in
     let served = has.served in
-    counted-are (λ k. is_read_fault (entry t.work k)) (λ k. skip_by k (f.refusal (record_of 0 records k))) (hi - t.row.at) t.row.at
+    counted-are (λ k. is_read_fault (entry t.artifacts k)) (λ k. skip_by k (f.refusal (record_of 0 records k))) (hi - t.row.at) t.row.at
     (λ k from to.
     let lo : t.row.lo ≤ k = omega (arith, above, from) in
     let inside : k < t.row.hi = omega (arith, last, from, to) in
     let below : k < t.row.lo + length own = omega (arith, served, inside) in
-    read-fault f t.row.lo own t.rules t.work k has.work lo below
+    read-fault f t.row.lo own t.rules t.artifacts k has.artifacts lo below
     ∙ ap (λ (bytes : List ℕ). is_some (f.refusal bytes)) (own-record records t.row.lo t.row.hi k lo inside)
     ∙ noted k (f.refusal (record_of 0 records k)))
 
@@ -121,7 +121,7 @@ attempt-counts : (f : Function) (records : List (List ℕ)) (t : TaskState) (aga
 attempt-counts f records t again (Committed delta) is block has =
     let lt = block.0 in
     let commits = subst Commits (sym is) tt in
-    let same : Committed (whole_counts t) ≡ Committed delta = sym (all-written t has.work.writes commits) ∙ is in
+    let same : Committed (whole_counts t) ≡ Committed delta = sym (all-written t has.artifacts.writes commits) ∙ is in
     let whole : Counts f records t.row (ending_by t again (Committed (whole_counts t))).task.row = record {
       counted = ap (λ n. t.row.counts.read_skip + n) (block-counted f records t (block_of t).hi has block.1);
       on = omega (arith, lt);
@@ -185,12 +185,12 @@ rows-stay f records ts now k [] stay are = tt
 rows-stay f records ts now k (row ∷ rows) stay are = (stay k row are.0, rows-stay f records ts now (k + 1) rows stay are.1)
 
 pub skips-counted : TasksStandAtCheckpoints → WaysJoin → RepeatsAreRetries → ResultsGoOn → PartsStay → BeginsWithTable → BeginsWithRows → SkipsAreCounted
-skips-counted stand join law goes parts begins same f records shares s works ends is fit are ways so-far counted =
-    let ready = (begins s works is fit).tasks in
-    let ts = first_tasks s works in
-    let begun = all-begun f records shares s 0 s.rows shares works so-far.each (λ i share get. let e : i ≡ 0 + i = omega arith in subst (λ m. slice_get shares m ≡ Some share) e get) are ready in
+skips-counted stand join law goes parts begins same f records shares s artifacts ends is fit are ways so-far counted =
+    let ready = (begins s artifacts is fit).tasks in
+    let ts = first_tasks s artifacts in
+    let begun = all-begun f records shares s 0 s.rows shares artifacts so-far.each (λ i share get. let e : i ≡ 0 + i = omega arith in subst (λ m. slice_get shares m ≡ Some share) e get) are ready in
     let stay = tasks-stay stand join law goes parts f records s ts ends ready begun ways in
-    rows-stay f records ts ends 0 s.rows stay (subst (AreCounted f records) (sym (same s works fit)) counted)
+    rows-stay f records ts ends 0 s.rows stay (subst (AreCounted f records) (sym (same s artifacts fit)) counted)
 
 -- ---- A STEP THAT BEGINS ANEW
 
@@ -203,7 +203,7 @@ anew-counted law f records count s anew = subst (AreCounted f records) (sym anew
 
 -- ---- HOW IT ENDS
 
-pub led-counted : SkipsAreCounted → (f : Function) (records : List (List ℕ)) (shares : List (List (List ℕ))) (r : StepRun) → IsRunOfStep r → AreWorks f r.setup.rules records shares (unfinished r.setup.rows) r.works → DoFit r.setup r.works
+pub led-counted : SkipsAreCounted → (f : Function) (records : List (List ℕ)) (shares : List (List (List ℕ))) (r : StepRun) → IsRunOfStep r → AreArtifacts f r.setup.rules records shares (unfinished r.setup.rows) r.artifacts → DoFit r.setup r.artifacts
     → AreOnTheWay (tasks_before r) (tasks_after r) → IsSetup r.setup → IsSoFar f records r.setup.rows shares → AreCounted f records r.setup.rows → AreCounted f records r.snapshot.rows.items
 led-counted law f records shares r run are fit ways is so-far counted =
-    subst (AreCounted f records) (sym (run.rows ∙ ap (rows_now r.setup.rows) (sym run.tasks))) (law f records shares r.setup r.works (tasks_after r) is fit are ways so-far counted)
+    subst (AreCounted f records) (sym (run.rows ∙ ap (rows_now r.setup.rows) (sym run.tasks))) (law f records shares r.setup r.artifacts (tasks_after r) is fit are ways so-far counted)

@@ -22,7 +22,7 @@ use Rattle.jb_artifacts.specs.Meaning.{ArtifactsMeaning}
 use Rattle.jb_chunk.specs.declared.outcome.Outcome.{Outcome}
 use Rattle.jb_chunk.specs.declared.outcome.Outcome.TheVariants.{Committed, Rolled, Failed, NoMemory}
 use Rattle.jb_chunk.specs.Alone.{IsOnTheWay, IsRunOf}
-use Rattle.jb_chunk.specs.Attempt.{AttemptEnd, attempt_of, block_of, results_of, settled_at, fault_at, skips_at, counts_of, end_of, end_at, end_by, work_used, ending_by, after_repeats, all_repeated, again_of, called_again, repeated, repeated_work, repeated_up_to, asks_repeat}
+use Rattle.jb_chunk.specs.Attempt.{AttemptEnd, attempt_of, block_of, results_of, settled_at, fault_at, skips_at, counts_of, end_of, end_at, end_by, artifacts_used, ending_by, after_repeats, all_repeated, again_of, called_again, repeated, repeated_artifacts, repeated_up_to, asks_repeat}
 use Rattle.jb_chunk.specs.Block.{entry, entry_by, results, settles, settling, stops, is_skip, choice_at, skips_before, used_between}
 use Rattle.jb_chunk.specs.Entries.{Entry, ReadFault, ProcessFault, Processed, fault_in, text_in, numbered}
 use Rattle.jb_chunk.specs.Laws.{RepeatsAreRetries, TasksStandAtCheckpoints, WaysJoin}
@@ -31,13 +31,13 @@ use Rattle.jb_chunk.proofs.AddedCounts.{settling-stops}
 use Rattle.jb_chunk.proofs.ChunkRepeats.{choice_by}
 use Rattle.jb_chunk.proofs.RecordRepeats.{unfound}
 use Rattle.jb_chunk.proofs.SettlingRecord.{numbers-split}
-use Rattle.jb_chunk.proofs.WorkUsed.{read_end, write_plans, more_written, used-as}
+use Rattle.jb_chunk.proofs.ArtifactsUsed.{read_end, write_plans, more_written, used-as}
 use Rattle.jb_chunk.proofs.WrittenResults.{take-front, whole-kept, whole-written}
 use Rattle.jb_ready.specs.Checks.{checked_plans, plan_by}
 use Rattle.jb_ready.proofs.Refusals.{check-decides}
 use Rattle.jb_records.specs.Function.{Function, result_by, result_of}
 use Rattle.jb_records.specs.Runs.{HasResults, IsSamePart, PartsStay, ResultsGoOn}
-use Rattle.jb_records.specs.Works.{IsNeverSkipped, IsWork, own_records, record_of, results_between}
+use Rattle.jb_records.specs.Artifacts.{IsNeverSkipped, IsArtifactsOver, own_records, record_of, results_between}
 
 -- ---- FAULT PLANS THAT ARE USED
 
@@ -81,19 +81,19 @@ module _ (f : Function) (rules : RulesRecord) (first : ℕ) (records : List (Lis
   writes-used plans None is k = is k
   writes-used plans (Some r) is k = used-if (λ p. p ≡ Sound) _ (plans k) (is k) (sound-used (plans k) (is k))
 
-  write-plans : (t : TaskState) (settled : Option ℕ) → ((k : ℕ) → t.work.writer.faults k ≡ Sound) → (k : ℕ) → write_plans t settled k ≡ Sound
+  write-plans : (t : TaskState) (settled : Option ℕ) → ((k : ℕ) → t.artifacts.writer.faults k ≡ Sound) → (k : ℕ) → write_plans t settled k ≡ Sound
   write-plans t (Some j) is k = is k
-  write-plans t None is k = writes-used t.work.writer.faults (failing t.work.writer.faults (results_of t)) is k
+  write-plans t None is k = writes-used t.artifacts.writer.faults (failing t.artifacts.writer.faults (results_of t)) is k
 
   -- what a chunk used, opened somewhere, is what the partition works with
-  work-opened : (t : TaskState) (row : Row) → IsWork f rules first records t.work → IsWork f rules first records (at_checkpoint row (work_used t (settled_at t)))
-  work-opened t row is =
-      subst (λ w. IsWork f rules first records (at_checkpoint row w)) (sym (used-as t (settled_at t))) (record {
+  artifacts-opened : (t : TaskState) (row : Row) → IsArtifactsOver f rules first records t.artifacts → IsArtifactsOver f rules first records (at_checkpoint row (artifacts_used t (settled_at t)))
+  artifacts-opened t row is =
+      subst (λ w. IsArtifactsOver f rules first records (at_checkpoint row w)) (sym (used-as t (settled_at t))) (record {
         first_is = is.first_is;
         records_are = is.records_are;
-        reads = reads-used (λ _. true) t.work.reader.faults t.row.at (read_end t (settled_at t)) is.reads;
+        reads = reads-used (λ _. true) t.artifacts.reader.faults t.row.at (read_end t (settled_at t)) is.reads;
         answers = is.answers;
-        tries = tries-used (λ k. not (is_live t.work.reader.faults k)) t.work.processor.faults t.row.at (read_end t (settled_at t)) is.tries;
+        tries = tries-used (λ k. not (is_live t.artifacts.reader.faults k)) t.artifacts.processor.faults t.row.at (read_end t (settled_at t)) is.tries;
         writes = write-plans t (settled_at t) is.writes;
       })
 
@@ -101,7 +101,7 @@ module _ (f : Function) (rules : RulesRecord) (first : ℕ) (records : List (Lis
 
   -- a repeat leaves what the partition works with, and what is written
   record IsKept (w now : ArtifactsMeaning) : Type 0 where
-    pub work : IsWork f rules first records now
+    pub artifacts : IsArtifactsOver f rules first records now
     pub written : now.writer.written ≡ w.writer.written
 
   reads-at : (plans : FaultTable) (n : ℕ) → ((k : ℕ) → plans k ≡ checked_plans f.refusal first records k) → (k : ℕ) → used_at plans n k ≡ checked_plans f.refusal first records k
@@ -112,41 +112,41 @@ module _ (f : Function) (rules : RulesRecord) (first : ℕ) (records : List (Lis
   unfolding used_at
   tries-at plans n is k = used-if (IsNeverSkipped rules) _ (plans k) (is k) (never-used rules (plans k) (is k))
 
-  call-kept : (w : ArtifactsMeaning) (k : ℕ) (e : Entry) → IsWork f rules first records w → IsKept w (called_again w k e)
+  call-kept : (w : ArtifactsMeaning) (k : ℕ) (e : Entry) → IsArtifactsOver f rules first records w → IsKept w (called_again w k e)
   call-kept w k (ReadFault class) is = record {
-    work = record { first_is = is.first_is; records_are = is.records_are; reads = reads-at w.reader.faults k is.reads; answers = is.answers; tries = is.tries; writes = is.writes };
+    artifacts = record { first_is = is.first_is; records_are = is.records_are; reads = reads-at w.reader.faults k is.reads; answers = is.answers; tries = is.tries; writes = is.writes };
     written = refl;
   }
   call-kept w k (ProcessFault class) is = record {
-    work = record { first_is = is.first_is; records_are = is.records_are; reads = is.reads; answers = is.answers; tries = tries-at w.processor.faults k is.tries; writes = is.writes };
+    artifacts = record { first_is = is.first_is; records_are = is.records_are; reads = is.reads; answers = is.answers; tries = tries-at w.processor.faults k is.tries; writes = is.writes };
     written = refl;
   }
   call-kept w k (Processed answer) is = record {
-    work = record { first_is = is.first_is; records_are = is.records_are; reads = is.reads; answers = is.answers; tries = tries-at w.processor.faults k is.tries; writes = is.writes };
+    artifacts = record { first_is = is.first_is; records_are = is.records_are; reads = is.reads; answers = is.answers; tries = tries-at w.processor.faults k is.tries; writes = is.writes };
     written = refl;
   }
 
-  repeat-kept : (t : TaskState) (settled : Option ℕ) → IsWork f rules first records t.work → IsKept t.work (repeated_work t settled)
-  repeat-kept t (Some k) is = call-kept t.work k (entry t.work k) is
+  repeat-kept : (t : TaskState) (settled : Option ℕ) → IsArtifactsOver f rules first records t.artifacts → IsKept t.artifacts (repeated_artifacts t settled)
+  repeat-kept t (Some k) is = call-kept t.artifacts k (entry t.artifacts k) is
   repeat-kept t None is = record {
-    work = record { first_is = is.first_is; records_are = is.records_are; reads = is.reads; answers = is.answers; tries = is.tries; writes = write-plans t None is.writes };
+    artifacts = record { first_is = is.first_is; records_are = is.records_are; reads = is.reads; answers = is.answers; tries = is.tries; writes = write-plans t None is.writes };
     written = refl;
   }
 
-  kept-if : (w : ArtifactsMeaning) (b : Bool) (t u : TaskState) → IsKept w t.work → IsKept w u.work → IsKept w (cond b t u).work
+  kept-if : (w : ArtifactsMeaning) (b : Bool) (t u : TaskState) → IsKept w t.artifacts → IsKept w u.artifacts → IsKept w (cond b t u).artifacts
   kept-if w true t u is was = is
   kept-if w false t u is was = was
 
-  repeats-kept : (n : ℕ) (t : TaskState) → IsWork f rules first records t.work → IsKept t.work (repeated_up_to n t).work
+  repeats-kept : (n : ℕ) (t : TaskState) → IsArtifactsOver f rules first records t.artifacts → IsKept t.artifacts (repeated_up_to n t).artifacts
   unfolding repeated_up_to
-  repeats-kept zero t is = record { work = is; written = refl }
+  repeats-kept zero t is = record { artifacts = is; written = refl }
   repeats-kept (suc n) t is =
       let once = repeat-kept t (settled_at t) is in
-      let later = repeats-kept n (repeated t) once.work in
-      kept-if t.work (asks_repeat t) (repeated_up_to n (repeated t)) t (record { work = later.work; written = later.written ∙ once.written }) (record { work = is; written = refl })
+      let later = repeats-kept n (repeated t) once.artifacts in
+      kept-if t.artifacts (asks_repeat t) (repeated_up_to n (repeated t)) t (record { artifacts = later.artifacts; written = later.written ∙ once.written }) (record { artifacts = is; written = refl })
 
   -- so do all of them
-  after-kept : (t : TaskState) → IsWork f rules first records t.work → IsKept t.work (after_repeats t).work
+  after-kept : (t : TaskState) → IsArtifactsOver f rules first records t.artifacts → IsKept t.artifacts (after_repeats t).artifacts
   unfolding all_repeated
   after-kept t is = repeats-kept (t.rules.retry_limit - t.row.retries) t is
 
@@ -194,7 +194,7 @@ entry-by rules row skips tries (Some class) answer is idle = refl
 entry-by rules row skips tries None answer is idle = text-by rules row skips tries (live tries) answer is refl idle
 
 -- what is found of a record that doesn't settle its block is its result, if it has one
-entry-result : (f : Function) (first : ℕ) (records : List (List ℕ)) (rules : RulesRecord) (row : Row) (w : ArtifactsMeaning) (k : ℕ) → IsWork f rules first records w
+entry-result : (f : Function) (first : ℕ) (records : List (List ℕ)) (rules : RulesRecord) (row : Row) (w : ArtifactsMeaning) (k : ℕ) → IsArtifactsOver f rules first records w
     → first ≤ k → k < first + length records → settles rules row w k ≡ false → text_in (entry w k) ≡ result_of f k (record_of first records k)
 unfolding entry settles
 entry-result f first records rules row w k is from to idle =
@@ -219,13 +219,13 @@ texts-are w f (suc n) lo are =
     let rest = texts-are w f n (lo + 1) (λ k le lt. are k (omega (arith, le)) (omega (arith, lt))) in
     text-one lo (text_in (entry w lo)) _ _ rest ∙ ap (λ o. cons_option o (filter_map f (range_with_len (lo + 1) n))) (are lo (omega arith) (omega arith))
 
-block-results : (f : Function) (first : ℕ) (records : List (List ℕ)) (t : TaskState) → IsWork f t.rules first records t.work → first ≤ t.row.at → (block_of t).hi ≤ first + length records → settled_at t ≡ None
+block-results : (f : Function) (first : ℕ) (records : List (List ℕ)) (t : TaskState) → IsArtifactsOver f t.rules first records t.artifacts → first ≤ t.row.at → (block_of t).hi ≤ first + length records → settled_at t ≡ None
     → texts_of (results_of t) ≡ results_between f first records t.row.at (block_of t).hi
 unfolding results settling results_between
 block-results f first records t is above below none =
-    texts-are t.work (λ k. result_of f k (record_of first records k)) ((block_of t).hi - t.row.at) t.row.at
-    (λ k from to. entry-result f first records t.rules t.row t.work k is (omega (arith, above, from)) (omega (arith, below, from, to))
-    (unfound (settles t.rules t.row t.work) ((block_of t).hi - t.row.at) t.row.at none k from to))
+    texts-are t.artifacts (λ k. result_of f k (record_of first records k)) ((block_of t).hi - t.row.at) t.row.at
+    (λ k from to. entry-result f first records t.rules t.row t.artifacts k is (omega (arith, above, from)) (omega (arith, below, from, to))
+    (unfound (settles t.rules t.row t.artifacts) ((block_of t).hi - t.row.at) t.row.at none k from to))
 
 -- the results up to a checkpoint, and those from there on
 pub results-join : (f : Function) (first : ℕ) (records : List (List ℕ)) (lo at hi : ℕ) → lo ≤ at → at ≤ hi → results_between f first records lo at ++ results_between f first records at hi ≡ results_between f first records lo hi
@@ -258,7 +258,7 @@ fault-fails t (Some class) skips h e = end-fails (counts_of t 0 1) class (choice
 
 commit-by : (t : TaskState) (o : Option ℕ) → settled_at t ≡ o → Commits (end_at t (fault_at t o) (skips_at t o)) → settled_at t ≡ None
 commit-by t None at e = at
-commit-by t (Some k) at e = absurd (fault-fails t (fault_at t (Some k)) (skips_at t (Some k)) (settling-stops t.rules t.row t.work (block_of t).hi k at) e)
+commit-by t (Some k) at e = absurd (fault-fails t (fault_at t (Some k)) (skips_at t (Some k)) (settling-stops t.rules t.row t.artifacts (block_of t).hi k at) e)
 
 -- nothing settled a block that is committed
 commit-none : (t : TaskState) → Commits (end_of t) → settled_at t ≡ None
@@ -270,31 +270,31 @@ sound-failing : (plans : FaultTable) (rs : Numbered) → ((k : ℕ) → plans k 
 sound-failing plans [] is = refl
 sound-failing plans (r ∷ rs) is = ap (λ (p : FaultPlan). cond (is_some (live p)) (Some r) (failing plans rs)) (is r.0) ∙ sound-failing plans rs is
 
-sound-write : (t : TaskState) → ((k : ℕ) → t.work.writer.faults k ≡ Sound) → write_fault t.work.writer (results_of t) ≡ None
-sound-write t is = ap (fault_of t.work.writer.faults) (sound-failing t.work.writer.faults (results_of t) is)
+sound-write : (t : TaskState) → ((k : ℕ) → t.artifacts.writer.faults k ≡ Sound) → write_fault t.artifacts.writer (results_of t) ≡ None
+sound-write t is = ap (fault_of t.artifacts.writer.faults) (sound-failing t.artifacts.writer.faults (results_of t) is)
 
 -- all that is committed is written
 abbrev pub whole_counts : TaskState → Counts
 whole_counts t = counts_of t (length (results_of t)) 0
 
-pub all-written : (t : TaskState) → ((k : ℕ) → t.work.writer.faults k ≡ Sound) → Commits (end_of t) → end_of t ≡ Committed (whole_counts t)
+pub all-written : (t : TaskState) → ((k : ℕ) → t.artifacts.writer.faults k ≡ Sound) → Commits (end_of t) → end_of t ≡ Committed (whole_counts t)
 unfolding end_of
 all-written t is e = ap (λ s. end_at t (fault_at t s) (skips_at t s)) (commit-none t e) ∙ ap (λ f. end_at t f (skips_at t None)) (sound-write t is)
 
 -- ---- ATTEMPT BY ATTEMPT
 
 -- behind what was written
-written-behind : (t : TaskState) → settled_at t ≡ None → ((k : ℕ) → t.work.writer.faults k ≡ Sound) → length t.work.writer.written ≡ t.row.written
-    → take (t.row.written + length (results_of t)) (work_used t (settled_at t)).writer.written ≡ t.work.writer.written ++ texts_of (results_of t)
-unfolding work_used
+written-behind : (t : TaskState) → settled_at t ≡ None → ((k : ℕ) → t.artifacts.writer.faults k ≡ Sound) → length t.artifacts.writer.written ≡ t.row.written
+    → take (t.row.written + length (results_of t)) (artifacts_used t (settled_at t)).writer.written ≡ t.artifacts.writer.written ++ texts_of (results_of t)
+unfolding artifacts_used
 written-behind t none is number =
-    ap (λ s. take (t.row.written + length (results_of t)) (work_used t s).writer.written) none
-    ∙ ap (λ (w : Writer). w.written) (whole-kept t.work.writer (results_of t) t.row.written number (sound-write t is))
-    ∙ whole-written t.work.writer (results_of t) (sound-write t is)
+    ap (λ s. take (t.row.written + length (results_of t)) (artifacts_used t s).writer.written) none
+    ∙ ap (λ (w : Writer). w.written) (whole-kept t.artifacts.writer (results_of t) t.row.written number (sound-write t is))
+    ∙ whole-written t.artifacts.writer (results_of t) (sound-write t is)
 
 -- what was written stays where nothing is committed
-written-back : (t : TaskState) → length t.work.writer.written ≡ t.row.written → take t.row.written (work_used t (settled_at t)).writer.written ≡ t.work.writer.written
-written-back t number = ap (λ (w : ArtifactsMeaning). take t.row.written w.writer.written) (used-as t (settled_at t)) ∙ take-front t.work.writer.written (more_written t (settled_at t)) t.row.written number
+written-back : (t : TaskState) → length t.artifacts.writer.written ≡ t.row.written → take t.row.written (artifacts_used t (settled_at t)).writer.written ≡ t.artifacts.writer.written
+written-back t number = ap (λ (w : ArtifactsMeaning). take t.row.written w.writer.written) (used-as t (settled_at t)) ∙ take-front t.artifacts.writer.written (more_written t (settled_at t)) t.row.written number
 
 -- a row that is finished stands at the end of its range
 pub ends-at : (b : Bool) (at hi : ℕ) → (at == hi) ≡ b → cond b state.Finished state.Waiting ≡ state.Finished → at ≡ hi
@@ -303,7 +303,7 @@ ends-at false at hi e finished = absurd cc
 
 -- as many results are written as the row says
 abbrev IsNumbered : TaskState → Type 0
-IsNumbered t = length t.work.writer.written ≡ t.row.written
+IsNumbered t = length t.artifacts.writer.written ≡ t.row.written
 
 -- the task's next block has a record and lies in its range
 abbrev pub HasBlock : TaskState → Type 0
@@ -321,11 +321,11 @@ attempt-written f records t again none block has number =
     let le : t.row.at ≤ (block_of t).hi = omega (arith, lt) in
     let below : (block_of t).hi ≤ t.row.lo + length own = omega (arith, last, served) in
     record {
-      work = work-opened f t.rules t.row.lo own t (ending_by t again (Committed (whole_counts t))).task.row has.work;
+      artifacts = artifacts-opened f t.rules t.row.lo own t (ending_by t again (Committed (whole_counts t))).task.row has.artifacts;
       from = omega (arith, from, lt);
       served = has.served;
-      results = written-behind t none has.work.writes has.number
-          ∙ (λ i. has.results i ++ block-results f t.row.lo own t has.work from below none i) ∙ results-join f t.row.lo own t.row.lo t.row.at hi from le;
+      results = written-behind t none has.artifacts.writes has.number
+          ∙ (λ i. has.results i ++ block-results f t.row.lo own t has.artifacts from below none i) ∙ results-join f t.row.lo own t.row.lo t.row.at hi from le;
       number = number;
       whole = ends-at (hi == t.row.hi) hi t.row.hi refl;
     }
@@ -334,11 +334,11 @@ attempt-by : (f : Function) (records : List (List ℕ)) (t : TaskState) (again :
     → HasResults f records (ending_by t again e).task
 attempt-by f records t again (Committed delta) is block has number =
     let commits = subst Commits (sym is) tt in
-    let same : Committed (whole_counts t) ≡ Committed delta = sym (all-written t has.work.writes commits) ∙ is in
+    let same : Committed (whole_counts t) ≡ Committed delta = sym (all-written t has.artifacts.writes commits) ∙ is in
     let left = attempt-written f records t again (commit-none t commits) block has (subst (λ (e : Outcome). IsNumbered (ending_by t again e).task) (sym same) number) in
     subst (λ (e : Outcome). HasResults f records (ending_by t again e).task) same left
 attempt-by f records t again (Rolled class) is block has number = record {
-  work = work-opened f t.rules t.row.lo (own_records records t.row) t (ending_by t again (Rolled class)).task.row has.work;
+  artifacts = artifacts-opened f t.rules t.row.lo (own_records records t.row) t (ending_by t again (Rolled class)).task.row has.artifacts;
   from = has.from;
   served = has.served;
   results = written-back t has.number ∙ has.results;
@@ -346,7 +346,7 @@ attempt-by f records t again (Rolled class) is block has number = record {
   whole = has.whole;
 }
 attempt-by f records t again (Failed class) is block has number = record {
-  work = work-opened f t.rules t.row.lo (own_records records t.row) t (ending_by t again (Failed class)).task.row has.work;
+  artifacts = artifacts-opened f t.rules t.row.lo (own_records records t.row) t (ending_by t again (Failed class)).task.row has.artifacts;
   from = has.from;
   served = has.served;
   results = written-back t has.number ∙ has.results;
@@ -354,7 +354,7 @@ attempt-by f records t again (Failed class) is block has number = record {
   whole = λ e. absurd cc;
 }
 attempt-by f records t again NoMemory is block has number = record {
-  work = work-opened f t.rules t.row.lo (own_records records t.row) t (ending_by t again NoMemory).task.row has.work;
+  artifacts = artifacts-opened f t.rules t.row.lo (own_records records t.row) t (ending_by t again NoMemory).task.row has.artifacts;
   from = has.from;
   served = has.served;
   results = written-back t has.number ∙ has.results;
@@ -364,16 +364,16 @@ attempt-by f records t again NoMemory is block has number = record {
 
 -- the task after the repeats of its next block: of its row they are retries
 abbrev pub repeated-task : TaskState → TaskState
-repeated-task t = record t { row = repeated_row t.row (again_of t); work = (after_repeats t).work }
+repeated-task t = record t { row = repeated_row t.row (again_of t); artifacts = (after_repeats t).artifacts }
 
 pub same-task : RepeatsAreRetries → (t : TaskState) → after_repeats t ≡ repeated-task t
-same-task law t = λ i. record t { row = law t i; work = (after_repeats t).work }
+same-task law t = λ i. record t { row = law t i; artifacts = (after_repeats t).artifacts }
 
 pub repeats-have : (f : Function) (records : List (List ℕ)) (t : TaskState) → HasResults f records t → HasResults f records (repeated-task t)
 repeats-have f records t has =
-    let kept = after-kept f t.rules t.row.lo (own_records records t.row) t has.work in
+    let kept = after-kept f t.rules t.row.lo (own_records records t.row) t has.artifacts in
     record {
-      work = kept.work;
+      artifacts = kept.artifacts;
       from = has.from;
       served = has.served;
       results = kept.written ∙ has.results;

@@ -15,7 +15,7 @@ use Rattle.jb_step.specs.preparing.Setup.{Setup}
 use Rattle.jb_records.specs.Function.{Function}
 use Rattle.jb_records.specs.Shares.{AreShares, IsShare, results_so_far}
 use Rattle.jb_records.specs.Stretches.{grown, numbers_in}
-use Rattle.jb_records.specs.Works.{own_records, results_between}
+use Rattle.jb_records.specs.Artifacts.{own_records, results_between}
 use Rattle.jb_records.specs.inside.Kept.{news_from}
 use Rattle.jb_records.proofs.Ahead.{IsAhead}
 use Rattle.jb_records.proofs.Going.{results-join}
@@ -72,10 +72,10 @@ module _ (f : Function) (records : List (List ℕ)) (s : Setup) (rows : List Row
       let ls = artifacts_of ts in
       let here = head-is t.partition k (numbers_in ls) (left-numbers (k + 1) olds) named in
       let row = done-row f records s rows t k new have.0 here at in
-      let written : t.work.writer.written ≡ now = have.0.has.results ∙ ap (results_so_far f records) row ∙ sym own-now.results in
-      ap₂ (λ (x : List (List ℕ)) (xs : List (List (List ℕ))). x ∷ xs) (grown-one f records old new share now t.work.writer.written ahead from own own-now written)
+      let written : t.artifacts.writer.written ≡ now = have.0.has.results ∙ ap (results_so_far f records) row ∙ sym own-now.results in
+      ap₂ (λ (x : List (List ℕ)) (xs : List (List (List ℕ))). x ∷ xs) (grown-one f records old new share now t.artifacts.writer.written ahead from own own-now written)
       (more ts (tail-is t.partition k (numbers_in ls) (left-numbers (k + 1) olds) named) have.1)
-      ∙ ap (grown (share ∷ shares)) (sym (one-new k old.written (told-of olds) (t.partition, t.work) ls here))
+      ∙ ap (grown (share ∷ shares)) (sym (one-new k old.written (told-of olds) (t.partition, t.artifacts) ls here))
 
   pub grown-all : (k : ℕ) (olds news : List Row) (shares nows : List (List (List ℕ))) (ts : List TaskState) → numbers_in (artifacts_of ts) ≡ left-numbers k olds → Pairwise IsAhead olds news → Pairwise Stays olds news
       → ((i : ℕ) (row : Row) → slice_get olds i ≡ Some row → row.lo ≤ row.at) → AreShares f records olds shares → AreShares f records news nows

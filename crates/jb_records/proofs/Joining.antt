@@ -5,7 +5,7 @@ use Rattle.std.specs.Prelude.{slice_index_or, take, drop}
 use Rattle.std.specs.List.{filter_map, range_with_len, cons_option, enumerate_from}
 use Rattle.jb_rules.specs.declared.row.Row.{Row}
 use Rattle.jb_records.specs.Function.{Function, all_results, result_of}
-use Rattle.jb_records.specs.Works.{record_of, own_records, results_between}
+use Rattle.jb_records.specs.Artifacts.{record_of, own_records, results_between}
 use Rattle.jb_records.specs.Shares.{AreShares, AreRowsInOrder, AreAtTheirEnds, SharesJoin, joined, results_so_far}
 use Rattle.jb_records.proofs.Going.{results-join}
 

@@ -19,9 +19,9 @@ use Rattle.jb_step.specs.preparing.Setup.{Setup}
 use Rattle.jb_records.specs.Function.{Function}
 use Rattle.jb_records.specs.Runs.{HasResults}
 use Rattle.jb_records.specs.Shares.{AreShares, IsShare, newer_share, newer_shares, results_so_far}
-use Rattle.jb_records.specs.Steps.{AreWorks, IsWorkFor}
-use Rattle.jb_records.specs.Stretches.{numbers_in, works_in}
-use Rattle.jb_records.specs.Works.{IsWork, own_records}
+use Rattle.jb_records.specs.Steps.{AreArtifacts, IsArtifactsFor}
+use Rattle.jb_records.specs.Stretches.{numbers_in, artifacts_in}
+use Rattle.jb_records.specs.Artifacts.{IsArtifactsOver, own_records}
 use Rattle.jb_records.specs.inside.Kept.{is_done, is_left}
 use Rattle.jb_records.proofs.Steps.{HaveResults, left-of}
 use Rattle.jb_records.proofs.Staying.{Stays, head-is, left-numbers, tail-is}
@@ -113,9 +113,9 @@ finished-by true row is = sym (unfinished row.state is)
 pub finished-again : (row : Row) → is_finished (restarted row).state ≡ is_finished row.state
 finished-again row = finished-by (is_failed row.state) row refl
 
-work-by : (f : Function) (s : Setup) (records : List (List ℕ)) (w : ArtifactsMeaning) (b : Bool) (row : Row) → IsWork f s.rules row.lo (own_records records row) w → IsWork f s.rules (again-by b row).lo (own_records records (again-by b row)) w
-work-by f s records w true row is = is
-work-by f s records w false row is = is
+artifacts-by : (f : Function) (s : Setup) (records : List (List ℕ)) (w : ArtifactsMeaning) (b : Bool) (row : Row) → IsArtifactsOver f s.rules row.lo (own_records records row) w → IsArtifactsOver f s.rules (again-by b row).lo (own_records records (again-by b row)) w
+artifacts-by f s records w true row is = is
+artifacts-by f s records w false row is = is
 
 pub row-at : (rows : List Row) (p k : ℕ) (row : Row) → p ≡ k → slice_get rows k ≡ Some row → slice_index_or rows p (fresh_row (record { lo = 0; hi = 0 })) ≡ row
 row-at rows p k row here at = ap (λ n. slice_index_or rows n (fresh_row (record { lo = 0; hi = 0 }))) here ∙ get_or_from_slice_get rows k row (fresh_row (record { lo = 0; hi = 0 })) at
@@ -143,9 +143,9 @@ done-row f records s rows t k now is here at = is.row now (subst (λ p. slice_ge
 module _ (f : Function) (records : List (List ℕ)) (s : Setup) (rows : List Row) (all : List (List (List ℕ))) where
   -- these artifacts are those of these unfinished partitions
   abbrev AreKept : List (ℕ × ArtifactsMeaning) → List (ℕ × Row) → Type 0
-  AreKept ls ns = (numbers_in ls ≡ map (λ n. n.0) ns) × AreWorks f s.rules records all ns (works_in ls)
+  AreKept ls ns = (numbers_in ls ≡ map (λ n. n.0) ns) × AreArtifacts f s.rules records all ns (artifacts_in ls)
 
-  kept-one : (b c : Bool) (a : ℕ × ArtifactsMeaning) (n : ℕ × Row) (ls : List (ℕ × ArtifactsMeaning)) (ns : List (ℕ × Row)) → b ≡ c → a.0 ≡ n.0 → IsWorkFor f s.rules records all n a.1 → AreKept ls ns
+  kept-one : (b c : Bool) (a : ℕ × ArtifactsMeaning) (n : ℕ × Row) (ls : List (ℕ × ArtifactsMeaning)) (ns : List (ℕ × Row)) → b ≡ c → a.0 ≡ n.0 → IsArtifactsFor f s.rules records all n a.1 → AreKept ls ns
       → AreKept (cond b (a ∷ ls) ls) (cond c (n ∷ ns) ns)
   kept-one true true a n ls ns same here is are = (λ i. here i ∷ are.0 i, (is, are.1))
   kept-one true false a n ls ns same here is are = let none : ⊥ = cc in absurd none
@@ -156,41 +156,41 @@ module _ (f : Function) (records : List (List ℕ)) (s : Setup) (rows : List Row
   skip-one true n ls ns is are = are
   skip-one false n ls ns is are = let none : ⊥ = cc in absurd none
 
-  works-by : (b : Bool) (k : ℕ) (old new : Row) (olds news : List Row) (share : List (List ℕ)) (ts : List TaskState) → is_finished old.state ≡ b
+  all-artifacts-by : (b : Bool) (k : ℕ) (old new : Row) (olds news : List Row) (share : List (List ℕ)) (ts : List TaskState) → is_finished old.state ≡ b
       → numbers_in (artifacts_of ts) ≡ map (λ n. n.0) (cond (not b) ((k, old) ∷ left-of (enumerate_from (k + 1) olds)) (left-of (enumerate_from (k + 1) olds)))
       → Stays old new → IsShare f records new share → slice_get rows k ≡ Some new → slice_get all k ≡ Some share → AreDone f records s rows ts
       → ((us : List TaskState) → numbers_in (artifacts_of us) ≡ left-numbers (k + 1) olds → AreDone f records s rows us → AreKept (filter (is_left rows) (artifacts_of us)) (left-of (enumerate_from (k + 1) (map restarted news))))
       → AreKept (filter (is_left rows) (artifacts_of ts)) (left-of (enumerate_from k (map restarted (new ∷ news))))
-  works-by true k old new olds news share ts is named stays own at there have more =
+  all-artifacts-by true k old new olds news share ts is named stays own at there have more =
       let finished = finished-again new ∙ ap (λ (r : Row). is_finished r.state) (stays is) ∙ is in
       skip-one (is_finished (restarted new).state) (k, restarted new) (filter (is_left rows) (artifacts_of ts)) (left-of (enumerate_from (k + 1) (map restarted news))) finished (more ts named have)
-  works-by false k old new olds news share [] is named stays own at there have more = let none : ⊥ = cc in absurd none
-  works-by false k old new olds news share (t ∷ ts) is named stays own at there have more =
+  all-artifacts-by false k old new olds news share [] is named stays own at there have more = let none : ⊥ = cc in absurd none
+  all-artifacts-by false k old new olds news share (t ∷ ts) is named stays own at there have more =
       let ls = artifacts_of ts in
       let here = head-is t.partition k (numbers_in ls) (left-numbers (k + 1) olds) named in
       let others = more ts (tail-is t.partition k (numbers_in ls) (left-numbers (k + 1) olds) named) have.1 in
       let has = have.0.has in
       let row : t.row ≡ new = done-row f records s rows t k new have.0 here at in
-      let kept = subst (λ (r : Row). IsWork f t.rules r.lo (own_records records r) t.work) row has.work in
-      let work = work-by f s records t.work (is_failed new.state) new (subst (λ (rules : RulesRecord). IsWork f rules new.lo (own_records records new) t.work) have.0.rules kept) in
-      let written : share ≡ t.work.writer.written = own.results ∙ ap (λ (r : Row). results_so_far f records r) (sym row) ∙ sym has.results in
+      let kept = subst (λ (r : Row). IsArtifactsOver f t.rules r.lo (own_records records r) t.artifacts) row has.artifacts in
+      let artifacts = artifacts-by f s records t.artifacts (is_failed new.state) new (subst (λ (rules : RulesRecord). IsArtifactsOver f rules new.lo (own_records records new) t.artifacts) have.0.rules kept) in
+      let written : share ≡ t.artifacts.writer.written = own.results ∙ ap (λ (r : Row). results_so_far f records r) (sym row) ∙ sym has.results in
       let same = ap (λ (r : Row). not (is_finished r.state)) (row-at rows t.partition k new here at) ∙ ap not (sym (finished-again new)) in
-      kept-one (is_left rows (t.partition, t.work)) (not (is_finished (restarted new).state)) (t.partition, t.work) (k, restarted new) (filter (is_left rows) ls) (left-of (enumerate_from (k + 1) (map restarted news))) same here
-      (work, there ∙ ap Some written) others
+      kept-one (is_left rows (t.partition, t.artifacts)) (not (is_finished (restarted new).state)) (t.partition, t.artifacts) (k, restarted new) (filter (is_left rows) ls) (left-of (enumerate_from (k + 1) (map restarted news))) same here
+      (artifacts, there ∙ ap Some written) others
 
-  pub works-kept : (k : ℕ) (olds news : List Row) (shares : List (List (List ℕ))) (ts : List TaskState) → numbers_in (artifacts_of ts) ≡ left-numbers k olds → Pairwise Stays olds news → AreShares f records news shares
+  pub artifacts-kept : (k : ℕ) (olds news : List Row) (shares : List (List (List ℕ))) (ts : List TaskState) → numbers_in (artifacts_of ts) ≡ left-numbers k olds → Pairwise Stays olds news → AreShares f records news shares
       → ((i : ℕ) (row : Row) → slice_get news i ≡ Some row → slice_get rows (k + i) ≡ Some row) → ((i : ℕ) (share : List (List ℕ)) → slice_get shares i ≡ Some share → slice_get all (k + i) ≡ Some share)
       → AreDone f records s rows ts
-      → (numbers_in (filter (is_left rows) (artifacts_of ts)) ≡ left-numbers k (map restarted news)) × AreWorks f s.rules records all (left-of (enumerate_from k (map restarted news))) (works_in (filter (is_left rows) (artifacts_of ts)))
-  works-kept k [] [] shares [] named stay own at there have = (refl, tt)
-  works-kept k [] [] shares (t ∷ ts) named stay own at there have = let none : ⊥ = cc in absurd none
-  works-kept k [] (new ∷ news) shares ts named stay own at there have = absurd stay
-  works-kept k (old ∷ olds) [] shares ts named stay own at there have = absurd stay
-  works-kept k (old ∷ olds) (new ∷ news) [] ts named stay own at there have = absurd own
-  works-kept k (old ∷ olds) (new ∷ news) (share ∷ shares) ts named stay own at there have =
+      → (numbers_in (filter (is_left rows) (artifacts_of ts)) ≡ left-numbers k (map restarted news)) × AreArtifacts f s.rules records all (left-of (enumerate_from k (map restarted news))) (artifacts_in (filter (is_left rows) (artifacts_of ts)))
+  artifacts-kept k [] [] shares [] named stay own at there have = (refl, tt)
+  artifacts-kept k [] [] shares (t ∷ ts) named stay own at there have = let none : ⊥ = cc in absurd none
+  artifacts-kept k [] (new ∷ news) shares ts named stay own at there have = absurd stay
+  artifacts-kept k (old ∷ olds) [] shares ts named stay own at there have = absurd stay
+  artifacts-kept k (old ∷ olds) (new ∷ news) [] ts named stay own at there have = absurd own
+  artifacts-kept k (old ∷ olds) (new ∷ news) (share ∷ shares) ts named stay own at there have =
       let first : k + 0 ≡ k = omega arith in
-      works-by (is_finished old.state) k old new olds news share ts refl named stay.0 own.0
+      all-artifacts-by (is_finished old.state) k old new olds news share ts refl named stay.0 own.0
       (subst (λ m. slice_get rows m ≡ Some new) first (at zero new refl)) (subst (λ m. slice_get all m ≡ Some share) first (there zero share refl)) have
-      (λ us is has. works-kept (k + 1) olds news shares us is stay.1 own.1
+      (λ us is has. artifacts-kept (k + 1) olds news shares us is stay.1 own.1
       (λ i r get. let e : k + suc i ≡ (k + 1) + i = omega arith in subst (λ m. slice_get rows m ≡ Some r) e (at (suc i) r get))
       (λ i x get. let e : k + suc i ≡ (k + 1) + i = omega arith in subst (λ m. slice_get all m ≡ Some x) e (there (suc i) x get)) has)

@@ -8,7 +8,7 @@ use Rattle.jb_chunk.proofs.SettlingRecord.{numbers-split}
 use Rattle.jb_ready.specs.declared.notes.Note.{Note}
 use Rattle.jb_records.specs.Function.{Function}
 use Rattle.jb_records.specs.Skips.{skip_by, skips_between}
-use Rattle.jb_records.specs.Works.{record_of}
+use Rattle.jb_records.specs.Artifacts.{record_of}
 
 -- at first there is none
 pub skips-none : (f : Function) (records : List (List ℕ)) (lo : ℕ) → skips_between f records lo lo ≡ []

@@ -28,20 +28,20 @@ use Rattle.jb_step.specs.Alone.{AreOnTheWay}
 use Rattle.jb_records.specs.Function.{Function, result_of}
 use Rattle.jb_records.specs.Runs.{HasResults, PartsStay, ResultsGoOn}
 use Rattle.jb_records.specs.Shares.{AreRowsInOrder, AreNumbered, AreRangesOf, AreShares, AreAtTheirEnds, IsShare, IsSoFar, NewStepsBegin, newer_share, newer_shares}
-use Rattle.jb_records.specs.Steps.{AreWorks, BeginsAnew, StepsKeepResults}
-use Rattle.jb_records.specs.Works.{IsWork, own_records, record_of, results_between}
+use Rattle.jb_records.specs.Steps.{AreArtifacts, BeginsAnew, StepsKeepResults}
+use Rattle.jb_records.specs.Artifacts.{IsArtifactsOver, own_records, record_of, results_between}
 use Rattle.jb_records.proofs.Going.{ends-at}
 
 -- ---- HOW THE PARTITIONS BEGIN
 
-begun-task : (f : Function) (records : List (List ℕ)) (p item_count : ℕ) (row : Row) (s : Setup) (w : ArtifactsMeaning) → IsWork f s.rules row.lo (own_records records row) w
+begun-task : (f : Function) (records : List (List ℕ)) (p item_count : ℕ) (row : Row) (s : Setup) (w : ArtifactsMeaning) → IsArtifactsOver f s.rules row.lo (own_records records row) w
     → IsShare f records row w.writer.written → IsReady (started p row s.rules item_count w) → HasResults f records (started p row s.rules item_count w)
-begun-task f records p item_count row s w work share ready =
+begun-task f records p item_count row s w artifacts share ready =
     let cut : take row.written w.writer.written ≡ w.writer.written = ap (λ n. take n w.writer.written) (sym share.number) ∙ take-length w.writer.written in
     record {
-      work = record { first_is = work.first_is; records_are = work.records_are; reads = work.reads; answers = work.answers; tries = work.tries; writes = work.writes };
+      artifacts = record { first_is = artifacts.first_is; records_are = artifacts.records_are; reads = artifacts.reads; answers = artifacts.answers; tries = artifacts.tries; writes = artifacts.writes };
       from = ready.sound.placed.at_from;
-      served = subst (λ n. row.hi ≤ n) (λ i. work.first_is i + length (work.records_are i)) ready.fits.to;
+      served = subst (λ n. row.hi ≤ n) (λ i. artifacts.first_is i + length (artifacts.records_are i)) ready.fits.to;
       results = cut ∙ share.results;
       number = ready.count;
       whole = share.whole;
@@ -56,39 +56,39 @@ abbrev pub left-of : List (ℕ × Row) → List (ℕ × Row)
 left-of ns = filter (λ n. not (is_finished n.1.state)) ns
 
 abbrev tasks-of : Setup → List (ℕ × Row) → List ArtifactsMeaning → List TaskState
-tasks-of s ns works = map (λ n. started n.0.0 n.0.1 s.rules s.item_count n.1) (zip ns works)
+tasks-of s ns artifacts = map (λ n. started n.0.0 n.0.1 s.rules s.item_count n.1) (zip ns artifacts)
 
 -- they have its rules
-pub first-ruled : (s : Setup) (ns : List (ℕ × Row)) (works : List ArtifactsMeaning) → AllByRecursion (λ (t : TaskState). t.rules ≡ s.rules) (tasks-of s ns works)
-first-ruled s [] works = tt
+pub first-ruled : (s : Setup) (ns : List (ℕ × Row)) (artifacts : List ArtifactsMeaning) → AllByRecursion (λ (t : TaskState). t.rules ≡ s.rules) (tasks-of s ns artifacts)
+first-ruled s [] artifacts = tt
 first-ruled s (n ∷ ns) [] = tt
 first-ruled s (n ∷ ns) (w ∷ ws) = (refl, first-ruled s ns ws)
 
 abbrev Begin : (f : Function) (records : List (List ℕ)) → (shares : List (List (List ℕ))) → Setup → List (ℕ × Row) → List ArtifactsMeaning → Type 0
-Begin f records shares s ns works = AreWorks f s.rules records shares ns works → AreTasksOf s (tasks-of s ns works) → HaveResults f records (tasks-of s ns works)
+Begin f records shares s ns artifacts = AreArtifacts f s.rules records shares ns artifacts → AreTasksOf s (tasks-of s ns artifacts) → HaveResults f records (tasks-of s ns artifacts)
 
 same-share : (o : Option (List (List ℕ))) (share other : List (List ℕ)) → o ≡ Some share → o ≡ Some other → share ≡ other
 same-share o share other a b = cc
 
-first-begun : (f : Function) (records : List (List ℕ)) (shares : List (List (List ℕ))) (s : Setup) (n : ℕ × Row) (share : List (List ℕ)) (ns : List (ℕ × Row)) (b : Bool) (works : List ArtifactsMeaning)
-    → slice_get shares n.0 ≡ Some share → IsShare f records n.1 share → ((ws : List ArtifactsMeaning) → Begin f records shares s ns ws) → Begin f records shares s (cond b (n ∷ ns) ns) works
-first-begun f records shares s n share ns false works at is others are ready = others works are ready
+first-begun : (f : Function) (records : List (List ℕ)) (shares : List (List (List ℕ))) (s : Setup) (n : ℕ × Row) (share : List (List ℕ)) (ns : List (ℕ × Row)) (b : Bool) (artifacts : List ArtifactsMeaning)
+    → slice_get shares n.0 ≡ Some share → IsShare f records n.1 share → ((ws : List ArtifactsMeaning) → Begin f records shares s ns ws) → Begin f records shares s (cond b (n ∷ ns) ns) artifacts
+first-begun f records shares s n share ns false artifacts at is others are ready = others artifacts are ready
 first-begun f records shares s n share ns true [] at is others are ready = absurd are
 first-begun f records shares s n share ns true (w ∷ ws) at is others are ready =
     let own = subst (IsShare f records n.1) (same-share (slice_get shares n.0) share w.writer.written at are.0.1) is in
     (begun-task f records n.0 s.item_count n.1 s w are.0.0 own ready.0.0, others ws are.1 ready.1)
 
-none-begun : (f : Function) (records : List (List ℕ)) (shares : List (List (List ℕ))) (s : Setup) (works : List ArtifactsMeaning) → Begin f records shares s [] works
+none-begun : (f : Function) (records : List (List ℕ)) (shares : List (List (List ℕ))) (s : Setup) (artifacts : List ArtifactsMeaning) → Begin f records shares s [] artifacts
 none-begun f records shares s [] are ready = tt
 none-begun f records shares s (w ∷ ws) are ready = absurd are
 
-pub all-begun : (f : Function) (records : List (List ℕ)) (all : List (List (List ℕ))) (s : Setup) (k : ℕ) (rows : List Row) (shares : List (List (List ℕ))) (works : List ArtifactsMeaning)
+pub all-begun : (f : Function) (records : List (List ℕ)) (all : List (List (List ℕ))) (s : Setup) (k : ℕ) (rows : List Row) (shares : List (List (List ℕ))) (artifacts : List ArtifactsMeaning)
     → AreShares f records rows shares → ((i : ℕ) (share : List (List ℕ)) → slice_get shares i ≡ Some share → slice_get all (k + i) ≡ Some share)
-    → Begin f records all s (left-of (enumerate_from k rows)) works
-all-begun f records all s k [] shares works have at are ready = none-begun f records all s works are ready
-all-begun f records all s k (row ∷ rows) [] works have at are ready = absurd have
-all-begun f records all s k (row ∷ rows) (share ∷ shares) works have at are ready =
-    first-begun f records all s (k, row) share (left-of (enumerate_from (k + 1) rows)) (not (is_finished row.state)) works
+    → Begin f records all s (left-of (enumerate_from k rows)) artifacts
+all-begun f records all s k [] shares artifacts have at are ready = none-begun f records all s artifacts are ready
+all-begun f records all s k (row ∷ rows) [] artifacts have at are ready = absurd have
+all-begun f records all s k (row ∷ rows) (share ∷ shares) artifacts have at are ready =
+    first-begun f records all s (k, row) share (left-of (enumerate_from (k + 1) rows)) (not (is_finished row.state)) artifacts
     (let e : k + 0 ≡ k = omega arith in subst (λ m. slice_get all m ≡ Some share) e (at zero share refl)) have.0
     (λ ws. all-begun f records all s (k + 1) rows shares ws have.1 (λ i x get. let e : k + suc i ≡ (k + 1) + i = omega arith in subst (λ m. slice_get all m ≡ Some x) e (at (suc i) x get)))
     are ready
@@ -103,7 +103,7 @@ kept-by law f records s (t ∷ ts) (x ∷ xs) ready have ways = (law f records t
 
 -- each partition has its new share, or the one that it had
 newer-by : (f : Function) (records : List (List ℕ)) (t : TaskState) (b : Bool) (row : Row) (share : List (List ℕ)) → HasResults f records t → IsShare f records row share
-    → IsShare f records (cond b t.row row) (cond b t.work.writer.written share)
+    → IsShare f records (cond b t.row row) (cond b t.artifacts.writer.written share)
 newer-by f records t true row share has is = record { results = has.results; number = has.number; whole = has.whole }
 newer-by f records t false row share has is = is
 
@@ -154,12 +154,12 @@ order-kept law ts now k from to (row ∷ rows) ways order =
 -- ---- A WHOLE RUN
 
 pub shares-kept : ResultsGoOn → PartsStay → BeginsWithTable → BeginsWithRows → StepsKeepResults
-shares-kept law parts begins same f records shares s works ends is fit are ways so-far =
-    let ready = (begins s works is fit).tasks in
-    let ts = first_tasks s works in
-    let begun = all-begun f records shares s 0 s.rows shares works so-far.each (λ i share get. let e : i ≡ 0 + i = omega arith in subst (λ m. slice_get shares m ≡ Some share) e get) are ready in
+shares-kept law parts begins same f records shares s artifacts ends is fit are ways so-far =
+    let ready = (begins s artifacts is fit).tasks in
+    let ts = first_tasks s artifacts in
+    let begun = all-begun f records shares s 0 s.rows shares artifacts so-far.each (λ i share get. let e : i ≡ 0 + i = omega arith in subst (λ m. slice_get shares m ≡ Some share) e get) are ready in
     let have : HaveResults f records ends = kept-by law f records s ts ends ready begun ways in
-    let order : AreRowsInOrder 0 (length records) (rows_now s.rows ts) = subst (AreRowsInOrder 0 (length records)) (sym (same s works fit)) so-far.order in
+    let order : AreRowsInOrder 0 (length records) (rows_now s.rows ts) = subst (AreRowsInOrder 0 (length records)) (sym (same s artifacts fit)) so-far.order in
     record { order = order-kept parts ts ends 0 0 (length records) s.rows ways order; each = newer-all f records ends 0 s.rows shares have so-far.each }
 
 -- ---- A STEP THAT BEGINS ANEW
@@ -202,13 +202,13 @@ begun-anew law f records s shares anew are =
 -- ---- HOW IT ENDS
 
 -- a run of the step leaves its partitions so far, if they were so when it began
-pub led : StepsKeepResults → (f : Function) (records : List (List ℕ)) (shares : List (List (List ℕ))) (r : StepRun) → IsRunOfStep r → AreWorks f r.setup.rules records shares (unfinished r.setup.rows) r.works → DoFit r.setup r.works
+pub led : StepsKeepResults → (f : Function) (records : List (List ℕ)) (shares : List (List (List ℕ))) (r : StepRun) → IsRunOfStep r → AreArtifacts f r.setup.rules records shares (unfinished r.setup.rows) r.artifacts → DoFit r.setup r.artifacts
     → AreOnTheWay (tasks_before r) (tasks_after r) → IsSetup r.setup → IsSoFar f records r.setup.rows shares → IsSoFar f records r.snapshot.rows.items (newer_shares r.left shares)
 led kept f records shares r run are fit ways is so-far =
     let ends = sym run.tasks in
     subst (λ (rows : List Row). IsSoFar f records rows (newer_shares r.left shares)) (sym (run.rows ∙ ap (rows_now r.setup.rows) ends))
     (subst (λ (left : List (ℕ × ArtifactsMeaning)). IsSoFar f records (rows_now r.setup.rows (tasks_after r)) (newer_shares left shares)) (sym (run.came_back ∙ ap artifacts_of ends))
-    (kept f records shares r.setup r.works (tasks_after r) is fit are ways so-far))
+    (kept f records shares r.setup r.artifacts (tasks_after r) is fit are ways so-far))
 
 finished-is : (st : RowState) → not (is_finished st) ≡ false → st ≡ state.Finished
 finished-is state.Waiting e = absurd cc

@@ -18,14 +18,14 @@ use Rattle.jb_step.specs.preparing.Setup.{Setup, first_tasks, needs, rows_now, u
 use Rattle.jb_records.specs.Function.{Function}
 use Rattle.jb_records.specs.Runs.{PartsStay, ResultsGoOn}
 use Rattle.jb_records.specs.Shares.{AreRowsInOrder, IsSoFar, newer_shares}
-use Rattle.jb_records.specs.Steps.{AreWorks, StepsKeepResults}
-use Rattle.jb_records.specs.Stretches.{HasGoneOn, IsStretchMade, RunState, StandsOver, grown, numbers_in, works_in}
+use Rattle.jb_records.specs.Steps.{AreArtifacts, StepsKeepResults}
+use Rattle.jb_records.specs.Stretches.{HasGoneOn, IsStretchMade, RunState, StandsOver, grown, numbers_in, artifacts_in}
 use Rattle.jb_records.specs.inside.Calls.{CanBeginOver}
-use Rattle.jb_records.specs.inside.Kept.{IsGoingOn, IsRanOver, RowsAreSaved, StretchesGoOn, WorksFit, is_done, is_left, news_from}
+use Rattle.jb_records.specs.inside.Kept.{IsGoingOn, IsRanOver, RowsAreSaved, StretchesGoOn, ArtifactsFit, is_done, is_left, news_from}
 use Rattle.jb_records.proofs.Ahead.{GoAhead, IsAhead, rows-ahead}
-use Rattle.jb_records.proofs.Calling.{works-fit}
+use Rattle.jb_records.proofs.Calling.{artifacts-fit}
 use Rattle.jb_records.proofs.Growing.{grown-all, news-length}
-use Rattle.jb_records.proofs.Keeping.{AreDone, all-done, newer-again, newer-parts, works-kept}
+use Rattle.jb_records.proofs.Keeping.{AreDone, all-done, newer-again, newer-parts, artifacts-kept}
 use Rattle.jb_records.proofs.Resuming.{numbered-so, so-far-again}
 use Rattle.jb_records.proofs.Staying.{Stays, left-numbers, numbers-left, rows-stay, same-partitions}
 use Rattle.jb_records.proofs.Steps.{HaveResults, all-begun, first-ruled, kept-by}
@@ -55,8 +55,8 @@ can-go-on f records rows shares so = record {
   numbered = numbered-so f records rows shares so.each;
 }
 
-pub works-do-fit : WorksFit
-works-do-fit f records s stands = works-fit f s.setup.rules records s.setup s.shares (works_in s.works) (can-go-on f records s.setup.rows s.shares stands.so_far) stands.works
+pub artifacts-do-fit : ArtifactsFit
+artifacts-do-fit f records s stands = artifacts-fit f s.setup.rules records s.setup s.shares (artifacts_in s.artifacts) (can-go-on f records s.setup.rows s.shares stands.so_far) stands.artifacts
 
 -- ---- ITS ROWS CAN BE SAVED
 
@@ -81,42 +81,42 @@ none-past from to (row ∷ rows) order =
 
 module _ (going : ResultsGoOn) (parts : PartsStay) (begins : BeginsWithTable) (same : BeginsWithRows) (kept : StepsKeepResults) (ahead : GoAhead) where
   module _ (f : Function) (records : List (List ℕ)) (before : RunState) (rounds : Option ℕ) (snapshot : Snapshot) (left : List (ℕ × ArtifactsMeaning))
-      (stands : StandsOver f records before) (ran : IsRanOver before.setup (works_in before.works) rounds snapshot left) where
+      (stands : StandsOver f records before) (ran : IsRanOver before.setup (artifacts_in before.artifacts) rounds snapshot left) where
     abbrev first : List TaskState
-    first = first_tasks before.setup (works_in before.works)
+    first = first_tasks before.setup (artifacts_in before.artifacts)
 
     abbrev now : List TaskState
     now = tasks_left first snapshot.rows.items left
 
     ready : AreTasksOf before.setup first
-    ready = (begins before.setup (works_in before.works) stands.setup ran.fit).tasks
+    ready = (begins before.setup (artifacts_in before.artifacts) stands.setup ran.fit).tasks
 
     have : HaveResults f records now
     have =
         kept-by going f records before.setup first now ready
-        (all-begun f records before.shares before.setup 0 before.setup.rows before.shares (works_in before.works) stands.so_far.each
-        (λ i share get. let e : i ≡ 0 + i = omega arith in subst (λ m. slice_get before.shares m ≡ Some share) e get) stands.works ready)
+        (all-begun f records before.shares before.setup 0 before.setup.rows before.shares (artifacts_in before.artifacts) stands.so_far.each
+        (λ i share get. let e : i ≡ 0 + i = omega arith in subst (λ m. slice_get before.shares m ≡ Some share) e get) stands.artifacts ready)
         ran.ways
 
     so-far : IsSoFar f records snapshot.rows.items (newer_shares left before.shares)
     so-far =
         subst (λ (rows : List Row). IsSoFar f records rows (newer_shares left before.shares)) (sym ran.rows)
         (subst (λ (ls : List (ℕ × ArtifactsMeaning)). IsSoFar f records (rows_now before.setup.rows now) (newer_shares ls before.shares)) (sym ran.came_back)
-        (kept f records before.shares before.setup (works_in before.works) now stands.setup ran.fit stands.works ran.ways stands.so_far))
+        (kept f records before.shares before.setup (artifacts_in before.artifacts) now stands.setup ran.fit stands.artifacts ran.ways stands.so_far))
 
     done : AreDone f records before.setup snapshot.rows.items now
-    done = all-done f records before.setup snapshot.rows.items left first (first-ruled before.setup (unfinished before.setup.rows) (works_in before.works)) have
+    done = all-done f records before.setup snapshot.rows.items left first (first-ruled before.setup (unfinished before.setup.rows) (artifacts_in before.artifacts)) have
 
     named : numbers_in (artifacts_of now) ≡ needs before.setup.rows
     named =
         numbers-left now
         ∙ same-partitions parts first now ran.ways
-        ∙ (begins before.setup (works_in before.works) stands.setup ran.fit).partitions
+        ∙ (begins before.setup (artifacts_in before.artifacts) stands.setup ran.fit).partitions
 
     aheads : Pairwise IsAhead before.setup.rows snapshot.rows.items
     aheads =
         subst (Pairwise IsAhead before.setup.rows) (sym ran.rows)
-        (subst (λ (rows : List Row). Pairwise IsAhead rows (rows_now before.setup.rows now)) (same before.setup (works_in before.works) ran.fit)
+        (subst (λ (rows : List Row). Pairwise IsAhead rows (rows_now before.setup.rows now)) (same before.setup (artifacts_in before.artifacts) ran.fit)
         (rows-ahead ahead parts before.setup first now 0 before.setup.rows ready ran.ways))
 
     stay : Pairwise Stays before.setup.rows snapshot.rows.items
@@ -131,7 +131,7 @@ module _ (going : ResultsGoOn) (parts : PartsStay) (begins : BeginsWithTable) (s
       subst (λ n. ends_past n snapshot.rows.items ≡ false) (sym stands.number) (none-past 0 (length records) snapshot.rows.items so-far.order),
     )
 
-    module _ (after : RunState) (results : List (List (List ℕ))) (held : before.shares ≡ newer_shares before.works results)
+    module _ (after : RunState) (results : List (List (List ℕ))) (held : before.shares ≡ newer_shares before.artifacts results)
         (on : IsGoingOn before.step before.records before.setup.rules snapshot.rows.items (filter (is_left snapshot.rows.items) left) (newer_shares (filter (is_done snapshot.rows.items) left) results) after) where
       abbrev rows : List Row
       rows = snapshot.rows.items
@@ -141,16 +141,16 @@ module _ (going : ResultsGoOn) (parts : PartsStay) (begins : BeginsWithTable) (s
       shares-now =
           on.shares_are
           ∙ newer-parts rows left results
-          ∙ sym (newer-again left before.works results (ap numbers_in ran.came_back ∙ named ∙ sym stands.partitions))
+          ∙ sym (newer-again left before.artifacts results (ap numbers_in ran.came_back ∙ named ∙ sym stands.partitions))
           ∙ ap (newer_shares left) (sym held)
 
       so-far-now : IsSoFar f records rows after.shares
       so-far-now = subst (IsSoFar f records rows) (sym shares-now) so-far
 
-      kept-works : (numbers_in (filter (is_left rows) left) ≡ left-numbers 0 (map restarted rows)) × AreWorks f before.setup.rules records after.shares (unfinished (map restarted rows)) (works_in (filter (is_left rows) left))
-      kept-works =
-          subst (λ (ls : List (ℕ × ArtifactsMeaning)). (numbers_in (filter (is_left rows) ls) ≡ left-numbers 0 (map restarted rows)) × AreWorks f before.setup.rules records after.shares (unfinished (map restarted rows)) (works_in (filter (is_left rows) ls))) (sym ran.came_back)
-          (works-kept f records before.setup rows after.shares 0 before.setup.rows rows after.shares now named stay so-far-now.each (here rows) (here after.shares) done)
+      kept-artifacts : (numbers_in (filter (is_left rows) left) ≡ left-numbers 0 (map restarted rows)) × AreArtifacts f before.setup.rules records after.shares (unfinished (map restarted rows)) (artifacts_in (filter (is_left rows) left))
+      kept-artifacts =
+          subst (λ (ls : List (ℕ × ArtifactsMeaning)). (numbers_in (filter (is_left rows) ls) ≡ left-numbers 0 (map restarted rows)) × AreArtifacts f before.setup.rules records after.shares (unfinished (map restarted rows)) (artifacts_in (filter (is_left rows) ls))) (sym ran.came_back)
+          (artifacts-kept f records before.setup rows after.shares 0 before.setup.rows rows after.shares now named stay so-far-now.each (here rows) (here after.shares) done)
 
       abbrev held-rows : SavedRows
       held-rows = record { step = before.step; rows = rows }
@@ -160,10 +160,10 @@ module _ (going : ResultsGoOn) (parts : PartsStay) (begins : BeginsWithTable) (s
         number = on.number ∙ stands.number;
         setup = on.setup;
         so_far = subst (λ (rs : List Row). IsSoFar f records rs after.shares) (sym on.rows_are) (so-far-again f records held-rows after.shares so-far-now);
-        partitions = ap numbers_in on.works_are ∙ kept-works.0 ∙ sym (ap needs on.rows_are);
-        works = subst (λ (ws : List (ℕ × ArtifactsMeaning)). AreWorks f after.setup.rules records after.shares (unfinished after.setup.rows) (works_in ws)) (sym on.works_are)
-            (subst (λ (rs : List Row). AreWorks f after.setup.rules records after.shares (unfinished rs) (works_in (filter (is_left rows) left))) (sym on.rows_are)
-            (subst (λ (rules : RulesRecord). AreWorks f rules records after.shares (unfinished (rows_restarted held-rows)) (works_in (filter (is_left rows) left))) (sym on.rules_are) kept-works.1));
+        partitions = ap numbers_in on.artifacts_are ∙ kept-artifacts.0 ∙ sym (ap needs on.rows_are);
+        artifacts = subst (λ (ws : List (ℕ × ArtifactsMeaning)). AreArtifacts f after.setup.rules records after.shares (unfinished after.setup.rows) (artifacts_in ws)) (sym on.artifacts_are)
+            (subst (λ (rs : List Row). AreArtifacts f after.setup.rules records after.shares (unfinished rs) (artifacts_in (filter (is_left rows) left))) (sym on.rows_are)
+            (subst (λ (rules : RulesRecord). AreArtifacts f rules records after.shares (unfinished (rows_restarted held-rows)) (artifacts_in (filter (is_left rows) left))) (sym on.rules_are) kept-artifacts.1));
       }
 
       gone-on : HasGoneOn f records before after rows (news_from 0 (map (λ row. row.written) before.setup.rows) left)
@@ -196,32 +196,32 @@ module _ (going : ResultsGoOn) (parts : PartsStay) (begins : BeginsWithTable) (s
 -- ---- FROM CALL TO CALL
 
 -- the run that was made, of the same works
-pub ran-same : (s : Setup) (works same : List ArtifactsMeaning) (rounds : Option ℕ) (snapshot : Snapshot) (left : List (ℕ × ArtifactsMeaning)) → works ≡ same → IsRanOver s works rounds snapshot left → IsRanOver s same rounds snapshot left
-ran-same s works same rounds snapshot left is ran = subst (λ (ws : List ArtifactsMeaning). IsRanOver s ws rounds snapshot left) is ran
+pub ran-same : (s : Setup) (artifacts same : List ArtifactsMeaning) (rounds : Option ℕ) (snapshot : Snapshot) (left : List (ℕ × ArtifactsMeaning)) → artifacts ≡ same → IsRanOver s artifacts rounds snapshot left → IsRanOver s same rounds snapshot left
+ran-same s artifacts same rounds snapshot left is ran = subst (λ (ws : List ArtifactsMeaning). IsRanOver s ws rounds snapshot left) is ran
 
 pub goes-on : StretchesGoOn → (f : Function) (records : List (List ℕ)) (before after : RunState) (results : List (List (List ℕ))) (rounds : Option ℕ) (snapshot : Snapshot) (shown : List Row) (left brought finished others : List (ℕ × ArtifactsMeaning))
-    → (works : List ArtifactsMeaning) (put news : List (List (List ℕ))) (told : List ℕ) (rules : RulesRecord) → StandsOver f records before → before.shares ≡ newer_shares before.works results → works ≡ works_in before.works
-    → IsRanOver before.setup works rounds snapshot left → rules ≡ before.setup.rules → shown ≡ snapshot.rows.items → finished ≡ filter (is_done shown) left → others ≡ filter (is_left shown) left → put ≡ newer_shares finished results
+    → (artifacts : List ArtifactsMeaning) (put news : List (List (List ℕ))) (told : List ℕ) (rules : RulesRecord) → StandsOver f records before → before.shares ≡ newer_shares before.artifacts results → artifacts ≡ artifacts_in before.artifacts
+    → IsRanOver before.setup artifacts rounds snapshot left → rules ≡ before.setup.rules → shown ≡ snapshot.rows.items → finished ≡ filter (is_done shown) left → others ≡ filter (is_left shown) left → put ≡ newer_shares finished results
     → IsGoingOn before.step before.records rules snapshot.rows.items others put after → told ≡ map (λ row. row.written) before.setup.rows → brought ≡ left → news ≡ news_from 0 told brought
     → HasGoneOn f records before after snapshot.rows.items news
-goes-on law f records before after results rounds snapshot shown left brought finished others works put news told rules stands held own ran ruled same done kept is on was back new =
+goes-on law f records before after results rounds snapshot shown left brought finished others artifacts put news told rules stands held own ran ruled same done kept is on was back new =
     let ends = snapshot.rows.items in
     let shares : put ≡ newer_shares (filter (is_done ends) left) results =
     is ∙ ap (λ (l : List (ℕ × ArtifactsMeaning)). newer_shares l results) (done ∙ ap (λ (rs : List Row). filter (is_done rs) left) same) in
     let step = subst (λ (r : RulesRecord). IsGoingOn before.step before.records r ends others put after) ruled on in
     let next = subst (λ (l : List (ℕ × ArtifactsMeaning)). IsGoingOn before.step before.records before.setup.rules ends l put after) (kept ∙ ap (λ (rs : List Row). filter (is_left rs) left) same) step in
     let last = subst (λ (x : List (List (List ℕ))). IsGoingOn before.step before.records before.setup.rules ends (filter (is_left ends) left) x after) shares next in
-    let gone = law f records before after results rounds snapshot left stands held (ran-same before.setup works (works_in before.works) rounds snapshot left own ran) last in
+    let gone = law f records before after results rounds snapshot left stands held (ran-same before.setup artifacts (artifacts_in before.artifacts) rounds snapshot left own ran) last in
     let told-is : news ≡ news_from 0 (map (λ row. row.written) before.setup.rows) left = new ∙ ap (news_from 0 told) back ∙ ap (λ (t : List ℕ). news_from 0 t left) was in
     subst (HasGoneOn f records before after ends) (sym told-is) gone
 
-pub made-of : (before after : RunState) (rounds : Option ℕ) (snapshot : Snapshot) (left others : List (ℕ × ArtifactsMeaning)) (works : List ArtifactsMeaning) (put : List (List (List ℕ))) (rules : RulesRecord)
-    → works ≡ works_in before.works → IsRanOver before.setup works rounds snapshot left → IsGoingOn before.step before.records rules snapshot.rows.items others put after → IsStretchMade rounds before snapshot after
-made-of before after rounds snapshot left others works put rules own ran on = record {
+pub made-of : (before after : RunState) (rounds : Option ℕ) (snapshot : Snapshot) (left others : List (ℕ × ArtifactsMeaning)) (artifacts : List ArtifactsMeaning) (put : List (List (List ℕ))) (rules : RulesRecord)
+    → artifacts ≡ artifacts_in before.artifacts → IsRanOver before.setup artifacts rounds snapshot left → IsGoingOn before.step before.records rules snapshot.rows.items others put after → IsStretchMade rounds before snapshot after
+made-of before after rounds snapshot left others artifacts put rules own ran on = record {
   run = ran.run;
   setup = ran.setup;
   rounds_are = ran.rounds_are;
-  works = ran.works_are ∙ own;
+  artifacts = ran.artifacts_are ∙ own;
   answered = ran.answered;
   headline = ran.headline;
   on_the_way = ran.on_the_way;

@@ -8,7 +8,7 @@ use Rattle.jb_artifacts.specs.declared.faults.FaultPlan.{FaultPlan}
 use Rattle.jb_artifacts.specs.declared.faults.FaultPlan.TheVariants.{Shaky, Sound}
 use Rattle.jb_artifacts.specs.Faults.{FaultTable, with_plan}
 use Rattle.jb_records.specs.Function.{Function}
-use Rattle.jb_records.specs.Works.{AreNeverSkipped, IsNeverSkipped, is_among, plan_of, record_of, tries_plan}
+use Rattle.jb_records.specs.Artifacts.{AreNeverSkipped, IsNeverSkipped, is_among, plan_of, record_of, tries_plan}
 
 -- the tries at the first `count` records
 abbrev pub tries-of : Function → (first : ℕ) → (records : List (List ℕ)) → (count : ℕ) → FaultTable

@@ -18,7 +18,7 @@ use Rattle.jb_records.specs.declared.step.RecordsStep.{RecordsStep}
 use Rattle.jb_records.specs.Function.{Function}
 use Rattle.jb_records.specs.Made.{even_partitions}
 use Rattle.jb_records.specs.Shares.{AreNumbered, joined}
-use Rattle.jb_records.specs.Works.{AreNeverSkipped, record_of}
+use Rattle.jb_records.specs.Artifacts.{AreNeverSkipped, record_of}
 
 -- some first try at one of these records, the first of which has the number `first`, is to fail with a class that may be skipped
 pub record HasSkippedTry (f : Function) (rules : RulesRecord) (first : ℕ) (records : List (List ℕ)) : Type 0 where

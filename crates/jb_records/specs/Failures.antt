@@ -8,7 +8,7 @@ use Rattle.jb_rules.specs.declared.row.Row.{Row}
 use Rattle.jb_rules.specs.States.{is_failed}
 use Rattle.jb_records.specs.declared.failures.Failure.{Failure}
 use Rattle.jb_records.specs.Function.{Function}
-use Rattle.jb_records.specs.Works.{record_of}
+use Rattle.jb_records.specs.Artifacts.{record_of}
 
 -- the partitions that failed, rising, with their rows
 abbrev pub failed_rows : List Row → List (ℕ × Row)

@@ -9,5 +9,5 @@ pub mod Shares
 pub mod Skips
 pub mod Steps
 pub mod Stretches
-pub mod Works
+pub mod Artifacts
 pub mod inside

@@ -16,7 +16,7 @@ use Rattle.jb_step.specs.restarts.StepRuns.{IsAnswered}
 use Rattle.jb_records.specs.declared.step.RecordsStep.{RecordsStep}
 use Rattle.jb_records.specs.Function.{Function}
 use Rattle.jb_records.specs.Shares.{AreNumbered, joined, newer_shares}
-use Rattle.jb_records.specs.Steps.{AreFirstWorks}
+use Rattle.jb_records.specs.Steps.{AreFirstArtifacts}
 
 -- ---- HOW IT BEGINS
 
@@ -60,7 +60,7 @@ pub record IsRunMade (f : Function) (records : List (List ℕ)) (rounds : Option
   pub run : StepRun
   pub setup : run.setup ≡ s
   pub rounds_are : run.round_limit ≡ rounds
-  pub works : AreFirstWorks f s.rules records shares (unfinished s.rows) run.works
+  pub artifacts : AreFirstArtifacts f s.rules records shares (unfinished s.rows) run.artifacts
   pub answered : IsAnswered run
   pub headline : Headline run
   pub on_the_way : AreOnTheWay (tasks_before run) (tasks_after run)

@@ -4,15 +4,15 @@ use Rattle.jb_rules.specs.declared.row.RowState.TheVariants.{Finished}
 use Rattle.jb_chunk.specs.Alone.{IsOnTheWay}
 use Rattle.jb_chunk.specs.Standing.{IsReady, TaskState}
 use Rattle.jb_records.specs.Function.{Function}
-use Rattle.jb_records.specs.Works.{IsWork, own_records, results_between}
+use Rattle.jb_records.specs.Artifacts.{IsArtifactsOver, own_records, results_between}
 
 -- the partition has its range's records, and the results of those before its checkpoint: each once, in order
 pub record HasResults (f : Function) (records : List (List ℕ)) (t : TaskState) : Type 0 where
-  pub work : IsWork f t.rules t.row.lo (own_records records t.row) t.work
+  pub artifacts : IsArtifactsOver f t.rules t.row.lo (own_records records t.row) t.artifacts
   pub from : t.row.lo ≤ t.row.at
   pub served : t.row.hi ≤ t.row.lo + length (own_records records t.row)
-  pub results : t.work.writer.written ≡ results_between f t.row.lo (own_records records t.row) t.row.lo t.row.at
-  pub number : length t.work.writer.written ≡ t.row.written
+  pub results : t.artifacts.writer.written ≡ results_between f t.row.lo (own_records records t.row) t.row.lo t.row.at
+  pub number : length t.artifacts.writer.written ≡ t.row.written
   pub whole : t.row.state ≡ Finished → t.row.at ≡ t.row.hi
 
 -- wherever its attempts lead, it has the results of the records before its checkpoint

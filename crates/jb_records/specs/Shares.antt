@@ -8,7 +8,7 @@ use Rattle.jb_rules.specs.declared.row.Row.{Row}
 use Rattle.jb_rules.specs.declared.row.RowState.TheVariants.{Finished}
 use Rattle.jb_step.specs.preparing.Setup.{fresh_rows}
 use Rattle.jb_records.specs.Function.{Function, all_results}
-use Rattle.jb_records.specs.Works.{own_records, results_between}
+use Rattle.jb_records.specs.Artifacts.{own_records, results_between}
 
 -- the results of a partition's records before its checkpoint
 abbrev pub results_so_far : Function → (records : List (List ℕ)) → Row → List (List ℕ)

@@ -12,8 +12,8 @@ use Rattle.jb_step.specs.preparing.Prepare.{DoFit}
 use Rattle.jb_step.specs.preparing.Setup.{IsSetup, Setup, first_tasks, fresh_rows, rows_now, unfinished}
 use Rattle.jb_records.specs.Function.{Function}
 use Rattle.jb_records.specs.Shares.{IsSoFar}
-use Rattle.jb_records.specs.Steps.{AreWorks}
-use Rattle.jb_records.specs.Works.{record_of}
+use Rattle.jb_records.specs.Steps.{AreArtifacts}
+use Rattle.jb_records.specs.Artifacts.{record_of}
 
 -- the record of this number can't be read, with this class, if there is one
 abbrev pub skip_by : (number : ℕ) → (refusal : Option ClassId) → Option Note
@@ -40,8 +40,8 @@ AreCounted f records rows = AllByRecursion (AreSkipsCounted f records) rows
 -- THE LAW: where a run of the step left its partitions, its rows count the skipped records, if they did when it began
 abbrev pub SkipsAreCounted : Type 0
 SkipsAreCounted =
-    (f : Function) (records : List (List ℕ)) (shares : List (List (List ℕ))) (s : Setup) (works : List ArtifactsMeaning) (ends : List TaskState)
-    → IsSetup s → DoFit s works → AreWorks f s.rules records shares (unfinished s.rows) works → AreOnTheWay (first_tasks s works) ends
+    (f : Function) (records : List (List ℕ)) (shares : List (List (List ℕ))) (s : Setup) (artifacts : List ArtifactsMeaning) (ends : List TaskState)
+    → IsSetup s → DoFit s artifacts → AreArtifacts f s.rules records shares (unfinished s.rows) artifacts → AreOnTheWay (first_tasks s artifacts) ends
     → IsSoFar f records s.rows shares → AreCounted f records s.rows → AreCounted f records (rows_now s.rows ends)
 
 -- and new rows do

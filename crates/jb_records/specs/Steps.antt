@@ -12,28 +12,28 @@ use Rattle.jb_step.specs.preparing.Setup.{IsSetup, Setup, first_tasks, fresh_row
 use Rattle.jb_step.specs.Alone.{AreOnTheWay}
 use Rattle.jb_records.specs.Function.{Function}
 use Rattle.jb_records.specs.Shares.{AreRangesOf, IsSoFar, newer_shares}
-use Rattle.jb_records.specs.Works.{IsFirstWork, IsWork, own_records}
+use Rattle.jb_records.specs.Artifacts.{IsFirstArtifactsOver, IsArtifactsOver, own_records}
 
 -- ---- how the partitions begin
 
 -- the unfinished partition works with its own records, and its writer holds its share
-abbrev pub IsWorkFor : Function → RulesRecord → (records : List (List ℕ)) → (shares : List (List (List ℕ))) → ℕ × Row → ArtifactsMeaning → Type 0
-IsWorkFor f rules records shares n w = IsWork f rules n.1.lo (own_records records n.1) w × (slice_get shares n.0 ≡ Some w.writer.written)
+abbrev pub IsArtifactsFor : Function → RulesRecord → (records : List (List ℕ)) → (shares : List (List (List ℕ))) → ℕ × Row → ArtifactsMeaning → Type 0
+IsArtifactsFor f rules records shares n w = IsArtifactsOver f rules n.1.lo (own_records records n.1) w × (slice_get shares n.0 ≡ Some w.writer.written)
 
-abbrev pub AreWorks : Function → RulesRecord → (records : List (List ℕ)) → (shares : List (List (List ℕ))) → List (ℕ × Row) → List ArtifactsMeaning → Type 0
-AreWorks f rules records shares ns ws = Pairwise (IsWorkFor f rules records shares) ns ws
+abbrev pub AreArtifacts : Function → RulesRecord → (records : List (List ℕ)) → (shares : List (List (List ℕ))) → List (ℕ × Row) → List ArtifactsMeaning → Type 0
+AreArtifacts f rules records shares ns ws = Pairwise (IsArtifactsFor f rules records shares) ns ws
 
 -- and it begins with the first tries that the function has for its records
-abbrev pub IsFirstWorkFor : Function → RulesRecord → (records : List (List ℕ)) → (shares : List (List (List ℕ))) → ℕ × Row → ArtifactsMeaning → Type 0
-IsFirstWorkFor f rules records shares n w = IsFirstWork f rules n.1.lo (own_records records n.1) w × (slice_get shares n.0 ≡ Some w.writer.written)
+abbrev pub IsFirstArtifactsFor : Function → RulesRecord → (records : List (List ℕ)) → (shares : List (List (List ℕ))) → ℕ × Row → ArtifactsMeaning → Type 0
+IsFirstArtifactsFor f rules records shares n w = IsFirstArtifactsOver f rules n.1.lo (own_records records n.1) w × (slice_get shares n.0 ≡ Some w.writer.written)
 
-abbrev pub AreFirstWorks : Function → RulesRecord → (records : List (List ℕ)) → (shares : List (List (List ℕ))) → List (ℕ × Row) → List ArtifactsMeaning → Type 0
-AreFirstWorks f rules records shares ns ws = Pairwise (IsFirstWorkFor f rules records shares) ns ws
+abbrev pub AreFirstArtifacts : Function → RulesRecord → (records : List (List ℕ)) → (shares : List (List (List ℕ))) → List (ℕ × Row) → List ArtifactsMeaning → Type 0
+AreFirstArtifacts f rules records shares ns ws = Pairwise (IsFirstArtifactsFor f rules records shares) ns ws
 
 -- the same of partitions that are named by their numbers
-abbrev pub AreWorksOf : Function → RulesRecord → (records : List (List ℕ)) → (shares : List (List (List ℕ))) → List Row → (partitions : List ℕ) → List ArtifactsMeaning → Type 0
-AreWorksOf f rules records shares rows ps ws =
-    Pairwise (λ (p : ℕ) (w : ArtifactsMeaning). ((row : Row) → slice_get rows p ≡ Some row → IsFirstWork f rules row.lo (own_records records row) w)
+abbrev pub AreArtifactsOf : Function → RulesRecord → (records : List (List ℕ)) → (shares : List (List (List ℕ))) → List Row → (partitions : List ℕ) → List ArtifactsMeaning → Type 0
+AreArtifactsOf f rules records shares rows ps ws =
+    Pairwise (λ (p : ℕ) (w : ArtifactsMeaning). ((row : Row) → slice_get rows p ≡ Some row → IsFirstArtifactsOver f rules row.lo (own_records records row) w)
     × (slice_get shares p ≡ Some w.writer.written)) ps ws
 
 -- the step begins anew, with ranges that are those of so many records in their order
@@ -45,6 +45,6 @@ pub record BeginsAnew (records : ℕ) (s : Setup) : Type 0 where
 -- THE LAW: where a run of the step left its partitions, they are so far as its rows say, if they were so when it began
 abbrev pub StepsKeepResults : Type 0
 StepsKeepResults =
-    (f : Function) (records : List (List ℕ)) (shares : List (List (List ℕ))) (s : Setup) (works : List ArtifactsMeaning) (ends : List TaskState)
-    → IsSetup s → DoFit s works → AreWorks f s.rules records shares (unfinished s.rows) works → AreOnTheWay (first_tasks s works) ends
+    (f : Function) (records : List (List ℕ)) (shares : List (List (List ℕ))) (s : Setup) (artifacts : List ArtifactsMeaning) (ends : List TaskState)
+    → IsSetup s → DoFit s artifacts → AreArtifacts f s.rules records shares (unfinished s.rows) artifacts → AreOnTheWay (first_tasks s artifacts) ends
     → IsSoFar f records s.rows shares → IsSoFar f records (rows_now s.rows ends) (newer_shares (artifacts_of ends) shares)

@@ -18,7 +18,7 @@ use Rattle.jb_records.specs.declared.error.RecordsStepError.{RecordsStepError}
 use Rattle.jb_records.specs.declared.error.RecordsStepError.TheVariants.{Memory, Step}
 use Rattle.jb_records.specs.Function.{Function}
 use Rattle.jb_records.specs.Shares.{AreNumbered, AreAtTheirEnds, IsSoFar, joined}
-use Rattle.jb_records.specs.Steps.{AreWorks}
+use Rattle.jb_records.specs.Steps.{AreArtifacts}
 
 -- ---- WHERE A RUN STANDS
 
@@ -28,15 +28,15 @@ pub record RunState : Type 0 where
   pub step : List ℕ
   pub records : ℕ
   pub setup : Setup
-  pub works : List (ℕ × ArtifactsMeaning)
+  pub artifacts : List (ℕ × ArtifactsMeaning)
   pub shares : List (List (List ℕ))
 
 -- the numbers of the partitions, and what they work with
 abbrev pub numbers_in : List (ℕ × ArtifactsMeaning) → List ℕ
-numbers_in works = map (λ a. a.0) works
+numbers_in artifacts = map (λ a. a.0) artifacts
 
-abbrev pub works_in : List (ℕ × ArtifactsMeaning) → List ArtifactsMeaning
-works_in works = map (λ a. a.1) works
+abbrev pub artifacts_in : List (ℕ × ArtifactsMeaning) → List ArtifactsMeaning
+artifacts_in artifacts = map (λ a. a.1) artifacts
 
 -- THE RUN STANDS OVER THESE RECORDS: it is as far as its rows say, and each unfinished partition works with its own records, its
 -- share in its writer
@@ -44,8 +44,8 @@ pub record StandsOver (f : Function) (records : List (List ℕ)) (s : RunState) 
   pub number : s.records ≡ length records
   pub setup : IsSetup s.setup
   pub so_far : IsSoFar f records s.setup.rows s.shares
-  pub partitions : numbers_in s.works ≡ needs s.setup.rows
-  pub works : AreWorks f s.setup.rules records s.shares (unfinished s.setup.rows) (works_in s.works)
+  pub partitions : numbers_in s.artifacts ≡ needs s.setup.rows
+  pub artifacts : AreArtifacts f s.setup.rules records s.shares (unfinished s.setup.rows) (artifacts_in s.artifacts)
 
 -- ---- HOW IT BEGINS
 
@@ -86,7 +86,7 @@ pub record IsStretchMade (rounds : Option ℕ) (before : RunState) (snapshot : S
   pub run : StepRun
   pub setup : run.setup ≡ before.setup
   pub rounds_are : run.round_limit ≡ rounds
-  pub works : run.works ≡ works_in before.works
+  pub artifacts : run.artifacts ≡ artifacts_in before.artifacts
   pub answered : IsAnswered run
   pub headline : Headline run
   pub on_the_way : AreOnTheWay (tasks_before run) (tasks_after run)

@@ -6,8 +6,8 @@ ghost use Rattle.jb_base.specs.Pairwise.{Pairwise};
 ghost use Rattle.jb_rules.specs.States.{is_failed};
 ghost use Rattle.jb_records.specs.Failures.{AreFailures, IsFailure, IsFaultIn, IsFaultOf};
 
+use crate::artifacts::RecordsArtifacts;
 use crate::function::RecordFunction;
-use crate::works::RecordsArtifacts;
 use jb_artifacts::record_of;
 use jb_base::{ClassId, PackedList};
 use jb_ready::Note;
@@ -34,10 +34,10 @@ fn later_of(read: Option<&Note>, tried: Option<&Note>) -> Option<Note> {
 
 /// The fault that the partition of this number met last, if all of its faults were noted.
 fn noted_of<F: RecordFunction>(
-    works: &[(u32, RecordsArtifacts<F>)],
+    artifacts: &[(u32, RecordsArtifacts<F>)],
     partition: u32,
 ) -> Option<Note> {
-    for one in works {
+    for one in artifacts {
         if one.0 == partition {
             let artifacts = &one.1.artifacts().inner;
             let (reads, tries) = (&artifacts.reader.notes, &artifacts.processor.notes);
@@ -104,7 +104,7 @@ fn failures_from<F: RecordFunction>(
     records: &PackedList,
     partition: u32,
     rows: &[Row],
-    works: &[(u32, RecordsArtifacts<F>)],
+    artifacts: &[(u32, RecordsArtifacts<F>)],
 ) -> Result<Vec<Failure>, AllocError>
     requires { partition + length rows.now < 2 ^ 32 }
     ensures { IfOk result (λ failures. Pairwise (IsFailure (F.function function.now) records.now)
@@ -113,9 +113,15 @@ fn failures_from<F: RecordFunction>(
     let Some((row, others)) = rows.split_first() else {
         return Ok(Vec::new(alloc));
     };
-    let mut failures = failures_from(alloc, function, records, partition + 1, others, works)?;
+    let mut failures = failures_from(alloc, function, records, partition + 1, others, artifacts)?;
     if row.state.is_failed() {
-        let fault = fault_in(alloc, function, records, row, noted_of(works, partition))?;
+        let fault = fault_in(
+            alloc,
+            function,
+            records,
+            row,
+            noted_of(artifacts, partition),
+        )?;
         failures.insert(0, Failure { partition, fault })?;
     }
     Ok(failures)
@@ -127,10 +133,10 @@ pub(crate) fn failures_of<F: RecordFunction>(
     function: &F,
     records: &PackedList,
     rows: &[Row],
-    works: &[(u32, RecordsArtifacts<F>)],
+    artifacts: &[(u32, RecordsArtifacts<F>)],
 ) -> Result<Vec<Failure>, AllocError>
     requires { length rows.now < 2 ^ 32 }
     ensures { IfOk result (λ failures. AreFailures (F.function function.now) records.now rows.now failures.items) }
 {
-    failures_from(alloc, function, records, 0, rows, works)
+    failures_from(alloc, function, records, 0, rows, artifacts)
 }

@@ -18,6 +18,7 @@ ghost use Rattle.jb_records.specs.Shares.{AreNumbered, IsSoFar, joined};
 ghost use Rattle.jb_records.specs.Skips.{AreCounted};
 ghost use Rattle.jb_records.specs.Steps.{BeginsAnew};
 
+use crate::artifacts::{RecordsArtifacts, all_artifacts};
 use crate::end::RecordsEnd;
 use crate::error::RecordsStepError;
 use crate::failures::failures_of;
@@ -25,7 +26,6 @@ use crate::function::RecordFunction;
 use crate::laws::{skips_are_counted, steps_keep_results};
 use crate::shares::{are_numbered, put_back, shares_of};
 use crate::step::RecordsStep;
-use crate::works::{RecordsArtifacts, all_works};
 use jb_base::{MAX_RECORDS, Name, PackedList, Rules};
 use jb_chunk::Task;
 use jb_collect::{FaultlessAnalyzer, FaultlessReducer};
@@ -155,10 +155,10 @@ impl RecordsJob {
             reducer,
         } = self;
         let function = Arc::new(alloc, function)?;
-        let works = all_works(alloc, &function, &rules, records, &prepared, &results)?;
+        let artifacts = all_artifacts(alloc, &function, &rules, records, &prepared, &results)?;
         let analyzer = FaultlessAnalyzer::new(alloc);
         let (end, _, _) = run_pooled_step::<Task<RecordsArtifacts<F>>, L, NoGate, R>(
-            rt, alloc, desk, prepared, works, analyzer, reducer, rounds, &NoGate,
+            rt, alloc, desk, prepared, artifacts, analyzer, reducer, rounds, &NoGate,
         );
         let end = end?;
         let StepEnd {

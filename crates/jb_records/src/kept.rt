@@ -16,13 +16,13 @@ ghost use Rattle.jb_records.specs.Stretches.{BeginsBehind, BeginsEmpty, RunState
 ghost use Rattle.jb_records.specs.inside.Calls.{CanBeginOver, IsTryRefused};
 ghost use Rattle.jb_records.specs.inside.Kept.{IsKept};
 
+use crate::artifacts::{RecordsArtifacts, all_artifacts};
 use crate::error::RecordsStepError;
 use crate::function::RecordFunction;
 use crate::job::RecordsJob;
 use crate::shares::put_back;
 use crate::step::RecordsStep;
 use crate::stretch_end::numbered;
-use crate::works::{RecordsArtifacts, all_works};
 use jb_artifacts::Meaning;
 use jb_base::PackedList;
 use jb_collect::FaultlessReducer;
@@ -45,7 +45,7 @@ pub struct RecordsRun<F> {
     pub(crate) reducer: FaultlessReducer,
     /// Those of the finished partitions; what an unfinished one has is in its writer.
     pub(crate) results: Vec<PackedList>,
-    pub(crate) works: Vec<(u32, RecordsArtifacts<F>)>,
+    pub(crate) artifacts: Vec<(u32, RecordsArtifacts<F>)>,
     ghost few: { count ≤ max_records },
     ghost runnable: { IsRunnable count (even_partitions step count) },
     ghost few_rows: { length prepared.rows ≤ max_partitions },
@@ -57,8 +57,8 @@ impl<F: RecordFunction + Drop> Standing for RecordsRun<F> {
       step = run.step.id;
       records = run.count;
       setup = run.prepared;
-      works = given_back ⟦<RecordsArtifacts<F> as Meaning>⟧.meaning run.works.items;
-      shares = newer_shares (given_back ⟦<RecordsArtifacts<F> as Meaning>⟧.meaning run.works.items) run.results.items;
+      artifacts = given_back ⟦<RecordsArtifacts<F> as Meaning>⟧.meaning run.artifacts.items;
+      shares = newer_shares (given_back ⟦<RecordsArtifacts<F> as Meaning>⟧.meaning run.artifacts.items) run.results.items;
     } };
 }
 
@@ -126,15 +126,15 @@ impl<F: RecordFunction + Drop> RecordsRun<F> {
             rules,
             reducer,
         } = job;
-        let works = all_works(alloc, function, &rules, records, &prepared, &results)?;
-        let works = numbered(alloc, prepared.needs(), works)?;
+        let artifacts = all_artifacts(alloc, function, &rules, records, &prepared, &results)?;
+        let artifacts = numbered(alloc, prepared.needs(), artifacts)?;
         Ok(RecordsRun {
             step: step.copy(alloc)?,
             count: records.len() as u64,
             prepared,
             reducer,
             results,
-            works,
+            artifacts,
         })
     }
 
@@ -149,7 +149,11 @@ impl<F: RecordFunction + Drop> RecordsRun<F> {
     pub fn into_results(self) -> Vec<PackedList>
         ensures { result.items ≡ (⟦<RecordsRun<F> as Standing>⟧.standing self).shares }
     {
-        let RecordsRun { results, works, .. } = self;
-        put_back(works, results)
+        let RecordsRun {
+            results,
+            artifacts,
+            ..
+        } = self;
+        put_back(artifacts, results)
     }
 }

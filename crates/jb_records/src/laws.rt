@@ -5,7 +5,7 @@ ghost use Rattle.jb_records.specs.Runs.{PartsStay, ResultsGoOn};
 ghost use Rattle.jb_records.specs.Shares.{NewStepsBegin, SharesJoin};
 ghost use Rattle.jb_records.specs.Skips.{NewRowsAreCounted, SkipsAreCounted};
 ghost use Rattle.jb_records.specs.Steps.{StepsKeepResults};
-ghost use Rattle.jb_records.specs.inside.Kept.{RowsAreSaved, StretchesGoOn, WorksFit};
+ghost use Rattle.jb_records.specs.inside.Kept.{RowsAreSaved, StretchesGoOn, ArtifactsFit};
 
 use jb_chunk::{attempts_are_steps, runs_lead_to_an_end, tasks_stand_at_checkpoints};
 use jb_step::plans_can_be_run;
@@ -49,7 +49,7 @@ pub fn skips_are_counted()
 /// A run that stays in memory goes on from stretch to stretch: what came back of its partitions serves the next one, and its shares
 /// grow.
 pub(crate) fn stretches_go_on()
-    ensures fit { WorksFit }
+    ensures fit { ArtifactsFit }
     ensures saved { RowsAreSaved }
     ensures on { StretchesGoOn }
 {

@@ -9,6 +9,7 @@
 //! - `laws`: what comes of it. `error`: why it has no end.
 #![tactic(auto)]
 
+mod artifacts;
 mod end;
 mod error;
 mod failures;
@@ -26,7 +27,6 @@ mod stretch;
 mod stretch_end;
 mod watched;
 mod watcher;
-mod works;
 
 pub use end::RecordsEnd;
 pub use error::RecordsStepError;

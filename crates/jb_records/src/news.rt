@@ -5,8 +5,8 @@ ghost use Rattle.jb_base.specs.Limits.{max_partitions};
 ghost use Rattle.jb_step.specs.Answers.{given_back};
 ghost use Rattle.jb_records.specs.inside.Kept.{news_from};
 
+use crate::artifacts::RecordsArtifacts;
 use crate::function::RecordFunction;
-use crate::works::RecordsArtifacts;
 use jb_artifacts::{ItemWriter, Meaning};
 use jb_base::{MAX_PARTITIONS, PackedList};
 use jb_step::Prepared;
@@ -50,23 +50,23 @@ fn push_news<F: RecordFunction + Drop>(
     alloc: Global,
     partition: u64,
     told: &[u64],
-    works: &[(u32, RecordsArtifacts<F>)],
+    artifacts: &[(u32, RecordsArtifacts<F>)],
     news: &mut Vec<PackedList>,
 ) -> Result<(), AllocError>
     requires { partition + length told.now < 2 ^ 64 }
-    ensures { OnOk result (news.new.items ≡ news.old.items ++ news_from partition told.now (given_back ⟦<RecordsArtifacts<F> as Meaning>⟧.meaning works.now)) }
+    ensures { OnOk result (news.new.items ≡ news.old.items ++ news_from partition told.now (given_back ⟦<RecordsArtifacts<F> as Meaning>⟧.meaning artifacts.now)) }
 {
     let Some((count, told)) = told.split_first() else {
         return Ok(());
     };
-    match works.split_first() {
+    match artifacts.split_first() {
         Some((one, others)) if u64::from(one.0) == partition => {
             news.push(written_from(alloc, &one.1.artifacts().inner.writer, *count)?)?;
             push_news(alloc, partition + 1, told, others, news)
         }
         _ => {
             news.push(PackedList::new(alloc))?;
-            push_news(alloc, partition + 1, told, works, news)
+            push_news(alloc, partition + 1, told, artifacts, news)
         }
     }
 }
@@ -75,12 +75,12 @@ fn push_news<F: RecordFunction + Drop>(
 pub(crate) fn news_of<F: RecordFunction + Drop>(
     alloc: Global,
     told: &[u64],
-    works: &[(u32, RecordsArtifacts<F>)],
+    artifacts: &[(u32, RecordsArtifacts<F>)],
 ) -> Result<Vec<PackedList>, AllocError>
     requires { length told.now < 2 ^ 64 }
-    ensures { IfOk result (λ news. news.items ≡ news_from 0 told.now (given_back ⟦<RecordsArtifacts<F> as Meaning>⟧.meaning works.now)) }
+    ensures { IfOk result (λ news. news.items ≡ news_from 0 told.now (given_back ⟦<RecordsArtifacts<F> as Meaning>⟧.meaning artifacts.now)) }
 {
     let mut news = Vec::new(alloc);
-    push_news(alloc, 0, told, works, &mut news)?;
+    push_news(alloc, 0, told, artifacts, &mut news)?;
     Ok(news)
 }

@@ -7,9 +7,9 @@ ghost use Rattle.jb_records.specs.Causes.{written_in};
 ghost use Rattle.jb_records.specs.declared.error.RecordsStepError.TheVariants.{Memory, Results};
 ghost use Rattle.jb_records.specs.Shares.{AreNumbered, joined, newer_shares};
 
+use crate::artifacts::RecordsArtifacts;
 use crate::error::RecordsStepError;
 use crate::function::RecordFunction;
-use crate::works::RecordsArtifacts;
 use jb_artifacts::Meaning;
 use jb_base::{MAX_PARTITIONS, PackedList};
 use jb_rules::Row;
@@ -62,30 +62,30 @@ pub(crate) fn are_numbered(rows: &[Row], shares: &[PackedList]) -> bool
 
 // Puts the results that came back in the places of their partitions.
 fn put_all<F: RecordFunction + Drop>(
-    works: &mut Vec<(u32, RecordsArtifacts<F>)>,
+    artifacts: &mut Vec<(u32, RecordsArtifacts<F>)>,
     shares: &mut [PackedList],
 )
-    ensures { shares.new ≡ newer_shares (given_back ⟦<RecordsArtifacts<F> as Meaning>⟧.meaning works.old.items) shares.old }
+    ensures { shares.new ≡ newer_shares (given_back ⟦<RecordsArtifacts<F> as Meaning>⟧.meaning artifacts.old.items) shares.old }
 {
-    if let Some((partition, last)) = works.pop() {
+    if let Some((partition, last)) = artifacts.pop() {
         let index = partition as usize;
         if index < shares.len() {
             shares[index] = last.into_artifacts().inner.writer.into_written();
         }
-        put_all(works, shares);
+        put_all(artifacts, shares);
     }
 }
 
 /// The shares with the results that came back in the places of their partitions.
 pub(crate) fn put_back<F: RecordFunction + Drop>(
-    works: Vec<(u32, RecordsArtifacts<F>)>,
+    artifacts: Vec<(u32, RecordsArtifacts<F>)>,
     shares: Vec<PackedList>,
 ) -> Vec<PackedList>
-    ensures { result.items ≡ newer_shares (given_back ⟦<RecordsArtifacts<F> as Meaning>⟧.meaning works.items) shares.items }
+    ensures { result.items ≡ newer_shares (given_back ⟦<RecordsArtifacts<F> as Meaning>⟧.meaning artifacts.items) shares.items }
 {
-    let mut works = works;
+    let mut artifacts = artifacts;
     let mut shares = shares;
-    put_all(&mut works, &mut shares);
+    put_all(&mut artifacts, &mut shares);
     shares
 }
 

@@ -2,7 +2,7 @@
 
 ghost use Rattle.std.specs.Prelude.{◌≡◌, ◌++◌, IfOk, OnOk, option_to_list};
 ghost use Rattle.jb_records.specs.Skips.{skip_by, skipped_of, skips_between};
-ghost use Rattle.jb_records.specs.Works.{record_of};
+ghost use Rattle.jb_records.specs.Artifacts.{record_of};
 
 use crate::function::RecordFunction;
 use jb_artifacts::record_of;

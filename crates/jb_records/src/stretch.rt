@@ -19,6 +19,7 @@ ghost use Rattle.jb_records.specs.Skips.{skipped_of};
 ghost use Rattle.jb_records.specs.Stretches.{HasGoneOn, IsBrokenOff, IsStretchMade, StandsOver};
 ghost use Rattle.jb_records.specs.inside.Kept.{IsGoingOn, IsRanOver, IsRunBroken};
 
+use crate::artifacts::RecordsArtifacts;
 use crate::error::RecordsStepError;
 use crate::failures::{Failure, failures_of};
 use crate::function::RecordFunction;
@@ -30,7 +31,6 @@ use crate::shares::put_back;
 use crate::skips::skipped_of;
 use crate::step::RecordsStep;
 use crate::stretch_end::{parted, unnumbered};
-use crate::works::RecordsArtifacts;
 use jb_artifacts::Meaning;
 use jb_base::{MAX_PARTS, PackedList};
 use jb_chunk::Task;
@@ -82,20 +82,20 @@ fn ran<
     blank: Blank,
     prepared: Prepared,
     reducer: FaultlessReducer,
-    works: Vec<RecordsArtifacts<F>>,
+    artifacts: Vec<RecordsArtifacts<F>>,
     rounds: Option<u64>,
 ) -> Result<StepEnd<RecordsArtifacts<F>>, RecordsStepError>
     requires name { blank.name ≡ L.name }
     requires parts { blank.parts ≡ L.parts }
     requires all { blank.parts ≡ max_parts }
-    ensures ran { IfOk result (λ end. IsRanOver prepared (map ⟦<RecordsArtifacts<F> as Meaning>⟧.meaning works.items) rounds end.snapshot (given_back ⟦<RecordsArtifacts<F> as Meaning>⟧.meaning end.artifacts.items)) }
+    ensures ran { IfOk result (λ end. IsRanOver prepared (map ⟦<RecordsArtifacts<F> as Meaning>⟧.meaning artifacts.items) rounds end.snapshot (given_back ⟦<RecordsArtifacts<F> as Meaning>⟧.meaning end.artifacts.items)) }
     ensures status { IfOk result (λ end. end.status ≡ status_of end.snapshot.rows.items false) }
-    ensures why { IfErr result (IsRunBroken (DoFit prepared (map ⟦<RecordsArtifacts<F> as Meaning>⟧.meaning works.items))) }
+    ensures why { IfErr result (IsRunBroken (DoFit prepared (map ⟦<RecordsArtifacts<F> as Meaning>⟧.meaning artifacts.items))) }
 {
     let desk = prepared.desk::<L>(alloc, blank)?;
     let analyzer = FaultlessAnalyzer::new(alloc);
     let (end, _, _) = run_pooled_step::<Task<RecordsArtifacts<F>>, L, NoGate, R>(
-        rt, alloc, &desk, prepared, works, analyzer, reducer, rounds, &NoGate,
+        rt, alloc, &desk, prepared, artifacts, analyzer, reducer, rounds, &NoGate,
     );
     let end = end?;
     Ok(end)
@@ -108,12 +108,12 @@ fn going_on<F: RecordFunction + Drop>(
     count: u64,
     snapshot: &Snapshot,
     results: Vec<PackedList>,
-    works: Vec<(u32, RecordsArtifacts<F>)>,
+    artifacts: Vec<(u32, RecordsArtifacts<F>)>,
 ) -> Result<(RecordsRun<F>, String), RecordsStepError>
     requires few { count ≤ max_records }
     requires runnable { IsRunnable count (even_partitions step count) }
     ensures text { IfOk result (λ r. answer_of (tree_of (string_bytes r.1)) ≡ Ok (record { step = step.id; rows = snapshot.now.rows.items })) }
-    ensures state { IfOk result (λ r. IsGoingOn step.id count step.rules snapshot.now.rows.items (given_back ⟦<RecordsArtifacts<F> as Meaning>⟧.meaning works.items) results.items (⟦<RecordsRun<F> as Standing>⟧.standing r.0)) }
+    ensures state { IfOk result (λ r. IsGoingOn step.id count step.rules snapshot.now.rows.items (given_back ⟦<RecordsArtifacts<F> as Meaning>⟧.meaning artifacts.items) results.items (⟦<RecordsRun<F> as Standing>⟧.standing r.0)) }
     ensures why { first_running snapshot.now.rows.items ≡ None → ends_past count snapshot.now.rows.items ≡ false → IfErr result IsBrokenOff }
 {
     answers_are_computed();
@@ -127,7 +127,7 @@ fn going_on<F: RecordFunction + Drop>(
         prepared,
         reducer,
         results,
-        works,
+        artifacts,
     };
     Ok((run, text))
 }
@@ -172,7 +172,7 @@ impl<F: RecordFunction + Drop + 'static> RecordsRun<F> {
             function,
             records,
             &stretch.snapshot.rows,
-            &self.works,
+            &self.artifacts,
         )
     }
 
@@ -201,11 +201,11 @@ impl<F: RecordFunction + Drop + 'static> RecordsRun<F> {
             prepared,
             reducer,
             results,
-            works,
+            artifacts,
         } = self;
         let told = told_of(alloc, &prepared)?;
-        let works = unnumbered(alloc, works)?;
-        let end = ran::<F, L, R>(rt, alloc, blank, prepared, reducer, works, rounds)?;
+        let artifacts = unnumbered(alloc, artifacts)?;
+        let end = ran::<F, L, R>(rt, alloc, blank, prepared, reducer, artifacts, rounds)?;
         let StepEnd {
             status,
             snapshot,

@@ -5,7 +5,7 @@ ghost use Rattle.std.specs.List.{zip};
 ghost use Rattle.jb_rules.specs.Rows.{fresh_row};
 ghost use Rattle.jb_rules.specs.States.{is_finished};
 ghost use Rattle.jb_step.specs.Answers.{given_back};
-ghost use Rattle.jb_records.specs.Stretches.{works_in};
+ghost use Rattle.jb_records.specs.Stretches.{artifacts_in};
 ghost use Rattle.jb_records.specs.inside.Kept.{is_done, is_left};
 
 use jb_artifacts::Meaning;
@@ -16,14 +16,14 @@ use std::alloc::{AllocError, Global};
 pub(crate) fn numbered<A: Meaning + Drop>(
     alloc: Global,
     partitions: &[u32],
-    works: Vec<A>,
+    artifacts: Vec<A>,
 ) -> Result<Vec<(u32, A)>, AllocError>
-    requires { length works.items ≡ length partitions.now }
-    ensures { IfOk result (λ all. given_back A.meaning all.items ≡ zip partitions.now (map A.meaning works.items)) }
+    requires { length artifacts.items ≡ length partitions.now }
+    ensures { IfOk result (λ all. given_back A.meaning all.items ≡ zip partitions.now (map A.meaning artifacts.items)) }
 {
     let mut all = Vec::new(alloc);
     let mut place = 0;
-    for one in works {
+    for one in artifacts {
         all.push((partitions[place], one))?;
         place += 1;
     }
@@ -33,12 +33,12 @@ pub(crate) fn numbered<A: Meaning + Drop>(
 /// The same without their numbers.
 pub(crate) fn unnumbered<A: Meaning + Drop>(
     alloc: Global,
-    works: Vec<(u32, A)>,
+    artifacts: Vec<(u32, A)>,
 ) -> Result<Vec<A>, AllocError>
-    ensures { IfOk result (λ all. map A.meaning all.items ≡ works_in (given_back A.meaning works.items)) }
+    ensures { IfOk result (λ all. map A.meaning all.items ≡ artifacts_in (given_back A.meaning artifacts.items)) }
 {
     let mut all = Vec::new(alloc);
-    for one in works {
+    for one in artifacts {
         all.push(one.1)?;
     }
     Ok(all)
@@ -78,14 +78,14 @@ fn part_one<A: Meaning + Drop>(
 pub(crate) fn parted<A: Meaning + Drop>(
     alloc: Global,
     rows: &[Row],
-    works: Vec<(u32, A)>,
+    artifacts: Vec<(u32, A)>,
 ) -> Result<(Vec<(u32, A)>, Vec<(u32, A)>), AllocError>
-    ensures finished { IfOk result (λ parts. given_back A.meaning parts.0.items ≡ filter (is_done rows.now) (given_back A.meaning works.items)) }
-    ensures left { IfOk result (λ parts. given_back A.meaning parts.1.items ≡ filter (is_left rows.now) (given_back A.meaning works.items)) }
+    ensures finished { IfOk result (λ parts. given_back A.meaning parts.0.items ≡ filter (is_done rows.now) (given_back A.meaning artifacts.items)) }
+    ensures left { IfOk result (λ parts. given_back A.meaning parts.1.items ≡ filter (is_left rows.now) (given_back A.meaning artifacts.items)) }
 {
     let mut finished = Vec::new(alloc);
     let mut left = Vec::new(alloc);
-    for one in works {
+    for one in artifacts {
         part_one(rows, one, &mut finished, &mut left)?;
     }
     Ok((finished, left))

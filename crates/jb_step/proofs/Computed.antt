@@ -16,7 +16,7 @@ use Rattle.jb_cert.specs.Laws.{WrapAroundIsLeast}
 use Rattle.jb_cert.specs.Load.{mcnaughton}
 use Rattle.jb_cert.specs.Plans.{sets_of as slots_sets}
 use Rattle.jb_cert.specs.WrapAround.{wrapped_rounds}
-use Rattle.jb_chunk.specs.Attempt.{end_of, asks_repeat, repeated_up_to, all_repeated, work_used}
+use Rattle.jb_chunk.specs.Attempt.{end_of, asks_repeat, repeated_up_to, all_repeated, artifacts_used}
 use Rattle.jb_chunk.specs.Block.{entry, results, count_of, settles, settling, used_between}
 use Rattle.jb_chunk.specs.Standing.{TaskState}
 use Rattle.jb_chunk.specs.Worked.{class_e, numbers}
@@ -124,7 +124,7 @@ gives law {r = r} run e = record {
 -- THE RUNS
 
 runs : LawsBelow → SevenRecords × SevenOnOneThread × StoppedAndRestarted × OneRoundEach × OneFailed × NoRecord × Retried × Skipped
-unfolding end_of asks_repeat repeated_up_to all_repeated settling settles entry results count_of work_used used_between used_at digits blocks
+unfolding end_of asks_repeat repeated_up_to all_repeated settling settles entry results count_of artifacts_used used_between used_at digits blocks
 runs law = (
   record { gives = gives law (refl, inl refl, tt) refl; over = (inl refl, tt); events = refl },
   record { gives = gives law (refl, inl refl, tt) refl; over = (inl refl, tt); events = refl },
@@ -149,11 +149,11 @@ too_slow law plan four run =
     absurd (omega (arith, four, few))
 
 goes_on : IsPlanRun skipped_run.step skipped_run.tasks (plan_run (Longest 0) (chunks (0 ∷ 1 ∷ [])) 2) → ⊥
-unfolding end_of asks_repeat repeated_up_to all_repeated settling settles entry results count_of work_used used_between used_at digits blocks
+unfolding end_of asks_repeat repeated_up_to all_repeated settling settles entry results count_of artifacts_used used_between used_at digits blocks
 goes_on run = elim run.run.1 [ inl none ↦ cc | inr quiet ↦ cc ]
 
 left_open : ArePlanRuns stopped_seven.step stopped_seven.tasks (stopped_seven.plans ++ plan_run FullLoad [] 0 ∷ []) → ⊥
-unfolding end_of asks_repeat repeated_up_to all_repeated settling settles entry results count_of work_used used_between used_at digits blocks
+unfolding end_of asks_repeat repeated_up_to all_repeated settling settles entry results count_of artifacts_used used_between used_at digits blocks
 left_open runs = elim runs.1 [ inl none ↦ cc | inr (inl whole) ↦ cc | inr (inr broken) ↦ cc ]
 
 refused : WrapAroundIsLeast → Refused

@@ -107,7 +107,7 @@ module _ (below : LawsBelow) (r : StepRun) where
   }
 
 pub headline_holds : LawsBelow → HeadlineHolds
-headline_holds below r setup a = headline-of below r (begins_with_table r.setup r.works setup a.fit) a.run
+headline_holds below r setup a = headline-of below r (begins_with_table r.setup r.artifacts setup a.fit) a.run
 
 pub unstopped_runs_agree : OneEnd → UnstoppedRunsAgree
 unstopped_runs_agree law r other one two rows tasks going other_going =

@@ -107,9 +107,9 @@ rise-needs k (row ∷ rows) = rise-row (not (is_finished row.state)) k row (filt
 -- THE FIRST TABLE
 
 abbrev pub first_from : Setup → List (ℕ × Row) → List ArtifactsMeaning → List TaskState
-first_from s ns works = map (λ n. started n.0.0 n.0.1 s.rules s.item_count n.1) (zip ns works)
+first_from s ns artifacts = map (λ n. started n.0.0 n.0.1 s.rules s.item_count n.1) (zip ns artifacts)
 
-first-names : (s : Setup) (ns : List (ℕ × Row)) (works : List ArtifactsMeaning) → FitRows ns works → partitions_of (first_from s ns works) ≡ map (λ (n : ℕ × Row). n.0) ns
+first-names : (s : Setup) (ns : List (ℕ × Row)) (artifacts : List ArtifactsMeaning) → FitRows ns artifacts → partitions_of (first_from s ns artifacts) ≡ map (λ (n : ℕ × Row). n.0) ns
 first-names s [] [] fits = refl
 first-names s [] (w ∷ ws) fits = absurd fits
 first-names s (n ∷ ns) [] fits = absurd fits
@@ -128,7 +128,7 @@ ready-first s n w sound count retried fits =
       count = cut;
     }
 
-first-ready : (s : Setup) (ns : List (ℕ × Row)) (works : List ArtifactsMeaning) → AllByRecursion (λ (n : ℕ × Row). IsSoundRow n.1) ns → HasItemCount s.item_count → s.rules.retry_limit ≤ max_retry_limit → FitRows ns works → AreTasksOf s (first_from s ns works)
+first-ready : (s : Setup) (ns : List (ℕ × Row)) (artifacts : List ArtifactsMeaning) → AllByRecursion (λ (n : ℕ × Row). IsSoundRow n.1) ns → HasItemCount s.item_count → s.rules.retry_limit ≤ max_retry_limit → FitRows ns artifacts → AreTasksOf s (first_from s ns artifacts)
 first-ready s [] [] sound count retried fits = tt
 first-ready s [] (w ∷ ws) sound count retried fits = absurd fits
 first-ready s (n ∷ ns) [] sound count retried fits = absurd fits
@@ -151,12 +151,12 @@ pub all-begun : (s : Setup) → IsSetup s → AreBegun s.rows
 all-begun s setup = all-rows IsRowBegun s.rows (λ p row e. record { sound = (setup.openable.idle p row e).0; begun = setup.begun p row e })
 
 pub begins_with_table : BeginsWithTable
-begins_with_table s works setup fits = record {
-  tasks = first-ready s (unfinished s.rows) works
+begins_with_table s artifacts setup fits = record {
+  tasks = first-ready s (unfinished s.rows) artifacts
       (all-unfinished IsSoundRow 0 s.rows (λ i row e. (setup.openable.idle i row e).0))
       (record { some = setup.openable.some_items; few = setup.openable.few_items })
       setup.retried fits;
-  partitions = first-names s (unfinished s.rows) works fits;
+  partitions = first-names s (unfinished s.rows) artifacts fits;
 }
 
 -- THE ROWS NOW

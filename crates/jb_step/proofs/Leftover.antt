@@ -11,7 +11,7 @@ use Rattle.jb_step.specs.Alone.{AreOnTheWay}
 use Rattle.jb_step.specs.Answers.{artifacts_of, newer, task_left, tasks_left}
 use Rattle.jb_step.specs.preparing.Setup.{needs, rows_now}
 use Rattle.jb_step.specs.inside.Round.{partitions_of}
-use Rattle.jb_step.proofs.Lookup.{IsIn, are-in, own-row, own-work}
+use Rattle.jb_step.proofs.Lookup.{IsIn, are-in, own-row, own-artifacts}
 
 -- what an attempt leaves as it is, a way leaves as it is
 pub kept : {A : Type 0} (part : TaskState → A) → ((t : TaskState) → part (attempt_of t).task ≡ part t) → (t u : TaskState) → IsOnTheWay t u → part u ≡ part t
@@ -27,8 +27,8 @@ task-again rows ends t u way is =
     let rules = sym (kept (λ (s : TaskState). s.rules) (λ s. refl) t u way) in
     let count = sym (kept (λ (s : TaskState). s.item_count) (λ s. refl) t u way) in
     let row : slice_index_or (rows_now rows ends) t.partition t.row ≡ u.row = ap (λ p. slice_index_or (rows_now rows ends) p t.row) name ∙ own-row rows ends u t.row is in
-    let work : newer (artifacts_of ends) t.partition t.work ≡ u.work = ap (λ p. newer (artifacts_of ends) p t.work) name ∙ own-work rows ends u t.work is in
-    λ i. record { partition = name i; row = row i; rules = rules i; item_count = count i; work = work i }
+    let artifacts : newer (artifacts_of ends) t.partition t.artifacts ≡ u.artifacts = ap (λ p. newer (artifacts_of ends) p t.artifacts) name ∙ own-artifacts rows ends u t.artifacts is in
+    λ i. record { partition = name i; row = row i; rules = rules i; item_count = count i; artifacts = artifacts i }
 
 tasks-again : (rows : List Row) (ends ts us : List TaskState) → AreOnTheWay ts us → AllByRecursion (IsIn rows ends) us → tasks_left ts (rows_now rows ends) (artifacts_of ends) ≡ us
 tasks-again rows ends [] [] way all = refl

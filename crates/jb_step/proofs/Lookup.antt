@@ -29,9 +29,9 @@ pub row-is : (ts : List TaskState) (p : ℕ) (row : Row) → row_now ts p row �
 row-is [] p row = refl
 row-is (t ∷ ts) p row = look-one (λ t. t.row) (nat_eq t.partition p) t (tasks_at p ts) (row_now ts p row) row (row-is ts p row)
 
-pub work-is : (ts : List TaskState) (p : ℕ) (work : ArtifactsMeaning) → newer (artifacts_of ts) p work ≡ first_of (λ t. t.work) (tasks_at p ts) work
-work-is [] p work = refl
-work-is (t ∷ ts) p work = look-one (λ t. t.work) (nat_eq t.partition p) t (tasks_at p ts) (newer (artifacts_of ts) p work) work (work-is ts p work)
+pub artifacts-is : (ts : List TaskState) (p : ℕ) (artifacts : ArtifactsMeaning) → newer (artifacts_of ts) p artifacts ≡ first_of (λ t. t.artifacts) (tasks_at p ts) artifacts
+artifacts-is [] p artifacts = refl
+artifacts-is (t ∷ ts) p artifacts = look-one (λ t. t.artifacts) (nat_eq t.partition p) t (tasks_at p ts) (newer (artifacts_of ts) p artifacts) artifacts (artifacts-is ts p artifacts)
 
 pub none-now : (ts : List TaskState) (p : ℕ) (row : Row) → tasks_at p ts ≡ [] → row_now ts p row ≡ row
 none-now ts p row e = row-is ts p row ∙ ap (λ us. first_of (λ t. t.row) us row) e
@@ -106,5 +106,5 @@ are-in rows ts names =
 pub own-row : (rows : List Row) (ts : List TaskState) (t : TaskState) (d : Row) → IsIn rows ts t → slice_index_or (rows_now rows ts) t.partition d ≡ t.row
 own-row rows ts t d is = row-at ts rows t.partition d is.there ∙ first-now ts t.partition (slice_index_or rows t.partition d) t [] is.only
 
-pub own-work : (rows : List Row) (ts : List TaskState) (t : TaskState) (work : ArtifactsMeaning) → IsIn rows ts t → newer (artifacts_of ts) t.partition work ≡ t.work
-own-work rows ts t work is = work-is ts t.partition work ∙ ap (λ us. first_of (λ t. t.work) us work) is.only
+pub own-artifacts : (rows : List Row) (ts : List TaskState) (t : TaskState) (artifacts : ArtifactsMeaning) → IsIn rows ts t → newer (artifacts_of ts) t.partition artifacts ≡ t.artifacts
+own-artifacts rows ts t artifacts is = artifacts-is ts t.partition artifacts ∙ ap (λ us. first_of (λ t. t.artifacts) us artifacts) is.only

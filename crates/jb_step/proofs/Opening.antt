@@ -13,11 +13,11 @@ use Rattle.jb_step.specs.inside.Starting.{IsRowBegun, AreBegun, tasks_from, unfi
 use Rattle.jb_step.proofs.Holding.{now-sound}
 
 -- the artifacts for the rows from the i-th on are for that row and those behind it
-pub fit-at : (rows : List Row) (i : ℕ) (d : Row) (len : ℕ) (works : List ArtifactsMeaning) → i < length rows → len ≡ i → FitRows (unfinished_from i (drop i rows)) works → (rest : List Row) × FitRows (unfinished_from len (get_or rows i d ∷ rest)) works
-fit-at rows i d len works lt e h = (
+pub fit-at : (rows : List Row) (i : ℕ) (d : Row) (len : ℕ) (artifacts : List ArtifactsMeaning) → i < length rows → len ≡ i → FitRows (unfinished_from i (drop i rows)) artifacts → (rest : List Row) × FitRows (unfinished_from len (get_or rows i d ∷ rest)) artifacts
+fit-at rows i d len artifacts lt e h = (
   drop (i + 1) rows,
-  subst (λ (k : ℕ). FitRows (unfinished_from k (get_or rows i d ∷ drop (i + 1) rows)) works) (sym e)
-      (subst (λ (rs : List Row). FitRows (unfinished_from i rs) works) (drop_more rows i d lt) h),
+  subst (λ (k : ℕ). FitRows (unfinished_from k (get_or rows i d ∷ drop (i + 1) rows)) artifacts) (sym e)
+      (subst (λ (rs : List Row). FitRows (unfinished_from i rs) artifacts) (drop_more rows i d lt) h),
 )
 
 pub begun-at : (rows : List Row) (i : ℕ) (d : Row) → i < length rows → AreBegun rows → IsRowBegun (get_or rows i d)
@@ -28,5 +28,5 @@ pub now-sound-at : (s : Setup) (ts : List TaskState) (rows : List Row) (i : ℕ)
 now-sound-at s ts rows i d row lt begun tasks is = subst IsSoundRow (sym is) (now-sound s ts i (get_or rows i d) tasks (begun-at rows i d lt begun).sound)
 
 -- past the last row there are no more tasks
-pub all-started : (s : Setup) (ts all : List TaskState) (rows : List Row) (i : ℕ) (works : List ArtifactsMeaning) → length rows ≤ i → ts ++ tasks_from s i (drop i rows) works ≡ all → ts ≡ all
-all-started s ts all rows i works le e = sym (append-nil ts) ∙ (sym (at_drop_all (λ (rs : List Row). ts ++ tasks_from s i rs works) rows i le) ∙ e)
+pub all-started : (s : Setup) (ts all : List TaskState) (rows : List Row) (i : ℕ) (artifacts : List ArtifactsMeaning) → length rows ≤ i → ts ++ tasks_from s i (drop i rows) artifacts ≡ all → ts ≡ all
+all-started s ts all rows i artifacts le e = sym (append-nil ts) ∙ (sym (at_drop_all (λ (rs : List Row). ts ++ tasks_from s i rs artifacts) rows i le) ∙ e)

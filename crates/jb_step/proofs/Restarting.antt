@@ -27,7 +27,7 @@ use Rattle.jb_step.specs.OnePartition.{tasks_at}
 use Rattle.jb_step.specs.preparing.Prepare.{FitRows}
 use Rattle.jb_step.specs.restarts.Restarts.{IsChain, IsPreparedFor, IsRestart, AreRestarts, RestartsFit, RestartsAreOnTheWay, RestartsEndAlone, RestartsEndAsUnstopped}
 use Rattle.jb_step.specs.preparing.Setup.{Setup, IsSetup, first_tasks, gone_on, needs, opening_rows, row_now, rows_now, unfinished}
-use Rattle.jb_step.specs.restarts.StepRuns.{IsAnswered, last_run, tasks_at_last, tasks_through, tasks_unfinished, works_restarted}
+use Rattle.jb_step.specs.restarts.StepRuns.{IsAnswered, last_run, tasks_at_last, tasks_through, tasks_unfinished, artifacts_restarted}
 use Rattle.jb_step.specs.Alone.{AreAlone, AreOnTheWay, AreReady, have_ended}
 use Rattle.jb_step.specs.inside.Round.{partitions_of}
 use Rattle.jb_step.proofs.Apart.{pick}
@@ -35,7 +35,7 @@ use Rattle.jb_step.proofs.Filters.{all-back, all-so, filter-again, filter-all, f
 use Rattle.jb_step.proofs.Holding.{all-unfinished, apart-of, begins_with_table, first_from, is_open, none-of}
 use Rattle.jb_step.proofs.Leading.{steps_are_on_the_way, alone-all, alone_is_one_place}
 use Rattle.jb_step.proofs.Leftover.{kept}
-use Rattle.jb_step.proofs.Lookup.{IsIn, are-in, first-now, first_of, length-now, none-now, own-row, row-at, row-is, work-is}
+use Rattle.jb_step.proofs.Lookup.{IsIn, are-in, first-now, first_of, length-now, none-now, own-row, row-at, row-is, artifacts-is}
 use Rattle.jb_step.proofs.Numbers.{head-of, tail-of}
 use Rattle.jb_step.proofs.Starting.{IsRowAt, listed}
 use Rattle.jb_step.proofs.Turning.{ready-of}
@@ -52,7 +52,7 @@ pub record GivesTable (r : StepRun) : Type 0 where
 
 gives-table : (r : StepRun) → IsSetup r.setup → IsAnswered r → GivesTable r
 gives-table r setup a =
-    let table = begins_with_table r.setup r.works setup a.fit in
+    let table = begins_with_table r.setup r.artifacts setup a.fit in
     let run = a.run in
     let is = sym run.tasks in
     record {
@@ -106,12 +106,12 @@ unfinished-now rows ts names =
 
 -- begun again from its row
 abbrev begun_again : Setup → TaskState → TaskState
-begun_again s t = started t.partition t.row s.rules s.item_count t.work
+begun_again s t = started t.partition t.row s.rules s.item_count t.artifacts
 
 abbrev begin : Setup → (ℕ × Row) × ArtifactsMeaning → TaskState
 begin s n = started n.0.0 n.0.1 s.rules s.item_count n.1
 
-zipped : (s : Setup) (ts : List TaskState) → map (begin s) (zip (map numbered ts) (map (λ (t : TaskState). t.work) ts)) ≡ map (begun_again s) ts
+zipped : (s : Setup) (ts : List TaskState) → map (begin s) (zip (map numbered ts) (map (λ (t : TaskState). t.artifacts) ts)) ≡ map (begun_again s) ts
 zipped s [] = refl
 zipped s (t ∷ ts) = ap (λ (us : List TaskState). begun_again s t ∷ us) (zipped s ts)
 
@@ -125,8 +125,8 @@ said_by s = (s.rules, s.item_count)
 abbrev AreOfStep : Setup → List TaskState → Type 0
 AreOfStep s ts = AllByRecursion (λ (t : TaskState). said_of t ≡ said_by s) ts
 
-first-of-step : (s : Setup) (ns : List (ℕ × Row)) (works : List ArtifactsMeaning) → AreOfStep s (first_from s ns works)
-first-of-step s [] works = tt
+first-of-step : (s : Setup) (ns : List (ℕ × Row)) (artifacts : List ArtifactsMeaning) → AreOfStep s (first_from s ns artifacts)
+first-of-step s [] artifacts = tt
 first-of-step s (n ∷ ns) [] = tt
 first-of-step s (n ∷ ns) (w ∷ ws) = (refl, first-of-step s ns ws)
 
@@ -137,7 +137,7 @@ same-places law s [] (u ∷ us) ready way said = absurd way
 same-places law s (t ∷ ts) [] ready way said = absurd way
 same-places law s (t ∷ ts) (u ∷ us) ready way said =
     let own = sym (kept said_of (λ t. refl) t u way.0 ∙ said.0) in
-    ((λ i. started u.partition u.row (own i).0 (own i).1 u.work) ∙ law t u ready.0 way.0, same-places law s ts us ready.1 way.1 said.1)
+    ((λ i. started u.partition u.row (own i).0 (own i).1 u.artifacts) ∙ law t u ready.0 way.0, same-places law s ts us ready.1 way.1 said.1)
 
 -- WHERE SOME RUNS LEFT THE PARTITIONS
 
@@ -155,7 +155,7 @@ left-by-one first g = record { gives = g; way = g.way; names = names-stay first.
 -- a run that takes up what the run before it left, with the rules and the item count of the first
 record TakesUp (first r n : StepRun) : Type 0 where
   pub rows : n.setup.rows ≡ r.snapshot.rows.items
-  pub tasks : tasks_before n ≡ first_tasks n.setup (works_restarted (tasks_after r))
+  pub tasks : tasks_before n ≡ first_tasks n.setup (artifacts_restarted (tasks_after r))
   pub said : said_by first.setup ≡ said_by n.setup
 
 -- rows of two runs, one after another
@@ -195,9 +195,9 @@ module _ (place : SamePlace) (join : WaysJoin) (first r n : StepRun) (table : Li
 
   begins : tasks_before n ≡ tasks_unfinished table
   begins =
-      let said = subst (λ (x : RulesRecord × ℕ). AllByRecursion (λ (t : TaskState). said_of t ≡ x) (tasks_before first)) up.said (first-of-step first.setup (unfinished first.setup.rows) first.works) in
+      let said = subst (λ (x : RulesRecord × ℕ). AllByRecursion (λ (t : TaskState). said_of t ≡ x) (tasks_before first)) up.said (first-of-step first.setup (unfinished first.setup.rows) first.artifacts) in
       up.tasks
-      ∙ ap₂ (λ (ns : List (ℕ × Row)) (ts : List TaskState). map (begin n.setup) (zip ns (map (λ (t : TaskState). t.work) ts))) (ap unfinished (up.rows ∙ l.rows) ∙ unfinished-now first.setup.rows table l.names) (sym l.open_)
+      ∙ ap₂ (λ (ns : List (ℕ × Row)) (ts : List TaskState). map (begin n.setup) (zip ns (map (λ (t : TaskState). t.artifacts) ts))) (ap unfinished (up.rows ∙ l.rows) ∙ unfinished-now first.setup.rows table l.names) (sym l.open_)
       ∙ zipped n.setup (tasks_unfinished table)
       ∙ map-stays (begun_again n.setup) (tasks_unfinished table) (filter-all (λ u. begun_again n.setup u ≡ u) is_unfinished table (same-places place n.setup (tasks_before first) table g.ready l.way said))
 
@@ -219,8 +219,8 @@ module _ (place : SamePlace) (join : WaysJoin) (first r n : StepRun) (table : Li
       ∙ none-now (tasks_after n) p (slice_index_or n.setup.rows p t.row) none
       ∙ ap (λ rs. slice_index_or rs p t.row) were
       ∙ own-row first.setup.rows table t t.row is in
-      let work : newer n.left p t.work ≡ t.work = ap (λ left. newer left p t.work) h.came_back ∙ work-is (tasks_after n) p t.work ∙ ap (λ ts. first_of (λ t. t.work) ts t.work) none in
-      λ i. record t { row = row i; work = work i }
+      let artifacts : newer n.left p t.artifacts ≡ t.artifacts = ap (λ left. newer left p t.artifacts) h.came_back ∙ artifacts-is (tasks_after n) p t.artifacts ∙ ap (λ ts. first_of (λ t. t.artifacts) ts t.artifacts) none in
+      λ i. record t { row = row i; artifacts = artifacts i }
 
   all-stay : AllByRecursion (Stays leave) table
   all-stay = all-so (IsIn first.setup.rows table) (Stays leave) stays table (are-in first.setup.rows table l.names)
@@ -300,7 +300,7 @@ module _ (law : TreeIsRead) (place : SamePlace) (join : WaysJoin) (step : StepRe
 
 -- a task on its way whose row is sound has artifacts that serve it
 abbrev FitsIfSound : TaskState → Type 0
-FitsIfSound t = IsSoundRow t.row → Fits t.work t.row
+FitsIfSound t = IsSoundRow t.row → Fits t.artifacts t.row
 
 fit-all : TasksStayReady → (ts us : List TaskState) → AreReady ts → AreOnTheWay ts us → AllByRecursion FitsIfSound us
 fit-all law [] [] ready way = tt
@@ -308,7 +308,7 @@ fit-all law [] (u ∷ us) ready way = absurd way
 fit-all law (t ∷ ts) [] ready way = absurd way
 fit-all law (t ∷ ts) (u ∷ us) ready way = (λ sound. (law t u ready.0 way.0 sound.counted.rolled sound.counted.few_repeats).fits, fit-all law ts us ready.1 way.1)
 
-fit-rows : (ts : List TaskState) → AllByRecursion FitsIfSound ts → AllByRecursion (λ (t : TaskState). IsSoundRow t.row) ts → FitRows (map numbered ts) (map (λ (t : TaskState). t.work) ts)
+fit-rows : (ts : List TaskState) → AllByRecursion FitsIfSound ts → AllByRecursion (λ (t : TaskState). IsSoundRow t.row) ts → FitRows (map numbered ts) (map (λ (t : TaskState). t.artifacts) ts)
 fit-rows [] fit sound = tt
 fit-rows (t ∷ ts) fit sound = (fit.0 sound.0, fit-rows ts fit.1 sound.1)
 
@@ -323,8 +323,8 @@ restarts-fit law place join stay step first later saved s c unfailed held saved_
     let sound = all-back (λ (n : ℕ × Row). IsSoundRow n.1) numbered (tasks_unfinished table)
     (subst (λ (ns : List (ℕ × Row)). AllByRecursion (λ (n : ℕ × Row). IsSoundRow n.1) ns) (ap unfinished (saved_is ∙ sym same) ∙ open_rows)
     (all-unfinished IsSoundRow 0 saved.rows (λ i row e. (held.idle i row e).0))) in
-    subst (λ (ns : List (ℕ × Row)). FitRows ns (works_restarted (tasks_after r))) (sym open_rows)
-    (subst (λ (ts : List TaskState). FitRows (map numbered (tasks_unfinished table)) (map (λ (t : TaskState). t.work) ts)) l.open_ (fit-rows (tasks_unfinished table) fit sound))
+    subst (λ (ns : List (ℕ × Row)). FitRows ns (artifacts_restarted (tasks_after r))) (sym open_rows)
+    (subst (λ (ts : List TaskState). FitRows (map numbered (tasks_unfinished table)) (map (λ (t : TaskState). t.artifacts) ts)) l.open_ (fit-rows (tasks_unfinished table) fit sound))
 
 -- THE LAWS
 

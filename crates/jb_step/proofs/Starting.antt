@@ -23,8 +23,8 @@ listed all k (row ∷ rows) h = (
   listed all (k + 1) rows (λ i r get. let e : k + suc i ≡ (k + 1) + i = omega arith in subst (λ m. slice_get all m ≡ Some r) e (h (suc i) r get)),
 )
 
-tasks-listed : (s : Setup) (rows : List Row) (ns : List (ℕ × Row)) (works : List ArtifactsMeaning) → AllByRecursion (IsRowAt rows) ns → AllByRecursion (λ (t : TaskState). slice_get rows t.partition ≡ Some t.row) (first_from s ns works)
-tasks-listed s rows [] works all = tt
+tasks-listed : (s : Setup) (rows : List Row) (ns : List (ℕ × Row)) (artifacts : List ArtifactsMeaning) → AllByRecursion (IsRowAt rows) ns → AllByRecursion (λ (t : TaskState). slice_get rows t.partition ≡ Some t.row) (first_from s ns artifacts)
+tasks-listed s rows [] artifacts all = tt
 tasks-listed s rows (n ∷ ns) [] all = tt
 tasks-listed s rows (n ∷ ns) (w ∷ ws) all = (all.0, tasks-listed s rows ns ws all.1)
 
@@ -44,8 +44,8 @@ all-now ts k (row ∷ rows) h =
     (all-now ts (k + 1) rows (λ i r get. let e : k + suc i ≡ (k + 1) + i = omega arith in subst (λ m. row_now ts m r ≡ r) e (h (suc i) r get)))
 
 pub begins_with_rows : BeginsWithRows
-begins_with_rows s works fits =
-    let ts = first_tasks s works in
-    let all = tasks-listed s s.rows (unfinished s.rows) works (filter-all (IsRowAt s.rows) is_open (enumerate_from 0 s.rows)
+begins_with_rows s artifacts fits =
+    let ts = first_tasks s artifacts in
+    let all = tasks-listed s s.rows (unfinished s.rows) artifacts (filter-all (IsRowAt s.rows) is_open (enumerate_from 0 s.rows)
     (listed s.rows 0 s.rows (λ i row get. let e : i ≡ 0 + i = omega arith in subst (λ m. slice_get s.rows m ≡ Some row) e get))) in
     all-now ts 0 s.rows (λ i row get. let e : i ≡ 0 + i = omega arith in subst (λ m. row_now ts m row ≡ row) e (now-by s.rows ts i row (tasks_at i ts) all get refl))

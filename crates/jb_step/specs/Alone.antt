@@ -21,7 +21,7 @@ ArePlain = Pairwise IsPlain
 
 -- no call of any partition fails
 abbrev pub AreCalm : List TaskState → Type 0
-AreCalm = AllByRecursion (λ t. IsCalm t.work t.row.at t.row.hi)
+AreCalm = AllByRecursion (λ t. IsCalm t.artifacts t.row.at t.row.hi)
 
 abbrev pub AreReady : List TaskState → Type 0
 AreReady = AllByRecursion IsReady

@@ -26,16 +26,16 @@ given_back meaning left = map (λ a. (a.0, meaning a.1)) left
 
 -- the artifacts of these tasks, each with its partition
 abbrev pub artifacts_of : List TaskState → List (ℕ × ArtifactsMeaning)
-artifacts_of ts = map (λ t. (t.partition, t.work)) ts
+artifacts_of ts = map (λ t. (t.partition, t.artifacts)) ts
 
 -- a partition's artifacts as they came back, or these, where none of the partition did
 abbrev pub newer : List (ℕ × ArtifactsMeaning) → ℕ → ArtifactsMeaning → ArtifactsMeaning
-newer [] p work = work
-newer (a ∷ left) p work = if nat_eq a.0 p then a.1 else newer left p work
+newer [] p artifacts = artifacts
+newer (a ∷ left) p artifacts = if nat_eq a.0 p then a.1 else newer left p artifacts
 
 -- a task as it was left: with its partition's row, and with the artifacts that came back
 abbrev pub task_left : List Row → List (ℕ × ArtifactsMeaning) → TaskState → TaskState
-task_left rows left t = record t { row = slice_index_or rows t.partition t.row; work = newer left t.partition t.work }
+task_left rows left t = record t { row = slice_index_or rows t.partition t.row; artifacts = newer left t.partition t.artifacts }
 
 -- the tasks that were begun with, as they were left
 abbrev pub tasks_left : List TaskState → List Row → List (ℕ × ArtifactsMeaning) → List TaskState
@@ -56,7 +56,7 @@ pub record IsUnstopped (start : List TaskState) (plans : List PlanRun) (snapshot
 -- calls that its analyzer had taken when it began, and at its end; its notes, its snapshot, and the artifacts handed back
 pub record StepRun : Type 0 where
   pub setup : Setup
-  pub works : List ArtifactsMeaning
+  pub artifacts : List ArtifactsMeaning
   pub round_limit : Option ℕ
   pub heard_before : List (Taken AnalyzerCall)
   pub heard_after : List (Taken AnalyzerCall)
@@ -66,7 +66,7 @@ pub record StepRun : Type 0 where
 
 -- the tasks that it began with, and those that it left, of the partitions that were unfinished when it began
 abbrev pub tasks_before : StepRun → List TaskState
-tasks_before r = first_tasks r.setup r.works
+tasks_before r = first_tasks r.setup r.artifacts
 
 abbrev pub tasks_after : StepRun → List TaskState
 tasks_after r = tasks_left (tasks_before r) r.snapshot.rows.items r.left

@@ -10,7 +10,7 @@ use Rattle.jb_cert.specs.declared.certificates.Certificate.{Certificate}
 use Rattle.jb_cert.specs.declared.certificates.Certificate.TheVariants.{Longest, FullLoad}
 use Rattle.jb_cert.specs.Lawful.{Pair}
 use Rattle.jb_chunk.specs.Standing.{TaskState}
-use Rattle.jb_chunk.specs.Worked.{class_e, sound, only, strict, rules_of, one_skip, two_bad, works, numbers}
+use Rattle.jb_chunk.specs.Worked.{class_e, sound, only, strict, rules_of, one_skip, two_bad, artifacts_from, numbers}
 use Rattle.jb_collect.specs.declared.calls.Status.{Status}
 use Rattle.jb_collect.specs.declared.calls.Status.TheVariants as status
 use Rattle.jb_collect.specs.declared.calls.AnalyzerCall.{AnalyzerCall}
@@ -30,7 +30,7 @@ use Rattle.jb_step.specs.preparing.Prepare.{AreCallsAtRefusal, AreCallsBefore}
 use Rattle.jb_step.specs.rounds.Runs.{PlanRun, AreOver, ArePlanRuns, IsPlanRun, note_of, table_after, events_of}
 use Rattle.jb_step.specs.preparing.Setup.{Setup, discards, needs, first_tasks, fresh_rows, gone_on, opening_rows, rows_now}
 use Rattle.jb_step.specs.Statuses.{status_of}
-use Rattle.jb_step.specs.restarts.StepRuns.{works_restarted}
+use Rattle.jb_step.specs.restarts.StepRuns.{artifacts_restarted}
 
 -- THE STEPS
 
@@ -54,7 +54,7 @@ pub record WorkedRun : Type 0 where
   pub plans : List PlanRun
 
 abbrev pub run_of : Setup → List ArtifactsMeaning → List PlanRun → WorkedRun
-run_of step works plans = record { step = step; tasks = first_tasks step works; plans = plans }
+run_of step artifacts plans = record { step = step; tasks = first_tasks step artifacts; plans = plans }
 
 -- its tasks and all rows at its end, and the artifacts as it hands them back
 abbrev pub tasks_at_end : WorkedRun → List TaskState
@@ -71,10 +71,10 @@ saved_of r = record { step = codes "s"; rows = rows_at_last r }
 
 -- the step is taken up again where a run left it, with these artifacts, or with those that were handed back
 abbrev pub taken_up : WorkedRun → List ArtifactsMeaning → List PlanRun → WorkedRun
-taken_up r works plans = run_of (record r.step { rows = opening_rows [] (Some (saved_of r)); begun_anew = false }) works plans
+taken_up r artifacts plans = run_of (record r.step { rows = opening_rows [] (Some (saved_of r)); begun_anew = false }) artifacts plans
 
 abbrev pub taken_up_again : WorkedRun → List PlanRun → WorkedRun
-taken_up_again r plans = taken_up r (works_restarted (tasks_at_end r)) plans
+taken_up_again r plans = taken_up r (artifacts_restarted (tasks_at_end r)) plans
 
 -- the tasks of a run, as one that took them up again left them
 abbrev pub left_by_both : WorkedRun → WorkedRun → List TaskState
@@ -84,11 +84,11 @@ abbrev pub outputs_left : List (ℕ × ArtifactsMeaning) → List (ℕ × List (
 outputs_left left = map (λ a. (a.0, a.1.writer.written)) left
 
 -- the artifacts of a partition that an earlier run wrote this of
-abbrev pub works_with : (lo : ℕ) → (processes : FaultTable) → (written : List (List ℕ)) → ArtifactsMeaning
-works_with lo processes written = record (works lo sound processes sound) { writer = record { written = written; faults = sound } }
+abbrev pub artifacts_with : (lo : ℕ) → (processes : FaultTable) → (written : List (List ℕ)) → ArtifactsMeaning
+artifacts_with lo processes written = record (artifacts_from lo sound processes sound) { writer = record { written = written; faults = sound } }
 
 abbrev pub clean : ℕ → ArtifactsMeaning
-clean lo = works_with lo sound []
+clean lo = artifacts_with lo sound []
 
 -- seven records in three partitions, item count 2
 abbrev pub seven : (threads : ℕ) → Setup
@@ -130,7 +130,7 @@ abbrev pub rest_plans : List PlanRun
 rest_plans = plan_run (Longest 0) (((0, 0) ∷ (2, 0) ∷ []) ∷ []) 1 ∷ []
 
 abbrev pub rest_of_seven : WorkedRun
-rest_of_seven = taken_up stopped_seven (works_with 0 sound (codes "xa" ∷ codes "xb" ∷ []) ∷ clean 5 ∷ []) rest_plans
+rest_of_seven = taken_up stopped_seven (artifacts_with 0 sound (codes "xa" ∷ codes "xb" ∷ []) ∷ clean 5 ∷ []) rest_plans
 
 -- on one thread, stopped after each round and taken up again
 abbrev pub first_run : WorkedRun
@@ -149,11 +149,11 @@ fourth_run = taken_up_again third_run (plan_run (Longest 2) (first_chunks (2 ∷
 -- restart with no faults
 abbrev pub failed_six : WorkedRun
 failed_six =
-    run_of (step (one_skip 1 0) 2 2 (range 0 4 ∷ range 4 6 ∷ [])) (works_with 0 two_bad [] ∷ works_with 4 two_bad [] ∷ [])
+    run_of (step (one_skip 1 0) 2 2 (range 0 4 ∷ range 4 6 ∷ [])) (artifacts_with 0 two_bad [] ∷ artifacts_with 4 two_bad [] ∷ [])
     (plan_run (Longest 0) (((0, 0) ∷ (1, 0) ∷ []) ∷ ((0, 1) ∷ []) ∷ []) 2 ∷ [])
 
 abbrev pub rest_of_six : WorkedRun
-rest_of_six = taken_up failed_six (works_with 0 sound (codes "xb" ∷ []) ∷ []) (plan_run (Longest 0) (chunks (0 ∷ [])) 1 ∷ [])
+rest_of_six = taken_up failed_six (artifacts_with 0 sound (codes "xb" ∷ []) ∷ []) (plan_run (Longest 0) (chunks (0 ∷ [])) 1 ∷ [])
 
 -- one partition without a record
 abbrev pub empty_run : WorkedRun
@@ -162,13 +162,13 @@ empty_run = run_of (step strict 10 1 (range 0 0 ∷ [])) [] []
 -- four records; record 2 fails once and is retryable
 abbrev pub retried_run : WorkedRun
 retried_run =
-    run_of (step (rules_of 0 1) 4 1 (range 0 4 ∷ [])) (works_with 0 (only 2 (Shaky (class_e ∷ []))) [] ∷ [])
+    run_of (step (rules_of 0 1) 4 1 (range 0 4 ∷ [])) (artifacts_with 0 (only 2 (Shaky (class_e ∷ []))) [] ∷ [])
     (plan_run (Longest 0) (chunks (0 ∷ [])) 1 ∷ plan_run (Longest 0) (chunks (0 ∷ 1 ∷ 2 ∷ 3 ∷ [])) 4 ∷ [])
 
 -- four records; record 1 always fails, is retryable, and one may be skipped
 abbrev pub skipped_run : WorkedRun
 skipped_run =
-    run_of (step (one_skip 1 1) 2 1 (range 0 4 ∷ [])) (works_with 0 (only 1 (Bad class_e)) [] ∷ [])
+    run_of (step (one_skip 1 1) 2 1 (range 0 4 ∷ [])) (artifacts_with 0 (only 1 (Bad class_e)) [] ∷ [])
     (plan_run (Longest 0) (chunks (0 ∷ 1 ∷ [])) 1 ∷ plan_run (Longest 0) (chunks (0 ∷ 1 ∷ 2 ∷ [])) 3 ∷ [])
 
 -- WHAT THE DEFINITIONS GIVE

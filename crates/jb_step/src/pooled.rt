@@ -43,7 +43,7 @@ fn run_in<
 ) -> Result<StepEnd<T::Artifacts>, StepError>
     ensures run { IfOk result (λ end. IsRunOfStep (record {
       setup = prepared;
-      works = map T.Artifacts.meaning artifacts.items;
+      artifacts = map T.Artifacts.meaning artifacts.items;
       round_limit = round_limit;
       heard_before = map well analyzer.old;
       heard_after = map well analyzer.new;
@@ -53,7 +53,7 @@ fn run_in<
     })) }
     ensures headline { IfOk result (λ end. Headline (record {
       setup = prepared;
-      works = map T.Artifacts.meaning artifacts.items;
+      artifacts = map T.Artifacts.meaning artifacts.items;
       round_limit = round_limit;
       heard_before = map well analyzer.old;
       heard_after = map well analyzer.new;
@@ -120,7 +120,7 @@ pub fn run_pooled_step<
 )
     ensures run { IfOk result.0 (λ end. IsRunOfStep (record {
       setup = prepared;
-      works = map T.Artifacts.meaning artifacts.items;
+      artifacts = map T.Artifacts.meaning artifacts.items;
       round_limit = round_limit;
       heard_before = map well analyzer;
       heard_after = map well result.1;
@@ -130,7 +130,7 @@ pub fn run_pooled_step<
     })) }
     ensures headline { IfOk result.0 (λ end. Headline (record {
       setup = prepared;
-      works = map T.Artifacts.meaning artifacts.items;
+      artifacts = map T.Artifacts.meaning artifacts.items;
       round_limit = round_limit;
       heard_before = map well analyzer;
       heard_after = map well result.1;
@@ -159,7 +159,7 @@ pub fn run_pooled_step<
         )
             ensures { (IfOk result.0 (λ end. IsRunOfStep (record {
               setup = prepared;
-              works = map T.Artifacts.meaning artifacts.items;
+              artifacts = map T.Artifacts.meaning artifacts.items;
               round_limit = round_limit;
               heard_before = map well analyzer;
               heard_after = map well result.1;
@@ -169,7 +169,7 @@ pub fn run_pooled_step<
             })))
                 × (IfOk result.0 (λ end. Headline (record {
                   setup = prepared;
-                  works = map T.Artifacts.meaning artifacts.items;
+                  artifacts = map T.Artifacts.meaning artifacts.items;
                   round_limit = round_limit;
                   heard_before = map well analyzer;
                   heard_after = map well result.1;

@@ -112,7 +112,7 @@ fn run_tasks<T: StepTask, L: StepLedger, G: StepGate, R: StepThreads>(
     requires { DoFit prepared.now (map T.Artifacts.meaning artifacts.items) }
     ensures run { IfOk result (λ end. IsRunOfStep (record {
       setup = prepared.now;
-      works = map T.Artifacts.meaning artifacts.items;
+      artifacts = map T.Artifacts.meaning artifacts.items;
       round_limit = round_limit;
       heard_before = analyzed analyzer.old;
       heard_after = analyzed analyzer.new;
@@ -122,7 +122,7 @@ fn run_tasks<T: StepTask, L: StepLedger, G: StepGate, R: StepThreads>(
     })) }
     ensures headline { IfOk result (λ end. Headline (record {
       setup = prepared.now;
-      works = map T.Artifacts.meaning artifacts.items;
+      artifacts = map T.Artifacts.meaning artifacts.items;
       round_limit = round_limit;
       heard_before = analyzed analyzer.old;
       heard_after = analyzed analyzer.new;
@@ -179,7 +179,7 @@ pub fn run_step<
 ) -> Result<StepEnd<T::Artifacts>, StepError>
     ensures run { IfOk result (λ end. IsRunOfStep (record {
       setup = prepared;
-      works = map T.Artifacts.meaning artifacts.items;
+      artifacts = map T.Artifacts.meaning artifacts.items;
       round_limit = round_limit;
       heard_before = analyzed analyzer.old;
       heard_after = analyzed analyzer.new;
@@ -192,7 +192,7 @@ pub fn run_step<
     // plans, with a certificate of it; and unstopped the step has what its partitions have that run alone.
     ensures headline { IfOk result (λ end. Headline (record {
       setup = prepared;
-      works = map T.Artifacts.meaning artifacts.items;
+      artifacts = map T.Artifacts.meaning artifacts.items;
       round_limit = round_limit;
       heard_before = analyzed analyzer.old;
       heard_after = analyzed analyzer.new;
@@ -260,7 +260,7 @@ pub fn run_step_by<
 ) -> Result<StepEnd<T::Artifacts>, StepError>
     ensures run { IfOk result (λ end. IsRunOfStep (record {
       setup = prepared;
-      works = map T.Artifacts.meaning artifacts.items;
+      artifacts = map T.Artifacts.meaning artifacts.items;
       round_limit = round_limit;
       heard_before = analyzed analyzer.old;
       heard_after = analyzed analyzer.new;
@@ -273,7 +273,7 @@ pub fn run_step_by<
     // plans, with a certificate of it; and unstopped the step has what its partitions have that run alone.
     ensures headline { IfOk result (λ end. Headline (record {
       setup = prepared;
-      works = map T.Artifacts.meaning artifacts.items;
+      artifacts = map T.Artifacts.meaning artifacts.items;
       round_limit = round_limit;
       heard_before = analyzed analyzer.old;
       heard_after = analyzed analyzer.new;

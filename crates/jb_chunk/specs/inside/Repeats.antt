@@ -151,10 +151,10 @@ pub record IsEntered (rules : RulesRecord) (skips : ℕ) (row : Row) (w : Artifa
 -- the second block is the first after some of its repeats
 pub record IsRepeated (t u : TaskState) : Type 0 where
   pub again : ℕ
-  pub rest : u ≡ record t { row = u.row; work = u.work }
+  pub rest : u ≡ record t { row = u.row; artifacts = u.artifacts }
   pub row : u.row ≡ repeated_row t.row again
   pub few : (again ≡ 0) ⊎ (t.row.retries + again ≤ t.rules.retry_limit)
-  pub work : IsRestored t.row.at (block_of t).hi t.work u.work
+  pub artifacts : IsRestored t.row.at (block_of t).hi t.artifacts u.artifacts
   pub same : all_repeated u ≡ all_repeated t
 
 -- the records of a block before `n` are done, and each fault of theirs is skipped
@@ -162,28 +162,28 @@ pub record IsGathering (t : TaskState) (n : ℕ) (tally : Yield) (now : Row) (le
   pub last : TaskState
   pub repeated : IsRepeated t last
   pub row : now ≡ last.row
-  pub passes : left ≡ passed last.work last.row.at n
-  pub counted : IsTally last.work last.row.at n tally
-  pub none : settling last.rules last.row last.work n ≡ None
+  pub passes : left ≡ passed last.artifacts last.row.at n
+  pub counted : IsTally last.artifacts last.row.at n tally
+  pub none : settling last.rules last.row last.artifacts n ≡ None
 
 -- the records of a block were read and processed, and each fault of theirs is skipped
 abbrev pub IsWhole : TaskState → Yield → (now : Row) → (left : ArtifactsMeaning) → Type 0
 IsWhole t tally now left =
     (u : TaskState) × IsRepeated t u × (now ≡ u.row)
     × (settled_at u ≡ None)
-    × IsTally u.work u.row.at (block_of u).hi tally
-    × (left ≡ passed u.work u.row.at (block_of u).hi)
+    × IsTally u.artifacts u.row.at (block_of u).hi tally
+    × (left ≡ passed u.artifacts u.row.at (block_of u).hi)
 
 -- the records of a block were read and processed: a fault settled it, which is neither skipped nor repeated, or there is none
 abbrev pub IsGathered : TaskState → Gathered → (found : Numbered) → (now : Row) → (left : ArtifactsMeaning) → Type 0
 IsGathered t (Settled number class choice) found now left =
     (u : TaskState) × IsRepeated t u × (now ≡ u.row)
     × (settled_at u ≡ Some number)
-    × (fault_in (entry u.work number) ≡ Some class)
-    × (choice ≡ choice_at u.rules u.row class (skips_before u.row u.work number))
+    × (fault_in (entry u.artifacts number) ≡ Some class)
+    × (choice ≡ choice_at u.rules u.row class (skips_before u.row u.artifacts number))
     × (is_skip choice ≡ false)
     × (is_again choice ≡ false)
-    × (left ≡ passed u.work u.row.at (number + 1))
+    × (left ≡ passed u.artifacts u.row.at (number + 1))
 IsGathered t (Whole tally) found now left = IsWhole t (yield_of tally found) now left
 
 -- a write was repeated so often, and then no more

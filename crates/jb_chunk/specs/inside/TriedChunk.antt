@@ -10,14 +10,14 @@ use Rattle.jb_chunk.specs.declared.outcome.Outcome.{Outcome}
 use Rattle.jb_chunk.specs.declared.outcome.Outcome.TheVariants.{Committed, NoMemory}
 use Rattle.jb_rules.specs.declared.counts.Counts.{Counts}
 use Rattle.jb_rules.specs.Counts.{IsDelta}
-use Rattle.jb_chunk.specs.Attempt.{block_of, settled_at, counts_with, end_by, end_of, row_after, work_used}
+use Rattle.jb_chunk.specs.Attempt.{block_of, settled_at, counts_with, end_by, end_of, row_after, artifacts_used}
 use Rattle.jb_chunk.specs.inside.Gathering.{Yield}
 use Rattle.jb_chunk.specs.Block.{choice_at, MayBeUsed}
 use Rattle.jb_chunk.specs.Standing.{TaskState, at_checkpoint}
 
 -- the task of this partition with this row, these rules, this item count and these artifacts
 abbrev pub task_at : (partition : ℕ) → Row → RulesRecord → (item_count : ℕ) → ArtifactsMeaning → TaskState
-task_at partition row rules item_count w = record { partition = partition; row = row; rules = rules; item_count = item_count; work = w }
+task_at partition row rules item_count w = record { partition = partition; row = row; rules = rules; item_count = item_count; artifacts = w }
 
 -- this holds of such a task, whatever its partition's number
 abbrev pub OfTask : RulesRecord → Row → (item_count : ℕ) → ArtifactsMeaning → (TaskState → Type 0) → Type 0
@@ -50,7 +50,7 @@ pub record IsFinish (rules : RulesRecord) (row : Row) (hi : ℕ) (tally : Yield)
 -- the chunk was tried to its end
 pub record IsTried (t : TaskState) (end : Outcome) (now : ArtifactsMeaning) : Type 0 where
   pub ended : end ≡ end_of t
-  pub left : now ≡ at_checkpoint (row_after t.row (block_of t).hi end) (work_used t (settled_at t))
+  pub left : now ≡ at_checkpoint (row_after t.row (block_of t).hi end) (artifacts_used t (settled_at t))
 
 -- reader and processor may have worked on the records from `lo` to `hi - 1`, and something may be written past what was there
 pub record IsTorn (lo hi : ℕ) (w now : ArtifactsMeaning) : Type 0 where

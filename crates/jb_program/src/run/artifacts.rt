@@ -7,8 +7,8 @@ ghost use Rattle.jb_base.specs.declared.range.Range.{Range};
 ghost use Rattle.jb_plan.specs.Plans.{IsWithin};
 ghost use Rattle.jb_rules.specs.Rows.{range_of};
 ghost use Rattle.jb_step.specs.preparing.Setup.{needs, unfinished};
-ghost use Rattle.jb_program.specs.PartitionRun.{plans_in, records_in, work_for, workplace_of};
-ghost use Rattle.jb_program.specs.StepRun.{works_for};
+ghost use Rattle.jb_program.specs.PartitionRun.{plans_in, records_in, opening_artifacts_for, opening_artifacts};
+ghost use Rattle.jb_program.specs.StepRun.{all_opening_artifacts};
 
 use crate::run::fault_plans::plans_for;
 use crate::run::held::held_list;
@@ -99,7 +99,7 @@ fn artifacts_for(
     range: Range,
 ) -> Result<OwnArtifacts, AllocError>
     requires { IsWithin (length (arc_value records)) range }
-    ensures { IfOk result (λ own. ⟦<OwnArtifacts as Meaning>⟧.meaning own ≡ workplace_of step.now (records_in (arc_value records) range) held range) }
+    ensures { IfOk result (λ own. ⟦<OwnArtifacts as Meaning>⟧.meaning own ≡ opening_artifacts step.now (records_in (arc_value records) range) held range) }
 {
     let inner = ArtifactsOf {
         reader: reader_for(alloc, step, records, range)?,
@@ -120,7 +120,7 @@ fn artifacts_of_row(
     row: &Row,
 ) -> Result<OwnArtifacts, AllocError>
     requires { IsWithin (length (arc_value records.now)) (range_of row.now) }
-    ensures { IfOk result (λ own. ⟦<OwnArtifacts as Meaning>⟧.meaning own ≡ workplace_of step.now (records_in (arc_value records.now) (range_of row.now)) held (range_of row.now)) }
+    ensures { IfOk result (λ own. ⟦<OwnArtifacts as Meaning>⟧.meaning own ≡ opening_artifacts step.now (records_in (arc_value records.now) (range_of row.now)) held (range_of row.now)) }
 {
     let range = Range {
         lo: row.lo,
@@ -142,8 +142,8 @@ fn add_artifacts(
 ) -> Result<(), AllocError>
     requires within { All (IsWithin (length (arc_value records.now))) (map range_of prepared.now.rows) }
     requires place { place < length (needs prepared.now.rows) }
-    ensures { OnOk result (map ⟦<OwnArtifacts as Meaning>⟧.meaning all.new.items ++ map (work_for step.now (arc_value records.now) outputs.now) (drop (place + 1) (unfinished prepared.now.rows))
-        ≡ map ⟦<OwnArtifacts as Meaning>⟧.meaning all.old.items ++ map (work_for step.now (arc_value records.now) outputs.now) (drop place (unfinished prepared.now.rows))) }
+    ensures { OnOk result (map ⟦<OwnArtifacts as Meaning>⟧.meaning all.new.items ++ map (opening_artifacts_for step.now (arc_value records.now) outputs.now) (drop (place + 1) (unfinished prepared.now.rows))
+        ≡ map ⟦<OwnArtifacts as Meaning>⟧.meaning all.old.items ++ map (opening_artifacts_for step.now (arc_value records.now) outputs.now) (drop place (unfinished prepared.now.rows))) }
 {
     let partition = prepared.needs()[place];
     let Some(row) = prepared.row(partition) else {
@@ -164,7 +164,7 @@ pub fn all_artifacts(
     prepared: &Prepared,
 ) -> Result<Vec<OwnArtifacts>, AllocError>
     requires { All (IsWithin (length records)) (map range_of prepared.now.rows) }
-    ensures { IfOk result (λ all. map ⟦<OwnArtifacts as Meaning>⟧.meaning all.items ≡ works_for step.now records outputs.now prepared.now.rows) }
+    ensures { IfOk result (λ all. map ⟦<OwnArtifacts as Meaning>⟧.meaning all.items ≡ all_opening_artifacts step.now records outputs.now prepared.now.rows) }
 {
     let shared = Arc::new(alloc, records)?;
     let mut all = Vec::new(alloc);

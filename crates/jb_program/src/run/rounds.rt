@@ -61,7 +61,7 @@ pub fn run_over_desk<T: Threads + Wait + Sync, L: Ledger + Send + Sync + 'static
     requires fit { DoFit prepared (map ⟦<OwnArtifacts as Meaning>⟧.meaning artifacts.items) }
     ensures ran { IfOk result (λ ended. IsRunOfStep (record {
       setup = prepared;
-      works = map ⟦<OwnArtifacts as Meaning>⟧.meaning artifacts.items;
+      artifacts = map ⟦<OwnArtifacts as Meaning>⟧.meaning artifacts.items;
       round_limit = round_limit;
       heard_before = map well analyzer;
       heard_after = map well ended.1;
@@ -71,7 +71,7 @@ pub fn run_over_desk<T: Threads + Wait + Sync, L: Ledger + Send + Sync + 'static
     })) }
     ensures headline { IfOk result (λ ended. Headline (record {
       setup = prepared;
-      works = map ⟦<OwnArtifacts as Meaning>⟧.meaning artifacts.items;
+      artifacts = map ⟦<OwnArtifacts as Meaning>⟧.meaning artifacts.items;
       round_limit = round_limit;
       heard_before = map well analyzer;
       heard_after = map well ended.1;

@@ -2,7 +2,7 @@
 
 ghost use Rattle.std.specs.Prelude.{◌≡◌, ◌∷◌, ◌++◌, [], codes, map, option_map, true, false, None, IfErr, IfOk, IfSome};
 ghost use Rattle.clap.specs.Words.{app_of, subcommand_rows_of, with_subcommand};
-ghost use Rattle.jb_program.specs.CommandLine.{app, help_app, limited_app, program as program_app, request_in, rounds_of_word, topic_at, topic_in, word_app, work_in, word_in, AreUnknown, Asks, CanBeCompleted, CannotGoOn, IsWrong};
+ghost use Rattle.jb_program.specs.CommandLine.{app, help_app, limited_app, program as program_app, request_in, rounds_of_word, topic_at, topic_in, word_app, perform_in, word_in, AreUnknown, Asks, CanBeCompleted, CannotGoOn, IsWrong};
 
 use crate::words::fault::{LineFault, UsageFault};
 use crate::words::help::VERSION;
@@ -122,8 +122,8 @@ fn rounds_of(text: &str) -> Option<u64>
 }
 
 /// What a word asks for by itself, or with the number of rounds that is given.
-fn work_of(name: &str, given: Option<&str>) -> Option<Request>
-    ensures { result ≡ work_in name.now (option_map (λ n. n.now) given.entry) }
+fn perform_of(name: &str, given: Option<&str>) -> Option<Request>
+    ensures { result ≡ perform_in name.now (option_map (λ n. n.now) given.entry) }
 {
     let word = word_of(name)?;
     match given {
@@ -147,7 +147,7 @@ fn request_of(matches: &ArgMatches<'_>) -> Option<Request>
     };
     match name {
         "help" => topic_of(rest.get_str("word")),
-        _ => work_of(name, rest.get_str("rounds")),
+        _ => perform_of(name, rest.get_str("rounds")),
     }
 }
 

@@ -15,7 +15,7 @@ unfinished_from first rows = filter (λ n. not (is_finished n.1.state)) (enumera
 
 -- their tasks, each with its artifacts
 abbrev pub tasks_from : Setup → ℕ → List Row → List ArtifactsMeaning → List TaskState
-tasks_from s first rows works = map (λ n. started n.0.0 n.0.1 s.rules s.item_count n.1) (zip (unfinished_from first rows) works)
+tasks_from s first rows artifacts = map (λ n. started n.0.0 n.0.1 s.rules s.item_count n.1) (zip (unfinished_from first rows) artifacts)
 
 -- each row is sound, and its partition waits or is finished
 pub record IsRowBegun (row : Row) : Type 0 where

@@ -93,7 +93,7 @@ AreCallsBefore discards (Err e) taken = AreCallsAtRefusal e taken
 
 -- as many artifacts as unfinished partitions, and each serves its partition's row, in this order
 abbrev pub FitRows : List (ℕ × Row) → List ArtifactsMeaning → Type 0
-FitRows = Pairwise (λ n work. Fits work n.1)
+FitRows = Pairwise (λ n artifacts. Fits artifacts n.1)
 
 abbrev pub DoFit : Setup → List ArtifactsMeaning → Type 0
-DoFit s works = FitRows (unfinished s.rows) works
+DoFit s artifacts = FitRows (unfinished s.rows) artifacts

@@ -66,7 +66,7 @@ needs rows = map (λ n. n.0) (unfinished rows)
 
 -- their tasks, each with its artifacts
 abbrev pub first_tasks : Setup → List ArtifactsMeaning → List TaskState
-first_tasks s works = map (λ n. started n.0.0 n.0.1 s.rules s.item_count n.1) (zip (unfinished s.rows) works)
+first_tasks s artifacts = map (λ n. started n.0.0 n.0.1 s.rules s.item_count n.1) (zip (unfinished s.rows) artifacts)
 
 -- the row of a partition now: its task's, or the prepared one where it has no task
 abbrev pub row_now : List TaskState → ℕ → Row → Row

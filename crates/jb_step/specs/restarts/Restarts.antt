@@ -11,7 +11,7 @@ use Rattle.jb_saved.specs.SavedTree.{saved_tree}
 use Rattle.jb_step.specs.Answers.{StepRun, artifacts_of, tasks_after, tasks_before}
 use Rattle.jb_step.specs.preparing.Prepare.{DoFit, IsPreparation}
 use Rattle.jb_step.specs.preparing.Setup.{IsSetup, Setup, first_tasks}
-use Rattle.jb_step.specs.restarts.StepRuns.{IsAnswered, StandAtTheEnd, StandOnTheWay, last_run, tasks_at_last, works_restarted}
+use Rattle.jb_step.specs.restarts.StepRuns.{IsAnswered, StandAtTheEnd, StandOnTheWay, last_run, tasks_at_last, artifacts_restarted}
 
 -- what `prepare` says of what the run began with, whatever its mapper was
 pub record IsPreparedFor (step : StepRecord) (saved : Option SavedRows) (r : StepRun) : Type 0 where
@@ -39,7 +39,7 @@ pub record IsRestart (step : StepRecord) (before next : StepRun) : Type 0 where
   pub prepared : IsPreparedFor step (Some read) next
   pub goes_on : prepared.prepared.plan.replace ≡ false
   -- what `run_step` takes
-  pub tasks : tasks_before next ≡ first_tasks next.setup (works_restarted (tasks_after before))
+  pub tasks : tasks_before next ≡ first_tasks next.setup (artifacts_restarted (tasks_after before))
 
 -- each later run is a restart from what the run before it left, and `run_step` answered
 abbrev pub AreRestarts : StepRecord → (before : StepRun) → List StepRun → Type 0
@@ -61,7 +61,7 @@ RestartsFit =
     (step : StepRecord) (first : StepRun) (later : List StepRun) (saved : SavedRows) (s : Setup)
     → IsChain step first later → AreUnfailed (last_run first later).snapshot.rows.items
     → IsSaved saved → saved.rows ≡ (last_run first later).snapshot.rows.items → s.rows ≡ rows_restarted saved
-    → DoFit s (works_restarted (tasks_after (last_run first later)))
+    → DoFit s (artifacts_restarted (tasks_after (last_run first later)))
 
 -- wherever the runs left a partition, some of its attempts alone from the first start lead there
 abbrev pub RestartsAreOnTheWay : Type 0

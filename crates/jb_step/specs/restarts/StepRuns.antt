@@ -10,15 +10,15 @@ use Rattle.jb_step.specs.Alone.{AreAlone, AreOnTheWay}
 
 -- what `run_step` says of an answer
 pub record IsAnswered (r : StepRun) : Type 0 where
-  pub fit : DoFit r.setup r.works
+  pub fit : DoFit r.setup r.artifacts
   pub run : IsRunOfStep r
 
 -- of tasks as a run left them, those that it left unfinished, and their artifacts
 abbrev pub tasks_unfinished : List TaskState → List TaskState
 tasks_unfinished ts = filter (λ t. not (is_finished t.row.state)) ts
 
-abbrev pub works_restarted : List TaskState → List ArtifactsMeaning
-works_restarted ts = map (λ t. t.work) (tasks_unfinished ts)
+abbrev pub artifacts_restarted : List TaskState → List ArtifactsMeaning
+artifacts_restarted ts = map (λ t. t.artifacts) (tasks_unfinished ts)
 
 -- SEVERAL RUNS: a first one, and later ones, in the order of time
 

@@ -33,11 +33,11 @@ pub record IsHeld (s : Setup) (ts : List TaskState) : Type 0 where
 -- the step begins with a table of its own, if the artifacts fit
 abbrev pub BeginsWithTable : Type 0
 BeginsWithTable =
-    (s : Setup) (works : List ArtifactsMeaning) → IsSetup s → DoFit s works → IsTaskTable s (first_tasks s works)
+    (s : Setup) (artifacts : List ArtifactsMeaning) → IsSetup s → DoFit s artifacts → IsTaskTable s (first_tasks s artifacts)
 
 -- the rows are then the prepared ones
 abbrev pub BeginsWithRows : Type 0
-BeginsWithRows = (s : Setup) (works : List ArtifactsMeaning) → DoFit s works → rows_now s.rows (first_tasks s works) ≡ s.rows
+BeginsWithRows = (s : Setup) (artifacts : List ArtifactsMeaning) → DoFit s artifacts → rows_now s.rows (first_tasks s artifacts) ≡ s.rows
 
 -- and each round leaves the partitions as they are
 abbrev pub PartitionsStay : Type 0

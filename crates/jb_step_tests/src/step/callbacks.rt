@@ -3,7 +3,7 @@
 ghost use Rattle.std.specs.Prelude.{◌≡◌};
 ghost use Rattle.jb_base.specs.Limits.{max_parts};
 
-use crate::step::given::{Letters, all_works};
+use crate::step::given::{Letters, all_artifacts};
 use crate::step::lacking::Lacking;
 use crate::step::restarts::{Between, add_answer};
 use crate::step::rows::{PLAIN, assert_text};
@@ -193,7 +193,7 @@ fn course_with<L: Ledger + Send + Sync + 'static, R: Threads + Wait + Sync>(
     let mut reducer = Lacking::new(alloc, case.fault, case.lacking);
     let prepared = started(alloc, PLAIN, case.records, &mut reducer, None)?;
     let desk = prepared.desk::<L>(alloc, blank)?;
-    let artifacts = all_works(alloc, case.records, prepared.needs().len())?;
+    let artifacts = all_artifacts(alloc, case.records, prepared.needs().len())?;
     let end = run_in::<Letters, L, NoGate, R>(
         way,
         rt,

@@ -3,7 +3,7 @@
 ghost use Rattle.std.specs.Prelude.{◌≡◌};
 ghost use Rattle.jb_base.specs.Limits.{max_parts};
 
-use crate::step::given::{Given, Processor, works};
+use crate::step::given::{Given, Processor, artifacts};
 use crate::step::lacking::Lacking;
 use crate::step::rows::{Asked, PLAIN};
 use crate::step::runs::started;
@@ -124,17 +124,17 @@ impl ItemProcessor for Waiting {
     }
 }
 
-type WaitingWorks = ArtifactsOf<TableReader, Waiting, ListWriter, CountCollector>;
+type WaitingArtifacts = ArtifactsOf<TableReader, Waiting, ListWriter, CountCollector>;
 
 /// The artifacts of the partition with this first record.
-fn waiting_work(
+fn waiting_bundle(
     alloc: Global,
     partition: u32,
     first: u64,
     meeting: &Arc<Meeting>,
-) -> Result<WaitingWorks, Fail> {
+) -> Result<WaitingArtifacts, Fail> {
     let meeting = Arc::try_clone(meeting)?;
-    let own = works(alloc, RECORDS)?;
+    let own = artifacts(alloc, RECORDS)?;
     Ok(ArtifactsOf {
         reader: own.reader,
         processor: Waiting {
@@ -149,12 +149,12 @@ fn waiting_work(
 }
 
 /// The artifacts of the four partitions.
-fn waiting_works(alloc: Global, meeting: &Arc<Meeting>) -> Result<Vec<WaitingWorks>, Fail> {
+fn waiting_artifacts(alloc: Global, meeting: &Arc<Meeting>) -> Result<Vec<WaitingArtifacts>, Fail> {
     let given = Given::read(alloc, RECORDS)?;
     let mut all = Vec::new(alloc);
     let mut partition: u32 = 0;
     for range in given.ranges() {
-        all.push(waiting_work(alloc, partition, range.lo, meeting)?)?;
+        all.push(waiting_bundle(alloc, partition, range.lo, meeting)?)?;
         partition = partition.saturating_add(1);
     }
     Ok(all)
@@ -172,8 +172,8 @@ fn met<L: Ledger + Send + Sync + 'static, R: Threads + Wait + Clock + Abort + Co
     gate: &Lanes<R>,
 ) -> Result<(Status, u64), Fail> {
     let mut analyzer = ListAnalyzer::new(alloc, None);
-    let artifacts = waiting_works(alloc, processors)?;
-    let end = run_in::<Task<WaitingWorks>, L, Lanes<R>, R>(
+    let artifacts = waiting_artifacts(alloc, processors)?;
+    let end = run_in::<Task<WaitingArtifacts>, L, Lanes<R>, R>(
         way,
         rt,
         alloc,

@@ -19,10 +19,10 @@ use std::alloc::{AllocError, Global};
 use std::test::*;
 
 /// What a partition works with.
-pub(crate) type Works = ArtifactsOf<TableReader, Processor, ListWriter, CountCollector>;
+pub(crate) type GivenArtifacts = ArtifactsOf<TableReader, Processor, ListWriter, CountCollector>;
 
 /// A partition's task.
-pub(crate) type Letters = Task<Works>;
+pub(crate) type Letters = Task<GivenArtifacts>;
 
 /// A processor that puts an x before each record, and finds no memory the first time that it gets the record of this number.
 #[derive(Drop)]
@@ -137,7 +137,7 @@ impl Given {
     }
 
     /// The artifacts of one partition, whose writer has these results.
-    fn works(self, alloc: Global, written: PackedList) -> Result<Works, AllocError> {
+    fn artifacts(self, alloc: Global, written: PackedList) -> Result<GivenArtifacts, AllocError> {
         let prefix = Item::copy_of(alloc, b"x")?;
         let processor = Processor {
             prefix: PrefixProcessor::new(alloc, prefix, None, self.processes),
@@ -159,27 +159,31 @@ fn once(alloc: Global, class: ClassId) -> Result<FaultPlan, AllocError> {
 }
 
 /// The artifacts of one partition of the records.
-pub(crate) fn works(alloc: Global, text: &str) -> Result<Works, AllocError> {
-    Given::read(alloc, text)?.works(alloc, PackedList::new(alloc))
+pub(crate) fn artifacts(alloc: Global, text: &str) -> Result<GivenArtifacts, AllocError> {
+    Given::read(alloc, text)?.artifacts(alloc, PackedList::new(alloc))
 }
 
 /// The artifacts of one partition of records of which none was left out but those that fail each time that they are processed,
 /// whose writer has what was written up to the row's place.
-pub(crate) fn works_from(alloc: Global, text: &str, row: &Row) -> Result<Works, AllocError> {
+pub(crate) fn artifacts_from(
+    alloc: Global,
+    text: &str,
+    row: &Row,
+) -> Result<GivenArtifacts, AllocError> {
     let given = Given::read(alloc, text)?;
     let written = given.written(alloc, row)?;
-    given.works(alloc, written)
+    given.artifacts(alloc, written)
 }
 
 /// The artifacts of so many partitions of the records.
-pub(crate) fn all_works(
+pub(crate) fn all_artifacts(
     alloc: Global,
     text: &str,
     partitions: usize,
-) -> Result<Vec<Works>, AllocError> {
+) -> Result<Vec<GivenArtifacts>, AllocError> {
     let mut all = Vec::new(alloc);
     for _ in 0..partitions {
-        all.push(works(alloc, text)?)?;
+        all.push(artifacts(alloc, text)?)?;
     }
     Ok(all)
 }

@@ -3,7 +3,7 @@
 ghost use Rattle.std.specs.Prelude.{◌≡◌};
 ghost use Rattle.jb_base.specs.Limits.{max_parts};
 
-use crate::step::given::Works;
+use crate::step::given::GivenArtifacts;
 use crate::step::lacking::Lacking;
 use crate::step::restarts::{Between, add_answer, gone_on};
 use crate::step::rows::{Asked, PLAIN, assert_text, plain_in};
@@ -213,7 +213,7 @@ fn told<L: Ledger, R: Wait>(
     rt: &R,
     alloc: Global,
     desk: &Desk<L>,
-    end: Result<StepEnd<Works>, StepError>,
+    end: Result<StepEnd<GivenArtifacts>, StepError>,
     analyzer: &ListAnalyzer,
     reducer: &Lacking,
     between: &mut Between,

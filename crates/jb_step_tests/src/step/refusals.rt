@@ -3,7 +3,7 @@
 ghost use Rattle.std.specs.Prelude.{◌≡◌, Err};
 ghost use Rattle.jb_base.specs.Limits.{max_parts};
 
-use crate::step::given::{Given, Letters, begun, works};
+use crate::step::given::{Given, Letters, artifacts, begun};
 use crate::step::lacking::Lacking;
 use crate::step::rows::{add_reduced, assert_text};
 use crate::step::runs::ended_with;
@@ -75,7 +75,7 @@ fn run_own<L: Ledger + Send + Sync + 'static, R: Threads + Wait + Sync>(
     desk: &Desk<L>,
 ) -> Option<()> {
     let row = Row::fresh(Range { lo: 0, hi: 2 });
-    let task = task_of::<Letters>(0, row, RULES, 2, works(alloc, RECORDS).ok()?)?;
+    let task = task_of::<Letters>(0, row, RULES, 2, artifacts(alloc, RECORDS).ok()?)?;
     let round = with_work(Vec::new(alloc), 0, task)?;
     desk.apply(rt, Event::Plan(1, Certificate::FullLoad)).ok()?;
     run_round_in(way, desk, rt, alloc, &NoGate, round).ok()?;

@@ -4,7 +4,9 @@
 ghost use Rattle.std.specs.Prelude.{◌≡◌};
 ghost use Rattle.jb_base.specs.Limits.{max_parts};
 
-use crate::step::given::{Given, Letters, Works, all_works, saved_again, works, works_from};
+use crate::step::given::{
+    Given, GivenArtifacts, Letters, all_artifacts, artifacts, artifacts_from, saved_again,
+};
 use crate::step::lacking::Lacking;
 use crate::step::rows::{
     Asked, CASES, Case, add_course, add_heard, add_partition, add_reduced, assert_text, left_of,
@@ -58,8 +60,8 @@ const PARTITIONS: &str = "0 2 2 0 0 2 2 2 1 0 0 0 0 0 0 done xa xb
 pub(crate) struct Between {
     saved: Option<Saved>,
     rows: Vec<Row>,
-    unfinished: Vec<(u32, Works)>,
-    finished: Vec<(u32, Works)>,
+    unfinished: Vec<(u32, GivenArtifacts)>,
+    finished: Vec<(u32, GivenArtifacts)>,
 }
 
 impl Between {
@@ -78,14 +80,14 @@ impl Between {
         let given = Given::read(alloc, records)?;
         let some = given.ranges().iter().filter(|range| range.lo < range.hi);
         let mut between = Between::nothing(alloc);
-        for own in all_works(alloc, records, some.count())? {
+        for own in all_artifacts(alloc, records, some.count())? {
             between.unfinished.push((0, own))?;
         }
         Ok(between)
     }
 
     /// The saved rows and the artifacts that the next run begins with.
-    pub(crate) fn give_up(&mut self, alloc: Global) -> (Option<Saved>, Vec<(u32, Works)>) {
+    pub(crate) fn give_up(&mut self, alloc: Global) -> (Option<Saved>, Vec<(u32, GivenArtifacts)>) {
         let left = mem::replace(&mut self.unfinished, Vec::new(alloc));
         (self.saved.take(), left)
     }
@@ -96,7 +98,7 @@ impl Between {
         alloc: Global,
         records: &str,
         snapshot: &Snapshot,
-        end: Result<StepEnd<Works>, StepError>,
+        end: Result<StepEnd<GivenArtifacts>, StepError>,
     ) -> Result<Option<Status>, Fail> {
         match end {
             Ok(end) => {
@@ -111,7 +113,7 @@ impl Between {
         }
     }
 
-    pub(crate) fn keep(&mut self, alloc: Global, end: StepEnd<Works>) -> Result<(), Fail> {
+    pub(crate) fn keep(&mut self, alloc: Global, end: StepEnd<GivenArtifacts>) -> Result<(), Fail> {
         self.hold(alloc, &end.snapshot)?;
         for (partition, own) in end.artifacts {
             self.put(partition, own)?;
@@ -120,7 +122,7 @@ impl Between {
     }
 
     /// Puts the artifacts of a partition to those of the finished or of the unfinished ones.
-    fn put(&mut self, partition: u32, own: Works) -> Result<(), Fail> {
+    fn put(&mut self, partition: u32, own: GivenArtifacts) -> Result<(), Fail> {
         let row = self.rows.get(partition as usize).ok_or("a row")?;
         let left = if row.state.is_finished() {
             &mut self.finished
@@ -143,14 +145,14 @@ impl Between {
         self.hold(alloc, snapshot)?;
         self.finished = Vec::new(alloc);
         for (partition, row) in (0..1_024).zip(snapshot.rows.iter()) {
-            self.put(partition, works_from(alloc, records, row)?)?;
+            self.put(partition, artifacts_from(alloc, records, row)?)?;
         }
         Ok(())
     }
 
     /// How each partition stands; one that had nothing to do has no artifacts.
     pub(crate) fn partitions(&self, alloc: Global) -> Result<String, AllocError> {
-        let none = works(alloc, "")?;
+        let none = artifacts(alloc, "")?;
         let mut text = String::new(alloc);
         for (partition, row) in self.rows.iter().enumerate() {
             let own = self.of(partition).unwrap_or(&none);
@@ -171,28 +173,28 @@ impl Between {
     }
 
     /// The artifacts of this partition.
-    fn of(&self, partition: usize) -> Option<&Works> {
+    fn of(&self, partition: usize) -> Option<&GivenArtifacts> {
         left_of(&self.finished, partition).or(left_of(&self.unfinished, partition))
     }
 }
 
 /// The artifacts that were handed back; or, where a restart has records of its own, new ones with the writers of those.
-pub(crate) fn works_restarted(
+pub(crate) fn artifacts_restarted(
     alloc: Global,
-    unfinished: Vec<(u32, Works)>,
+    unfinished: Vec<(u32, GivenArtifacts)>,
     records: Option<&str>,
-) -> Result<Vec<Works>, AllocError> {
+) -> Result<Vec<GivenArtifacts>, AllocError> {
     let mut again = Vec::new(alloc);
     for (_, own) in unfinished {
         match records {
             None => again.push(own)?,
-            Some(records) => again.push(with_writer(own, works(alloc, records)?))?,
+            Some(records) => again.push(with_writer(own, artifacts(alloc, records)?))?,
         }
     }
     Ok(again)
 }
 
-fn with_writer(own: Works, new: Works) -> Works {
+fn with_writer(own: GivenArtifacts, new: GivenArtifacts) -> GivenArtifacts {
     ArtifactsOf {
         reader: new.reader,
         processor: new.processor,
@@ -214,7 +216,7 @@ pub(crate) fn gone_on<R: Threads + Wait + Sync>(
 ) -> Result<(Option<Status>, String), Fail> {
     let mut reducer = Lacking::nothing(alloc);
     let (saved, left) = between.give_up(alloc);
-    let artifacts = works_restarted(alloc, left, if others { Some(records) } else { None })?;
+    let artifacts = artifacts_restarted(alloc, left, if others { Some(records) } else { None })?;
     match started_or_not(alloc, asked, records, &mut reducer, saved)? {
         Ok(prepared) => {
             let blank = Blank::new(MAX_PARTS);
@@ -239,7 +241,7 @@ fn run_on<L: Ledger + Send + Sync + 'static, R: Threads + Wait + Sync>(
     alloc: Global,
     blank: Blank,
     prepared: Prepared,
-    artifacts: Vec<Works>,
+    artifacts: Vec<GivenArtifacts>,
     records: &String,
     way: Way,
     rounds: Option<u64>,
@@ -273,7 +275,7 @@ fn run_at<L: Ledger + Send + Sync + 'static, R: Threads + Wait + Sync>(
     alloc: Global,
     desk: &Desk<L>,
     prepared: Prepared,
-    artifacts: Vec<Works>,
+    artifacts: Vec<GivenArtifacts>,
     records: &str,
     way: Way,
     rounds: Option<u64>,
@@ -309,7 +311,7 @@ pub(crate) fn add_answer(
     course: &mut String,
     alloc: Global,
     snapshot: &Snapshot,
-    end: &Result<StepEnd<Works>, StepError>,
+    end: &Result<StepEnd<GivenArtifacts>, StepError>,
     analyzer: &dyn Analyzer,
     reducer: &dyn Reducer,
 ) -> Result<(), AllocError> {

@@ -1,7 +1,7 @@
 //! What the tests ask of a step, the worked rows that several of them go by, and how they tell what comes of it.
 
 use crate::collect::line_of;
-use crate::step::given::Works;
+use crate::step::given::GivenArtifacts;
 use crate::way::Way;
 use jb_artifacts::{ItemWriter, ListWriter};
 use jb_base::Rules;
@@ -158,13 +158,13 @@ pub(crate) fn add_partition(
     text: &mut String,
     alloc: Global,
     row: &Row,
-    works: &Works,
+    artifacts: &GivenArtifacts,
 ) -> Result<(), AllocError> {
     for number in row.numbers() {
         text.push_str(format!(in alloc; "{number} ")?.as_str())?;
     }
     text.push_str(row.state.name())?;
-    add_outputs(text, alloc, &works.writer)
+    add_outputs(text, alloc, &artifacts.writer)
 }
 
 fn add_outputs(text: &mut String, alloc: Global, writer: &ListWriter) -> Result<(), AllocError> {
@@ -178,7 +178,7 @@ fn add_outputs(text: &mut String, alloc: Global, writer: &ListWriter) -> Result<
 }
 
 /// The works of this partition among those that are left.
-pub(crate) fn left_of(left: &[(u32, Works)], partition: usize) -> Option<&Works> {
+pub(crate) fn left_of(left: &[(u32, GivenArtifacts)], partition: usize) -> Option<&GivenArtifacts> {
     let own = left.iter().find(|one| one.0 as usize == partition)?;
     Some(&own.1)
 }
@@ -186,7 +186,7 @@ pub(crate) fn left_of(left: &[(u32, Works)], partition: usize) -> Option<&Works>
 /// The step's plans, the analyzer's calls, the reducer's, and the status and the number of events.
 pub(crate) fn course_of(
     alloc: Global,
-    end: &StepEnd<Works>,
+    end: &StepEnd<GivenArtifacts>,
     analyzer: &dyn Analyzer,
     reducer: &dyn Reducer,
 ) -> Result<String, AllocError> {
@@ -198,7 +198,7 @@ pub(crate) fn course_of(
 pub(crate) fn add_course(
     text: &mut String,
     alloc: Global,
-    end: &StepEnd<Works>,
+    end: &StepEnd<GivenArtifacts>,
     analyzer: &dyn Analyzer,
     reducer: &dyn Reducer,
 ) -> Result<(), AllocError> {

@@ -1,6 +1,6 @@
 //! How the steps of the tests begin and end.
 
-use crate::step::given::{Given, Letters, Works, all_works, begun_from};
+use crate::step::given::{Given, GivenArtifacts, Letters, all_artifacts, begun_from};
 use crate::step::lacking::Lacking;
 use crate::step::rows::Asked;
 use crate::step::ways::run_in;
@@ -64,8 +64,8 @@ pub(crate) fn ended_with<
     analyzer: &mut ListAnalyzer,
     reducer: &mut Lacking,
     gate: &G,
-) -> Result<Result<StepEnd<Works>, StepError>, Fail> {
-    let artifacts = all_works(alloc, records, partitions)?;
+) -> Result<Result<StepEnd<GivenArtifacts>, StepError>, Fail> {
+    let artifacts = all_artifacts(alloc, records, partitions)?;
     Ok(run_in::<Letters, L, G, R>(
         way, rt, alloc, desk, prepared, artifacts, analyzer, reducer, None, gate,
     ))

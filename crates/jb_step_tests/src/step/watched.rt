@@ -3,9 +3,9 @@
 ghost use Rattle.std.specs.Prelude.{◌≡◌};
 ghost use Rattle.jb_base.specs.Limits.{max_parts};
 
-use crate::step::given::{Letters, Works};
+use crate::step::given::{GivenArtifacts, Letters};
 use crate::step::lacking::Lacking;
-use crate::step::restarts::{Between, works_restarted};
+use crate::step::restarts::{Between, artifacts_restarted};
 use crate::step::rows::{Asked, SEVEN, assert_text, plain_in};
 use crate::step::runs::started;
 use crate::step::ways::run_in;
@@ -164,10 +164,10 @@ fn run_between<
     looks: &'s Looks,
     prepared: Prepared,
     mut reducer: Lacking,
-    artifacts: Vec<Works>,
+    artifacts: Vec<GivenArtifacts>,
     way: Way,
     commits: u64,
-) -> (Result<StepEnd<Works>, StepError>, Option<u64>) {
+) -> (Result<StepEnd<GivenArtifacts>, StepError>, Option<u64>) {
     let mut analyzer = ListAnalyzer::new(alloc, None);
     ask_once(rt, desk, commits);
     let watcher = scope.spawn(move || watch(&*rt, &*desk, &*looks));
@@ -202,10 +202,10 @@ fn in_scope<L: Ledger + Send + Sync + 'static, R: Threads + Wait + Clock + Copy 
     desk: &Desk<L>,
     prepared: Prepared,
     reducer: Lacking,
-    artifacts: Vec<Works>,
+    artifacts: Vec<GivenArtifacts>,
     way: Way,
     commits: u64,
-) -> (Result<StepEnd<Works>, StepError>, Option<u64>) {
+) -> (Result<StepEnd<GivenArtifacts>, StepError>, Option<u64>) {
     let looks = Looks::new();
     thread::scope(thread::scope_env(), rt, |scope| {
         run_between(
@@ -230,7 +230,7 @@ fn run_watched<L: Ledger + Send + Sync + 'static, R: Threads + Wait + Clock + Co
     let way = asked.way;
     let mut reducer = Lacking::nothing(alloc);
     let (saved, left) = between.give_up(alloc);
-    let artifacts = works_restarted(alloc, left, None)?;
+    let artifacts = artifacts_restarted(alloc, left, None)?;
     let prepared = started(alloc, asked, RECORDS, &mut reducer, saved)?;
     let desk = prepared.desk::<L>(alloc, blank)?;
     let (end, rises) = in_scope(rt, alloc, &desk, prepared, reducer, artifacts, way, commits);

@@ -1,7 +1,7 @@
 //! An attempt whose memory is refused, and the one after it.
 
 use super::calls::{begun, waits};
-use super::rows::{Works, works};
+use super::rows::{RowArtifacts, artifacts};
 use crate::artifacts::records;
 use jb_artifacts::ItemWriter;
 use jb_chunk::{Done, Outcome, PartitionTask, Task};
@@ -9,12 +9,12 @@ use std::alloc::Global;
 use std::process::Abort;
 use std::test::*;
 
-pub(crate) type Plain = Task<Works>;
+pub(crate) type Plain = Task<RowArtifacts>;
 
 /// A task over two letters, which are one chunk, with a processor that puts an x before each.
 fn letters(alloc: Global) -> Option<Plain> {
     let records = records(alloc, &["a", "b"]).ok()?;
-    begun(2, 2, works(alloc, records).ok()?)
+    begun(2, 2, artifacts(alloc, records).ok()?)
 }
 
 /// An attempt at the task's chunk, if it may be attempted.

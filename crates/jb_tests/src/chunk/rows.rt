@@ -11,7 +11,12 @@ use std::alloc::{AllocError, Global};
 use std::test::*;
 
 /// What a partition works with.
-pub(super) type Works = ArtifactsOf<TableReader, PrefixProcessor, ListWriter, CountCollector>;
+pub(super) type RowArtifacts = ArtifactsOf<
+    TableReader,
+    PrefixProcessor,
+    ListWriter,
+    CountCollector,
+>;
 
 /// What a partition that ran alone left.
 #[derive(Drop)]
@@ -30,7 +35,7 @@ fn letters(alloc: Global) -> Result<PackedList, Fail> {
 }
 
 /// What a partition of these records works with.
-pub(super) fn works(alloc: Global, records: PackedList) -> Result<Works, AllocError> {
+pub(super) fn artifacts(alloc: Global, records: PackedList) -> Result<RowArtifacts, AllocError> {
     let prefix = Item::copy_of(alloc, b"x")?;
     Ok(ArtifactsOf {
         reader: TableReader::new(alloc, 0, records, FaultPlans::new(alloc)),
@@ -41,7 +46,7 @@ pub(super) fn works(alloc: Global, records: PackedList) -> Result<Works, AllocEr
 }
 
 /// What the partition left.
-fn left(alloc: Global, alone: Alone<Task<Works>>) -> Result<Ran, Fail> {
+fn left(alloc: Global, alone: Alone<Task<RowArtifacts>>) -> Result<Ran, Fail> {
     let row = *alone.task.row();
     let artifacts = alone.task.into_artifacts();
     let last = match artifacts.writer.item_at(row.written.saturating_sub(1)) {
@@ -58,7 +63,7 @@ fn left(alloc: Global, alone: Alone<Task<Works>>) -> Result<Ran, Fail> {
 /// Runs a partition of these records alone, with a processor that puts an x before each. Answers the last output too.
 fn run(alloc: Global, records: PackedList, item_count: u64) -> Result<Ran, Fail> {
     let hi = records.len() as u64;
-    let artifacts = works(alloc, records)?;
+    let artifacts = artifacts(alloc, records)?;
     let row = Row::fresh(Range { lo: 0, hi });
     if !row.sound() || row.state != RowState::Waiting || !Task::fits(&artifacts, &row) {
         return Err(Fail::from("a task"));

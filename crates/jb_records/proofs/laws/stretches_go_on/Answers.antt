@@ -1,5 +1,5 @@
 use Rattle.jb_records.proofs.Ahead.{go-ahead}
-use Rattle.jb_records.proofs.Stretching.{rows-are-saved, stretches-on, works-do-fit}
+use Rattle.jb_records.proofs.Stretching.{rows-are-saved, stretches-on, artifacts-do-fit}
 use Rattle.jb_records.proofs.laws.stretches_go_on.Goals as goal
 
 pub returns : goal.returns
@@ -7,7 +7,7 @@ returns c =
     let ahead = go-ahead c.tasks_stand_at_checkpoints.ensures c.runs_lead_to_an_end.ensures.join c.attempts_are_steps.ensures.repeats in
     let going = c.results_go_on.ensures in
     let plans = c.plans_can_be_run.ensures in record {
-      fit = works-do-fit;
+      fit = artifacts-do-fit;
       saved = rows-are-saved going.results going.part plans.begins plans.rows c.steps_keep_results.ensures.kept ahead;
       on = stretches-on going.results going.part plans.begins plans.rows c.steps_keep_results.ensures.kept ahead;
     }

@@ -6,7 +6,7 @@ use Rattle.jb_records.proofs.shares.+put_all.Goals.{then-index-shares, else-inde
 
 pub returns-after-index-shares : goal.returns-after-index-shares
 returns-after-index-shares g t c =
-    let popped : c.args.works.now.items ≡ c.pop.new.self.items ++ (c.in-Some.partition, c.in-Some.last) ∷ [] = search rules in
+    let popped : c.args.artifacts.now.items ≡ c.pop.new.self.items ++ (c.in-Some.partition, c.in-Some.last) ∷ [] = search rules in
     let all = ap (map _) popped ∙ map-append _ c.pop.new.self.items ((c.in-Some.partition, c.in-Some.last) ∷ []) in
     putting _ _ _ _ _ _ all (
     elim c.if-index-shares.branch [
@@ -17,5 +17,5 @@ returns-after-index-shares g t c =
 
 pub returns-in_default : goal.returns-in_default
 returns-in_default g t c =
-    let none : c.args.works.now.items ≡ [] = search rules in
+    let none : c.args.artifacts.now.items ≡ [] = search rules in
     put-none _ _ (ap (map _) none)

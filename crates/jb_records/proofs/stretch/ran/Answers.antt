@@ -16,7 +16,7 @@ returns-clause-ran g c =
     let ways = ok-of _ _ _ is c.run_pooled_step-end.ensures.on_the_way in record {
       run = _;
       setup = refl;
-      works_are = refl;
+      artifacts_are = refl;
       rounds_are = refl;
       answered = record { fit = fit; run = run };
       headline = ok-of _ _ _ is c.run_pooled_step-end.ensures.headline;

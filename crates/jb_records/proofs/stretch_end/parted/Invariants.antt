@@ -8,5 +8,5 @@ use Rattle.jb_records.proofs.stretch_end.parted.Given as goal
 -- those so far are parted
 abbrev pub invariant-loop-one : goal.invariant-loop-one
 invariant-loop-one g l =
-    (given_back g.A.Meaning.meaning l.finished.items ++ filter (is_done l.rows) (given_back g.A.Meaning.meaning (into_iter_items l.one-iterator)) ≡ filter (is_done l.rows) (given_back g.A.Meaning.meaning l.fn.works.items))
-    × (given_back g.A.Meaning.meaning l.left.items ++ filter (is_left l.rows) (given_back g.A.Meaning.meaning (into_iter_items l.one-iterator)) ≡ filter (is_left l.rows) (given_back g.A.Meaning.meaning l.fn.works.items))
+    (given_back g.A.Meaning.meaning l.finished.items ++ filter (is_done l.rows) (given_back g.A.Meaning.meaning (into_iter_items l.one-iterator)) ≡ filter (is_done l.rows) (given_back g.A.Meaning.meaning l.fn.artifacts.items))
+    × (given_back g.A.Meaning.meaning l.left.items ++ filter (is_left l.rows) (given_back g.A.Meaning.meaning (into_iter_items l.one-iterator)) ≡ filter (is_left l.rows) (given_back g.A.Meaning.meaning l.fn.artifacts.items))

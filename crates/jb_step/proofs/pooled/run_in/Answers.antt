@@ -13,7 +13,7 @@ pub returns-clause-run : goal.returns-clause-run
 returns-clause-run g c =
     given-back (λ before after. IfOk c.run_step_by-end.result (λ end. IsRunOfStep (record {
       setup = c.args.prepared;
-      works = map g.T.Artifacts.Meaning.meaning c.args.artifacts.items;
+      artifacts = map g.T.Artifacts.Meaning.meaning c.args.artifacts.items;
       round_limit = c.args.round_limit;
       heard_before = before;
       heard_after = after;
@@ -29,7 +29,7 @@ pub returns-clause-headline : goal.returns-clause-headline
 returns-clause-headline g c =
     given-back (λ before after. IfOk c.run_step_by-end.result (λ end. Headline (record {
       setup = c.args.prepared;
-      works = map g.T.Artifacts.Meaning.meaning c.args.artifacts.items;
+      artifacts = map g.T.Artifacts.Meaning.meaning c.args.artifacts.items;
       round_limit = c.args.round_limit;
       heard_before = before;
       heard_after = after;

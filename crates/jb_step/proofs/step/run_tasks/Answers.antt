@@ -13,7 +13,7 @@ use Rattle.jb_step.proofs.step.run_tasks.Goals as goal
 abbrev run-of : (g : _) → goal.In_ok-artifacts g → StepRun
 run-of g c = record {
   setup = c.args.prepared.now;
-  works = map g.T.Artifacts.Meaning.meaning c.args.artifacts.items;
+  artifacts = map g.T.Artifacts.Meaning.meaning c.args.artifacts.items;
   round_limit = c.args.round_limit;
   heard_before = (goal.Analyzer-dyn g c.args.analyzer.now).analyzed c.args.analyzer.now.1;
   heard_after = (goal.Analyzer-dyn g (c.args.analyzer.now.0, c.run_to_end.new.analyzer)).analyzed c.run_to_end.new.analyzer;

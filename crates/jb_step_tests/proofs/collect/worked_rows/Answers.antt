@@ -2,27 +2,27 @@ use Rattle.std.proofs.Common.{refl}
 use Rattle.std.specs.Fmt.{digits}
 use Rattle.jb_plan.specs.Blocks.{blocks}
 use Rattle.jb_artifacts.specs.Faults.{used_at}
-use Rattle.jb_chunk.specs.Attempt.{end_of, asks_repeat, repeated_up_to, all_repeated, work_used}
+use Rattle.jb_chunk.specs.Attempt.{end_of, asks_repeat, repeated_up_to, all_repeated, artifacts_used}
 use Rattle.jb_chunk.specs.Block.{entry, results, count_of, settles, settling, used_between}
 use Rattle.jb_step_tests.proofs.collect.worked_rows.Goals as goal
 
 pub returns-clause-first_run : goal.returns-clause-first_run
-unfolding end_of asks_repeat repeated_up_to all_repeated settling settles entry results count_of work_used used_between used_at digits blocks
+unfolding end_of asks_repeat repeated_up_to all_repeated settling settles entry results count_of artifacts_used used_between used_at digits blocks
 returns-clause-first_run c = refl
 
 pub returns-clause-one_failed : goal.returns-clause-one_failed
-unfolding end_of asks_repeat repeated_up_to all_repeated settling settles entry results count_of work_used used_between used_at digits blocks
+unfolding end_of asks_repeat repeated_up_to all_repeated settling settles entry results count_of artifacts_used used_between used_at digits blocks
 returns-clause-one_failed c = refl
 
 pub returns-clause-stopped : goal.returns-clause-stopped
-unfolding end_of asks_repeat repeated_up_to all_repeated settling settles entry results count_of work_used used_between used_at digits blocks
+unfolding end_of asks_repeat repeated_up_to all_repeated settling settles entry results count_of artifacts_used used_between used_at digits blocks
 returns-clause-stopped c = refl
 
 pub returns-clause-no_record : goal.returns-clause-no_record
 returns-clause-no_record c = record { begun = refl; restarted = refl }
 
 pub returns-clause-rolled_back : goal.returns-clause-rolled_back
-unfolding end_of asks_repeat repeated_up_to all_repeated settling settles entry results count_of work_used used_between used_at digits blocks
+unfolding end_of asks_repeat repeated_up_to all_repeated settling settles entry results count_of artifacts_used used_between used_at digits blocks
 returns-clause-rolled_back c = refl
 
 pub returns-clause-taken : goal.returns-clause-taken

@@ -67,14 +67,14 @@ returns-in-Err-values_after-clause-attempt g c =
     let left = c.unfinished-in-Err-values_after.ensures in
     let restored = undone-restored _ c.try_block.new.row c.in-Ok.end _ c.requires.ready c.in-Ok.ensures.sound (c.in-Ok.ensures.ok c.args.self.partition) in
     undone-attempt _ _ _ _ _ _ left.outcome left.values left.again
-    (λ i. record { partition = left.partition i; row = left.row i; rules = (left.rules i); item_count = left.item_count i; work = left.work i }) restored
+    (λ i. record { partition = left.partition i; row = left.row i; rules = (left.rules i); item_count = left.item_count i; artifacts = left.artifacts i }) restored
 
 pub returns-in-Err-values_after-clause-ready : goal.returns-in-Err-values_after-clause-ready
 returns-in-Err-values_after-clause-ready g c =
     let left = c.unfinished-in-Err-values_after.ensures in
     let restored = undone-restored _ c.try_block.new.row c.in-Ok.end _ c.requires.ready c.in-Ok.ensures.sound (c.in-Ok.ensures.ok c.args.self.partition) in
     undone-ready _ _ _ c.requires.ready restored
-    (λ i. record { partition = left.partition i; row = left.row i; rules = (left.rules i); item_count = left.item_count i; work = left.work i })
+    (λ i. record { partition = left.partition i; row = left.row i; rules = (left.rules i); item_count = left.item_count i; artifacts = left.artifacts i })
 
 pub returns-in-Ok-values_after-clause-few : goal.returns-in-Ok-values_after-clause-few
 returns-in-Ok-values_after-clause-few g c =

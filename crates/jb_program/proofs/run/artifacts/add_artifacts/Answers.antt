@@ -3,8 +3,8 @@ use Rattle.std.specs.Arc.{arc_value}
 use Rattle.std.specs.Option.{option_copied}
 use Rattle.jb_step.specs.preparing.Setup.{needs, unfinished}
 use Rattle.jb_rules.specs.Rows.{range_of}
-use Rattle.jb_program.specs.PartitionRun.{records_in, work_for, workplace_of}
-use Rattle.jb_program.proofs.Works.{listed-at, next-row, no-row, works-added, works-more}
+use Rattle.jb_program.specs.PartitionRun.{records_in, opening_artifacts_for, opening_artifacts}
+use Rattle.jb_program.proofs.Artifacts.{listed-at, next-row, no-row, artifacts-added, artifacts-more}
 use Rattle.jb_program.proofs.run.artifacts.add_artifacts.Goals as goal
 
 pub unreachable-requires : goal.unreachable-requires
@@ -31,7 +31,7 @@ returns c =
     let listed : slice_get (needs rows) c.args.place ≡ Some p = listed-at c.needs.result.now (needs rows) c.args.place 0 c.requires.place c.needs.ensures in
     let next = next-row rows (length records) c.args.place p row c.requires.within listed (sym c.row.ensures ∙ ap option_copied c.in-Some.is) in
     let range = range_of row in
-    let made = c.in_ok-artifacts_of_row.ensures ∙ ap (λ held. workplace_of c.args.step.now (records_in records range) held range) c.in_ok-held.ensures in
-    let whole = works-more c.args.step.now outputs rows records c.args.place p row next in
-    let rest = map (work_for c.args.step.now records outputs) (drop (c.args.place + 1) (unfinished rows)) in
-    works-added _ c.args.all.now.items c.push.new.self.items c.in_ok-artifacts_of_row.field-0 rest _ c.in_ok-push.ensures.items (whole ∙ ap (λ w. w ∷ rest) (sym made))
+    let made = c.in_ok-artifacts_of_row.ensures ∙ ap (λ held. opening_artifacts c.args.step.now (records_in records range) held range) c.in_ok-held.ensures in
+    let whole = artifacts-more c.args.step.now outputs rows records c.args.place p row next in
+    let rest = map (opening_artifacts_for c.args.step.now records outputs) (drop (c.args.place + 1) (unfinished rows)) in
+    artifacts-added _ c.args.all.now.items c.push.new.self.items c.in_ok-artifacts_of_row.field-0 rest _ c.in_ok-push.ensures.items (whole ∙ ap (λ w. w ∷ rest) (sym made))

@@ -4,7 +4,7 @@ use Rattle.jb_saved.specs.SavedRows.{SavedRows}
 use Rattle.jb_step.specs.preparing.Setup.{discards}
 use Rattle.jb_program.specs.JobRun.{IsStepRefused}
 use Rattle.jb_program.specs.Refusals.{IsBreakOff}
-use Rattle.jb_program.proofs.StepRuns.{handed-on, prepared-with, refused, step-run, within-prepared, works-serve}
+use Rattle.jb_program.proofs.StepRuns.{handed-on, prepared-with, refused, step-run, within-prepared, artifacts-serve}
 use Rattle.jb_program.proofs.run.step.run_job_step.Goals as goal
 
 pub returns-in_err-prepared-clause-why : goal.returns-in_err-prepared-clause-why
@@ -24,7 +24,7 @@ pub run_over_desk-requires-clause-fit : goal.run_over_desk-requires-clause-fit
 run_over_desk-requires-clause-fit g c κs within =
     let counted : c.len-count.result ≡ length c.into_list-records.result = search rules in
     let prepared = c.in_ok-prepared.ensures in
-    works-serve c.args.step.now c.args.resume c.len-count.result c.in_ok-prepared.prepared c.into_list-records.result _ c.settings_for-settings.result _
+    artifacts-serve c.args.step.now c.args.resume c.len-count.result c.in_ok-prepared.prepared c.into_list-records.result _ c.settings_for-settings.result _
     (record { counted = counted; prepares = prepared-with _ _ c.args.resume _ _ c.taken-saved.ensures.saved prepared.runnable prepared.accepted prepared.prepared prepared.setup c.requires.held; outputs_are = search rules })
     c.in_ok-artifacts.ensures
 

@@ -2,13 +2,13 @@ use Rattle.std.proofs.Common.{rules, ◌≡◌, ◌++◌, List, OnOk, flat_map, 
 use Rattle.std.specs.List.{enumerate_from}
 use Rattle.json.specs.Token.{Token}
 use Rattle.jb_step.specs.Answers.{given_back}
-use Rattle.jb_program.proofs.Own.{own_work}
+use Rattle.jb_program.proofs.Own.{own_artifacts}
 use Rattle.jb_program.proofs.Told.{all-written, outputs_at, step-written}
 use Rattle.jb_program.proofs.run.told.write_step.Goals as goal
 
 pub returns : goal.returns
 returns c =
-    let left = given_back own_work c.args.end.artifacts.items in
+    let left = given_back own_artifacts c.args.end.artifacts.items in
     let rows = c.args.end.snapshot.rows.items in
     let written : c.add_all_outputs.new.text ≡ c.begin_step.new.self ++ flat_map (outputs_at c.args.outputs.now left) (enumerate_from 0 rows) =
     c.in_ok-add_all_outputs.ensures ∙ ap (λ ts. c.begin_step.new.self ++ ts) (all-written c.args.outputs.now left _ c.as_slice-rows.result.now c.in_ok-lists.ensures)

@@ -1,7 +1,7 @@
 use Rattle.std.proofs.Common.{◌≡◌, ◌≢◌, Some, codes, ap, sym, ◌∙◌}
 use Rattle.clap.specs.Words.{found_of, rows_of, subcommand_rows_of}
 use Rattle.clap.proofs.WalkLemmas.{first_value-rows}
-use Rattle.jb_program.specs.CommandLine.{request_in, topic_in, work_in}
+use Rattle.jb_program.specs.CommandLine.{request_in, topic_in, perform_in}
 use Rattle.jb_program.proofs.CommandLines.{found-as, help-asks, named, word-asks}
 use Rattle.jb_program.proofs.words.line.request_of.Goals as goal
 
@@ -22,4 +22,4 @@ returns-in_default-name c =
     let found : subcommand_rows_of all ≡ Some (name, rows_of rest) = found-as name (rows_of rest) (subcommand_rows_of all) (c.in-Some.ensures.name ∙ named all) c.in-Some.ensures.rows in
     let other : name ≢ codes "help" = c.in_default-name.not-help in
     let numbers = c.get_str-in_default-name.ensures ∙ first_value-rows rest (codes "rounds") in
-    c.work_of.ensures ∙ ap (work_in name) numbers ∙ sym (ap request_in found ∙ word-asks name (rows_of rest) other)
+    c.perform_of.ensures ∙ ap (perform_in name) numbers ∙ sym (ap request_in found ∙ word-asks name (rows_of rest) other)

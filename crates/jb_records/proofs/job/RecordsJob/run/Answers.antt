@@ -2,10 +2,10 @@ use Rattle.std.proofs.Common.{rules, ◌≡◌, ◌∙◌, ap, refl, sym, subst,
 use Rattle.jb_records.specs.Shares.{IsSoFar}
 use Rattle.jb_records.proofs.Answered.{err-of, ok-of}
 use Rattle.jb_records.proofs.Counting.{led-counted}
-use Rattle.jb_records.proofs.Begun.{same-works, works-at-first}
+use Rattle.jb_records.proofs.Begun.{same-artifacts, artifacts-at-first}
 use Rattle.jb_records.proofs.Steps.{completed-whole, led, stands}
 use Rattle.jb_records.specs.declared.error.RecordsStepError.TheVariants.{Step}
-use Rattle.jb_records.proofs.Calling.{works-fit}
+use Rattle.jb_records.proofs.Calling.{artifacts-fit}
 use Rattle.jb_records.proofs.Causes.{broken-off, handed-on}
 use Rattle.jb_records.proofs.job.RecordsJob.run.Goals as goal
 
@@ -14,8 +14,8 @@ returns-clause-so_far g c setup so =
     let is : c.run_pooled_step-end.result.0 ≡ Ok c.in_ok-end.end = search rules in
     let f = g.F.RecordFunction.function c.args.function in
     let own = c.args.self in
-    let are = same-works _ f _ own.prepared.rules c.args.records.now _ own.results.items _ _ (ap g.F.RecordFunction.function c.in_ok-function.ensures.ok) (sym own.same_rules) c.deref.ensures.value c.in_ok-works.ensures.works in
-    let end = led c.steps_keep_results.ensures.kept f c.args.records.now own.results.items _ (ok-of _ _ _ is c.run_pooled_step-end.ensures.run) (works-at-first _ _ _ _ _ _ are) (ok-of _ _ _ is c.run_pooled_step-end.ensures.fit) (ok-of _ _ _ is c.run_pooled_step-end.ensures.on_the_way) setup so in
+    let are = same-artifacts _ f _ own.prepared.rules c.args.records.now _ own.results.items _ _ (ap g.F.RecordFunction.function c.in_ok-function.ensures.ok) (sym own.same_rules) c.deref.ensures.value c.in_ok-artifacts.ensures.artifacts in
+    let end = led c.steps_keep_results.ensures.kept f c.args.records.now own.results.items _ (ok-of _ _ _ is c.run_pooled_step-end.ensures.run) (artifacts-at-first _ _ _ _ _ _ are) (ok-of _ _ _ is c.run_pooled_step-end.ensures.fit) (ok-of _ _ _ is c.run_pooled_step-end.ensures.on_the_way) setup so in
     subst (IsSoFar f c.args.records.now _) (sym c.put_back.ensures) end
 
 pub returns-clause-counted : goal.returns-clause-counted
@@ -23,16 +23,16 @@ returns-clause-counted g c setup so counted =
     let is : c.run_pooled_step-end.result.0 ≡ Ok c.in_ok-end.end = search rules in
     let f = g.F.RecordFunction.function c.args.function in
     let own = c.args.self in
-    let are = same-works _ f _ own.prepared.rules c.args.records.now _ own.results.items _ _ (ap g.F.RecordFunction.function c.in_ok-function.ensures.ok) (sym own.same_rules) c.deref.ensures.value c.in_ok-works.ensures.works in
-    led-counted c.skips_are_counted.ensures.counted f c.args.records.now own.results.items _ (ok-of _ _ _ is c.run_pooled_step-end.ensures.run) (works-at-first _ _ _ _ _ _ are) (ok-of _ _ _ is c.run_pooled_step-end.ensures.fit) (ok-of _ _ _ is c.run_pooled_step-end.ensures.on_the_way) setup so counted
+    let are = same-artifacts _ f _ own.prepared.rules c.args.records.now _ own.results.items _ _ (ap g.F.RecordFunction.function c.in_ok-function.ensures.ok) (sym own.same_rules) c.deref.ensures.value c.in_ok-artifacts.ensures.artifacts in
+    led-counted c.skips_are_counted.ensures.counted f c.args.records.now own.results.items _ (ok-of _ _ _ is c.run_pooled_step-end.ensures.run) (artifacts-at-first _ _ _ _ _ _ are) (ok-of _ _ _ is c.run_pooled_step-end.ensures.fit) (ok-of _ _ _ is c.run_pooled_step-end.ensures.on_the_way) setup so counted
 
 pub returns-clause-whole : goal.returns-clause-whole
 returns-clause-whole g c setup so completed =
     let is : c.run_pooled_step-end.result.0 ≡ Ok c.in_ok-end.end = search rules in
     let f = g.F.RecordFunction.function c.args.function in
     let own = c.args.self in
-    let are = same-works _ f _ own.prepared.rules c.args.records.now _ own.results.items _ _ (ap g.F.RecordFunction.function c.in_ok-function.ensures.ok) (sym own.same_rules) c.deref.ensures.value c.in_ok-works.ensures.works in
-    let end = led c.steps_keep_results.ensures.kept f c.args.records.now own.results.items _ (ok-of _ _ _ is c.run_pooled_step-end.ensures.run) (works-at-first _ _ _ _ _ _ are) (ok-of _ _ _ is c.run_pooled_step-end.ensures.fit) (ok-of _ _ _ is c.run_pooled_step-end.ensures.on_the_way) setup so in
+    let are = same-artifacts _ f _ own.prepared.rules c.args.records.now _ own.results.items _ _ (ap g.F.RecordFunction.function c.in_ok-function.ensures.ok) (sym own.same_rules) c.deref.ensures.value c.in_ok-artifacts.ensures.artifacts in
+    let end = led c.steps_keep_results.ensures.kept f c.args.records.now own.results.items _ (ok-of _ _ _ is c.run_pooled_step-end.ensures.run) (artifacts-at-first _ _ _ _ _ _ are) (ok-of _ _ _ is c.run_pooled_step-end.ensures.fit) (ok-of _ _ _ is c.run_pooled_step-end.ensures.on_the_way) setup so in
     c.steps_keep_results.ensures.joined f c.args.records.now _ _ (subst (IsSoFar f c.args.records.now _) (sym c.put_back.ensures) end)
     (completed-whole _ _ (sym (ok-of _ _ _ is c.run_pooled_step-end.ensures.status) ∙ completed))
 
@@ -49,7 +49,7 @@ returns-clause-made g c =
       run = _;
       setup = refl;
       rounds_are = refl;
-      works = same-works _ f _ own.prepared.rules c.args.records.now _ own.results.items _ _ (ap g.F.RecordFunction.function c.in_ok-function.ensures.ok) (sym own.same_rules) c.deref.ensures.value c.in_ok-works.ensures.works;
+      artifacts = same-artifacts _ f _ own.prepared.rules c.args.records.now _ own.results.items _ _ (ap g.F.RecordFunction.function c.in_ok-function.ensures.ok) (sym own.same_rules) c.deref.ensures.value c.in_ok-artifacts.ensures.artifacts;
       answered = record { fit = (ok-of _ _ _ is c.run_pooled_step-end.ensures.fit); run = (ok-of _ _ _ is c.run_pooled_step-end.ensures.run) };
       headline = (ok-of _ _ _ is c.run_pooled_step-end.ensures.headline);
       on_the_way = (ok-of _ _ _ is c.run_pooled_step-end.ensures.on_the_way);
@@ -63,6 +63,6 @@ returns-in_err-end-clause-why g c =
     let f = g.F.RecordFunction.function c.args.function in
     let own = c.args.self in
     let e = c.in_err-end.field-0.0 in
-    let are = same-works _ f _ own.prepared.rules c.args.records.now _ own.results.items _ _ (ap g.F.RecordFunction.function c.in_ok-function.ensures.ok) (sym own.same_rules) c.deref.ensures.value c.in_ok-works.ensures.works in
+    let are = same-artifacts _ f _ own.prepared.rules c.args.records.now _ own.results.items _ _ (ap g.F.RecordFunction.function c.in_ok-function.ensures.ok) (sym own.same_rules) c.deref.ensures.value c.in_ok-artifacts.ensures.artifacts in
     handed-on c.from_residual-in_err-end.result (Step e) _ c.from_residual-in_err-end.ensures.1
-    (broken-off f own.prepared.rules c.args.records.now e (err-of _ _ _ is c.run_pooled_step-end.ensures.causes) (λ wrong. err-of _ _ _ is c.run_pooled_step-end.ensures.wrong wrong (works-fit f own.prepared.rules c.args.records.now own.prepared own.results.items _ c.requires (works-at-first _ _ _ _ _ _ are))))
+    (broken-off f own.prepared.rules c.args.records.now e (err-of _ _ _ is c.run_pooled_step-end.ensures.causes) (λ wrong. err-of _ _ _ is c.run_pooled_step-end.ensures.wrong wrong (artifacts-fit f own.prepared.rules c.args.records.now own.prepared own.results.items _ c.requires (artifacts-at-first _ _ _ _ _ _ are))))

@@ -6,5 +6,5 @@ use Rattle.jb_step.proofs.preparing.start.fit_rows.Given as goal
 
 abbrev pub invariant-loop-row : goal.invariant-loop-row
 invariant-loop-row g l =
-    let work = g.T.Artifacts.Meaning.meaning in
-    FitRows (unfinished_from l.row-index (drop l.row-index l.rows)) (map work l.left) ↔ FitRows (unfinished l.rows) (map work l.artifacts)
+    let artifacts = g.T.Artifacts.Meaning.meaning in
+    FitRows (unfinished_from l.row-index (drop l.row-index l.rows)) (map artifacts l.left) ↔ FitRows (unfinished l.rows) (map artifacts l.artifacts)

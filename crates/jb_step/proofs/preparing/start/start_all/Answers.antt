@@ -11,17 +11,17 @@ use Rattle.jb_step.proofs.preparing.start.start_all.Goals as goal
 
 pub returns-clause-tasks : goal.returns-clause-tasks
 returns-clause-tasks g c =
-    let works = map g.T.Artifacts.Meaning.meaning c.args.artifacts.items in
+    let artifacts = map g.T.Artifacts.Meaning.meaning c.args.artifacts.items in
     all-started c.args.prepared.now (map g.T.PartitionTask.standing (held_in c.loop-row.tasks.items)) _ c.begun_rows-rows.result.now c.loop-row.row-index _ (omega arith) c.loop-row.invariant.3
-    ∙ ap (λ (rows : List Row). tasks_from c.args.prepared.now 0 rows works) c.begun_rows-rows.ensures.value
+    ∙ ap (λ (rows : List Row). tasks_from c.args.prepared.now 0 rows artifacts) c.begun_rows-rows.ensures.value
 
 pub returns-clause-table : goal.returns-clause-table
 returns-clause-table g c =
-    let works = map g.T.Artifacts.Meaning.meaning c.args.artifacts.items in
-    let are : map g.T.PartitionTask.standing (held_in c.loop-row.tasks.items) ≡ first_tasks c.args.prepared.now works =
+    let artifacts = map g.T.Artifacts.Meaning.meaning c.args.artifacts.items in
+    let are : map g.T.PartitionTask.standing (held_in c.loop-row.tasks.items) ≡ first_tasks c.args.prepared.now artifacts =
     all-started c.args.prepared.now (map g.T.PartitionTask.standing (held_in c.loop-row.tasks.items)) _ c.begun_rows-rows.result.now c.loop-row.row-index _ (omega arith) c.loop-row.invariant.3
-    ∙ ap (λ (rows : List Row). tasks_from c.args.prepared.now 0 rows works) c.begun_rows-rows.ensures.value in
-    subst (λ (ts : List TaskState). IsTaskTable c.args.prepared.now ts) (sym are) (begins_with_table c.args.prepared.now works c.begun_rows-rows.ensures.setup c.requires)
+    ∙ ap (λ (rows : List Row). tasks_from c.args.prepared.now 0 rows artifacts) c.begun_rows-rows.ensures.value in
+    subst (λ (ts : List TaskState). IsTaskTable c.args.prepared.now ts) (sym are) (begins_with_table c.args.prepared.now artifacts c.begun_rows-rows.ensures.setup c.requires)
 
 pub start_row-requires-clause-fit : goal.start_row-requires-clause-fit
 start_row-requires-clause-fit g c κs bounds =

@@ -8,8 +8,8 @@ ghost use Rattle.jb_plan.specs.Plans.{IsWithin};
 ghost use Rattle.jb_rules.specs.Rows.{range_of};
 ghost use Rattle.jb_step.specs.preparing.Setup.{unfinished};
 ghost use Rattle.jb_records.specs.inside.Calls.{CanBeginOver, HaveOwn, IsTryRefused};
-ghost use Rattle.jb_records.specs.Steps.{AreFirstWorks, AreWorksOf};
-ghost use Rattle.jb_records.specs.Works.{AreNeverSkipped, IsFirstWork, IsNeverSkipped, own_records, plan_of, tries_plan};
+ghost use Rattle.jb_records.specs.Steps.{AreFirstArtifacts, AreArtifactsOf};
+ghost use Rattle.jb_records.specs.Artifacts.{AreNeverSkipped, IsFirstArtifactsOver, IsNeverSkipped, own_records, plan_of, tries_plan};
 
 use crate::error::RecordsStepError;
 use crate::function::RecordFunction;
@@ -96,7 +96,7 @@ pub(crate) fn copy_of(alloc: Global, list: &PackedList) -> Result<PackedList, Al
 }
 
 /// What the partition of this row works with, with the results that it has.
-fn works_of<F: RecordFunction + Drop>(
+fn artifacts_of<F: RecordFunction + Drop>(
     alloc: Global,
     function: &Arc<F, Global>,
     rules: &Rules,
@@ -106,8 +106,8 @@ fn works_of<F: RecordFunction + Drop>(
 ) -> Result<RecordsArtifacts<F>, RecordsStepError>
     requires { IsWithin (length records.now) (range_of row.now) }
     ensures why { IfErr result (IsTryRefused (F.function (arc_value function.now)) rules.now 0 records.now) }
-    ensures work { IfOk result (λ works. IsFirstWork (F.function (arc_value function.now)) rules.now row.now.lo (own_records records.now row.now) (⟦<RecordsArtifacts<F> as Meaning>⟧.meaning works)) }
-    ensures results { IfOk result (λ works. (⟦<RecordsArtifacts<F> as Meaning>⟧.meaning works).writer.written ≡ results.now) }
+    ensures artifacts { IfOk result (λ artifacts. IsFirstArtifactsOver (F.function (arc_value function.now)) rules.now row.now.lo (own_records records.now row.now) (⟦<RecordsArtifacts<F> as Meaning>⟧.meaning artifacts)) }
+    ensures results { IfOk result (λ artifacts. (⟦<RecordsArtifacts<F> as Meaning>⟧.meaning artifacts).writer.written ≡ results.now) }
 {
     let own = records.part(alloc, row.lo as usize, row.hi as usize)?;
     let tries = tries_of(alloc, &**function, rules, row.lo, &own)?;
@@ -130,12 +130,12 @@ fn works_of<F: RecordFunction + Drop>(
         writer: ListWriter::new(copy_of(alloc, results)?, FaultPlans::new(alloc)),
         collector: CountCollector::new(alloc),
     };
-    let works = BoxedArtifacts::new(alloc, PackedArtifacts { inner })?;
-    Ok(works)
+    let artifacts = BoxedArtifacts::new(alloc, PackedArtifacts { inner })?;
+    Ok(artifacts)
 }
 
 /// What these partitions work with, each with its share of the earlier results.
-fn works_for<F: RecordFunction + Drop>(
+fn artifacts_for<F: RecordFunction + Drop>(
     alloc: Global,
     function: &Arc<F, Global>,
     rules: &Rules,
@@ -146,7 +146,7 @@ fn works_for<F: RecordFunction + Drop>(
 ) -> Result<Vec<RecordsArtifacts<F>>, RecordsStepError>
     requires { HaveOwn (length records.now) prepared.now.rows shares.now partitions.now }
     ensures why { IfErr result (IsTryRefused (F.function (arc_value function.now)) rules.now 0 records.now) }
-    ensures works { IfOk result (λ all. AreWorksOf (F.function (arc_value function.now)) rules.now records.now shares.now prepared.now.rows partitions.now (map ⟦<RecordsArtifacts<F> as Meaning>⟧.meaning all.items)) }
+    ensures artifacts { IfOk result (λ all. AreArtifactsOf (F.function (arc_value function.now)) rules.now records.now shares.now prepared.now.rows partitions.now (map ⟦<RecordsArtifacts<F> as Meaning>⟧.meaning all.items)) }
 {
     let Some((partition, others)) = partitions.split_first() else {
         return Ok(Vec::new(alloc));
@@ -157,14 +157,14 @@ fn works_for<F: RecordFunction + Drop>(
     let Some(share) = shares.get(*partition as usize) else {
         unreachable!();
     };
-    let works = works_of(alloc, function, rules, records, row, share)?;
-    let mut all = works_for(alloc, function, rules, records, prepared, shares, others)?;
-    all.insert(0, works)?;
+    let artifacts = artifacts_of(alloc, function, rules, records, row, share)?;
+    let mut all = artifacts_for(alloc, function, rules, records, prepared, shares, others)?;
+    all.insert(0, artifacts)?;
     Ok(all)
 }
 
 /// What the unfinished partitions work with. Each has its share of the earlier results.
-pub(crate) fn all_works<F: RecordFunction + Drop>(
+pub(crate) fn all_artifacts<F: RecordFunction + Drop>(
     alloc: Global,
     function: &Arc<F, Global>,
     rules: &Rules,
@@ -174,9 +174,9 @@ pub(crate) fn all_works<F: RecordFunction + Drop>(
 ) -> Result<Vec<RecordsArtifacts<F>>, RecordsStepError>
     requires { CanBeginOver (length records.now) prepared.now.rows shares.now }
     ensures why { IfErr result (IsTryRefused (F.function (arc_value function.now)) rules.now 0 records.now) }
-    ensures works { IfOk result (λ all. AreFirstWorks (F.function (arc_value function.now)) rules.now records.now shares.now (unfinished prepared.now.rows) (map ⟦<RecordsArtifacts<F> as Meaning>⟧.meaning all.items)) }
+    ensures artifacts { IfOk result (λ all. AreFirstArtifacts (F.function (arc_value function.now)) rules.now records.now shares.now (unfinished prepared.now.rows) (map ⟦<RecordsArtifacts<F> as Meaning>⟧.meaning all.items)) }
 {
-    let all = works_for(
+    let all = artifacts_for(
         alloc,
         function,
         rules,

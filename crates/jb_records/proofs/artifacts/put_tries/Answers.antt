@@ -4,7 +4,7 @@ use Rattle.std.specs.Prelude.{◌==◌}
 use Rattle.jb_artifacts.specs.declared.faults.FaultPlan.TheVariants.{Shaky}
 use Rattle.jb_artifacts.specs.Faults.{plans_of, with_plan}
 use Rattle.jb_records.proofs.Trying.{some-put}
-use Rattle.jb_records.proofs.works.put_tries.Goals as goal
+use Rattle.jb_records.proofs.artifacts.put_tries.Goals as goal
 
 pub returns : goal.returns
 returns c =

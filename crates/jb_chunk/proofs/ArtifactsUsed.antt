@@ -5,7 +5,7 @@ use Rattle.jb_artifacts.specs.Faults.{FaultTable, is_live}
 use Rattle.jb_artifacts.specs.Reader.{reader_end}
 use Rattle.jb_artifacts.specs.Writer.{Texts, texts_of, after_write}
 use Rattle.jb_artifacts.specs.Meaning.{ArtifactsMeaning}
-use Rattle.jb_chunk.specs.Attempt.{block_of, results_of, work_used}
+use Rattle.jb_chunk.specs.Attempt.{block_of, results_of, artifacts_used}
 use Rattle.jb_chunk.specs.Block.{passed}
 use Rattle.jb_chunk.specs.Standing.{TaskState}
 
@@ -16,20 +16,20 @@ read_end t None = (block_of t).hi
 
 -- the writer's plans: there is a write call where no fault settles the chunk before
 abbrev pub write_plans : TaskState → (settled : Option ℕ) → FaultTable
-write_plans t (Some k) = t.work.writer.faults
-write_plans t None = (after_write t.work.writer (results_of t)).faults
+write_plans t (Some k) = t.artifacts.writer.faults
+write_plans t None = (after_write t.artifacts.writer (results_of t)).faults
 
 -- what it put behind the others
 abbrev pub more_written : TaskState → (settled : Option ℕ) → Texts
 more_written t (Some k) = []
-more_written t None = texts_of (take_while (λ r. not (is_live t.work.writer.faults r.0)) (results_of t))
+more_written t None = texts_of (take_while (λ r. not (is_live t.artifacts.writer.faults r.0)) (results_of t))
 
-abbrev pub work_as : TaskState → (settled : Option ℕ) → ArtifactsMeaning
-work_as t settled = record (passed t.work t.row.at (read_end t settled)) { writer = record { written = t.work.writer.written ++ more_written t settled; faults = write_plans t settled } }
+abbrev pub artifacts_as : TaskState → (settled : Option ℕ) → ArtifactsMeaning
+artifacts_as t settled = record (passed t.artifacts t.row.at (read_end t settled)) { writer = record { written = t.artifacts.writer.written ++ more_written t settled; faults = write_plans t settled } }
 
-pub used-as : (t : TaskState) (settled : Option ℕ) → work_used t settled ≡ work_as t settled
-unfolding work_used
-used-as t (Some k) = λ i. record (passed t.work t.row.at (k + 1)) { writer = record t.work.writer { written = sym (append-nil t.work.writer.written) i } }
+pub used-as : (t : TaskState) (settled : Option ℕ) → artifacts_used t settled ≡ artifacts_as t settled
+unfolding artifacts_used
+used-as t (Some k) = λ i. record (passed t.artifacts t.row.at (k + 1)) { writer = record t.artifacts.writer { written = sym (append-nil t.artifacts.writer.written) i } }
 used-as t None = refl
 
 -- what a chunk changes nothing of
@@ -38,7 +38,7 @@ pub record IsThere (before after : ArtifactsMeaning) : Type 0 where
   pub end : reader_end after.reader ≡ reader_end before.reader
   pub collector : after.collector ≡ before.collector
 
-pub used-there : (t : TaskState) (settled : Option ℕ) → IsThere t.work (work_used t settled)
+pub used-there : (t : TaskState) (settled : Option ℕ) → IsThere t.artifacts (artifacts_used t settled)
 used-there t settled = record {
   first = ap (λ (w : ArtifactsMeaning). w.reader.first) (used-as t settled);
   end = ap (λ (w : ArtifactsMeaning). reader_end w.reader) (used-as t settled);

@@ -47,7 +47,7 @@ own_records records row = slice_range records row.lo row.hi
 
 -- it reads these records, from the number `first` on, as the check says; its answers are the function's; no fault of a try is
 -- skipped, and no write fails
-pub record IsWork (f : Function) (rules : RulesRecord) (first : ℕ) (records : List (List ℕ)) (w : ArtifactsMeaning) : Type 0 where
+pub record IsArtifactsOver (f : Function) (rules : RulesRecord) (first : ℕ) (records : List (List ℕ)) (w : ArtifactsMeaning) : Type 0 where
   pub first_is : w.reader.first ≡ first
   pub records_are : w.reader.records ≡ records
   pub reads : (k : ℕ) → w.reader.faults k ≡ checked_plans f.refusal first records k
@@ -56,8 +56,8 @@ pub record IsWork (f : Function) (rules : RulesRecord) (first : ℕ) (records : 
   pub writes : (k : ℕ) → w.writer.faults k ≡ Sound
 
 -- what it begins with: the same, and the first tries at its records fail as the function says
-pub record IsFirstWork (f : Function) (rules : RulesRecord) (first : ℕ) (records : List (List ℕ)) (w : ArtifactsMeaning) : Type 0 where
-  pub work : IsWork f rules first records w
+pub record IsFirstArtifactsOver (f : Function) (rules : RulesRecord) (first : ℕ) (records : List (List ℕ)) (w : ArtifactsMeaning) : Type 0 where
+  pub artifacts : IsArtifactsOver f rules first records w
   pub first_tries : (k : ℕ) → w.processor.faults k ≡ tries_plan f first records k
 
 -- the results of the records from number `lo` to `hi - 1`, in order, of those that have one

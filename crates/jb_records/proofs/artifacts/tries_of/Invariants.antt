@@ -1,8 +1,8 @@
 use Rattle.std.proofs.Common.{◌≡◌, ℕ}
 use Rattle.jb_artifacts.specs.Faults.{plans_of}
-use Rattle.jb_records.specs.Works.{IsNeverSkipped}
+use Rattle.jb_records.specs.Artifacts.{IsNeverSkipped}
 use Rattle.jb_records.proofs.Trying.{tries-of}
-use Rattle.jb_records.proofs.works.tries_of.Given as goal
+use Rattle.jb_records.proofs.artifacts.tries_of.Given as goal
 
 -- the tries at the records so far
 abbrev pub invariant-loop-index : goal.invariant-loop-index

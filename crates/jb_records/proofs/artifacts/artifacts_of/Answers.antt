@@ -4,19 +4,19 @@ use Rattle.jb_artifacts.specs.Faults.{FaultTable}
 use Rattle.jb_artifacts.specs.Reader.{Reader}
 use Rattle.jb_artifacts.specs.Writer.{Writer}
 use Rattle.jb_ready.specs.Checks.{checked_plans}
-use Rattle.jb_records.specs.Works.{tries_plan}
+use Rattle.jb_records.specs.Artifacts.{tries_plan}
 use Rattle.jb_records.specs.inside.Calls.{IsTryRefused}
 use Rattle.jb_records.proofs.Causes.{handed-on, refused-own}
-use Rattle.jb_records.proofs.works.works_of.Goals as goal
+use Rattle.jb_records.proofs.artifacts.artifacts_of.Goals as goal
 
-pub returns-clause-work : goal.returns-clause-work
-returns-clause-work g c =
+pub returns-clause-artifacts : goal.returns-clause-artifacts
+returns-clause-artifacts g c =
     let own = c.in_ok-own.ensures in
     let reader = c.in-Ok.ensures.ok in
     let checks = c.in_ok-of.ensures in
     let answers = c.in_ok-of-2.ensures in
-    rw c.in_ok-works.ensures (record {
-      work = record {
+    rw c.in_ok-artifacts.ensures (record {
+      artifacts = record {
         first_is = ap (λ (r : Reader). r.first) reader;
         records_are = ap (λ (r : Reader). r.records) reader ∙ own;
         reads = λ k. ap (λ (r : Reader). r.faults k) reader ∙ (λ i. checked_plans (g.F.RecordFunction.function (checks i)).refusal c.args.row.now.lo (own i) k);

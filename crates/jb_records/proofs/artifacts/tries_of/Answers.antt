@@ -1,8 +1,8 @@
 use Rattle.std.proofs.Common.{◌∙◌, ap, arith, rules, subst, sym}
 use Rattle.jb_artifacts.specs.Faults.{FaultTable, plans_of}
-use Rattle.jb_records.specs.Works.{AreNeverSkipped, IsNeverSkipped}
+use Rattle.jb_records.specs.Artifacts.{AreNeverSkipped, IsNeverSkipped}
 use Rattle.jb_records.proofs.Trying.{all-tries, never-more, no-tries, one-more}
-use Rattle.jb_records.proofs.works.tries_of.Goals as goal
+use Rattle.jb_records.proofs.artifacts.tries_of.Goals as goal
 
 pub loop-index-init : goal.loop-index-init
 loop-index-init g c = (

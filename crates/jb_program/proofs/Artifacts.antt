@@ -12,7 +12,7 @@ use Rattle.jb_rules.specs.Rows.{range_of}
 use Rattle.jb_rules.specs.declared.row.Row.{Row}
 use Rattle.jb_step.specs.preparing.Setup.{needs, unfinished}
 use Rattle.jb_program.specs.declared.run.settings.StepSettings.{StepSettings}
-use Rattle.jb_program.specs.PartitionRun.{work_for}
+use Rattle.jb_program.specs.PartitionRun.{opening_artifacts_for}
 
 -- the row of an unfinished one is the step's, and its records are there
 pub record Stands (rows : List Row) (records : ℕ) (n : ℕ × Row) : Type 0 where
@@ -69,17 +69,17 @@ next-row rows records k p row within h is =
     subst (IsNext rows records k p) same next.1
 
 -- what the partition at this place works with, and the later ones
-pub works-more : (settings : StepSettings) (outputs : List (List (List ℕ))) (rows : List Row) (records : List (List ℕ)) (k p : ℕ) (row : Row) → IsNext rows (length records) k p row
-    → map (work_for settings records outputs) (drop k (unfinished rows)) ≡ work_for settings records outputs (p, row) ∷ map (work_for settings records outputs) (drop (k + 1) (unfinished rows))
-works-more settings outputs rows records k p row next =
+pub artifacts-more : (settings : StepSettings) (outputs : List (List (List ℕ))) (rows : List Row) (records : List (List ℕ)) (k p : ℕ) (row : Row) → IsNext rows (length records) k p row
+    → map (opening_artifacts_for settings records outputs) (drop k (unfinished rows)) ≡ opening_artifacts_for settings records outputs (p, row) ∷ map (opening_artifacts_for settings records outputs) (drop (k + 1) (unfinished rows))
+artifacts-more settings outputs rows records k p row next =
     let ns = unfinished rows in
     let n : ℕ × Row = (p, row) in
     let inside : k < length ns = slice_get_within ns k n next.place in
     let here : get_or ns k n ≡ n = get_or_from_slice_get ns k n n next.place in
-    ap (map (work_for settings records outputs)) (drop_more ns k n inside ∙ ap (λ m. m ∷ drop (k + 1) ns) here)
+    ap (map (opening_artifacts_for settings records outputs)) (drop_more ns k n inside ∙ ap (λ m. m ∷ drop (k + 1) ns) here)
 
 -- one partition's artifacts more, before those of the later ones
-pub works-added : {A : Type 0} (work : A → ArtifactsMeaning) (all pushed : List A) (own : A) (rest whole : List ArtifactsMeaning) → pushed ≡ all ++ own ∷ [] → whole ≡ work own ∷ rest
-    → map work pushed ++ rest ≡ map work all ++ whole
-works-added work all pushed own rest whole adds is =
-    ap (λ list. map work list ++ rest) adds ∙ ap (λ ws. ws ++ rest) (map-append work all (own ∷ [])) ∙ append_assoc (map work all) (work own ∷ []) rest ∙ ap (λ ws. map work all ++ ws) (sym is)
+pub artifacts-added : {A : Type 0} (artifacts : A → ArtifactsMeaning) (all pushed : List A) (own : A) (rest whole : List ArtifactsMeaning) → pushed ≡ all ++ own ∷ [] → whole ≡ artifacts own ∷ rest
+    → map artifacts pushed ++ rest ≡ map artifacts all ++ whole
+artifacts-added artifacts all pushed own rest whole adds is =
+    ap (λ list. map artifacts list ++ rest) adds ∙ ap (λ ws. ws ++ rest) (map-append artifacts all (own ∷ [])) ∙ append_assoc (map artifacts all) (artifacts own ∷ []) rest ∙ ap (λ ws. map artifacts all ++ ws) (sym is)
