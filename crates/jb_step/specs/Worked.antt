@@ -193,13 +193,25 @@ completed p t = text p t ∷ text p (t ++ codes ":end") ∷ ended p status.Compl
 
 -- what a run of a step gives: its notes, its rows, the analyzer's calls, the status, and the reducer's calls where no
 -- callback fails
-pub record GivesRun (r : WorkedRun) (notes : List PlanNote) (rows : List (List ℕ)) (calls : List AnalyzerCall) (status : Status) (reduced : List ReducerCall) : Type 0 where
-  pub run : ArePlanRuns r.step r.tasks r.plans
-  pub notes_are : map note_of r.plans ≡ notes
-  pub rows_are : map numbers (rows_at_last r) ≡ rows
-  pub calls_are : heard r.step r.tasks r.plans ≡ calls
-  pub status_is : status_of (rows_at_last r) false ≡ status
-  pub reduced_is : reducer_calls true false (status_of (rows_at_last r) false) false ≡ reduced
+pub record Given : Type 0 where
+  pub notes : List PlanNote
+  pub rows : List (List ℕ)
+  pub calls : List AnalyzerCall
+  pub status : Status
+  pub reduced : List ReducerCall
+
+abbrev pub given_by : WorkedRun → Given
+given_by r = record {
+  notes = map note_of r.plans;
+  rows = map numbers (rows_at_last r);
+  calls = heard r.step r.tasks r.plans;
+  status = status_of (rows_at_last r) false;
+  reduced = reducer_calls true false (status_of (rows_at_last r) false) false;
+}
+
+abbrev pub GivesRun : WorkedRun → List PlanNote → (rows : List (List ℕ)) → List AnalyzerCall → Status → List ReducerCall → Type 0
+GivesRun r notes rows calls status reduced =
+    ArePlanRuns r.step r.tasks r.plans × (given_by r ≡ record { notes = notes; rows = rows; calls = calls; status = status; reduced = reduced })
 
 abbrev pub committed : List ReducerCall
 committed = Begin ∷ Before ∷ After end.Commit ∷ []
