@@ -1,7 +1,8 @@
--- In a lawful list of sets each chunk of a partition stands behind as many sets that have the partition as its number says.
-use Rattle.std.proofs.Common.{◌≡◌, ℕ, suc, zero, ◌+◌, ◌≤◌, ◌<◌, Bool, true, false, List, [], ◌∷◌, ◌++◌, length, get_or, refl, ap, sym, ◌∙◌, subst, arith, inl, inr, eqb-true}
-use Rattle.std.specs.Prelude.{nat_eq, ◌||◌, slice_index, slice_index_or, Contains}
-use Rattle.std.proofs.lemmas.Bool.{cases_lt, or_right}
+-- Which chunks of a partition stand behind the first sets of a lawful list: all but as many as these sets have the partition.
+use Rattle.std.proofs.Common.{◌≡◌, ℕ, suc, zero, ◌+◌, ◌≤◌, ◌<◌, Bool, true, false, List, [], ◌∷◌, ◌++◌, length, refl, ap, sym, ◌∙◌, subst, arith, inl, inr, eqb-true}
+use Rattle.std.specs.Prelude.{nat_eq, slice_index, slice_index_or, Contains}
+use Rattle.std.proofs.lemmas.Bool.{cases_lt}
+use Rattle.std.proofs.lemmas.List.Folds.{Any-from_list_any, list_any_at}
 use Rattle.jb_cert.specs.Lawful.{Pair, IsLawful, StandsIn}
 use Rattle.jb_step.specs.rounds.Rounds.{has_partition}
 use Rattle.jb_step.proofs.Numbers.{itself}
@@ -15,117 +16,92 @@ abbrev pub runs_of : ℕ → List (List Pair) → ℕ
 runs_of p [] = 0
 runs_of p (set ∷ later) = one_if (has_partition set p) + runs_of p later
 
--- how many of the first r sets have the partition
-abbrev pub cnt : List (List Pair) → ℕ → ℕ → ℕ
-cnt sets p zero = 0
-cnt sets p (suc r) = one_if (has_partition (get_or sets r []) p) + cnt sets p r
+-- a set that has a partition has a chunk of it, and the other way round
+pub chunk-in : (set : List Pair) (p : ℕ) → has_partition set p ≡ true → (j : ℕ) × Contains set (p, j)
+chunk-in set p has =
+    let there = Any-from_list_any (λ (pair : Pair). nat_eq pair.0 p) set has in
+    let f : ℕ → Pair = λ q. (q, there.1.1) in
+    let same : there.1 ≡ (p, there.1.1) = ap f (eqb-true there.1.0 p there.4) in
+    (there.1.1, (there.0, there.2, subst (λ (x : Pair). slice_index_or set there.0 x ≡ x) same there.3))
 
-cnt-first : (set : List Pair) (sets : List (List Pair)) (p r : ℕ) → cnt (set ∷ sets) p (suc r) ≡ one_if (has_partition set p) + cnt sets p r
-cnt-first set sets p zero = refl
-cnt-first set sets p (suc r) = let more = cnt-first set sets p r in omega (arith, more)
+chunk-has : (set : List Pair) (p j : ℕ) → Contains set (p, j) → has_partition set p ≡ true
+chunk-has set p j chunk =
+    let f : Pair → Bool = λ pair. nat_eq pair.0 p in
+    list_any_at f set chunk.0 (p, j) chunk.1 (ap f chunk.2 ∙ itself p)
 
-pub runs-cnt : (p : ℕ) (rounds left : List (List Pair)) → runs_of p rounds ≡ cnt (rounds ++ left) p (length rounds)
-runs-cnt p [] left = refl
-runs-cnt p (set ∷ later) left = ap (λ n. one_if (has_partition set p) + n) (runs-cnt p later left) ∙ sym (cnt-first set (later ++ left) p (length later))
+-- THE CHUNKS THAT STAND IN SOME SETS
 
-abbrev IsChunkIn : List Pair → ℕ → Type 0
-IsChunkIn set p = (j : ℕ) × Contains set (p, j)
+-- those of the partition from number k to n - 1, in their order
+pub record HasFrom (p k n : ℕ) (sets : List (List Pair)) : Type 0 where
+  pub known : (r j : ℕ) → StandsIn sets r (p, j) → (k ≤ j) × (j < n)
+  pub somewhere : (j : ℕ) → k ≤ j → j < n → (r : ℕ) × StandsIn sets r (p, j)
+  pub once : (r s j : ℕ) → StandsIn sets r (p, j) → StandsIn sets s (p, j) → r ≡ s
+  pub in_order : (r s j : ℕ) → StandsIn sets r (p, j) → StandsIn sets s (p, j + 1) → r < s
 
-chunk-one : (b : Bool) (x : Pair) (xs : List Pair) (p : ℕ) → nat_eq x.0 p ≡ b → (b || has_partition xs p) ≡ true → (has_partition xs p ≡ true → IsChunkIn xs p) → IsChunkIn (x ∷ xs) p
-chunk-one true x xs p n e more =
-    let f : ℕ → Pair = λ q. (q, x.1) in
-    let same : x ≡ (p, x.1) = ap f (eqb-true x.0 p n) in
-    (x.1, (0, omega arith, same))
-chunk-one false x xs p n e more =
-    let there = more e in
-    let k = there.1.0 in
-    let lt = there.1.1 in
-    (there.0, (suc k, omega (arith, lt), there.1.2))
-
-pub chunk-in : (set : List Pair) (p : ℕ) → has_partition set p ≡ true → IsChunkIn set p
-chunk-in [] p e = let never : ⊥ = cc in absurd never
-chunk-in (x ∷ xs) p e = chunk-one (nat_eq x.0 p) x xs p refl e (chunk-in xs p)
-
-pub chunk-has : (set : List Pair) (p j k : ℕ) → k < length set → slice_index_or set k (p, j) ≡ (p, j) → has_partition set p ≡ true
-chunk-has [] p j k lt e = absurd (omega arith)
-chunk-has (x ∷ xs) p j zero lt e =
-    let f : Pair → ℕ = λ y. y.0 in
-    let same : nat_eq x.0 p ≡ true = ap (λ q. nat_eq q p) (ap f e) ∙ itself p in
-    ap (λ b. b || has_partition xs p) same
-chunk-has (x ∷ xs) p j (suc k) lt e = or_right (nat_eq x.0 p) (has_partition xs p) (chunk-has xs p j k (omega arith) e)
-
-module _ (counts : List ℕ) (threads : ℕ) (sets : List (List Pair)) (lawful : IsLawful counts threads sets) where
-  -- the partition's chunks in the first r sets are its first ones
-  abbrev AreFirst : ℕ → ℕ → Type 0
-  AreFirst p r = (i q : ℕ) → StandsIn sets q (p, i) → (q < r → i < cnt sets p r) × (r ≤ q → cnt sets p r ≤ i)
-
-  here : (p r i : ℕ) → AreFirst p r → StandsIn sets r (p, i) → cnt sets p r ≡ i
-  here p r zero first at = let low = (first zero r at).1 (omega arith) in omega (arith, low)
-  here p r (suc i) first at =
-      let low = (first (suc i) r at).1 (omega arith) in
-      let e : suc i ≡ i + 1 = omega arith in
-      let known = lawful.known r p (suc i) at in
+module _ (p k n : ℕ) (set : List Pair) (sets : List (List Pair)) (from : HasFrom p k n (set ∷ sets)) where
+  -- the first set has no other than the first of them
+  pub first-is : (j : ℕ) → Contains set (p, j) → j ≡ k
+  first-is zero chunk = let low = (from.known 0 0 (omega arith, chunk)).0 in omega (arith, low)
+  first-is (suc j) chunk =
+      let at : StandsIn (set ∷ sets) 0 (p, suc j) = (omega arith, chunk) in
+      let known = from.known 0 (suc j) at in
+      let low = known.0 in
       let few = known.1 in
-      let mid = lawful.somewhere p i known.0 (omega (arith, few)) in
-      let high = (first i mid.0 mid.1).0 (lawful.in_order mid.0 r p i mid.1 (subst (λ n. StandsIn sets r (p, n)) e at)) in
-      omega (arith, low, high)
+      elim (cases_lt j k) [
+        | inl below ↦ omega (arith, low, below)
+        | inr above ↦ (
+            let there = from.somewhere j above (omega (arith, few)) in
+            let e : suc j ≡ j + 1 = omega arith in
+            let early = from.in_order there.0 0 j there.1 (subst (λ m. StandsIn (set ∷ sets) 0 (p, m)) e at) in
+            absurd (omega (arith, early))
+            )
+      ]
 
-  first-one : (b : Bool) (p r i q : ℕ) → has_partition (get_or sets r []) p ≡ b → AreFirst p r → StandsIn sets q (p, i) → (q < suc r → i < one_if b + cnt sets p r) × (suc r ≤ q → one_if b + cnt sets p r ≤ i)
-  first-one true p r i q has first at = (
-    (λ lt.
-        elim (cases_lt q r) [
-          | inl below ↦ (let low = (first i q at).0 below in omega (arith, low))
-          | inr above ↦ (
-              let same : q ≡ r = omega (arith, lt, above) in
-              let is = here p r i first (subst (λ n. StandsIn sets n (p, i)) same at) in
-              omega (arith, is)
-              )
-        ]),
-    (λ le.
-        let low = (first i q at).1 (omega (arith, le)) in
-        let within = at.0 in
-        let chunk = chunk-in (get_or sets r []) p has in
-        let there : StandsIn sets r (p, chunk.0) = (omega (arith, within, le), chunk.1) in
-        let is = here p r chunk.0 first there in
-        elim (cases_lt (cnt sets p r) i) [
-          | inl more ↦ omega (arith, more)
-          | inr none ↦ (
-              let e : chunk.0 ≡ i = omega (arith, low, is, none) in
-              let same = lawful.once r q p i (subst (λ n. StandsIn sets r (p, n)) e there) at in
-              absurd (omega (arith, same, le))
-              )
-        ]),
-  )
-  first-one false p r i q has first at = (
-    (λ lt.
-        elim (cases_lt q r) [
-          | inl below ↦ (let low = (first i q at).0 below in omega (arith, low))
-          | inr above ↦ (
-              let same : q ≡ r = omega (arith, lt, above) in
-              let there : Contains (get_or sets r []) (p, i) = subst (λ n. Contains (get_or sets n []) (p, i)) same at.1 in
-              let never : true ≡ false = sym (chunk-has (get_or sets r []) p i there.0 there.1 there.2) ∙ has in
-              let none : ⊥ = cc in
-              absurd none
-              )
-        ]),
-    (λ le. let low = (first i q at).1 (omega (arith, le)) in omega (arith, low)),
-  )
+  later : (r : ℕ) (x : Pair) → StandsIn sets r x → StandsIn (set ∷ sets) (suc r) x
+  later r x at = (let lt = at.0 in omega (arith, lt), at.1)
 
-  firsts : (p r : ℕ) → AreFirst p r
-  firsts p zero i q at = ((λ lt. absurd (omega (arith, lt))), (λ le. omega arith))
-  firsts p (suc r) i q at = first-one (has_partition (get_or sets r []) p) p r i q refl (firsts p r) at
+  none-before : (b : Bool) → has_partition set p ≡ b → (r j : ℕ) → StandsIn sets r (p, j) → one_if b + k ≤ j
+  none-before false has r j at = let low = (from.known (suc r) j (later r (p, j) at)).0 in omega (arith, low)
+  none-before true has r j at =
+      let chunk = chunk-in set p has in
+      let is = first-is chunk.0 chunk.1 in
+      let low = (from.known (suc r) j (later r (p, j) at)).0 in
+      elim (cases_lt k j) [
+        | inl above ↦ omega (arith, above)
+        | inr not_above ↦ (
+            let e : chunk.0 ≡ j = omega (arith, low, is, not_above) in
+            let same = from.once 0 (suc r) j (subst (λ m. StandsIn (set ∷ sets) 0 (p, m)) e (omega arith, chunk.1)) (later r (p, j) at) in
+            absurd (omega (arith, same))
+            )
+      ]
 
-  -- as many of the sets before a chunk's have its partition as it has chunks before
-  pub cnt-is : (p j r : ℕ) → StandsIn sets r (p, j) → cnt sets p r ≡ j
-  cnt-is p j r at = here p r j (firsts p r) at
+  not-first : (b : Bool) → has_partition set p ≡ b → (r j : ℕ) → one_if b + k ≤ j → StandsIn (set ∷ sets) r (p, j) → (q : ℕ) × StandsIn sets q (p, j)
+  not-first b has (suc r) j low at = (r, (let lt = at.0 in omega (arith, lt), at.1))
+  not-first true has zero j low at = let is = first-is j at.1 in absurd (omega (arith, is, low))
+  not-first false has zero j low at = let both : true ≡ false = sym (chunk-has set p j at.1) ∙ has in absurd (cc both)
 
-  pub cnt-le : (p r i q : ℕ) → StandsIn sets q (p, i) → r ≤ q → cnt sets p r ≤ i
-  cnt-le p r i q at le = (firsts p r i q at).1 le
+  -- behind it stand those from the next on, if it has one
+  behind-one : HasFrom p (one_if (has_partition set p) + k) n sets
+  behind-one = record {
+    known = λ r j at. (none-before (has_partition set p) refl r j at, (from.known (suc r) j (later r (p, j) at)).1);
+    somewhere = λ j low few.
+        let there = from.somewhere j (let b = low in omega (arith, b)) few in
+        not-first (has_partition set p) refl there.0 j low there.1;
+    once = λ r s j a b. let same = from.once (suc r) (suc s) j (later r (p, j) a) (later s (p, j) b) in omega (arith, same);
+    in_order = λ r s j a b. let before = from.in_order (suc r) (suc s) j (later r (p, j) a) (later s (p, j + 1) b) in omega (arith, before);
+  }
 
-  -- and all of the sets have it as often as it has chunks, at least
-  pub cnt-all : (p n : ℕ) → p < length counts → n ≤ slice_index counts p → n ≤ cnt sets p (length sets)
-  cnt-all p zero lt le = omega arith
-  cnt-all p (suc n) lt le =
-      let there = lawful.somewhere p n lt (omega (arith, le)) in
-      let low = (firsts p (length sets) n there.0 there.1).0 there.1.0 in
-      omega (arith, low)
+behind : (p k m n : ℕ) (rounds left : List (List Pair)) → runs_of p rounds + k ≡ m → HasFrom p k n (rounds ++ left) → HasFrom p m n left
+behind p k m n [] left e from = let same : k ≡ m = omega (arith, e) in subst (λ i. HasFrom p i n left) same from
+behind p k m n (set ∷ later) left e from =
+    behind p (one_if (has_partition set p) + k) m n later left (omega (arith, e)) (behind-one p k n set (later ++ left) from)
+
+-- behind the first rounds of a lawful list: those from as many on as these rounds have the partition
+pub has-left : (counts : List ℕ) (threads : ℕ) (rounds left : List (List Pair)) → IsLawful counts threads (rounds ++ left) → (p : ℕ) → p < length counts → HasFrom p (runs_of p rounds) (slice_index counts p) left
+has-left counts threads rounds left lawful p lt =
+    behind p 0 (runs_of p rounds) (slice_index counts p) rounds left (omega arith) (record {
+      known = λ r j at. (omega arith, (lawful.known r p j at).1);
+      somewhere = λ j low few. lawful.somewhere p j lt few;
+      once = λ r s j. lawful.once r s p j;
+      in_order = λ r s j. lawful.in_order r s p j;
+    })

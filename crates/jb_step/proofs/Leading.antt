@@ -16,14 +16,14 @@ use Rattle.jb_step.specs.Alone.{AreOnTheWay, AreAlone, AreReady, have_ended}
 use Rattle.jb_step.proofs.Apart.{AllIn, IsWaiting, all-wait, run-more}
 use Rattle.jb_step.proofs.Steady.{waits, row_waits}
 
--- the first task waits, if it is in the set, and the others that are in it do
-pub first-waits : (b : Bool) (s : TaskState) (rest : List TaskState) → AllByRecursion IsWaiting (cond b (s ∷ rest) rest) → b ≡ true → IsWaiting s
-first-waits true s rest all e = all.0
-first-waits false s rest all e = cc
+-- what is so of those in a set is so of the first task, if it is in it, and of the others that are
+pub first-so : (P : TaskState → Type 0) (b : Bool) (s : TaskState) (rest : List TaskState) → AllByRecursion P (cond b (s ∷ rest) rest) → b ≡ true → P s
+first-so P true s rest all e = all.0
+first-so P false s rest all e = absurd (cc e)
 
-pub others-wait : (b : Bool) (s : TaskState) (rest : List TaskState) → AllByRecursion IsWaiting (cond b (s ∷ rest) rest) → AllByRecursion IsWaiting rest
-others-wait true s rest all = all.1
-others-wait false s rest all = all
+pub others-so : (P : TaskState → Type 0) (b : Bool) (s : TaskState) (rest : List TaskState) → AllByRecursion P (cond b (s ∷ rest) rest) → AllByRecursion P rest
+others-so P true s rest all = all.1
+others-so P false s rest all = all
 
 way-one : (b : Bool) (t s : TaskState) → IsOnTheWay t s → (b ≡ true → IsWaiting s) → IsOnTheWay t (cond b (attempt_of s).task s)
 way-one true t s way waiting = record { attempts = way.attempts ++ attempt_of s ∷ []; run = run-more t way.attempts s way.run (waiting refl) }
@@ -35,7 +35,7 @@ way-round set [] (s ∷ ss) way waiting = absurd way
 way-round set (t ∷ ts) [] way waiting = absurd way
 way-round set (t ∷ ts) (s ∷ ss) way waiting =
     let b = has_partition set s.partition in
-    (way-one b t s way.0 (first-waits b s (tasks_in set ss) waiting), way-round set ts ss way.1 (others-wait b s (tasks_in set ss) waiting))
+    (way-one b t s way.0 (first-so IsWaiting b s (tasks_in set ss) waiting), way-round set ts ss way.1 (others-so IsWaiting b s (tasks_in set ss) waiting))
 
 way-none : (ts : List TaskState) → AreOnTheWay ts ts
 way-none ts = pairwise-itself IsOnTheWay (λ t. record { attempts = []; run = refl }) ts

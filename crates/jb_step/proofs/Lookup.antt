@@ -21,7 +21,7 @@ abbrev pub first_of : {A : Type 0} → (TaskState → A) → List TaskState → 
 first_of part [] other = other
 first_of part (t ∷ ts) other = part t
 
-look-one : {A : Type 0} (part : TaskState → A) (b : Bool) (t : TaskState) (us : List TaskState) (rest other : A) → rest ≡ first_of part us other → cond b (part t) rest ≡ first_of part (cond b (t ∷ us) us) other
+pub look-one : {A : Type 0} (part : TaskState → A) (b : Bool) (t : TaskState) (us : List TaskState) (rest other : A) → rest ≡ first_of part us other → cond b (part t) rest ≡ first_of part (cond b (t ∷ us) us) other
 look-one part true t us rest other e = refl
 look-one part false t us rest other e = e
 

@@ -250,19 +250,18 @@ good saved = Ok saved
 answered-ok : (one other : SavedRows) → good one ≡ good other → one ≡ other
 answered-ok one other e = cc
 
-unfailed-same : (b : Bool) (r : Row) → is_failed r.state ≡ b → r.state ≢ Failed → restarted r ≡ r
-unfailed-same true r is never = absurd (never (failed-is r.state is))
+unfailed-same : (r : Row) → r.state ≢ Failed → restarted r ≡ r
+unfailed-same r never = ap (λ (b : Bool). cond b (dropped_row r) r) (unfailed r.state never)
   where
-    failed-is : (s : RowState) → is_failed s ≡ true → s ≡ Failed
-    failed-is state.Waiting e = let none : ⊥ = cc in absurd none
-    failed-is (state.Running lane) e = let none : ⊥ = cc in absurd none
-    failed-is state.Finished e = let none : ⊥ = cc in absurd none
-    failed-is state.Failed e = refl
-unfailed-same false r is never = ap (λ (b : Bool). cond b (dropped_row r) r) is
+    unfailed : (s : RowState) → s ≢ Failed → is_failed s ≡ false
+    unfailed state.Waiting never = refl
+    unfailed (state.Running lane) never = refl
+    unfailed state.Finished never = refl
+    unfailed state.Failed never = absurd (never refl)
 
 rows-same : (rows : List Row) → AreUnfailed rows → map restarted rows ≡ rows
 rows-same [] never = refl
-rows-same (r ∷ rows) never = ap₂ (λ (x : Row) (xs : List Row). x ∷ xs) (unfailed-same (is_failed r.state) r refl (never zero r refl)) (rows-same rows (λ i s e. never (suc i) s e))
+rows-same (r ∷ rows) never = ap₂ (λ (x : Row) (xs : List Row). x ∷ xs) (unfailed-same r (never zero r refl)) (rows-same rows (λ i s e. never (suc i) s e))
 
 -- what was read is what was saved, so the step goes on from the rows that the run before left
 takes-up : TreeIsRead → (step : StepRecord) (saved : Option SavedRows) (first r n : StepRun) → IsPreparedFor step saved first → IsRestart step r n → TakesUp first r n

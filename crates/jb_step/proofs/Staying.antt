@@ -11,7 +11,7 @@ use Rattle.jb_step.specs.preparing.Setup.{Setup}
 use Rattle.jb_step.specs.inside.Below.{ChunkLaws}
 use Rattle.jb_step.proofs.Apart.{AllIn, IsWaiting, all-wait}
 use Rattle.jb_step.proofs.Holding.{partitions_stay}
-use Rattle.jb_step.proofs.Leading.{first-waits, others-wait}
+use Rattle.jb_step.proofs.Leading.{first-so, others-so}
 use Rattle.jb_step.proofs.Steady.{IsSteadyIn, IsSteadyTable, next-steady, same-count, steady-table}
 
 steady-one : ChunkLaws → (s : Setup) (b : Bool) (t : TaskState) → IsSteadyIn s t → (b ≡ true → IsWaiting t) → IsSteadyIn s (cond b (attempt_of t).task t)
@@ -22,7 +22,7 @@ steady-round : ChunkLaws → (s : Setup) (set : List Pair) (ts : List TaskState)
 steady-round law s set [] tasks waiting = tt
 steady-round law s set (t ∷ ts) tasks waiting =
     let b = has_partition set t.partition in
-    (steady-one law s b t tasks.0 (first-waits b t (tasks_in set ts) waiting), steady-round law s set ts tasks.1 (others-wait b t (tasks_in set ts) waiting))
+    (steady-one law s b t tasks.0 (first-so IsWaiting b t (tasks_in set ts) waiting), steady-round law s set ts tasks.1 (others-so IsWaiting b t (tasks_in set ts) waiting))
 
 pub steady-rounds : ChunkLaws → (s : Setup) (rounds : List (List Pair)) (ts : List TaskState) → IsSteadyTable s ts → AllIn IsWaiting rounds ts → IsSteadyTable s (after_rounds rounds ts)
 steady-rounds law s [] ts table all = table

@@ -1,9 +1,9 @@
 -- One task and its attempts: what is left of its chunks after each.
-use Rattle.std.proofs.Common.{◌≡◌, ℕ, suc, ◌+◌, ◌≤◌, ◌<◌, Bool, true, false, cond, List, [], ◌∷◌, length, drop, refl, ap, sym, subst, ◌∙◌, arith, eqb-true}
+use Rattle.std.proofs.Common.{◌≡◌, ℕ, ◌≤◌, ◌<◌, Bool, true, false, cond, List, [], ◌∷◌, length, drop, refl, ap, sym, subst, ◌∙◌, arith, eqb-true}
 use Rattle.std.specs.Prelude.{◌==◌, map}
 use Rattle.std.specs.List.{AllByRecursion}
 use Rattle.jb_base.specs.declared.range.Range.{Range}
-use Rattle.jb_plan.specs.Blocks.{blocks, left}
+use Rattle.jb_plan.specs.Blocks.{blocks}
 use Rattle.jb_rules.specs.declared.row.Row.{Row}
 use Rattle.jb_rules.specs.declared.row.RowState.{RowState}
 use Rattle.jb_rules.specs.declared.row.RowState.TheVariants as state
@@ -101,49 +101,43 @@ next-steady law t st w = next-by law (after_repeats t) (again_of t) (end_of (aft
 abbrev pub listing : TaskState → List Range
 listing t = blocks t.row.at t.row.redo t.row.hi t.item_count
 
-pub next-list : ChunkLaws → (t : TaskState) → IsSteady t → t.row.at < t.row.hi → listing t ≡ block_of t ∷ blocks (block_of t).hi t.row.redo t.row.hi t.item_count
-next-list law t st lt = (law.follow.next t.row.at t.row.redo t.row.hi t.item_count lt st.redo_to st.count.some).others
+-- of a task that waits; else there are none
+abbrev pub due : TaskState → List Range
+due t = cond (row_waits t) (listing t) []
 
-drops-by : ChunkLaws → (t : TaskState) (again : ℕ) (e : Outcome) → IsSteady t → t.row.state ≡ state.Waiting → is_commit (ending_by t again e).outcome ≡ true → drop 1 (listing t) ≡ listing (ending_by t again e).task
-drops-by law t again (Committed delta) st w commit = ap (drop 1) (next-list law t st (st.waiting w))
-drops-by law t again (Rolled class) st w commit = let never : ⊥ = cc in absurd never
-drops-by law t again (Failed class) st w commit = let never : ⊥ = cc in absurd never
-drops-by law t again NoMemory st w commit = let never : ⊥ = cc in absurd never
+pub due-waiting : (t : TaskState) → t.row.state ≡ state.Waiting → due t ≡ listing t
+due-waiting t w = ap (λ st. cond (is_waiting st) (listing t) []) w
 
-listing-settled : RepeatsAreRetries → (t : TaskState) → listing (after_repeats t) ≡ listing t
-listing-settled law t = ap (λ (r : Row). blocks r.at r.redo r.hi t.item_count) (law t)
+pub due-waits : (t : TaskState) → 1 ≤ length (due t) → t.row.state ≡ state.Waiting
+due-waits t some =
+    elim (row_waits t) as (λ b. row_waits t ≡ b → 1 ≤ length (cond b (listing t) []) → t.row.state ≡ state.Waiting) [ true ↦ λ e le. waits t.row.state e | false ↦ λ e le. absurd (omega (arith, le)) ] refl some
+
+pub due-number : (t : TaskState) → length (due t) ≡ remaining_of t.item_count t.row t.row.state
+due-number t = by t.row.state
+  where
+    by : (st : RowState) → length (cond (is_waiting st) (listing t) []) ≡ remaining_of t.item_count t.row st
+    by state.Waiting = refl
+    by (state.Running lane) = refl
+    by state.Finished = refl
+    by state.Failed = refl
+
+pub next-list : ChunkLaws → (t : TaskState) → IsSteady t → t.row.state ≡ state.Waiting → listing t ≡ block_of t ∷ blocks (block_of t).hi t.row.redo t.row.hi t.item_count
+next-list law t st w = (law.follow.next t.row.at t.row.redo t.row.hi t.item_count (st.waiting w) st.redo_to st.count.some).others
+
+-- behind the last of them the task is finished
+due-at : ChunkLaws → (b : Bool) (c : ℕ) (row : Row) → (row.at == row.hi) ≡ b → row.redo ≤ row.hi → cond (is_waiting (cond b state.Finished state.Waiting)) (blocks row.at row.redo row.hi c) [] ≡ blocks row.at row.redo row.hi c
+due-at law true c row e redo = sym (ap (λ a. blocks a row.redo row.hi c) (eqb-true row.at row.hi e) ∙ law.follow.none row.redo row.hi c redo)
+due-at law false c row e redo = refl
+
+due-by : ChunkLaws → (t : TaskState) (again : ℕ) (e : Outcome) → IsSteady t → t.row.state ≡ state.Waiting → is_commit (ending_by t again e).outcome ≡ true → due (ending_by t again e).task ≡ drop 1 (listing t)
+due-by law t again (Committed delta) st w commit =
+    due-at law ((block_of t).hi == t.row.hi) t.item_count (ending_by t again (Committed delta)).task.row refl st.redo_to ∙ ap (drop 1) (sym (next-list law t st w))
+due-by law t again (Rolled class) st w commit = let never : ⊥ = cc in absurd never
+due-by law t again (Failed class) st w commit = let never : ⊥ = cc in absurd never
+due-by law t again NoMemory st w commit = let never : ⊥ = cc in absurd never
 
 -- a chunk that is committed is no longer among them
-pub drops-one : ChunkLaws → (t : TaskState) → IsSteady t → t.row.state ≡ state.Waiting → is_commit (attempt_of t).outcome ≡ true → drop 1 (listing t) ≡ listing (attempt_of t).task
-drops-one law t st w commit =
-    ap (drop 1) (sym (listing-settled law.repeats t))
-    ∙ drops-by law (after_repeats t) (again_of t) (end_of (after_repeats t)) (steady-after law.repeats t st) (waits-after law.repeats t w) commit
-
-abbrev pub rem : ℕ → Row → ℕ
-rem c row = remaining_of c row row.state
-
-rem-by : ChunkLaws → (b : Bool) (c : ℕ) (row : Row) → (row.at == row.hi) ≡ b → row.redo ≤ row.hi → remaining_of c row (cond b state.Finished state.Waiting) ≡ left row.at row.redo row.hi c
-rem-by law true c row e redo = sym (ap (λ a. left a row.redo row.hi c) (eqb-true row.at row.hi e) ∙ ap length (law.follow.none row.redo row.hi c redo))
-rem-by law false c row e redo = refl
-
-left-falls : ChunkLaws → (t : TaskState) → IsSteady t → t.row.at < t.row.hi → left t.row.at t.row.redo t.row.hi t.item_count ≡ suc (left (block_of t).hi t.row.redo t.row.hi t.item_count)
-left-falls law t st lt = ap length (next-list law t st lt)
-
-falls-by : ChunkLaws → (t : TaskState) (again : ℕ) (e : Outcome) → IsSteady t → t.row.state ≡ state.Waiting → is_commit (ending_by t again e).outcome ≡ true → rem t.item_count (ending_by t again e).task.row + 1 ≡ rem t.item_count t.row
-falls-by law t again (Committed delta) st w commit =
-    let less = left-falls law t st (st.waiting w) in
-    let now = rem-by law ((block_of t).hi == t.row.hi) t.item_count (ending_by t again (Committed delta)).task.row refl st.redo_to in
-    let was = ap (remaining_of t.item_count t.row) w in
-    omega (arith, less, now, was)
-falls-by law t again (Rolled class) st w commit = let never : ⊥ = cc in absurd never
-falls-by law t again (Failed class) st w commit = let never : ⊥ = cc in absurd never
-falls-by law t again NoMemory st w commit = let never : ⊥ = cc in absurd never
-
-rem-settled : RepeatsAreRetries → (t : TaskState) → rem t.item_count (after_repeats t).row ≡ rem t.item_count t.row
-rem-settled law t = ap (rem t.item_count) (law t)
-
--- and they are one less
-pub falls-one : ChunkLaws → (t : TaskState) → IsSteady t → t.row.state ≡ state.Waiting → is_commit (attempt_of t).outcome ≡ true → rem t.item_count (attempt_of t).task.row + 1 ≡ rem t.item_count t.row
-falls-one law t st w commit =
-    falls-by law (after_repeats t) (again_of t) (end_of (after_repeats t)) (steady-after law.repeats t st) (waits-after law.repeats t w) commit
-    ∙ rem-settled law.repeats t
+pub due-next : ChunkLaws → (t : TaskState) → IsSteady t → t.row.state ≡ state.Waiting → is_commit (attempt_of t).outcome ≡ true → due (attempt_of t).task ≡ drop 1 (listing t)
+due-next law t st w commit =
+    due-by law (after_repeats t) (again_of t) (end_of (after_repeats t)) (steady-after law.repeats t st) (waits-after law.repeats t w) commit
+    ∙ ap (λ (r : Row). drop 1 (blocks r.at r.redo r.hi t.item_count)) (law.repeats t)

@@ -1,14 +1,15 @@
 -- A least plan that goes quietly is run whole before its tasks have ended.
-use Rattle.std.proofs.Common.{◌≡◌, ℕ, ◌+◌, ◌≤◌, ◌<◌, List, [], ◌∷◌, ◌++◌, length, get_or, refl, sym, subst, arith, inl, inr, length-append}
+use Rattle.std.proofs.Common.{◌≡◌, ℕ, ◌+◌, ◌-◌, ◌≤◌, ◌<◌, List, [], ◌∷◌, ◌++◌, length, get_or, refl, sym, subst, arith, inl, inr, length-append}
 use Rattle.std.specs.Prelude.{Contains}
 use Rattle.std.proofs.lemmas.Bool.{cases_lt}
+use Rattle.std.proofs.Math.Seq.{get_or-append_right}
 use Rattle.std.proofs.lemmas.List.{get_or_append_left}
 use Rattle.jb_cert.specs.Lawful.{Pair, IsLawful, StandsIn, HasOnePerPartition}
 use Rattle.jb_step.specs.rounds.PlanLaws.{EndsWhole}
 use Rattle.jb_step.specs.preparing.Setup.{counts_now}
 use Rattle.jb_step.specs.inside.Below.{ChunkLaws}
-use Rattle.jb_step.proofs.ChunkNumbers.{cnt-le, runs-cnt}
-use Rattle.jb_step.proofs.ChunksInOrder.{runs-from-ended, length-counts}
+use Rattle.jb_step.proofs.ChunkNumbers.{has-left}
+use Rattle.jb_step.proofs.ChunksInOrder.{runs-from-ended, number-of-counts}
 use Rattle.jb_step.proofs.Staying.{steady-held}
 
 -- the first sets of a lawful list of sets are lawful, if each chunk stands in one of them
@@ -34,6 +35,11 @@ module _ (counts : List ℕ) (threads : ℕ) (one more : List (List Pair)) (lawf
     in_order = λ r q p j a b. lawful.in_order r q p j (up r (p, j) a) (up q (p, j + 1) b);
   }
 
+behind : (one more : List (List Pair)) (r : ℕ) (x : Pair) → length one ≤ r → StandsIn (one ++ more) r x → StandsIn more (r - length one) x
+behind one more r x ge at =
+    let lt = at.0 in
+    (omega (arith, lt, ge, length-append one more), subst (λ (xs : List Pair). Contains xs x) (get_or-append_right one more r [] ge) at.1)
+
 none-left : (left : List (List Pair)) → length left ≤ 0 → left ≡ []
 none-left [] le = refl
 none-left (set ∷ left) le = absurd (omega arith)
@@ -45,13 +51,12 @@ ends_whole law s before rounds left h least ended =
     let known = h.lawful.known r p j at in
     let within = known.0 in
     let few = known.1 in
-    let most = runs-from-ended law s before rounds (steady-held law s before h.held) h.run h.quiet ended p (omega (arith, within, length-counts s.item_count before s.rows 0)) in
-    let runs = runs-cnt p rounds left in
+    let most = runs-from-ended law s before rounds (steady-held law s before h.held) h.run h.quiet ended p (omega (arith, within, number-of-counts s before)) in
     elim (cases_lt r (length rounds)) [
       | inl lt ↦ lt
       | inr ge ↦ (
-          let low = cnt-le counts s.threads (rounds ++ left) h.lawful p (length rounds) j r at (omega (arith, ge)) in
-          absurd (omega (arith, few, most, runs, low))
+          let low = ((has-left counts s.threads rounds left h.lawful p within).known (r - length rounds) j (behind rounds left r (p, j) ge at)).0 in
+          absurd (omega (arith, few, most, low))
           )
     ]
     in
