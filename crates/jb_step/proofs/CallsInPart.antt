@@ -1,22 +1,19 @@
 -- Calls of a reducer, one after another.
-use Rattle.std.proofs.Common.{◌≡◌, Bool, true, List, [], ◌∷◌, ◌++◌, refl, ap, ◌∙◌, subst, sym, inl, inr, Ok, Err}
+use Rattle.std.proofs.Common.{◌≡◌, Bool, true, List, [], ◌∷◌, ◌++◌, drop, map, Option, Some, None, refl, ap, ◌∙◌, subst, sym, inl, inr, Ok, Err}
 use Rattle.std.specs.Prelude.{Result}
+use Rattle.jb_base.specs.declared.class.ClassId.{ClassId}
 use Rattle.jb_base.specs.declared.artifact_error.ArtifactError.{ArtifactError}
 use Rattle.jb_base.specs.declared.artifact_error.ArtifactError.TheVariants as artifact
 use Rattle.jb_collect.specs.declared.calls.ReducerCall.{ReducerCall}
 use Rattle.jb_collect.specs.declared.calls.ReducerCall.TheVariants.{Before, After}
 use Rattle.jb_collect.specs.declared.calls.PartitionStatus.TheVariants as end
 use Rattle.jb_collect.specs.ReducerCalls.{before_failed, rolled_back}
-use Rattle.jb_collect.specs.Taken.{Taken, Grew, TakesCall, calls_of, since, well}
+use Rattle.jb_collect.specs.Taken.{Taken, Grew, TakesCall, calls_of, since}
 use Rattle.jb_collect.proofs.Taking.{behind, since_is}
 use Rattle.jb_step.specs.declared.error.RunError.{RunError}
 use Rattle.jb_step.specs.Answers.{AreCallsInPart}
 use Rattle.jb_step.specs.callbacks.Callbacks.{AreSome}
 use Rattle.jb_step.specs.inside.Reducing.{IsReducing, callback_fault}
-
-calls-append : (ts us : List (Taken ReducerCall)) → calls_of (ts ++ us) ≡ calls_of ts ++ calls_of us
-calls-append [] us = refl
-calls-append (t ∷ ts) us = ap (λ xs. t.call ∷ xs) (calls-append ts us)
 
 -- WITHOUT MEMORY
 
@@ -35,19 +32,20 @@ undone-in-part taken some = record {
   alone = λ more e. absurd (not-before (calls_of more) (subst (λ ts. AreSome (calls_of ts) rolled_back) e some));
 }
 
-not-well : (ts us more : List (Taken ReducerCall)) → calls_of ts ≡ Before ∷ [] → before_failed ts ≡ true → ts ++ us ≡ well Before ∷ more → ⊥
-not-well [] us more calls failed e = cc
-not-well (t ∷ []) us more calls failed e =
-    let one : t ≡ well Before = cc in
-    let never : before_failed (well Before ∷ []) ≡ true = subst (λ x. before_failed (x ∷ []) ≡ true) one failed in
-    cc
-not-well (t ∷ u ∷ ts) us more calls failed e = cc
+-- where `before_completion` alone was called: what it was answered
+only : (ts : List (Taken ReducerCall)) → calls_of ts ≡ Before ∷ [] → (fault : Option ClassId) × (ts ≡ record { call = Before; fault = fault } ∷ [])
+only [] e = absurd (cc e)
+only (t ∷ []) e = let call : t.call ≡ Before = cc in (t.fault, λ i. record { call = call i; fault = t.fault } ∷ [])
+only (t ∷ (u ∷ ts)) e = absurd (cc e)
 
 failed-in-part : (ones twos : List (Taken ReducerCall)) → IsReducing (Before ∷ []) true true ones → AreSome (calls_of twos) rolled_back → AreCallsInPart (ones ++ twos)
-failed-in-part ones twos one two = record {
-  some = inr (calls_of twos, calls-append ones twos ∙ ap (λ cs. cs ++ calls_of twos) one.calls_are, two);
-  alone = λ more e. absurd (not-well ones twos more one.calls_are one.before_is e);
-}
+failed-in-part ones twos one two =
+    let first = only ones one.calls_are in
+    subst (λ ts. AreCallsInPart (ts ++ twos)) (sym first.1) (by first.0 (sym (ap before_failed first.1) ∙ one.before_is))
+  where
+    by : (fault : Option ClassId) → before_failed (record { call = Before; fault = fault } ∷ []) ≡ true → AreCallsInPart (record { call = Before; fault = fault } ∷ twos)
+    by None e = absurd (cc e)
+    by (Some class) e = record { some = inr (calls_of twos, refl, two); alone = λ more is. let faults = ap (map (λ (t : Taken ReducerCall). t.fault)) is in cc }
 
 -- `before_completion` failed, and then some of a rollback's calls were taken
 pub ending-failed-in-part : (before mid after : List (Taken ReducerCall)) (first : Bool) → first ≡ true → Grew before mid → Grew mid after → IsReducing (Before ∷ []) first first (since before mid)
@@ -55,16 +53,6 @@ pub ending-failed-in-part : (before mid after : List (Taken ReducerCall)) (first
 ending-failed-in-part before mid after first failed earlier later one two =
     subst AreCallsInPart (since_is before after (since before mid ++ since mid after) (behind before mid after earlier later))
     (failed-in-part (since before mid) (since mid after) (subst (λ b. IsReducing (Before ∷ []) b b (since before mid)) failed one) two)
-
-no-calls : (ts : List (Taken ReducerCall)) → calls_of ts ≡ [] → ts ≡ []
-no-calls [] e = refl
-no-calls (t ∷ ts) e = let never : ⊥ = cc in absurd never
-
-one-alone : (ts more : List (Taken ReducerCall)) → calls_of ts ≡ Before ∷ [] → ts ≡ well Before ∷ more → more ≡ []
-one-alone ts more calls e =
-    let both : calls_of (well Before ∷ more) ≡ Before ∷ [] = subst (λ xs. calls_of xs ≡ Before ∷ []) e calls in
-    let rest : calls_of more ≡ [] = cc in
-    no-calls more rest
 
 -- a call that found no memory wasn't taken
 not-taken : (before after : List (Taken ReducerCall)) (call : ReducerCall) (answer : Result (Unit {0}) ArtifactError) (e : RunError) → TakesCall before call answer after → Err e ≡ callback_fault answer → after ≡ before
@@ -77,4 +65,4 @@ pub ending-well-in-part : (before mid after : List (Taken ReducerCall)) (first :
     → TakesCall mid (After end.Commit) answer after → Err e ≡ callback_fault answer → AreCallsInPart (since before after)
 ending-well-in-part before mid after first answer e one last none =
     subst (λ xs. AreCallsInPart (since before xs)) (sym (not-taken mid after (After end.Commit) answer e last none))
-    (record { some = inr ([], one.calls_are, none-some rolled_back); alone = λ more is. one-alone (since before mid) more one.calls_are is })
+    (record { some = inr ([], one.calls_are, none-some rolled_back); alone = λ more is. ap (drop 1) (sym is ∙ (only (since before mid) one.calls_are).1) })

@@ -1,10 +1,10 @@
 -- The worked rows, computed.
-use Rattle.std.proofs.Common.{◌≡◌, ◌≤◌, ℕ, Bool, true, false, not, ◌&&◌, length, drop, sym, ap, ◌∙◌, subst, arith, List, None, [], ◌∷◌, ◌++◌, refl, lit≤, inl, inr}
+use Rattle.std.proofs.Common.{◌≡◌, ◌≤◌, ℕ, Bool, true, not, ◌&&◌, length, drop, map, sym, ap, ◌∙◌, subst, arith, List, Option, None, [], ◌∷◌, ◌++◌, refl, lit≤, inl, inr}
 use Rattle.std.proofs.Math.Dec.{leb}
 use Rattle.std.proofs.lemmas.Bool.{and_parts, leb-true, not-true}
-use Rattle.std.specs.Prelude.{is_some}
 use Rattle.std.specs.Fmt.{digits}
 use Rattle.std.specs.List.{list_all}
+use Rattle.jb_base.specs.declared.class.ClassId.{ClassId}
 use Rattle.jb_plan.specs.Blocks.{blocks}
 use Rattle.jb_artifacts.specs.Faults.{used_at}
 use Rattle.jb_cert.specs.declared.certificates.Certificate.{Certificate}
@@ -29,7 +29,7 @@ use Rattle.jb_step.specs.rounds.Rounds.{AreRun, CanRun, after_round, breaks, has
 use Rattle.jb_step.specs.rounds.Runs.{PlanRun, ArePlanRuns, IsPlanRun, rounds_run}
 use Rattle.jb_step.specs.preparing.Prepare.{IsBegunThen}
 use Rattle.jb_step.specs.preparing.Setup.{Setup, counts_now}
-use Rattle.jb_step.specs.Worked.{CallsOfPrepare, CallsOfOverride, CallsWithoutMemory, AfterMapper, AfterReducer, WithoutMemory, WorkedRows, whole_seven, skipped_run, stopped_seven, plan_run, chunks, faulted_rollback, well_rollback}
+use Rattle.jb_step.specs.Worked.{CallsOfPrepare, CallsOfOverride, CallsWithoutMemory, AfterReducer, WithoutMemory, WorkedRows, whole_seven, skipped_run, stopped_seven, plan_run, chunks, faulted_rollback, well_rollback}
 use Rattle.jb_step.specs.inside.Below.{LawsBelow}
 use Rattle.jb_step.proofs.Planning.{least-wrapped}
 use Rattle.jb_step.proofs.Steady.{row_waits}
@@ -104,16 +104,11 @@ left_open runs = elim runs.1 [ inl none ↦ cc | inr (inl whole) ↦ cc | inr (i
 
 -- WHERE THE REDUCER'S CALLS END
 
-first_fault : List (Taken ReducerCall) → Bool
-first_fault [] = false
-first_fault (t ∷ ts) = is_some t.fault
+abbrev faults_of : List (Taken ReducerCall) → List (Option ClassId)
+faults_of taken = map (λ t. t.fault) taken
 
 begun : {calls : List ReducerCall} {taken : List (Taken ReducerCall)} → IsBegunThen calls taken → calls_of taken ≡ Begin ∷ calls
 begun h = ap calls_of h.begun ∙ ap (λ calls. Begin ∷ calls) h.calls_are
-
-not_after_a_fault : AfterMapper (faulted Begin class_e ∷ well_rollback) → ⊥
-unfolding first_fault
-not_after_a_fault h = let e : true ≡ false = ap first_fault h.begun in cc
 
 not_unbegun : WithoutMemory well_rollback → ⊥
 not_unbegun (inl e) = cc
@@ -134,7 +129,7 @@ not_exchanged_after_begin (inr h) =
 calls_of_prepare : CallsOfPrepare
 calls_of_prepare = record {
   rolled_back = record { next = faulted_rollback; begun = refl; calls_are = refl };
-  not_after_a_fault = not_after_a_fault;
+  not_after_a_fault = λ h. let faults = ap faults_of h.begun in cc;
   not_left_so = λ h. let calls = begun h in cc;
   nothing = inl refl;
   begin_alone = inr ([], inl (inl refl), record { next = []; begun = refl; calls_are = refl });
@@ -163,10 +158,9 @@ calls_of_override = record {
 }
 
 calls_without_memory : CallsWithoutMemory
-unfolding first_fault
 calls_without_memory = record {
   rolled_back = record { some = inl (inr (After end.Rollback ∷ [], refl, inr ([], refl, refl))); alone = λ more e. let calls = ap calls_of e in cc };
-  before_failed = record { some = inr (After end.Rollback ∷ [], refl, inl (inr ([], refl, refl))); alone = λ more e. let faults : true ≡ false = ap first_fault e in cc };
+  before_failed = record { some = inr (After end.Rollback ∷ [], refl, inl (inr ([], refl, refl))); alone = λ more e. let faults = ap faults_of e in cc };
   before_alone = record { some = inr ([], refl, inl (inl refl)); alone = λ more e. ap (drop 1) (sym e) };
   not_after_it = λ h. let none = ap calls_of (h.alone well_rollback refl) in cc;
   not_committed = λ h. let none = ap calls_of (h.alone (well (After end.Commit) ∷ []) refl) in cc;

@@ -9,11 +9,8 @@ use Rattle.jb_step.specs.inside.Round.{partitions_of}
 -- what is so of all is so of those that are kept
 pub filter-all : {X : Type 0} (P : X → Type 0) (keep : X → Bool) (xs : List X) → AllByRecursion P xs → AllByRecursion P (filter keep xs)
 filter-all P keep [] h = tt
-filter-all P keep (x ∷ xs) h = by (keep x) (filter-all P keep xs h.1)
-  where
-    by : (b : Bool) → AllByRecursion P (filter keep xs) → AllByRecursion P (cond b (x ∷ filter keep xs) (filter keep xs))
-    by true rest = (h.0, rest)
-    by false rest = rest
+filter-all P keep (x ∷ xs) h =
+    elim (keep x) as (λ b. AllByRecursion P (cond b (x ∷ filter keep xs) (filter keep xs))) [ true ↦ (h.0, filter-all P keep xs h.1) | false ↦ filter-all P keep xs h.1 ]
 
 -- what is so of all images
 pub all-map : {X Y : Type 0} (P : Y → Type 0) (f : X → Y) (xs : List X) → AllByRecursion (λ (x : X). P (f x)) xs → AllByRecursion P (map f xs)
@@ -32,11 +29,8 @@ all-so P Q law (x ∷ xs) h = (law x h.0, all-so P Q law xs h.1)
 -- each that is kept passes
 pub each-passes : {X : Type 0} (keep : X → Bool) (xs : List X) → AllByRecursion (λ (x : X). keep x ≡ true) (filter keep xs)
 each-passes keep [] = tt
-each-passes keep (x ∷ xs) = by (keep x) refl (each-passes keep xs)
-  where
-    by : (b : Bool) → keep x ≡ b → AllByRecursion (λ y. keep y ≡ true) (filter keep xs) → AllByRecursion (λ y. keep y ≡ true) (cond b (x ∷ filter keep xs) (filter keep xs))
-    by true e rest = (e, rest)
-    by false e rest = rest
+each-passes keep (x ∷ xs) =
+    elim (keep x) as (λ b. keep x ≡ b → AllByRecursion (λ y. keep y ≡ true) (cond b (x ∷ filter keep xs) (filter keep xs))) [ true ↦ λ e. (e, each-passes keep xs) | false ↦ λ e. each-passes keep xs ] refl
 
 -- what leaves each element as it is leaves the list
 pub map-stays : {X : Type 0} (f : X → X) (xs : List X) → AllByRecursion (λ (x : X). f x ≡ x) xs → map f xs ≡ xs
@@ -47,20 +41,17 @@ map-stays f (x ∷ xs) all = ap₂ (λ y ys. y ∷ ys) all.0 (map-stays f xs all
 pub filter-map : {X Y : Type 0} (keep : Y → Bool) (own : X → Bool) (f : X → Y) → ((x : X) → keep (f x) ≡ own x) → (xs : List X) → filter keep (map f xs) ≡ map f (filter own xs)
 filter-map keep own f same [] = refl
 filter-map keep own f same (x ∷ xs) =
-    ap₂ (λ (b : Bool) (ys : List _). cond b (f x ∷ ys) ys) (same x) (filter-map keep own f same xs) ∙ by (own x)
-  where
-    by : (b : Bool) → cond b (f x ∷ map f (filter own xs)) (map f (filter own xs)) ≡ map f (cond b (x ∷ filter own xs) (filter own xs))
-    by true = refl
-    by false = refl
+    ap₂ (λ (b : Bool) (ys : List _). cond b (f x ∷ ys) ys) (same x) (filter-map keep own f same xs)
+    ∙ (elim (own x) as (λ b. cond b (f x ∷ map f (filter own xs)) (map f (filter own xs)) ≡ map f (cond b (x ∷ filter own xs) (filter own xs))) [ true ↦ refl | false ↦ refl ])
 
 -- of the images, where those that aren't kept stay as they are: those of the images of the others
 pub filter-again : {X : Type 0} (keep : X → Bool) (f : X → X) (xs : List X) → AllByRecursion (λ (x : X). keep x ≡ false → f x ≡ x) xs → filter keep (map f xs) ≡ filter keep (map f (filter keep xs))
 filter-again keep f [] stay = refl
-filter-again keep f (x ∷ xs) stay = by (keep x) refl (filter-again keep f xs stay.1)
-  where
-    by : (b : Bool) → keep x ≡ b → filter keep (map f xs) ≡ filter keep (map f (filter keep xs)) → filter keep (map f (x ∷ xs)) ≡ filter keep (map f (cond b (x ∷ filter keep xs) (filter keep xs)))
-    by true e rest = ap (λ (ys : List _). cond (keep (f x)) (f x ∷ ys) ys) rest
-    by false e rest = ap (λ (c : Bool). cond c (f x ∷ filter keep (map f xs)) (filter keep (map f xs))) (ap keep (stay.0 e) ∙ e) ∙ rest
+filter-again keep f (x ∷ xs) stay =
+    elim (keep x) as (λ b. keep x ≡ b → filter keep (map f (x ∷ xs)) ≡ filter keep (map f (cond b (x ∷ filter keep xs) (filter keep xs)))) [
+      | true ↦ λ e. ap (λ (ys : List _). cond (keep (f x)) (f x ∷ ys) ys) (filter-again keep f xs stay.1)
+      | false ↦ λ e. ap (λ (c : Bool). cond c (f x ∷ filter keep (map f xs)) (filter keep (map f xs))) (ap keep (stay.0 e) ∙ e) ∙ filter-again keep f xs stay.1
+    ] refl
 
 -- one filter after another, in either order
 pub filter-swap : {X : Type 0} (h k : X → Bool) (xs : List X) → filter h (filter k xs) ≡ filter k (filter h xs)
@@ -80,8 +71,7 @@ rise-lower j k (n ∷ ns) le h = (let from = h.0 in omega arith, h.1)
 
 pub rise-filter : (keep : TaskState → Bool) (k : ℕ) (ts : List TaskState) → RiseFrom k (partitions_of ts) → RiseFrom k (partitions_of (filter keep ts))
 rise-filter keep k [] h = tt
-rise-filter keep k (t ∷ ts) h = by (keep t) (rise-filter keep (t.partition + 1) ts h.1)
-  where
-    by : (b : Bool) → RiseFrom (t.partition + 1) (partitions_of (filter keep ts)) → RiseFrom k (partitions_of (cond b (t ∷ filter keep ts) (filter keep ts)))
-    by true rest = (h.0, rest)
-    by false rest = let from = h.0 in rise-lower k (t.partition + 1) (partitions_of (filter keep ts)) (omega (arith, from)) rest
+rise-filter keep k (t ∷ ts) h =
+    let from = h.0 in
+    let rest = rise-filter keep (t.partition + 1) ts h.1 in
+    elim (keep t) as (λ b. RiseFrom k (partitions_of (cond b (t ∷ filter keep ts) (filter keep ts)))) [ true ↦ (from, rest) | false ↦ rise-lower k (t.partition + 1) (partitions_of (filter keep ts)) (omega (arith, from)) rest ]

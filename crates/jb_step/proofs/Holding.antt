@@ -163,8 +163,5 @@ begins_with_table s artifacts setup fits = record {
 
 pub now-sound : (s : Setup) (ts : List TaskState) (p : ℕ) (row : Row) → AreTasksOf s ts → IsSoundRow row → IsSoundRow (row_now ts p row)
 now-sound s [] p row tasks sound = sound
-now-sound s (t ∷ ts) p row tasks sound = either (nat_eq t.partition p) (now-sound s ts p row tasks.1 sound)
-  where
-    either : (b : Bool) → IsSoundRow (row_now ts p row) → IsSoundRow (cond b t.row (row_now ts p row))
-    either true rest = tasks.0.0.sound
-    either false rest = rest
+now-sound s (t ∷ ts) p row tasks sound =
+    elim (nat_eq t.partition p) as (λ b. IsSoundRow (cond b t.row (row_now ts p row))) [ true ↦ tasks.0.0.sound | false ↦ now-sound s ts p row tasks.1 sound ]

@@ -180,11 +180,8 @@ module _ (f : TaskState → TaskState) where
   -- of one partition, which has no task or one
   row-on : (us : List TaskState) (row : Row) → length us ≤ 1 → AllByRecursion Stays us → first_of (λ t. t.row) (map f (tasks_unfinished us)) (first_of (λ t. t.row) us row) ≡ first_of (λ t. t.row) (map f us) row
   row-on [] row few stay = refl
-  row-on (t ∷ []) row few stay = by (is_unfinished t) refl
-    where
-      by : (b : Bool) → is_unfinished t ≡ b → first_of (λ t. t.row) (map f (cond b (t ∷ []) [])) t.row ≡ (f t).row
-      by true e = refl
-      by false e = ap (λ (u : TaskState). u.row) (sym (stay.0 e))
+  row-on (t ∷ []) row few stay =
+      elim (is_unfinished t) as (λ b. is_unfinished t ≡ b → first_of (λ t. t.row) (map f (cond b (t ∷ []) [])) t.row ≡ (f t).row) [ true ↦ λ e. refl | false ↦ λ e. ap (λ (u : TaskState). u.row) (sym (stay.0 e)) ] refl
   row-on (t ∷ (u ∷ us)) row few stay = absurd (omega (arith, few))
 
 -- ONE RUN MORE
