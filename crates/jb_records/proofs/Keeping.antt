@@ -1,15 +1,14 @@
 -- What is kept of a stretch: the results of the partitions that are finished, and what the others work with.
-use Rattle.std.proofs.Common.{◌≡◌, ℕ, zero, suc, ◌+◌, Bool, true, false, not, cond, List, [], ◌∷◌, map, Some, refl, ap, sym, subst, ◌∙◌, arith}
-use Rattle.std.specs.Prelude.{filter, nat_eq, slice_get, slice_index_or}
+use Rattle.std.proofs.Common.{◌≡◌, ℕ, zero, suc, ◌+◌, Bool, true, false, not, cond, List, [], ◌∷◌, map, Some, refl, ap, sym, subst, ◌∙◌, arith, eqb-true}
+use Rattle.std.specs.Prelude.{filter, nat_eq, slice_get}
 use Rattle.std.specs.List.{AllByRecursion, enumerate_from}
-use Rattle.std.proofs.lemmas.Bool.Decides.{nat_tests}
 use Rattle.std.proofs.lemmas.Option.{get_or_from_slice_get}
 use Rattle.jb_base.specs.Pairwise.{Pairwise}
 use Rattle.jb_base.specs.Rules.{RulesRecord}
 use Rattle.jb_rules.specs.declared.row.Row.{Row}
 use Rattle.jb_rules.specs.declared.row.RowState.{RowState}
 use Rattle.jb_rules.specs.declared.row.RowState.TheVariants as state
-use Rattle.jb_rules.specs.Rows.{dropped_row, fresh_row}
+use Rattle.jb_rules.specs.Rows.{dropped_row}
 use Rattle.jb_rules.specs.States.{is_failed, is_finished}
 use Rattle.jb_artifacts.specs.Meaning.{ArtifactsMeaning}
 use Rattle.jb_chunk.specs.Standing.{TaskState}
@@ -22,7 +21,7 @@ use Rattle.jb_records.specs.Shares.{AreShares, IsShare, newer_share, newer_share
 use Rattle.jb_records.specs.Steps.{AreArtifacts, IsArtifactsFor}
 use Rattle.jb_records.specs.Stretches.{numbers_in, artifacts_in}
 use Rattle.jb_records.specs.Artifacts.{IsArtifactsOver, own_records}
-use Rattle.jb_records.specs.inside.Kept.{is_done, is_left}
+use Rattle.jb_records.specs.inside.Kept.{is_done, is_left, is_over}
 use Rattle.jb_records.proofs.Steps.{HaveResults, left-of}
 use Rattle.jb_records.proofs.Staying.{Stays, head-is, left-numbers, tail-is}
 
@@ -56,36 +55,36 @@ newer-again left ws shares same = all-over left ws 0 shares same
 
 -- ---- THE FINISHED ONES APART
 
+-- what came back of the partitions with some numbers is newer of these
+newer-of : (keep : ℕ → Bool) (left : List (ℕ × ArtifactsMeaning)) (p : ℕ) (share : List (List ℕ)) → newer_share (filter (λ a. keep a.0) left) p share ≡ cond (keep p) (newer_share left p share) share
+newer-of keep [] p share = elim (keep p) as (λ b. share ≡ cond b share share) [ true ↦ refl | false ↦ refl ]
+newer-of keep (a ∷ left) p share = by (keep a.0) (nat_eq a.0 p) refl refl (newer-of keep left p share)
+  where
+    own : List (List ℕ)
+    own = a.1.writer.written
+
+    kept : List (ℕ × ArtifactsMeaning)
+    kept = filter (λ x. keep x.0) left
+
+    same : (b : Bool) → keep a.0 ≡ b → nat_eq a.0 p ≡ true → keep p ≡ b
+    same b is at = ap keep (sym (eqb-true a.0 p at)) ∙ is
+
+    by : (b c : Bool) → keep a.0 ≡ b → nat_eq a.0 p ≡ c → newer_share kept p share ≡ cond (keep p) (newer_share left p share) share
+        → newer_share (cond b (a ∷ kept) kept) p share ≡ cond (keep p) (cond c own (newer_share left p share)) share
+    by true true is at more = rw (at, same true is at) refl
+    by true false is at more = rw at more
+    by false true is at more = more ∙ rw (same false is at) refl
+    by false false is at more = more
+
 module _ (rows : List Row) where
-  -- none of those that are left has the number of a finished one
-  done-none : (left : List (ℕ × ArtifactsMeaning)) (p : ℕ) (w : ArtifactsMeaning) (share : List (List ℕ)) → is_done rows (p, w) ≡ true → newer_share (filter (is_left rows) left) p share ≡ share
-  done-none [] p w share done = refl
-  done-none (a ∷ left) p w share done = none-by (is_done rows a) (nat_eq a.0 p) refl refl (done-none left p w share done)
-    where
-      none-by : (b c : Bool) → is_done rows a ≡ b → nat_eq a.0 p ≡ c → newer_share (filter (is_left rows) left) p share ≡ share
-          → newer_share (cond (not b) (a ∷ filter (is_left rows) left) (filter (is_left rows) left)) p share ≡ share
-      none-by true c is at others = others
-      none-by false false is at others = ap (λ (b : Bool). cond b a.1.writer.written (newer_share (filter (is_left rows) left) p share)) at ∙ others
-      none-by false true is at others =
-          let same : a.0 ≡ p = grind (arith, nat_tests) in
-          let both : true ≡ false = sym done ∙ ap (λ n. is_done rows (n, w)) (sym same) ∙ is in
-          let none : ⊥ = cc in absurd none
+  abbrev over : ℕ → Bool
+  over p = is_over (slice_get rows p)
 
   part-newer : (left : List (ℕ × ArtifactsMeaning)) (p : ℕ) (share : List (List ℕ)) → newer_share (filter (is_left rows) left) p (newer_share (filter (is_done rows) left) p share) ≡ newer_share left p share
-  part-newer [] p share = refl
-  part-newer (a ∷ left) p share = part-by (is_done rows a) (nat_eq a.0 p) refl refl (part-newer left p share)
-    where
-      part-by : (b c : Bool) → is_done rows a ≡ b → nat_eq a.0 p ≡ c
-          → newer_share (filter (is_left rows) left) p (newer_share (filter (is_done rows) left) p share) ≡ newer_share left p share
-          → newer_share (cond (not b) (a ∷ filter (is_left rows) left) (filter (is_left rows) left)) p (newer_share (cond b (a ∷ filter (is_done rows) left) (filter (is_done rows) left)) p share)
-          ≡ cond c a.1.writer.written (newer_share left p share)
-      part-by false c is at others = ap (λ (b : Bool). cond b a.1.writer.written (newer_share (filter (is_left rows) left) p (newer_share (filter (is_done rows) left) p share))) at ∙ ap (cond c a.1.writer.written) others
-      part-by true false is at others =
-          ap (λ (b : Bool). newer_share (filter (is_left rows) left) p (cond b a.1.writer.written (newer_share (filter (is_done rows) left) p share))) at ∙ others
-      part-by true true is at others =
-          let same : a.0 ≡ p = grind (arith, nat_tests) in
-          ap (λ (b : Bool). newer_share (filter (is_left rows) left) p (cond b a.1.writer.written (newer_share (filter (is_done rows) left) p share))) at
-          ∙ done-none left p a.1 a.1.writer.written (ap (λ n. is_done rows (n, a.1)) (sym same) ∙ is)
+  part-newer left p share =
+      newer-of (λ n. not (over n)) left p (newer_share (filter (is_done rows) left) p share)
+      ∙ ap (λ x. cond (not (over p)) (newer_share left p x) x) (newer-of over left p share)
+      ∙ (elim (over p) as (λ b. cond (not b) (newer_share left p (cond b (newer_share left p share) share)) (cond b (newer_share left p share) share) ≡ newer_share left p share) [ true ↦ refl | false ↦ refl ])
 
   all-parts : (left : List (ℕ × ArtifactsMeaning)) (k : ℕ) (shares : List (List (List ℕ))) → newer-from (filter (is_left rows) left) k (newer-from (filter (is_done rows) left) k shares) ≡ newer-from left k shares
   all-parts left k [] = refl
@@ -116,9 +115,6 @@ finished-again row = finished-by (is_failed row.state) row refl
 artifacts-by : (f : Function) (s : Setup) (records : List (List ℕ)) (w : ArtifactsMeaning) (b : Bool) (row : Row) → IsArtifactsOver f s.rules row.lo (own_records records row) w → IsArtifactsOver f s.rules (again-by b row).lo (own_records records (again-by b row)) w
 artifacts-by f s records w true row is = is
 artifacts-by f s records w false row is = is
-
-pub row-at : (rows : List Row) (p k : ℕ) (row : Row) → p ≡ k → slice_get rows k ≡ Some row → slice_index_or rows p (fresh_row (record { lo = 0; hi = 0 })) ≡ row
-row-at rows p k row here at = ap (λ n. slice_index_or rows n (fresh_row (record { lo = 0; hi = 0 }))) here ∙ get_or_from_slice_get rows k row (fresh_row (record { lo = 0; hi = 0 })) at
 
 -- the task has the results of the records before its checkpoint, the step's rules, and its partition's row
 pub record IsDone (f : Function) (records : List (List ℕ)) (s : Setup) (rows : List Row) (t : TaskState) : Type 0 where
@@ -174,7 +170,7 @@ module _ (f : Function) (records : List (List ℕ)) (s : Setup) (rows : List Row
       let kept = subst (λ (r : Row). IsArtifactsOver f t.rules r.lo (own_records records r) t.artifacts) row has.artifacts in
       let artifacts = artifacts-by f s records t.artifacts (is_failed new.state) new (subst (λ (rules : RulesRecord). IsArtifactsOver f rules new.lo (own_records records new) t.artifacts) have.0.rules kept) in
       let written : share ≡ t.artifacts.writer.written = own.results ∙ ap (λ (r : Row). results_so_far f records r) (sym row) ∙ sym has.results in
-      let same = ap (λ (r : Row). not (is_finished r.state)) (row-at rows t.partition k new here at) ∙ ap not (sym (finished-again new)) in
+      let same = ap (λ p. not (is_over (slice_get rows p))) here ∙ ap (λ o. not (is_over o)) at ∙ ap not (sym (finished-again new)) in
       kept-one (is_left rows (t.partition, t.artifacts)) (not (is_finished (restarted new).state)) (t.partition, t.artifacts) (k, restarted new) (filter (is_left rows) ls) (left-of (enumerate_from (k + 1) (map restarted news))) same here
       (artifacts, there ∙ ap Some written) others
 

@@ -1,12 +1,10 @@
 //! What the partitions work with, from one stretch to the next.
 
-ghost use Rattle.std.specs.Prelude.{◌≡◌, ◌++◌, ◌∷◌, [], filter, length, map, slice_index_or, IfOk, OnOk};
+ghost use Rattle.std.specs.Prelude.{◌≡◌, ◌++◌, ◌∷◌, [], filter, length, map, slice_get, IfOk, OnOk};
 ghost use Rattle.std.specs.List.{zip};
-ghost use Rattle.jb_rules.specs.Rows.{fresh_row};
-ghost use Rattle.jb_rules.specs.States.{is_finished};
 ghost use Rattle.jb_step.specs.Answers.{given_back};
 ghost use Rattle.jb_records.specs.Stretches.{artifacts_in};
-ghost use Rattle.jb_records.specs.inside.Kept.{is_done, is_left};
+ghost use Rattle.jb_records.specs.inside.Kept.{is_done, is_left, is_over};
 
 use jb_artifacts::Meaning;
 use jb_rules::Row;
@@ -46,7 +44,7 @@ pub(crate) fn unnumbered<A: Meaning + Drop>(
 
 /// Whether the partition of this number is finished.
 fn has_finished(rows: &[Row], partition: u32) -> bool
-    ensures { result ≡ is_finished (slice_index_or rows.now partition (fresh_row (record { lo = 0; hi = 0 }))).state }
+    ensures { result ≡ is_over (slice_get rows.now partition) }
 {
     match rows.get(partition as usize) {
         Some(row) => row.state.is_finished(),

@@ -1,5 +1,5 @@
 -- What is kept of a run in memory.
-use Rattle.std.specs.Prelude.{ℕ, ◌≡◌, ◌+◌, ◌∷◌, [], nat_eq, Bool, false, not, if◌then◌else◌, List, Option, None, filter, length, drop, map, slice_index_or}
+use Rattle.std.specs.Prelude.{ℕ, ◌≡◌, ◌+◌, ◌∷◌, [], nat_eq, Bool, true, false, not, if◌then◌else◌, List, Option, None, Some, filter, length, drop, map, slice_get}
 use Rattle.jb_base.specs.Rules.{RulesRecord}
 use Rattle.jb_repo.specs.declared.snapshot.Snapshot.{Snapshot}
 use Rattle.jb_saved.specs.declared.error.StepError.TheVariants as error
@@ -15,7 +15,6 @@ use Rattle.jb_records.specs.declared.error.RecordsStepError.TheVariants.{Memory,
 use Rattle.jb_records.specs.Shares.{newer_shares}
 use Rattle.jb_artifacts.specs.Meaning.{ArtifactsMeaning}
 use Rattle.jb_rules.specs.declared.row.Row.{Row}
-use Rattle.jb_rules.specs.Rows.{fresh_row}
 use Rattle.jb_rules.specs.States.{is_finished}
 use Rattle.jb_step.specs.preparing.Setup.{IsSetup, Setup, first_tasks, needs, rows_now, unfinished}
 use Rattle.jb_records.specs.Function.{Function}
@@ -65,9 +64,13 @@ pub record IsGoingOn (step : List ℕ) (count : ℕ) (rules : RulesRecord) (rows
   pub artifacts_are : s.artifacts ≡ artifacts
   pub shares_are : s.shares ≡ newer_shares artifacts results
 
--- no row has this number of a partition, or its row is finished
+-- there is no such partition, or its row is finished
+abbrev pub is_over : Option Row → Bool
+is_over None = true
+is_over (Some row) = is_finished row.state
+
 abbrev pub is_done : List Row → ℕ × ArtifactsMeaning → Bool
-is_done rows a = is_finished (slice_index_or rows a.0 (fresh_row (record { lo = 0; hi = 0 }))).state
+is_done rows a = is_over (slice_get rows a.0)
 
 abbrev pub is_left : List Row → ℕ × ArtifactsMeaning → Bool
 is_left rows a = not (is_done rows a)
