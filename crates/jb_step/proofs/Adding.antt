@@ -2,13 +2,12 @@
 use Rattle.std.proofs.Common.{◌≡◌, false, List, [], ◌∷◌, ◌++◌, append-nil, refl, ap, sym, ◌∙◌, subst, append_assoc, inl, inr}
 use Rattle.std.specs.Prelude.{◌⊎◌, not}
 use Rattle.std.proofs.lemmas.Bool.{or_parts}
-use Rattle.std.proofs.lemmas.Grind.{flat_map-append}
 use Rattle.std.proofs.lemmas.List.Folds.{list_any-append}
 use Rattle.jb_cert.specs.Lawful.{Pair}
 use Rattle.jb_chunk.specs.Attempt.{AttemptEnd}
 use Rattle.jb_chunk.specs.Standing.{TaskState}
 use Rattle.jb_step.specs.rounds.Rounds.{AreRun, CanRun, GoQuietly, after_round, after_rounds, attempts_in, attempts_of, breaks, breaks_in, is_commit}
-use Rattle.jb_step.specs.rounds.Runs.{AreOver, ArePlanRuns, IsOver, IsPlanRun, PlanRun, rounds_of, rounds_run, table_after}
+use Rattle.jb_step.specs.rounds.Runs.{AreOver, ArePlanRuns, PlanRun, rounds_of, rounds_run, table_after}
 use Rattle.jb_step.specs.preparing.Setup.{Setup}
 
 -- ROUNDS
@@ -38,12 +37,12 @@ pub not-last : {set : List Pair} {later : List (List Pair)} {P : Type 0} → (se
 not-last (inl none) = let never : ⊥ = cc in absurd never
 not-last (inr one) = one
 
--- some rounds are quiet only if the last one is
-pub breaks-more : (rounds : List (List Pair)) (set : List Pair) (ts : List TaskState) → GoQuietly rounds ts → breaks_in (attempts_of (rounds ++ set ∷ []) ts) ≡ breaks set (after_rounds rounds ts)
-breaks-more rounds set ts quiet =
-    ap breaks_in (attempts-append rounds (set ∷ []) ts)
-    ∙ list_any-append (λ (e : AttemptEnd). not (is_commit e.outcome)) (attempts_of rounds ts) (attempts_in set (after_rounds rounds ts) ++ [])
-    ∙ rw (quiet, append-nil (attempts_in set (after_rounds rounds ts))) refl
+-- behind quiet rounds, what the others do counts
+pub breaks-more : (rounds more : List (List Pair)) (ts : List TaskState) → GoQuietly rounds ts → breaks_in (attempts_of (rounds ++ more) ts) ≡ breaks_in (attempts_of more (after_rounds rounds ts))
+breaks-more rounds more ts quiet =
+    ap breaks_in (attempts-append rounds more ts)
+    ∙ list_any-append (λ (e : AttemptEnd). not (is_commit e.outcome)) (attempts_of rounds ts) (attempts_of more (after_rounds rounds ts))
+    ∙ rw quiet refl
 
 -- a round more can be run behind quiet ones
 pub run-more : (rounds : List (List Pair)) (set : List Pair) (ts : List TaskState) → AreRun rounds ts → GoQuietly rounds ts → CanRun set (after_rounds rounds ts) → AreRun (rounds ++ set ∷ []) ts
@@ -52,23 +51,19 @@ run-more (one ∷ rounds) set ts run quiet can =
     let parts = quiet-parts one rounds ts quiet in
     (run.0, inr parts.0, run-more rounds set (after_round one ts) run.2 parts.1 can)
 
--- PLANS
+-- PLANS, behind those that are over
 
-pub rounds-more : (plans : List PlanRun) (plan : PlanRun) → rounds_of (plans ++ plan ∷ []) ≡ rounds_of plans ++ rounds_run plan
-rounds-more plans plan = flat_map-append rounds_run plans (plan ∷ []) ∙ ap (λ rounds. rounds_of plans ++ rounds) (append-nil (rounds_run plan))
-
--- a plan is made for what plans left that are over
-pub plan-more : (s : Setup) (start : List TaskState) (plans : List PlanRun) (plan : PlanRun) → ArePlanRuns s start plans → AreOver start plans → IsPlanRun s (table_after plans start) plan → ArePlanRuns s start (plans ++ plan ∷ [])
-plan-more s start [] plan runs over one = (one, inl refl, tt)
-plan-more s start (first ∷ plans) plan runs over one = (
+pub plans-more : (s : Setup) (start : List TaskState) (plans more : List PlanRun) → ArePlanRuns s start plans → AreOver start plans → ArePlanRuns s (table_after plans start) more → ArePlanRuns s start (plans ++ more)
+plans-more s start [] more runs over behind = behind
+plans-more s start (first ∷ plans) more runs over behind = (
   runs.0,
   inr over.0,
-  plan-more s (after_rounds (rounds_run first) start) plans plan runs.2 over.1 (subst (λ ts. IsPlanRun s ts plan) (after-append (rounds_run first) (rounds_of plans) start) one),
+  plans-more s (after_rounds (rounds_run first) start) plans more runs.2 over.1 (subst (λ ts. ArePlanRuns s ts more) (after-append (rounds_run first) (rounds_of plans) start) behind),
 )
 
-pub over-more : (start : List TaskState) (plans : List PlanRun) (plan : PlanRun) → AreOver start plans → IsOver (table_after plans start) plan → AreOver start (plans ++ plan ∷ [])
-over-more start [] plan over one = (one, tt)
-over-more start (first ∷ plans) plan over one = (
+pub over-more : (start : List TaskState) (plans more : List PlanRun) → AreOver start plans → AreOver (table_after plans start) more → AreOver start (plans ++ more)
+over-more start [] more over behind = behind
+over-more start (first ∷ plans) more over behind = (
   over.0,
-  over-more (after_rounds (rounds_run first) start) plans plan over.1 (subst (λ ts. IsOver ts plan) (after-append (rounds_run first) (rounds_of plans) start) one),
+  over-more (after_rounds (rounds_run first) start) plans more over.1 (subst (λ ts. AreOver ts more) (after-append (rounds_run first) (rounds_of plans) start) behind),
 )

@@ -1,5 +1,5 @@
 -- The headline, from the laws.
-use Rattle.std.proofs.Common.{◌≡◌, ℕ, suc, zero, ◌-◌, ◌<◌, Bool, true, false, List, [], ◌∷◌, ◌++◌, append_assoc, length, drop, take, refl, ap, sym, ◌∙◌, subst, arith, inl, inr}
+use Rattle.std.proofs.Common.{◌≡◌, ℕ, suc, zero, ◌-◌, ◌<◌, Bool, true, false, List, [], ◌∷◌, ◌++◌, append-nil, append_assoc, length, drop, take, refl, ap, sym, ◌∙◌, subst, arith, inl, inr}
 use Rattle.std.specs.Prelude.{Contains, ◌⊎◌}
 use Rattle.std.proofs.lemmas.List.{take-append-drop, take_all}
 use Rattle.jb_rules.specs.declared.row.Row.{Row}
@@ -10,7 +10,7 @@ use Rattle.jb_step.specs.Alone.{AreAlone}
 use Rattle.jb_step.specs.Answers.{IsRunOfStep, StepRun, artifacts_of, tasks_after, tasks_before}
 use Rattle.jb_step.specs.Headline.{ArePlansOf, Headline, HeadlineHolds, IsNextBlock, IsPlanOf, NoneIsLeft, RunInOrder, UnstoppedRunsAgree}
 use Rattle.jb_step.specs.rounds.PlanLaws.{IsTaskTable}
-use Rattle.jb_step.specs.rounds.Rounds.{AreRun, GoQuietly, after_round, after_rounds, attempts_of, breaks_in}
+use Rattle.jb_step.specs.rounds.Rounds.{AreRun, GoQuietly, after_round, after_rounds, attempts_in, attempts_of, breaks_in}
 use Rattle.jb_step.specs.rounds.Runs.{AreOver, ArePlanRuns, IsOver, IsPlanRun, PlanRun, rounds_of, rounds_run, table_after}
 use Rattle.jb_step.specs.preparing.Setup.{Setup, counts_now, rows_now}
 use Rattle.jb_step.specs.inside.Below.{ChunkLaws, LawsBelow}
@@ -21,7 +21,7 @@ use Rattle.jb_step.proofs.Holding.{begins_with_table}
 use Rattle.jb_step.proofs.Leading.{alone_is_one_place, steps_end_alone}
 use Rattle.jb_step.proofs.Staying.{steady-rounds}
 use Rattle.jb_step.proofs.Steady.{IsSteadyTable, steady-table}
-use Rattle.jb_step.proofs.Turning.{ready-of}
+use Rattle.jb_step.proofs.SoFar.{ready-of}
 
 -- ONE PLAN
 
@@ -49,7 +49,7 @@ module _ (law : ChunkLaws) (s : Setup) (before : List TaskState) (table : IsStea
         next-block done set ((next ∷ later) ++ left) lawful behind quiet,
         subst (λ now. RunInOrder before now (next ∷ later)) moved
             (in-order (done ++ set ∷ []) (next ∷ later) left (subst (λ (sets : List (List Pair)). IsLawful (counts_now s before) s.threads sets) (sym (append_assoc done (set ∷ []) ((next ∷ later) ++ left))) lawful)
-            (run-more done set before behind quiet run.0) (breaks-more done set before quiet ∙ not-last run.1) (subst (λ now. AreRun (next ∷ later) now) (sym moved) run.2)),
+            (run-more done set before behind quiet run.0) (breaks-more done (set ∷ []) before quiet ∙ ap breaks_in (append-nil (attempts_in set (after_rounds done before))) ∙ not-last run.1) (subst (λ now. AreRun (next ∷ later) now) (sym moved) run.2)),
       )
 
   none-left : (plan : PlanRun) → IsPlanRun s before plan → plan.ran ≡ length plan.rounds → GoQuietly (rounds_run plan) before → NoneIsLeft s (after_rounds (rounds_run plan) before)

@@ -7,17 +7,24 @@ use Rattle.jb_base.specs.declared.class.ClassId.{ClassId}
 use Rattle.jb_collect.specs.declared.calls.AnalyzerCall.{AnalyzerCall}
 use Rattle.jb_collect.specs.Laws.{TakenOneAfterAnother, NoneAfterAFault}
 use Rattle.jb_collect.specs.Taken.{Taken, HasTaken, TakesCall, TakesCalls}
-use Rattle.jb_collect.proofs.Taking.{takes_one}
-use Rattle.jb_step.specs.inside.Telling.{Moment, IsCallbackAnswer, IsHeard, IsHearing, HearsMore, moment}
+use Rattle.jb_collect.proofs.Taking.{none_taken, takes_one}
+use Rattle.jb_step.specs.inside.Telling.{Moment, IsCallbackAnswer, IsHearing, HearsMore, moment}
+
+-- none, and more calls behind some
+pub hears-none : (fault : Option ClassId) (taken : List (Taken AnalyzerCall)) → IsHearing fault taken [] (moment taken fault)
+hears-none None taken = none_taken taken
+hears-none (Some class) taken = refl
 
 heard-by : TakenOneAfterAnother → NoneAfterAFault → (base taken : List (Taken AnalyzerCall)) (calls more : List AnalyzerCall) (fault : Option ClassId) (later : Moment)
-    → HasTaken base calls fault taken → IsHearing fault taken more later → IsHeard base (calls ++ more) later
+    → HasTaken base calls fault taken → IsHearing fault taken more later → HasTaken base (calls ++ more) later.fault later.calls
 heard-by one_after_another none_after base taken calls more None later heard next = one_after_another base taken later.calls calls more later.fault heard next
 heard-by one_after_another none_after base taken calls more (Some class) later heard next =
-    subst (λ (m : Moment). IsHeard base (calls ++ more) m) (sym next) (none_after base taken calls more class heard)
+    subst (λ (m : Moment). HasTaken base (calls ++ more) m.fault m.calls) (sym next) (none_after base taken calls more class heard)
 
-pub heard-more : TakenOneAfterAnother → NoneAfterAFault → (base : List (Taken AnalyzerCall)) (calls more : List AnalyzerCall) (m later : Moment) → IsHeard base calls m → HearsMore m more later → IsHeard base (calls ++ more) later
-heard-more one_after_another none_after base calls more m later heard next = heard-by one_after_another none_after base m.calls calls more m.fault later heard next
+pub hears-more : TakenOneAfterAnother → NoneAfterAFault → (before : Option ClassId) (base : List (Taken AnalyzerCall)) (calls more : List AnalyzerCall) (m later : Moment)
+    → IsHearing before base calls m → HearsMore m more later → IsHearing before base (calls ++ more) later
+hears-more one_after_another none_after None base calls more m later heard next = heard-by one_after_another none_after base m.calls calls more m.fault later heard next
+hears-more one_after_another none_after (Some class) base calls more m later heard next = subst (λ (n : Moment). HearsMore n more later) heard next
 
 -- what was answered to calls, and to one
 pub heard-answer : (before after : List (Taken AnalyzerCall)) (calls : List AnalyzerCall) (answer : Result (Unit {0}) ArtifactError) (fault : Option ClassId) → TakesCalls before calls answer after → IsCallbackAnswer answer fault → HasTaken before calls fault after

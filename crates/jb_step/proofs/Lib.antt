@@ -3,7 +3,6 @@ mod Apart
 mod Beginning
 mod Computed
 mod Filters
-mod Finishing
 mod ChunkNumbers
 mod ChunksInOrder
 mod Growing
@@ -23,11 +22,11 @@ mod CallsInPart
 mod Restarting
 mod Rounding
 mod SingleSlot
+mod SoFar
 mod Splitting
 mod Starting
 mod Staying
 mod Steady
 mod Stepping
 mod Telling
-mod Turning
 mod Whole

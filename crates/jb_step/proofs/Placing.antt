@@ -1,5 +1,5 @@
 -- Tasks that are taken out of their places for a round, and put back.
-use Rattle.std.proofs.Common.{◌≡◌, ℕ, suc, zero, ◌+◌, ◌<◌, Bool, true, false, cond, ◌||◌, List, [], ◌∷◌, ◌++◌, length, map, Option, Some, None, refl, ap, ap₂, sym, ◌∙◌, subst, arith, zero-add, eq-eqb}
+use Rattle.std.proofs.Common.{◌≡◌, ℕ, suc, zero, ◌+◌, ◌<◌, Bool, true, false, cond, ◌||◌, List, [], ◌∷◌, ◌++◌, length, map, Option, Some, None, refl, ap, ap₂, sym, ◌∙◌, subst, arith, zero-add, eq-eqb, append-nil}
 use Rattle.std.specs.Prelude.{slice_index_or, slice_set, option_map}
 use Rattle.std.specs.List.{cons_option, AllByRecursion}
 use Rattle.std.specs.Option.{IfSome}
@@ -18,7 +18,7 @@ use Rattle.jb_collect.specs.Heard.{endings_of}
 use Rattle.jb_rules.specs.declared.row.Row.{Row}
 use Rattle.jb_workers.specs.Works.{IsAttemptOf}
 use Rattle.jb_step.specs.Alone.{AreReady}
-use Rattle.jb_step.specs.rounds.Rounds.{after_round, attempts_in, has_partition, tasks_in}
+use Rattle.jb_step.specs.rounds.Rounds.{after_round, attempts_in, attempts_of, has_partition, tasks_in}
 use Rattle.jb_step.specs.preparing.Setup.{row_now}
 use Rattle.jb_step.specs.inside.Places.{AreAtPlaces, ArePlaced, emptied, filled, held_in, picked}
 use Rattle.jb_step.specs.inside.Round.{AreDonesOf, AreWhole, had_memory}
@@ -242,13 +242,13 @@ pub record IsPutBack {T : Type 0} (standing : T → TaskState) (set : List Pair)
   pub table_is : table standing after ≡ after_round set (table standing before)
   pub placed : ArePlaced standing 0 after
   pub ready : AreReady (table standing before) → AreReady (table standing after)
-  pub ends : endings_of standing ds ≡ attempts_in set (table standing before)
-  pub number : length ds ≡ length (attempts_in set (table standing before))
+  pub ends : endings_of standing ds ≡ attempts_of (set ∷ []) (table standing before)
+  pub number : length ds ≡ length (attempts_of (set ∷ []) (table standing before))
 
 pub put-back : {T : Type 0} (standing : T → TaskState) (set : List Pair) (os : List (Option T)) (ds : List (Done T)) → RiseFrom 0 (firsts set) → ArePlaced standing 0 os
     → AreDonesOf standing (picked set os) ds → AreWhole ds → IsPutBack standing set os ds (filled standing ds (emptied set os))
 put-back standing set os ds rise placed h m =
-    let ends = endings-are standing (picked set os) ds h m ∙ ap (map attempt_of) (taken-are standing 0 set os rise placed) in
+    let ends = endings-are standing (picked set os) ds h m ∙ ap (map attempt_of) (taken-are standing 0 set os rise placed) ∙ sym (append-nil (attempts_in set (table standing os))) in
     record {
       table_is = left-are standing 0 set rise os ds placed h m;
       placed = at-filled standing _ ds (emptied set os) (own-places standing ds) (at-emptied standing _ set os placed);

@@ -38,7 +38,7 @@ use Rattle.jb_step.proofs.Leftover.{kept}
 use Rattle.jb_step.proofs.Lookup.{IsIn, are-in, first-now, first_of, length-now, none-now, own-row, row-at, row-is, artifacts-is}
 use Rattle.jb_step.proofs.Numbers.{head-of, tail-of}
 use Rattle.jb_step.proofs.Starting.{IsRowAt, listed}
-use Rattle.jb_step.proofs.Turning.{ready-of}
+use Rattle.jb_step.proofs.SoFar.{ready-of}
 
 -- WHAT ONE RUN GIVES
 

@@ -14,14 +14,17 @@ use Rattle.jb_step.proofs.Placing.{IsPutBack, table}
 
 -- the Dones of the set's tasks were put back, counted, judged and told
 pub round-is : {T : Type 0} (standing : T → TaskState) (set : List Pair) (before after : List (Option T)) (ds : List (Done T)) → IsPutBack standing set before ds after
-    → (m n : Moment) (ran more : ℕ × ℕ) (notes : List PlanNote) (broke : Bool) → AreReady (table standing before) → broke ≡ breaks_in (endings_of standing ds)
-    → HearsMore m (heard_in (endings_of standing ds)) n → more.0 ≡ ran.0 + 1 → more.1 ≡ ran.1 + length ds
-    → IsRound set broke (record { moment = m; table = table standing before; ran = ran; notes = notes }) (record { moment = n; table = table standing after; ran = more; notes = notes })
-round-is standing set before after ds back m n ran more notes broke ready broke_is heard rounds attempts = record {
-  table_is = back.table_is;
+    → (m n : Moment) (rounds more tried again : ℕ) (notes : List PlanNote) (broke : Bool) → AreReady (table standing before) → broke ≡ breaks_in (endings_of standing ds)
+    → HearsMore m (heard_in (endings_of standing ds)) n → more ≡ rounds + 1 → again ≡ tried + length ds
+    → IsRound set broke (record { moment = m; table = table standing before; rounds = rounds; attempts = tried; notes = notes }) (record { moment = n; table = table standing after; rounds = more; attempts = again; notes = notes })
+round-is standing set before after ds back m n rounds more tried again notes broke ready broke_is heard one all = record {
+  left = record {
+    table_is = back.table_is;
+    rounds_are = one;
+    attempts_are = all ∙ ap (λ k. tried + k) back.number;
+    heard_is = subst (λ (es : List AttemptEnd). HearsMore m (heard_in es) n) back.ends heard;
+  };
   ready = back.ready ready;
-  ran_is = λ i. (rounds i, (attempts ∙ ap (λ k. ran.1 + k) back.number) i);
   broke_is = broke_is ∙ ap breaks_in back.ends;
-  heard_is = subst (λ (es : List AttemptEnd). HearsMore m (heard_in es) n) back.ends heard;
   notes_are = refl;
 }

@@ -1,5 +1,5 @@
 -- From the rounds of a step to its end.
-use Rattle.std.proofs.Common.{◌≡◌, ℕ, ◌+◌, ◌*◌, Bool, true, false, ◌||◌, Option, Some, None, List, [], ◌∷◌, length, map, ap, sym, ◌∙◌, subst, arith}
+use Rattle.std.proofs.Common.{◌≡◌, ℕ, ◌+◌, ◌*◌, Bool, true, false, ◌||◌, Option, Some, None, List, [], ◌∷◌, ◌++◌, length, ap, sym, ◌∙◌, subst, arith, zero-add}
 use Rattle.std.specs.Prelude.{MatchOption, if◌then◌else◌, is_some}
 use Rattle.std.proofs.lemmas.List.{length-map}
 use Rattle.jb_base.specs.declared.class.ClassId.{ClassId}
@@ -9,17 +9,20 @@ use Rattle.jb_collect.specs.declared.calls.Status.{Status}
 use Rattle.jb_collect.specs.declared.calls.Status.TheVariants.{Failed}
 use Rattle.jb_collect.specs.declared.calls.AnalyzerCall.{AnalyzerCall}
 use Rattle.jb_collect.specs.Taken.{Taken, AreTaken, HasTaken, since}
-use Rattle.jb_cert.specs.declared.notes.PlanNote.{PlanNote}
+use Rattle.jb_collect.specs.Heard.{heard_first, heard_in, heard_last}
 use Rattle.jb_step.specs.Answers.{IsRunOfStep, IsUnstopped, StepRun, artifacts_of, tasks_after, tasks_before}
 use Rattle.jb_step.specs.callbacks.Heard.{heard}
 use Rattle.jb_step.specs.callbacks.Callbacks.{has_fault}
-use Rattle.jb_step.specs.rounds.Runs.{PlanRun, note_of, table_after}
+use Rattle.jb_step.specs.rounds.Runs.{PlanRun, all_attempts, note_of, rounds_of, table_after}
 use Rattle.jb_step.specs.preparing.Setup.{rows_now}
 use Rattle.jb_step.specs.Statuses.{status_of}
 use Rattle.jb_step.specs.Alone.{AreOnTheWay, have_ended}
-use Rattle.jb_step.specs.inside.Finish.{AreHeardToEnd}
-use Rattle.jb_step.specs.inside.Round.{partitions_of}
-use Rattle.jb_step.specs.inside.Telling.{moment}
+use Rattle.jb_step.specs.rounds.PlanLaws.{IsTaskTable}
+use Rattle.jb_step.specs.inside.Below.{LawsBelow}
+use Rattle.jb_step.specs.inside.Round.{AreLeft, Progress, partitions_of}
+use Rattle.jb_step.specs.inside.SoFar.{AreWithin, IsRunSoFar, at_first}
+use Rattle.jb_step.specs.inside.Telling.{HearsMore, Moment, moment}
+use Rattle.jb_step.proofs.Hearing.{hears-more}
 use Rattle.jb_step.proofs.Leftover.{left-again}
 use Rattle.jb_step.proofs.Leading.{steps_are_on_the_way}
 
@@ -47,69 +50,83 @@ status-later rows false false status ended was is = is ∙ was
 
 -- THE RUN
 
--- what the rounds of a step left, and what was compared then
+-- what the rounds of a step left, what was told before and behind them, and what was compared then
 pub record IsLeft (r : StepRun) (fault : Option ClassId) : Type 0 where
-  pub table : List TaskState
-  pub ran : ℕ × ℕ
+  pub first : Moment
+  pub now : Progress
   pub stopped : Bool
-  pub told :
-      AreHeardToEnd (record { setup = r.setup; start = tasks_before r; base = r.heard_before }) r.round_limit
-      (record { moment = moment r.heard_after fault; table = table; ran = ran; notes = r.notes }) stopped
-  pub rows : r.snapshot.rows.items ≡ rows_now r.setup.rows table
-  pub left_is : r.left ≡ artifacts_of table
-  pub agree : r.snapshot.stopping ≡ false → (stopped ≡ false) × (r.snapshot.plans ≡ length r.notes) × (r.snapshot.events ≡ length r.notes + ran.0 + 2 * ran.1)
+  pub begun : HasTaken r.heard_before (heard_first r.setup.begun_anew r.setup.rows) first.fault first.calls
+  pub run : IsRunSoFar r.setup r.round_limit stopped (at_first first (tasks_before r)) now
+  pub ended : stopped ≡ false → have_ended now.table ≡ true
+  pub table : IsTaskTable r.setup now.table
+  pub told : HearsMore now.moment (heard_last now.table) (moment r.heard_after fault)
+  pub notes_are : r.notes ≡ now.notes
+  pub rows : r.snapshot.rows.items ≡ rows_now r.setup.rows now.table
+  pub left_is : r.left ≡ artifacts_of now.table
+  pub agree : r.snapshot.stopping ≡ false → (stopped ≡ false) × (r.snapshot.plans ≡ length r.notes) × (r.snapshot.events ≡ length r.notes + now.rounds + 2 * now.attempts)
 
-number-of : (notes : List PlanNote) (plans : List PlanRun) → notes ≡ map note_of plans → length notes ≡ length plans
-number-of notes plans is = ap length is ∙ length-map plans note_of
+module _ (below : LawsBelow) (r : StepRun) (fault : Option ClassId) (h : IsLeft r fault) where
+  abbrev start : List TaskState
+  start = tasks_before r
 
-module _ (r : StepRun) (fault : Option ClassId) (h : IsLeft r fault) where
+  abbrev plans : List PlanRun
+  plans = h.run.plans
+
   abbrev ends : List TaskState
-  ends = table_after h.told.rounds.plans (tasks_before r)
+  ends = table_after plans start
+
+  abbrev left : AreLeft (rounds_of plans) (at_first h.first start) h.now
+  left = h.run.left
 
   are : r.snapshot.rows.items ≡ rows_now r.setup.rows ends
-  are = h.rows ∙ ap (rows_now r.setup.rows) h.told.rounds.left.table_is
+  are = h.rows ∙ ap (rows_now r.setup.rows) left.table_is
 
   came-back : r.left ≡ artifacts_of ends
-  came-back = h.left_is ∙ ap artifacts_of h.told.rounds.left.table_is
+  came-back = h.left_is ∙ ap artifacts_of left.table_is
 
-  on-the-way : AreOnTheWay (tasks_before r) ends
-  on-the-way = steps_are_on_the_way r.setup (tasks_before r) h.told.rounds.plans h.told.rounds.run
+  on-the-way : AreOnTheWay start ends
+  on-the-way = steps_are_on_the_way r.setup start plans h.run.run
 
   again : tasks_after r ≡ ends
-  again =
-      left-again r.setup.rows r.snapshot.rows.items r.left (tasks_before r) ends on-the-way
-      (ap partitions_of (sym h.told.rounds.left.table_is) ∙ h.told.rounds.left.holds.partitions) are came-back
+  again = left-again r.setup.rows r.snapshot.rows.items r.left start ends on-the-way (ap partitions_of (sym left.table_is) ∙ h.table.partitions) are came-back
 
-  unstopped : r.snapshot.stopping ≡ false → IsUnstopped (tasks_before r) h.told.rounds.plans r.snapshot
+  heard-all : HasTaken r.heard_before (heard r.setup start plans) fault r.heard_after
+  heard-all =
+      let first = heard_first r.setup.begun_anew r.setup.rows in
+      let told = heard_in (all_attempts plans start) in
+      subst (λ ts. HasTaken r.heard_before ((first ++ told) ++ heard_last ts) fault r.heard_after) left.table_is
+      (hears-more below.more below.no_more None r.heard_before (first ++ told) (heard_last h.now.table) h.now.moment (moment r.heard_after fault)
+      (hears-more below.more below.no_more None r.heard_before first told h.first h.now.moment h.begun left.heard_is) h.told)
+
+  unstopped : r.snapshot.stopping ≡ false → IsUnstopped start plans r.snapshot
   unstopped going =
       let agree = h.agree going in
-      let ended = h.told.rounds.unstopped agree.0 in
-      let number = number-of r.notes h.told.rounds.plans h.told.rounds.notes_are in
-      let ran = ap (λ (n : ℕ × ℕ). n.0) h.told.rounds.left.ran_is in
-      let tried = ap (λ (n : ℕ × ℕ). n.1) h.told.rounds.left.ran_is in
+      let number = ap length (h.notes_are ∙ h.run.notes_are) ∙ length-map plans note_of in
+      let ran = left.rounds_are in
+      let tried = left.attempts_are in
       let events = agree.2 in
       record {
-        ended = subst (λ (ts : List TaskState). have_ended ts ≡ true) h.told.rounds.left.table_is ended.0;
-        over = ended.1;
+        ended = subst (λ (ts : List TaskState). have_ended ts ≡ true) left.table_is (h.ended agree.0);
+        over = h.run.over agree.0;
         plans_number = agree.1 ∙ number;
         events_number = omega (arith, events, number, ran, tried);
       }
 
   pub run-is : IsRunOfStep r
   run-is = record {
-    plans = h.told.rounds.plans;
-    run = h.told.rounds.run;
-    notes_are = h.told.rounds.notes_are;
-    few = h.told.rounds.few;
+    plans = plans;
+    run = h.run.run;
+    notes_are = h.notes_are ∙ h.run.notes_are;
+    few = subst (λ n. AreWithin r.round_limit n) (left.rounds_are ∙ zero-add (length (rounds_of plans))) h.run.few;
     rows = are;
     tasks = again;
     came_back = came-back;
-    heard_is = (fault, h.told.heard_is);
+    heard_is = (fault, heard-all);
     unstopped = unstopped;
   }
 
-  pub way-is : AreOnTheWay (tasks_before r) (tasks_after r)
-  way-is = subst (λ (ts : List TaskState). AreOnTheWay (tasks_before r) ts) (sym again) on-the-way
+  pub way-is : AreOnTheWay start (tasks_after r)
+  way-is = subst (λ (ts : List TaskState). AreOnTheWay start ts) (sym again) on-the-way
 
   pub heard-fault : is_some fault ≡ has_fault (since r.heard_before r.heard_after)
-  heard-fault = fault-since r.heard_before r.heard_after (heard r.setup (tasks_before r) h.told.rounds.plans) fault h.told.heard_is
+  heard-fault = fault-since r.heard_before r.heard_after (heard r.setup start plans) fault heard-all

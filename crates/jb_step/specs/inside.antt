@@ -1,10 +1,9 @@
 pub mod Below
-pub mod Finish
 pub mod Fresh
-pub mod Head
 pub mod Places
 pub mod Preparing
 pub mod Reducing
 pub mod Round
+pub mod SoFar
 pub mod Starting
 pub mod Telling

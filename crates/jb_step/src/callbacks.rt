@@ -1,7 +1,7 @@
 //! What is told of a step.
 //!
 //! - `tell`: what the analyzer is told of each round; `reduce`: what the reducer is told of the step, and how it stands.
-//! - `finish`: what is told and compared at the end.
+//! - `finish`: the rows at the end, compared with the repository's.
 
 pub(crate) mod finish;
 pub(crate) mod reduce;

@@ -1,6 +1,6 @@
 //! The rounds of a step.
 //!
-//! - `run`: all of them; `plan`: the plan whose rounds are run; `round`: one of them; `runner`: the desk that runs them.
+//! - `run`: all of them; `plan`: those of one plan; `round`: one of them; `runner`: the desk that runs them.
 //! - `ran`: what they have left so far, the tasks in a table with a place for each partition.
 
 pub(crate) mod plan;

@@ -11,13 +11,15 @@ ghost use Rattle.jb_step.specs.preparing.Setup.{first_tasks};
 ghost use Rattle.jb_step.specs.Statuses.{status_of};
 ghost use Rattle.jb_saved.specs.declared.error.StepError.TheVariants.{WrongArtifacts, Memory};
 
-use crate::callbacks::finish::{rows_shown, run_to_end};
+use crate::callbacks::finish::rows_shown;
 use crate::callbacks::reduce::{end_step, status_now, undone};
+use crate::callbacks::tell::{tell_first, tell_last};
 use crate::error::RunError;
 use crate::laws::laws_below;
 use crate::preparing::prepared::Prepared;
 use crate::preparing::start::start_all;
 use crate::rounds::ran::Ran;
+use crate::rounds::run::run_rounds;
 use crate::rounds::runner::{RoundRunner, StepGate, StepLedger, StepTask, StepThreads};
 use jb_artifacts::Meaning;
 use jb_cert::PlanNote;
@@ -138,7 +140,18 @@ fn run_tasks<T: StepTask, L: StepLedger, G: StepGate, R: StepThreads>(
     laws_below();
     is_new::<T, L, G, R>(runner, alloc, prepared)?;
     let tasks = start_all::<T>(alloc, prepared, artifacts)?;
-    let ran = run_to_end(runner, pool, alloc, prepared, tasks, analyzer, round_limit)?;
+    let fault = tell_first(prepared, analyzer)?;
+    let mut ran = run_rounds(
+        runner,
+        pool,
+        alloc,
+        prepared,
+        tasks,
+        fault,
+        analyzer,
+        round_limit,
+    )?;
+    ran.fault = tell_last(ran.held.as_slice(), ran.fault, analyzer)?;
     let snapshot = rows_shown(runner, prepared, ran.held.as_slice())?;
     if !are_numbers(&snapshot, &ran) {
         return Err(RunError::Desk);

@@ -1,5 +1,5 @@
 -- One round over the tasks that a step holds, by the numbers of their partitions. No lane is named.
-use Rattle.std.specs.Prelude.{ℕ, ◌+◌, ◌≡◌, Bool, true, false, List, length, map}
+use Rattle.std.specs.Prelude.{ℕ, ◌+◌, ◌≡◌, Bool, true, false, List, [], ◌∷◌, length, map}
 use Rattle.std.specs.List.{AllByRecursion}
 use Rattle.jb_base.specs.Pairwise.{Pairwise}
 use Rattle.jb_cert.specs.Lawful.{Pair}
@@ -12,7 +12,7 @@ use Rattle.jb_collect.specs.declared.calls.AnalyzerCall.{AnalyzerCall}
 use Rattle.jb_collect.specs.Taken.{Taken}
 use Rattle.jb_cert.specs.declared.notes.PlanNote.{PlanNote}
 use Rattle.jb_step.specs.Alone.{AreReady}
-use Rattle.jb_step.specs.rounds.Rounds.{after_round, attempts_in, breaks}
+use Rattle.jb_step.specs.rounds.Rounds.{after_rounds, attempts_of, breaks_in}
 use Rattle.jb_step.specs.declared.rounds.ran.Ran.{Ran}
 use Rattle.jb_step.specs.inside.Places.{held_in}
 use Rattle.jb_step.specs.inside.Telling.{HearsMore, Moment, moment}
@@ -38,15 +38,12 @@ had_memory _ = true
 abbrev pub AreWhole : {T : Type 0} → List (Done T) → Type 0
 AreWhole = AllByRecursion (λ d. had_memory d.outcome ≡ true)
 
--- what is heard of a round, by rising partition
-abbrev pub heard_in_round : List Pair → List TaskState → List AnalyzerCall
-heard_in_round set ts = heard_in (attempts_in set ts)
-
--- how far a step is: what the analyzer took, its tasks, the numbers of rounds and of attempts that were made, and its notes
+-- how far a step is: what the analyzer took, its tasks, how many rounds and attempts were made, and its notes
 pub record Progress : Type 0 where
   pub moment : Moment
   pub table : List TaskState
-  pub ran : ℕ × ℕ
+  pub rounds : ℕ
+  pub attempts : ℕ
   pub notes : List PlanNote
 
 -- the tasks that are held, in a table
@@ -54,24 +51,20 @@ abbrev pub table_of : {T : Type 0} → (T → TaskState) → Ran T → List Task
 table_of standing ran = map standing (held_in ran.held.items)
 
 abbrev pub progress : {T : Type 0} → (T → TaskState) → List (Taken AnalyzerCall) → Ran T → Progress
-progress standing calls ran = record { moment = moment calls ran.fault; table = table_of standing ran; ran = (ran.rounds, ran.attempts); notes = ran.notes.items }
+progress standing calls ran = record { moment = moment calls ran.fault; table = table_of standing ran; rounds = ran.rounds; attempts = ran.attempts; notes = ran.notes.items }
 
--- the numbers of rounds and attempts, after one more round
-abbrev pub one_round_more : ℕ × ℕ → List Pair → List TaskState → ℕ × ℕ
-one_round_more ran set ts = (ran.0 + 1, ran.1 + length (attempts_in set ts))
+-- what rounds left, that were run one after another: the tasks, the numbers of rounds and attempts, and what the analyzer was
+-- told of each attempt, unless it had answered a fault before
+pub record AreLeft (rounds : List (List Pair)) (now later : Progress) : Type 0 where
+  pub table_is : later.table ≡ after_rounds rounds now.table
+  pub rounds_are : later.rounds ≡ now.rounds + length rounds
+  pub attempts_are : later.attempts ≡ now.attempts + length (attempts_of rounds now.table)
+  pub heard_is : HearsMore now.moment (heard_in (attempts_of rounds now.table)) later.moment
 
--- one round: an attempt for each task of the set's partitions, and for no other, and the analyzer was told; whether some
--- partition was rolled back or failed
+-- one round: an attempt for each task of the set's partitions, and for no other; the tasks are ready for the next one; some
+-- partition was rolled back or failed, or none; and no plan was noted
 pub record IsRound (set : List Pair) (broke : Bool) (now later : Progress) : Type 0 where
-  -- the tasks that it left stand where one attempt leads each of the set's, and the others as before;
-  pub table_is : later.table ≡ after_round set now.table
-  -- and they are ready for the next round;
+  pub left : AreLeft (set ∷ []) now later
   pub ready : AreReady later.table
-  -- the round is counted, and so are its attempts;
-  pub ran_is : later.ran ≡ one_round_more now.ran set now.table
-  -- some attempt is no commit, or none is;
-  pub broke_is : broke ≡ breaks set now.table
-  -- the analyzer was told of each attempt, unless it had answered a fault before;
-  pub heard_is : HearsMore now.moment (heard_in_round set now.table) later.moment
-  -- no plan was noted
+  pub broke_is : broke ≡ breaks_in (attempts_of (set ∷ []) now.table)
   pub notes_are : later.notes ≡ now.notes

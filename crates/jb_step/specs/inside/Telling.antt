@@ -24,10 +24,6 @@ IsCallbackAnswer (Ok done) fault = fault ≡ None
 IsCallbackAnswer (Err (Fault class)) fault = fault ≡ Some class
 IsCallbackAnswer (Err Memory) fault = ⊥
 
--- it took these calls since `base`, up to its first fault
-abbrev pub IsHeard : (base : List (Taken AnalyzerCall)) → List AnalyzerCall → Moment → Type 0
-IsHeard base calls m = HasTaken base calls m.fault m.calls
-
 -- more calls: it took these, unless it had answered a fault
 abbrev pub IsHearing : (before : Option ClassId) → List (Taken AnalyzerCall) → List AnalyzerCall → Moment → Type 0
 IsHearing None taken calls later = HasTaken taken calls later.fault later.calls

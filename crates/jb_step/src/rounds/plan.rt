@@ -1,29 +1,27 @@
-//! The plan whose rounds are run.
+//! A plan for what is left, and its rounds.
 
-ghost use Rattle.std.specs.Prelude.{◌≡◌, ◌+◌, ◌++◌, ◌∷◌, ◌≤◌, [], None, IfOk, OnOk, map};
-ghost use Rattle.jb_cert.specs.Load.{mcnaughton};
+ghost use Rattle.std.specs.Prelude.{◌≡◌, ◌+◌, ◌++◌, ◌∷◌, [], false, IfOk, OnOk, map};
+ghost use Rattle.jb_collect.specs.Taken.{Grew};
 ghost use Rattle.jb_step.specs.rounds.PlanLaws.{IsTaskTable};
+ghost use Rattle.jb_step.specs.rounds.Runs.{note_of};
 ghost use Rattle.jb_step.specs.preparing.Setup.{row_now, counts_now};
-ghost use Rattle.jb_step.specs.inside.Head.{IsNextPlan, IsAfterRound, note_at};
+ghost use Rattle.jb_step.specs.inside.SoFar.{AreWithin, IsPlanFor, IsRunSoFar, plan_of};
+ghost use Rattle.jb_step.specs.inside.Round.{progress, table_of};
 ghost use Rattle.jb_step.specs.inside.Places.{ArePlaced, held_in};
 
 use crate::error::RunError;
+use crate::laws::laws_below;
 use crate::preparing::prepared::Prepared;
+use crate::rounds::ran::Ran;
+use crate::rounds::round::next_round;
 use crate::rounds::runner::{RoundRunner, StepGate, StepLedger, StepTask, StepThreads};
 use jb_cert::{PlanNote, fits};
 use jb_chunk::PartitionTask;
+use jb_collect::Analyzer;
 use jb_rounds::RoundCursor;
 use jb_rules::Row;
+use jb_workers::Pool;
 use std::alloc::Global;
-
-/// A plan that is being run.
-#[derive(Drop)]
-pub(crate) struct Open {
-    /// Its rounds.
-    pub cursor: RoundCursor,
-    /// How many of them were run.
-    pub ran: u64,
-}
 
 /// The row of a partition now: its task's, or `row` where none is held.
 pub(crate) fn row_of<'a, T: PartitionTask>(
@@ -69,10 +67,10 @@ fn new_plan<T: StepTask, L: StepLedger, G: StepGate, R: StepThreads>(
     alloc: Global,
     prepared: &Prepared,
     held: &[Option<T>],
-) -> Result<Open, RunError>
+) -> Result<RoundCursor, RunError>
     requires table { IsTaskTable prepared.now (map T.standing (held_in held.now)) }
     requires placed { ArePlaced T.standing 0 held.now }
-    ensures { IfOk result (λ plan. IsNextPlan prepared.now (map T.standing (held_in held.now)) None plan) }
+    ensures { IfOk result (λ cursor. IsPlanFor prepared.now (map T.standing (held_in held.now)) (plan_of cursor 0)) }
 {
     let counts = counts_of(alloc, prepared, held)?;
     let threads = prepared.threads();
@@ -85,55 +83,12 @@ fn new_plan<T: StepTask, L: StepLedger, G: StepGate, R: StepThreads>(
         return Err(RunError::Row(0));
     }
     runner.plan(rounds, cursor.certificate())?;
-    Ok(Open { cursor, ran: 0 })
+    Ok(cursor)
 }
 
-/// The open plan, or a new one for what is left.
-pub(crate) fn next_plan<T: StepTask, L: StepLedger, G: StepGate, R: StepThreads>(
-    runner: &RoundRunner<L, G, R>,
-    alloc: Global,
-    prepared: &Prepared,
-    held: &[Option<T>],
-    plan: Option<Open>,
-) -> Result<Open, RunError>
-    requires table { IsTaskTable prepared.now (map T.standing (held_in held.now)) }
-    requires placed { ArePlaced T.standing 0 held.now }
-    ensures { IfOk result (λ next. IsNextPlan prepared.now (map T.standing (held_in held.now)) plan next) }
-{
-    match plan {
-        Some(plan) => Ok(plan),
-        None => new_plan(runner, alloc, prepared, held),
-    }
-}
-
-/// The plan after its next round, if it goes on; else its note is taken.
-pub(crate) fn closed(
-    plan: Open,
-    breaks: bool,
-    notes: &mut Vec<PlanNote>,
-) -> Result<Option<Open>, RunError>
-    requires { plan.ran + 1 ≤ mcnaughton plan.cursor.counts plan.cursor.threads }
-    ensures { IfOk result (λ after. IsAfterRound plan breaks notes.old.items after notes.new.items) }
-{
-    let rounds = plan.cursor.rounds();
-    let ran = plan.ran + 1;
-    if breaks || ran == rounds {
-        take_note(&plan.cursor, ran, notes)?;
-        return Ok(None);
-    }
-    Ok(Some(Open {
-        cursor: plan.cursor,
-        ran,
-    }))
-}
-
-/// Notes a plan of which so many rounds were run.
-pub(crate) fn take_note(
-    cursor: &RoundCursor,
-    ran: u64,
-    notes: &mut Vec<PlanNote>,
-) -> Result<(), RunError>
-    ensures { OnOk result (notes.new.items ≡ notes.old.items ++ note_at cursor.now ran ∷ []) }
+// Notes a plan of which so many rounds were run.
+fn take_note(cursor: &RoundCursor, ran: u64, notes: &mut Vec<PlanNote>) -> Result<(), RunError>
+    ensures { OnOk result (notes.new.items ≡ notes.old.items ++ note_of (plan_of cursor.now ran) ∷ []) }
 {
     let note = PlanNote {
         certificate: cursor.certificate(),
@@ -142,4 +97,58 @@ pub(crate) fn take_note(
     };
     notes.push(note)?;
     Ok(())
+}
+
+// True where no round more may be run: a stop was asked for, or the limit is reached.
+fn is_cut<L: StepLedger, G: StepGate, R: StepThreads>(
+    runner: &RoundRunner<L, G, R>,
+    round_limit: Option<u64>,
+    rounds: u64,
+) -> bool
+    ensures { result ≡ false → AreWithin round_limit (rounds + 1) }
+{
+    if runner.is_stopping() {
+        return true;
+    }
+    match round_limit {
+        Some(limit) => limit <= rounds,
+        None => false,
+    }
+}
+
+/// Runs a least plan for what is left, round after round, until one has a rollback or a failure, or all were run; or until a
+/// stop, or the limit. Answers whether the step stops.
+pub(crate) fn run_plan<T: StepTask, L: StepLedger, G: StepGate, R: StepThreads>(
+    runner: &RoundRunner<L, G, R>,
+    pool: &mut Pool<T, L>,
+    alloc: Global,
+    prepared: &Prepared,
+    ran: &mut Ran<T>,
+    analyzer: &mut dyn Analyzer,
+    round_limit: Option<u64>,
+) -> Result<bool, RunError>
+    requires table { IsTaskTable prepared.now (table_of T.standing ran.old) }
+    requires placed { ArePlaced T.standing 0 ran.old.held.items }
+    requires few { AreWithin round_limit ran.old.rounds }
+    ensures run { IfOk result (λ stopped. IsRunSoFar prepared.now round_limit stopped (progress T.standing (analyzed analyzer.old) ran.old) (progress T.standing (analyzed analyzer.new) ran.new)) }
+    ensures table { OnOk result (IsTaskTable prepared.now (table_of T.standing ran.new)) }
+    ensures placed { OnOk result (ArePlaced T.standing 0 ran.new.held.items) }
+    ensures grew { Grew (analyzed analyzer.old) (analyzed analyzer.new) }
+{
+    laws_below();
+    if is_cut(runner, round_limit, ran.rounds) {
+        return Ok(true);
+    }
+    let plan = new_plan(runner, alloc, prepared, ran.held.as_slice())?;
+    let cursor = &plan;
+    let rounds = cursor.rounds();
+    for round in 0..rounds {
+        let broke = next_round(runner, pool, alloc, ran, cursor, round, analyzer)?;
+        let over = broke || round + 1 == rounds;
+        if over || is_cut(runner, round_limit, ran.rounds) {
+            take_note(cursor, round + 1, &mut ran.notes)?;
+            return Ok(!over);
+        }
+    }
+    unreachable!()
 }

@@ -8,7 +8,7 @@ ghost use Rattle.jb_cert.specs.Rising.{Rise};
 ghost use Rattle.jb_step.specs.rounds.Rounds.{CanRun, breaks_in, is_commit};
 ghost use Rattle.jb_collect.specs.Heard.{endings_of};
 ghost use Rattle.jb_collect.specs.Taken.{Grew};
-ghost use Rattle.jb_step.specs.inside.Head.{set_of_round};
+ghost use Rattle.jb_step.specs.inside.SoFar.{set_of_round};
 ghost use Rattle.jb_step.specs.inside.Places.{ArePlaced, emptied, filled, held_in, picked};
 ghost use Rattle.jb_step.specs.inside.Round.{IsRound, partitions_of, progress, table_of, tasks_of};
 ghost use Rattle.jb_step.specs.Alone.{AreReady};
@@ -18,7 +18,6 @@ mod single;
 
 use crate::callbacks::tell::tell_round;
 use crate::error::RunError;
-use crate::rounds::plan::Open;
 use crate::rounds::ran::Ran;
 use crate::rounds::round::single::round_of_one;
 use crate::rounds::runner::{RoundRunner, StepGate, StepLedger, StepTask, StepThreads};
@@ -187,20 +186,21 @@ pub(crate) fn next_round<T: StepTask, L: StepLedger, G: StepGate, R: StepThreads
     pool: &mut Pool<T, L>,
     alloc: Global,
     ran: &mut Ran<T>,
-    plan: &Open,
+    cursor: &RoundCursor,
+    round: u64,
     analyzer: &mut dyn Analyzer,
 ) -> Result<bool, RunError>
     requires placed { ArePlaced T.standing 0 ran.old.held.items }
     requires rise { Rise (partitions_of (table_of T.standing ran.old)) }
     requires ready { AreReady (table_of T.standing ran.old) }
-    requires can_run { CanRun (set_of_round plan.now.cursor plan.now.ran) (table_of T.standing ran.old) }
-    ensures round { IfOk result (λ broke. IsRound (set_of_round plan.now.cursor plan.now.ran) broke (progress T.standing (analyzed analyzer.old) ran.old) (progress T.standing (analyzed analyzer.new) ran.new)) }
+    requires can_run { CanRun (set_of_round cursor.now round) (table_of T.standing ran.old) }
+    ensures round { IfOk result (λ broke. IsRound (set_of_round cursor.now round) broke (progress T.standing (analyzed analyzer.old) ran.old) (progress T.standing (analyzed analyzer.new) ran.new)) }
     ensures placed { OnOk result (ArePlaced T.standing 0 ran.new.held.items) }
     ensures grew { Grew (analyzed analyzer.old) (analyzed analyzer.new) }
 {
-    if let Some(slot) = plan.cursor.only_slot(plan.ran, ran.near) {
+    if let Some(slot) = cursor.only_slot(round, ran.near) {
         return round_of_one(runner, alloc, ran, slot, analyzer);
     }
-    let slots = slots_of(alloc, &plan.cursor, plan.ran)?;
+    let slots = slots_of(alloc, cursor, round)?;
     one_round(runner, pool, alloc, ran, slots.as_slice(), analyzer)
 }

@@ -1,68 +1,59 @@
-use Rattle.std.proofs.Common.{◌≡◌, rules, List, arith, not, sym, ap, ◌∙◌}
-use Rattle.std.proofs.lemmas.Bool.{not-false}
-use Rattle.jb_cert.specs.Lawful.{Pair}
-use Rattle.jb_chunk.specs.Standing.{TaskState}
-use Rattle.jb_step.specs.Alone.{have_ended}
-use Rattle.jb_step.specs.inside.Head.{set_of_round, IsNextPlan, IsFinished, beginning}
-use Rattle.jb_step.specs.inside.Round.{table_of}
-use Rattle.jb_step.specs.inside.Telling.{moment}
-use Rattle.jb_step.proofs.Growing.{grew-more}
-use Rattle.jb_step.proofs.Turning.{begins, ends, head-ready, head-rises, open-can-run, opens, table-of, turns, unended}
+use Rattle.std.proofs.Common.{◌≡◌, ℕ, Bool, Option, false, refl, rules, sym, subst}
+use Rattle.jb_step.specs.preparing.Setup.{Setup}
+use Rattle.jb_step.specs.inside.Round.{Progress}
+use Rattle.jb_step.specs.inside.SoFar.{AreWithin, IsRunSoFar}
+use Rattle.jb_step.proofs.Growing.{grew-more, grew-none}
+use Rattle.jb_step.proofs.SoFar.{none-run, runs-more}
 use Rattle.jb_step.proofs.rounds.run.run_rounds.Goals as goal
 
+-- whether the step stops, by another name
+named : (s : Setup) (limit : Option ℕ) (stopped other : Bool) (first now : Progress) → stopped ≡ other → IsRunSoFar s limit stopped first now → IsRunSoFar s limit other first now
+named s limit stopped other first now is run = subst (λ (b : Bool). IsRunSoFar s limit b first now) is run
+
 pub loop-init : goal.loop-init
-loop-init g c = (
-  rw c.new.ensures.items
-      (begins (beginning g.T.PartitionTask.standing c.args.prepared.now c.args.tasks.items _) (moment _ c.in_ok-fault.fault) c.requires.table c.in_ok-fault.ensures.heard),
-  search rules,
-  c.requires.placed,
-  c.in_ok-fault.ensures.grew,
-)
+loop-init g c =
+    let few : AreWithin c.args.round_limit 0 = search rules in
+    (rw c.new.ensures.items (none-run _ _ _ _ few), c.requires.table, c.requires.placed, grew-none _, refl)
+
+pub run_plan-requires-clause-table : goal.run_plan-requires-clause-table
+run_plan-requires-clause-table g c κs bounds = c.loop.invariant.1
+
+pub run_plan-requires-clause-placed : goal.run_plan-requires-clause-placed
+run_plan-requires-clause-placed g c κs bounds = c.loop.invariant.2
+
+pub run_plan-requires-clause-few : goal.run_plan-requires-clause-few
+run_plan-requires-clause-few g c κs bounds = c.loop.invariant.0.few
 
 pub loop-preserved : goal.loop-preserved
-loop-preserved g c =
-    let set : List Pair = set_of_round c.in_ok-next.next.cursor c.in_ok-next.next.ran in
-    let next : IsNextPlan c.args.prepared.now (table_of g.T.PartitionTask.standing c.loop.ran) c.loop.plan c.in_ok-next.next = rw (← c.as_slice-in-loop.ensures.value) c.in_ok-next.ensures in (
-      turns c.laws_below.ensures _ _ _ c.loop.plan c.in_ok-next.next c.in_ok-broke.broke _ c.in_ok-plan.plan c.loop.invariant.0 next
-          c.in_ok-broke.ensures.round
-          c.in_ok-plan.ensures,
-      rw (ap (λ n. n.0) c.in_ok-broke.ensures.round.ran_is) (c.at_limit.ensures c.if-at_limit.false),
-      c.in_ok-broke.ensures.placed,
-      grew-more _ _ _ c.loop.invariant.3 c.in_ok-broke.ensures.grew,
-    )
+loop-preserved g c = (
+  runs-more c.laws_below.ensures c.args.prepared.now c.args.round_limit false _ _ _ c.loop.invariant.0
+      (named _ _ _ _ _ _ c.if-ran.false c.in_ok-ran.ensures.run),
+  c.in_ok-ran.ensures.table,
+  c.in_ok-ran.ensures.placed,
+  grew-more _ _ _ c.loop.invariant.3 c.in_ok-ran.ensures.grew,
+  c.if-ran.false,
+)
 
-pub next_round-requires-clause-rise : goal.next_round-requires-clause-rise
-next_round-requires-clause-rise g c κs bounds = head-rises _ _ c.loop.plan c.loop.invariant.0
+pub returns-then-all_ended-clause-run : goal.returns-then-all_ended-clause-run
+returns-then-all_ended-clause-run g c = named _ _ _ _ _ _ (sym c.loop.invariant.4) c.loop.invariant.0
 
-pub next_round-requires-clause-ready : goal.next_round-requires-clause-ready
-next_round-requires-clause-ready g c κs bounds = head-ready _ _ c.loop.plan c.loop.invariant.0
+pub returns-then-all_ended-clause-table : goal.returns-then-all_ended-clause-table
+returns-then-all_ended-clause-table g c = c.loop.invariant.1
 
-pub next_round-requires-clause-can_run : goal.next_round-requires-clause-can_run
-next_round-requires-clause-can_run g c κs bounds =
-    let next : IsNextPlan c.args.prepared.now (table_of g.T.PartitionTask.standing c.loop.ran) c.loop.plan c.in_ok-next.next = rw (← c.as_slice-in-loop.ensures.value) c.in_ok-next.ensures in
-    open-can-run c.laws_below.ensures _ _ c.in_ok-next.next (opens _ _ c.loop.plan c.in_ok-next.next c.loop.invariant.0 next)
+pub returns-then-all_ended-clause-placed : goal.returns-then-all_ended-clause-placed
+returns-then-all_ended-clause-placed g c = c.loop.invariant.2
 
-pub closed-requires : goal.closed-requires
-closed-requires g c =
-    let next : IsNextPlan c.args.prepared.now (table_of g.T.PartitionTask.standing c.loop.ran) c.loop.plan c.in_ok-next.next = rw (← c.as_slice-in-loop.ensures.value) c.in_ok-next.ensures in
-    let fewer = (opens _ _ c.loop.plan c.in_ok-next.next c.loop.invariant.0 next).more in
-    omega (arith, fewer)
+pub returns-then-all_ended-clause-grew : goal.returns-then-all_ended-clause-grew
+returns-then-all_ended-clause-grew g c = c.loop.invariant.3
 
-pub returns-then-over-clause-rounds : goal.returns-then-over-clause-rounds
-returns-then-over-clause-rounds g c =
-    let table : List TaskState = table_of g.T.PartitionTask.standing c.loop.ran in
-    let ended : c.is_over-over.result ≡ have_ended table = rw c.as_slice.ensures.value at c.is_over-over.ensures in
-    let noted : IsFinished c.loop.plan c.loop.ran.notes.items c.end_rounds.new.notes.items = search rules in
-    ends c.laws_below.ensures _ _ c.end_rounds.new.notes.items c.loop.plan c.args.round_limit (not c.is_over-over.result) c.loop.invariant.0 noted c.loop.invariant.1 (λ u. sym ended ∙ not-false c.is_over-over.result u)
+pub returns-in_err-ran-clause-grew : goal.returns-in_err-ran-clause-grew
+returns-in_err-ran-clause-grew g c = grew-more _ _ _ c.loop.invariant.3 c.run_plan.ensures.grew
 
-pub next_plan-requires-clause-table : goal.next_plan-requires-clause-table
-next_plan-requires-clause-table g c κs bounds = rw c.as_slice-in-loop.ensures.value (table-of _ _ c.loop.plan c.loop.invariant.0)
+pub returns-in_err-stop-clause-grew : goal.returns-in_err-stop-clause-grew
+returns-in_err-stop-clause-grew g c = grew-more _ _ _ c.loop.invariant.3 c.run_plan.ensures.grew
 
-pub is_over-over-requires-clause-unended : goal.is_over-over-requires-clause-unended
-is_over-over-requires-clause-unended g c κs bounds = λ some. rw c.as_slice.ensures.value (unended c.laws_below.ensures _ _ c.loop.plan c.loop.invariant.0 some)
+pub returns-then-ran-clause-run : goal.returns-then-ran-clause-run
+returns-then-ran-clause-run g c = runs-more c.laws_below.ensures c.args.prepared.now c.args.round_limit _ _ _ _ c.loop.invariant.0 c.in_ok-ran.ensures.run
 
-pub next_round-requires-clause-placed : goal.next_round-requires-clause-placed
-next_round-requires-clause-placed g c κs bounds = c.loop.invariant.2
-
-pub next_plan-requires-clause-placed : goal.next_plan-requires-clause-placed
-next_plan-requires-clause-placed g c κs bounds = rw c.as_slice-in-loop.ensures.value c.loop.invariant.2
+pub returns-then-ran-clause-grew : goal.returns-then-ran-clause-grew
+returns-then-ran-clause-grew g c = grew-more _ _ _ c.loop.invariant.3 c.run_plan.ensures.grew

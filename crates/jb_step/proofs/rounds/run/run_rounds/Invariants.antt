@@ -1,17 +1,19 @@
-use Rattle.std.proofs.Common.{◌≤◌}
-use Rattle.std.specs.Prelude.{MatchOption}
+use Rattle.std.proofs.Common.{◌≡◌, false, map}
 use Rattle.jb_collect.specs.Taken.{Grew}
-use Rattle.jb_step.specs.inside.Head.{IsBetween, beginning}
-use Rattle.jb_step.specs.inside.Round.{progress}
-use Rattle.jb_step.specs.inside.Places.{ArePlaced}
+use Rattle.jb_step.specs.rounds.PlanLaws.{IsTaskTable}
+use Rattle.jb_step.specs.inside.Places.{ArePlaced, held_in}
+use Rattle.jb_step.specs.inside.Round.{progress, table_of}
+use Rattle.jb_step.specs.inside.SoFar.{IsRunSoFar, at_first}
+use Rattle.jb_step.specs.inside.Telling.{moment}
 use Rattle.jb_step.proofs.rounds.run.run_rounds.Given as goal
 
 abbrev pub invariant-loop : goal.invariant-loop
 invariant-loop g l =
-    IsBetween
-    (beginning g.T.PartitionTask.standing l.prepared l.fn.tasks.items ((goal.Analyzer-dyn g l.fn.analyzer.now).analyzed l.fn.analyzer.now.1))
-    l.plan
-    (progress g.T.PartitionTask.standing ((goal.Analyzer-dyn g l.analyzer.now).analyzed l.analyzer.now.1) l.ran)
-    × MatchOption l.round_limit (Unit {0}) (λ x. l.ran.rounds ≤ x)
-    × ArePlaced g.T.PartitionTask.standing 0 l.ran.held.items
-    × Grew ((goal.Analyzer-dyn g l.fn.analyzer.now).analyzed l.fn.analyzer.now.1) ((goal.Analyzer-dyn g l.analyzer.now).analyzed l.analyzer.now.1)
+    let standing = g.T.PartitionTask.standing in
+    let calls = (goal.Analyzer-dyn g l.fn.analyzer.now).analyzed l.fn.analyzer.now.1 in
+    let later = (goal.Analyzer-dyn g l.analyzer.now).analyzed l.analyzer.now.1 in
+    IsRunSoFar l.prepared l.round_limit false (at_first (moment calls l.fn.fault) (map standing (held_in l.fn.tasks.items))) (progress standing later l.ran)
+    × IsTaskTable l.prepared (table_of standing l.ran)
+    × ArePlaced standing 0 l.ran.held.items
+    × Grew calls later
+    × (l.ran.stopped ≡ false)

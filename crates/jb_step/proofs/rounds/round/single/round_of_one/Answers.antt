@@ -31,7 +31,7 @@ back g c =
 
 pub returns-clause-round : goal.returns-clause-round
 returns-clause-round g c =
-    round-is _ _ _ _ _ (back g c) _ _ _ _ _ _ c.requires.ready (ap not c.is_committed-broke.ensures ∙ sym (or-false _)) (rw (← heard-one g.T.PartitionTask.standing c.in_ok-done.done) c.in_ok-ran.ensures.heard)
+    round-is _ _ _ _ _ (back g c) _ _ _ _ _ _ _ _ c.requires.ready (ap not c.is_committed-broke.ensures ∙ sym (or-false _)) (rw (← heard-one g.T.PartitionTask.standing c.in_ok-done.done) c.in_ok-ran.ensures.heard)
     c.in_ok-ran-2.ensures c.in_ok-ran-3.ensures
 
 pub returns-clause-placed : goal.returns-clause-placed

@@ -1,0 +1,16 @@
+use Rattle.std.proofs.Common.{◌+◌, ◌<◌}
+use Rattle.jb_collect.specs.Taken.{Grew}
+use Rattle.jb_step.specs.inside.Places.{ArePlaced}
+use Rattle.jb_step.specs.inside.Round.{progress}
+use Rattle.jb_step.specs.inside.SoFar.{AreWithin, IsOpen}
+use Rattle.jb_step.proofs.rounds.plan.run_plan.Given as goal
+
+abbrev pub invariant-loop-round : goal.invariant-loop-round
+invariant-loop-round g l =
+    let calls = (goal.Analyzer-dyn g l.fn.analyzer.now).analyzed l.fn.analyzer.now.1 in
+    let later = (goal.Analyzer-dyn g l.analyzer.now).analyzed l.analyzer.now.1 in
+    IsOpen l.prepared l.cursor l.round (progress g.T.PartitionTask.standing calls l.fn.ran) (progress g.T.PartitionTask.standing later l.ran)
+    × (l.round < l.rounds)
+    × AreWithin l.round_limit (l.ran.rounds + 1)
+    × ArePlaced g.T.PartitionTask.standing 0 l.ran.held.items
+    × Grew calls later
