@@ -11,3 +11,6 @@ returns-in_err-push_joined-clause-no_memory c =
       (λ i. record { answer = λ _ item. prefixed c.args.self.now.prefix c.args.self.now.dropped item; faults = c.strike.ensures.sound idle i }),
       c.in_err-push_joined.ensures.err,
     )
+
+pub returns-clause-answered : goal.returns-clause-answered
+returns-clause-answered c = search rules

@@ -1,0 +1,5 @@
+use Rattle.std.proofs.Common.{rules}
+use Rattle.jb_artifacts.proofs.list_writer.ListWriterItemWriter.item_at.Goals as goal
+
+pub returns : goal.returns
+returns c = search rules
