@@ -1,18 +1,19 @@
 //! Work that goes on from its checkpoints, whatever call of the disk a life ends at.
 
-use crate::files::{closed, crashed, ended, listed, new_files, opened};
+use crate::files::{crashed, failing, new_files};
+use crate::lives::{Life, last_says, listed, lived};
 use jb_durable::{DurableWork, LastLife, run_durably, work_through_crashes};
-use jb_store::{Checkpoint, StoreError};
-use sqlite::{Connection, FileStore, Files, Options};
-use sqlite_disk::{Crash, Disk, Fuse, Memory};
+use jb_store::Checkpoint;
+use sqlite::{Alter, Connection, Files, Options};
+use sqlite_disk::{Crash, Memory};
 use std::alloc::{AllocError, Global};
 use std::process::Abort;
 use std::sync::Wait;
 use std::test::*;
 use std::thread::Threads;
 
-/// The checkpoints of a whole run.
-const WHOLE: &str = "0:[] 1:[1] 2:[2, 2] ";
+/// What a life says whose work is done: the checkpoints of a whole run.
+const WHOLE: &str = "true 0:[] 1:[1] 2:[2, 2] ";
 
 const STRETCHES: u32 = 3;
 
@@ -73,18 +74,46 @@ impl DurableWork for Count {
     }
 }
 
-/// The work is done after so many stretches at most. It has no clauses, so that the proof of a test doesn't carry those of the call.
-fn is_finished<R: Threads + Wait + Sync, D: Disk + Drop>(
+/// A life of so many stretches at most. It says whether the work is done, and the checkpoints.
+#[derive(Drop)]
+struct Counting {
+    work: Count,
+    stretches: u32,
+}
+
+impl Life for Counting {
+    fn live<R: Threads + Wait + Sync, S: Alter>(
+        &mut self,
+        rt: &R,
+        alloc: Global,
+        conn: &mut Connection<S>,
+    ) -> Result<String, AllocError> {
+        let is_done = is_finished(rt, alloc, conn, &mut self.work, self.stretches);
+        let all = listed(alloc, conn)?;
+        format!(in alloc; "{is_done} {all}")
+    }
+}
+
+/// A life of work of which so many stretches were kept in an earlier one.
+fn life_behind(kept: u32, stretches: u32) -> Counting {
+    Counting {
+        work: count_from(kept),
+        stretches,
+    }
+}
+
+/// It has no clauses, so that the proof of a test doesn't carry those of the call.
+fn is_finished<R: Threads + Wait + Sync, S: Alter>(
     rt: &R,
     alloc: Global,
-    conn: &mut Connection<FileStore<D>>,
+    conn: &mut Connection<S>,
     work: &mut Count,
     stretches: u32,
 ) -> bool {
     matches!(run_durably(rt, alloc, conn, work, stretches), Ok(true))
 }
 
-/// Lives that end in a crash, and one more; none where the files may not be used.
+/// The last of some lives, all of which but this one end in a crash; none where the files may not be used.
 fn last_life<R: Threads + Wait + Sync, D: Crash + Drop>(
     rt: &R,
     alloc: Global,
@@ -99,97 +128,52 @@ fn last_life<R: Threads + Wait + Sync, D: Crash + Drop>(
     work_through_crashes(rt, alloc, files, Options::new(5), work, lives, stretches)
 }
 
-/// A life of so many stretches at most, and a crash behind it: the files, and whether it said that the work is done.
-fn lived<R: Threads + Wait + Sync, D: Crash + Drop>(
-    rt: &R,
-    alloc: Global,
-    files: Files<D>,
-    work: &mut Count,
-    stretches: u32,
-) -> (Files<D>, bool) {
-    match opened(alloc, files) {
-        Ok(mut conn) => {
-            let is_done = is_finished(rt, alloc, &mut conn, work, stretches);
-            (crashed(closed(conn)), is_done)
-        }
-        Err((_, files)) => (crashed(files), false),
-    }
-}
-
-/// The list that the files hold, or why there is no answer, and the files after a crash.
-fn shown<D: Crash + Drop>(
-    alloc: Global,
-    files: Files<D>,
-) -> (Result<String, StoreError>, Files<D>) {
-    match opened(alloc, files) {
-        Ok(mut conn) => {
-            let all = listed(alloc, &mut conn);
-            (all, crashed(closed(conn)))
-        }
-        Err((error, files)) => (Err(error), crashed(files)),
-    }
-}
-
-/// The list that the files hold. It is asked once more where memory was refused, which a disk in memory tells as a fault of its own.
-fn held<D: Crash + Drop>(alloc: Global, files: Files<D>) -> Result<String, StoreError> {
-    let (answer, files) = shown(alloc, files);
-    if answer.is_ok() {
-        return answer;
-    }
-    let (answer, _files) = shown(alloc, files);
-    answer
-}
-
-/// Files in which a life before kept so many checkpoints, which fail from one call on: the log's from the first number of calls on,
-/// the file's from the second.
-fn failing<R: Threads + Wait + Sync>(
-    rt: &R,
-    alloc: Global,
-    kept: u32,
-    calls: [u64; 2],
-) -> Files<Fuse<Memory>> {
+/// Files in which a life before kept so many checkpoints.
+fn files_of<R: Threads + Wait + Sync>(rt: &R, alloc: Global, kept: u32) -> Files<Memory> {
     let files = new_files(alloc);
-    let files = if kept == 0 {
-        files
-    } else {
-        lived(rt, alloc, files, &mut count_from(0), kept).0
-    };
-    Files {
-        log: Fuse::new(files.log, calls[0]),
-        db: Fuse::new(files.db, calls[1]),
+    if kept == 0 {
+        return files;
     }
+    let (files, _) = lived(rt, alloc, files, &mut life_behind(0, kept));
+    crashed(files)
 }
 
-/// The same two lives by the function that has the theorem: it answers, wherever the first one ends.
+/// Two such lives by the function that has the theorem: it answers, wherever the first one ends.
 fn assert_answered<R: Threads + Wait + Sync + Abort>(
     rt: &R,
     alloc: Global,
     kept: u32,
     calls: [u64; 2],
-) {
-    let files = failing(rt, alloc, kept, calls);
+) -> Result<(), Fail> {
+    let files = failing(files_of(rt, alloc, kept), calls);
     let mut work = count_from(kept);
     let lives = [STRETCHES + 1];
     let last = last_life(rt, alloc, files, &mut work, &lives, STRETCHES + 1);
-    let is_done = last.is_some_and(|last| ended(last).1);
-    assert!(rt; is_done && !work.has_lost, "{kept} {calls:?}");
+    assert_eq!(rt;
+        last_says(rt, alloc, last)?.as_str(),
+        WHOLE,
+        "{kept} {calls:?}"
+    );
+    assert!(rt; !work.has_lost, "{kept} {calls:?}");
+    Ok(())
 }
 
-/// A life whose files fail from so many calls on, and one whose files don't: true where the first was whole.
+/// A life whose files fail from so many calls on, and two whose files don't: true where the first was whole.
 fn is_whole_at_once<R: Threads + Wait + Sync + Abort>(
     rt: &R,
     alloc: Global,
     kept: u32,
     calls: [u64; 2],
 ) -> Result<bool, Fail> {
-    let mut work = count_from(kept);
-    let files = failing(rt, alloc, kept, calls);
-    let (files, first) = lived(rt, alloc, files, &mut work, STRETCHES + 1);
-    let (files, last) = lived(rt, alloc, files, &mut work, STRETCHES + 1);
-    assert!(rt; last && !work.has_lost, "{kept} {calls:?}");
-    assert_eq!(rt; held(alloc, files)?.as_str(), WHOLE, "{kept} {calls:?}");
-    assert_answered(rt, alloc, kept, calls);
-    Ok(first)
+    let files = failing(files_of(rt, alloc, kept), calls);
+    let mut life = life_behind(kept, STRETCHES + 1);
+    let (files, first) = lived(rt, alloc, files, &mut life);
+    let (files, next) = lived(rt, alloc, crashed(files), &mut life);
+    let (_, last) = lived(rt, alloc, crashed(files), &mut life);
+    assert_eq!(rt; next?.as_str(), WHOLE, "{kept} {calls:?}");
+    assert_eq!(rt; last?.as_str(), WHOLE, "{kept} {calls:?}");
+    assert!(rt; !life.work.has_lost, "{kept} {calls:?}");
+    Ok(first?.as_str() == WHOLE)
 }
 
 /// Each number of calls in turn that the log passes, or the file, up to a life that they suffice for.
@@ -205,6 +189,7 @@ fn assert_each_call<R: Threads + Wait + Sync + Abort>(
         } else {
             [u64::MAX, calls]
         };
+        assert_answered(rt, alloc, kept, calls)?;
         if is_whole_at_once(rt, alloc, kept, calls)? {
             return Ok(());
         }
@@ -212,46 +197,44 @@ fn assert_each_call<R: Threads + Wait + Sync + Abort>(
     Err(Fail::from("a life has more calls"))
 }
 
-/// Four lives of a stretch or two, of which all but the last end in a crash.
-fn assert_lives<R: Threads + Wait + Sync + Abort>(rt: &R, alloc: Global) -> Result<(), Fail> {
-    let mut work = count_from(0);
-    let last = last_life(rt, alloc, new_files(alloc), &mut work, &[0, 1, 1], 2);
-    let Some(LastLife { mut conn, is_done }) = last else {
-        return Err(Fail::from("an open"));
-    };
-    assert!(rt; is_done);
-    let all = listed(alloc, &mut conn);
-    let _files = closed(conn);
-    assert_eq!(rt; all?.as_str(), WHOLE);
-    Ok(())
-}
-
-/// Each life ends in a crash, and none of them lost anything that was kept.
+/// Each life ends in a crash, and none of them lost anything that was kept. Then four lives of a stretch or two, of which all but the last end so.
 #[test]
 fn a_crash_at_each_call(rt: HostRuntime) -> Result<(), Fail> {
+    let alloc = rt.alloc();
     for kept in 0..3u32 {
         for is_log in [true, false] {
-            assert_each_call(&rt, rt.alloc(), kept, is_log)?;
+            assert_each_call(&rt, alloc, kept, is_log)?;
         }
     }
-    assert_lives(&rt, rt.alloc())
+    let last = last_life(
+        &rt,
+        alloc,
+        new_files(alloc),
+        &mut count_from(0),
+        &[0, 1, 1],
+        2,
+    );
+    assert_eq!(rt; last_says(&rt, alloc, last)?.as_str(), WHOLE);
+    Ok(())
 }
 
 /// `tests/refused-memory` runs it also with each request for memory refused in turn: a life that had none is followed by another,
-/// which goes on from what was kept. Where a request of the test's own is refused, the test ends with that error.
+/// which goes on from what was kept, until two in a row had enough. Where a request of the test's own is refused, the test ends with that error.
 #[test]
 fn memory_refused(rt: HostRuntime) -> Result<(), Fail> {
     let alloc = rt.alloc();
-    let mut work = count_from(0);
+    let mut life = life_behind(0, STRETCHES + 1);
     let mut files = new_files(alloc);
-    for _ in 0..3 {
-        let (left, is_done) = lived(&rt, alloc, files, &mut work, STRETCHES + 1);
-        files = left;
-        if is_done {
-            break;
+    let mut was_whole = false;
+    for _ in 0..4 {
+        let (left, said) = lived(&rt, alloc, files, &mut life);
+        files = crashed(left);
+        let is_whole = said.is_ok_and(|said| said.as_str() == WHOLE);
+        if is_whole && was_whole {
+            assert!(rt; !life.work.has_lost);
+            return Ok(());
         }
+        was_whole = is_whole;
     }
-    assert!(rt; !work.has_lost);
-    assert_eq!(rt; held(alloc, files)?.as_str(), WHOLE);
-    Ok(())
+    Err(Fail::from("no two lives were whole"))
 }

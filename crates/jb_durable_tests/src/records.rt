@@ -1,18 +1,18 @@
 //! A step over records whose checkpoints are kept in a file, whatever call of the disk a life ends at.
 
-ghost use Rattle.std.specs.Prelude.{[], ◌≤◌, ◌==◌, if◌then◌else◌, length, None, Some};
+ghost use Rattle.std.specs.Prelude.{[], ◌==◌, if◌then◌else◌, length, None, Some};
 
-use crate::files::{checkpoints, closed, crashed, ended, new_files, opened};
+use crate::files::{crashed, failing, new_files};
+use crate::lives::{Life, Listing, last_says, lived};
 use jb_artifacts::Item;
 use jb_base::{ClassId, Name, PackedList, Rules};
-use jb_collect::Status;
+use jb_durable::LastLife;
 use jb_durable_records::{
     DurableEnd, DurableError, Nobody, Rounds, records_through_crashes, run_records_durably,
 };
 use jb_records::{RecordFunction, RecordsStep};
-use jb_store::Checkpoint;
-use sqlite::{Files, Options};
-use sqlite_disk::{Crash, Fuse, Memory};
+use sqlite::{Alter, Connection, Files, Options};
+use sqlite_disk::{Crash, Memory};
 use std::alloc::{AllocError, Global};
 use std::process::Abort;
 use std::sync::Wait;
@@ -22,15 +22,12 @@ use std::thread::Threads;
 /// More than a life makes calls of its log.
 const MOST_CALLS: u64 = 400;
 
-/// The form of the step below over five records, as the first checkpoint says it.
-const FORM: &str =
-    "{\"form\":1,\"step\":\"lines\",\"records\":5,\"partitions\":2,\"item-count\":1,\"rules\":{\"skippable\":[1],\"retryable\":[0,5],\"no-rollback\":[],\"skip-limit\":null,\"retry-limit\":7}}";
+/// What a whole run of the step below over five records says.
+const WHOLE: &str = "Completed [97] [98, 99] [] [100] [101] ";
 
-/// SHA-256 of the coding of the five records below.
-const DIGEST: [u8; 32] = [
-    90, 154, 77, 146, 130, 101, 93, 224, 172, 252, 183, 242, 176, 158, 245, 252, 49, 151, 161, 203,
-    139, 114, 97, 12, 92, 181, 74, 30, 85, 244, 222, 143,
-];
+/// The first checkpoint of that: the form of the step, and SHA-256 of the coding of the records.
+const FIRST: &str =
+    "{\"form\":1,\"step\":\"lines\",\"records\":5,\"partitions\":2,\"item-count\":1,\"rules\":{\"skippable\":[1],\"retryable\":[0,5],\"no-rollback\":[],\"skip-limit\":null,\"retry-limit\":7}}:[90, 154, 77, 146, 130, 101, 93, 224, 172, 252, 183, 242, 176, 158, 245, 252, 49, 151, 161, 203, 139, 114, 97, 12, 92, 181, 74, 30, 85, 244, 222, 143] ";
 
 /// Gives each record back. Those of three bytes can't be read.
 #[derive(Drop)]
@@ -75,16 +72,13 @@ fn gives_back(alloc: Global) -> Same {
     }
 }
 
-/// The step, with chunks of so many records.
-fn step_of(alloc: Global, item_count: u64) -> Result<RecordsStep, AllocError>
-    requires some { 1 ≤ item_count }
-    requires few { item_count ≤ 9 }
-{
+/// The step, with chunks of one record or of two.
+fn step_of(alloc: Global, in_pairs: bool) -> Result<RecordsStep, AllocError> {
     Ok(RecordsStep {
         id: Name::new(String::from_str(alloc, "lines")?),
         partitions: 2,
         threads: 2,
-        item_count,
+        item_count: if in_pairs { 2 } else { 1 },
         rules: Rules {
             skippable: 2,
             retryable: 33,
@@ -106,44 +100,67 @@ fn records_of(alloc: Global, last: &[u8]) -> Result<PackedList, AllocError> {
     Ok(records)
 }
 
-/// A life, and a crash behind it: the files, and how the run ended.
-fn lived<R: Threads + Wait + Sync, D: Crash + Drop>(
-    rt: &R,
-    alloc: Global,
-    files: Files<D>,
-    step: &RecordsStep,
-    records: &PackedList,
-) -> (Files<D>, Result<DurableEnd, DurableError>) {
-    match opened(alloc, files) {
-        Ok(mut conn) => {
-            let end = run_records_durably(
-                rt,
-                alloc,
-                &mut conn,
-                step,
-                gives_back(alloc),
-                records,
-                Rounds(1),
-                Nobody,
-            );
-            (crashed(closed(conn)), end)
-        }
-        Err((error, files)) => (crashed(files), Err(DurableError::Store(error))),
+/// The run in a life. It says its status and its results, or why it has no end.
+#[derive(Drop)]
+struct Running {
+    in_pairs: bool,
+    last: &'static [u8],
+}
+
+/// The run of the step with chunks of one record, over five records of which the last one is this.
+fn run_to(last: &'static [u8]) -> Running {
+    Running {
+        in_pairs: false,
+        last,
     }
 }
 
-/// The results of all partitions are these records, in their order.
-fn are_all(end: &DurableEnd, records: &PackedList) -> bool {
-    let mut place = 0;
-    for share in &end.results {
-        for index in 0..share.len() {
-            if records.get(place) != share.get(index) {
-                return false;
-            }
-            place = records.len().min(place + 1);
+impl Life for Running {
+    fn live<R: Threads + Wait + Sync, S: Alter>(
+        &mut self,
+        rt: &R,
+        alloc: Global,
+        conn: &mut Connection<S>,
+    ) -> Result<String, AllocError> {
+        let step = step_of(alloc, self.in_pairs)?;
+        let records = records_of(alloc, self.last)?;
+        match run(rt, alloc, conn, &step, &records) {
+            Ok(end) => text_of(alloc, &end),
+            Err(error) => format!(in alloc; "{error:?}"),
         }
     }
-    place == records.len() && end.status == Status::Completed
+}
+
+/// It has no clauses, so that the proof of a test doesn't carry those of the call.
+fn run<R: Threads + Wait + Sync, S: Alter>(
+    rt: &R,
+    alloc: Global,
+    conn: &mut Connection<S>,
+    step: &RecordsStep,
+    records: &PackedList,
+) -> Result<DurableEnd, DurableError> {
+    run_records_durably(
+        rt,
+        alloc,
+        conn,
+        step,
+        gives_back(alloc),
+        records,
+        Rounds(1),
+        Nobody,
+    )
+}
+
+/// The status, and the results of all partitions.
+fn text_of(alloc: Global, end: &DurableEnd) -> Result<String, AllocError> {
+    let all = end.all_results(alloc)?;
+    let mut text = format!(in alloc; "{:?} ", end.status)?;
+    for index in 0..all.len() {
+        if let Some(result) = all.get(index) {
+            text.push_str(format!(in alloc; "{result:?} ")?.as_str())?;
+        }
+    }
+    Ok(text)
 }
 
 /// A life whose log fails from so many calls on, and one whose files don't: true where the first was whole.
@@ -152,98 +169,110 @@ fn is_whole_at_once<R: Threads + Wait + Sync + Abort>(
     alloc: Global,
     calls: u64,
 ) -> Result<bool, Fail> {
-    let step = step_of(alloc, 1)?;
-    let records = records_of(alloc, b"e")?;
-    let files = new_files(alloc);
-    let files = Files {
-        log: Fuse::new(files.log, calls),
-        db: Fuse::new(files.db, u64::MAX),
-    };
-    let (files, first) = lived(rt, alloc, files, &step, &records);
-    let (_, last) = lived(rt, alloc, files, &step, &records);
-    assert!(rt; are_all(&last?, &records), "{calls}");
-    Ok(first.is_ok())
+    let files = failing(new_files(alloc), [calls, u64::MAX]);
+    let mut life = run_to(b"e");
+    let (files, first) = lived(rt, alloc, files, &mut life);
+    let (_, last) = lived(rt, alloc, crashed(files), &mut life);
+    assert_eq!(rt; last?.as_str(), WHOLE, "{calls}");
+    Ok(first?.as_str() == WHOLE)
 }
 
-/// Each number of calls in turn that the log passes, up to a life that they suffice for.
+/// The last of some lives of a checkpoint or two, all of which but this one end in a crash; none where the files may not be used.
+fn last_life<R: Threads + Wait + Sync, D: Crash + Drop>(
+    rt: &R,
+    alloc: Global,
+    files: Files<D>,
+    step: &RecordsStep,
+    records: &PackedList,
+) -> Option<LastLife<D>> {
+    if !files.may_be_used() {
+        return None;
+    }
+    records_through_crashes(
+        rt,
+        alloc,
+        files,
+        Options::new(5),
+        step,
+        gives_back(alloc),
+        records,
+        Rounds(1),
+        Nobody,
+        &[0, 1, 2],
+        9,
+    )
+}
+
+/// Each number of calls in turn that the log passes, up to a life that they suffice for; then three lives of a checkpoint or two that each
+/// end in a crash, and one more.
 #[test]
 fn a_crash_at_each_call_of_a_step(rt: HostRuntime) -> Result<(), Fail> {
+    let alloc = rt.alloc();
+    let step = step_of(alloc, false)?;
+    let records = records_of(alloc, b"e")?;
+    let last = last_life(&rt, alloc, new_files(alloc), &step, &records);
+    assert!(rt; last_says(&rt, alloc, last)?.as_str().starts_with("true "));
     for calls in 0..MOST_CALLS {
-        if is_whole_at_once(&rt, rt.alloc(), calls)? {
+        if is_whole_at_once(&rt, alloc, calls)? {
             return Ok(());
         }
     }
     Err(Fail::from("a life has more calls"))
 }
 
-/// How a life over these files ends whose step has chunks of so many records, and whose last record is this.
-fn ends<R: Threads + Wait + Sync>(
+/// A life over a whole run of the step, and what it says.
+struct Row {
+    in_pairs: bool,
+    last: &'static [u8],
+    says: &'static str,
+}
+
+const OVER_A_WHOLE_RUN: [Row; 3] = [
+    Row {
+        in_pairs: false,
+        last: b"e",
+        says: WHOLE,
+    },
+    Row {
+        in_pairs: true,
+        last: b"e",
+        says: "OtherJob",
+    },
+    Row {
+        in_pairs: false,
+        last: b"f",
+        says: "OtherRecords",
+    },
+];
+
+/// A life, and a crash behind it: the files, and what it says.
+fn said<R: Threads + Wait + Sync, L: Life>(
     rt: &R,
     alloc: Global,
     files: Files<Memory>,
-    item_count: u64,
-    last: &[u8],
-) -> Result<(Files<Memory>, Result<DurableEnd, DurableError>), Fail>
-    requires some { 1 ≤ item_count }
-    requires few { item_count ≤ 9 }
-{
-    let step = step_of(alloc, item_count)?;
-    let records = records_of(alloc, last)?;
-    Ok(lived(rt, alloc, files, &step, &records))
+    life: &mut L,
+) -> Result<(Files<Memory>, String), Fail> {
+    let (files, said) = lived(rt, alloc, files, life);
+    Ok((crashed(files), said?))
 }
 
-/// The checkpoints that the files hold.
-fn held(alloc: Global, files: Files<Memory>) -> Result<(Files<Memory>, Vec<Checkpoint>), Fail> {
-    match opened(alloc, files) {
-        Ok(mut conn) => {
-            let all = checkpoints(alloc, &mut conn);
-            let files = closed(conn);
-            Ok((files, all?))
-        }
-        Err((error, _)) => Err(Fail::from(error)),
+/// A run that is whole is told again, and another step's and other records are refused: the checkpoints stay.
+fn assert_told_apart<R: Threads + Wait + Sync + Abort>(rt: &R, alloc: Global) -> Result<(), Fail> {
+    let (files, whole) = said(rt, alloc, new_files(alloc), &mut run_to(b"e"))?;
+    assert_eq!(rt; whole.as_str(), WHOLE);
+    let (mut files, kept) = said(rt, alloc, files, &mut Listing)?;
+    assert!(rt; kept.as_str().starts_with(FIRST));
+    for row in &OVER_A_WHOLE_RUN {
+        let mut life = Running {
+            in_pairs: row.in_pairs,
+            last: row.last,
+        };
+        let (left, told) = said(rt, alloc, files, &mut life)?;
+        assert_eq!(rt; told.as_str(), row.says);
+        files = left;
     }
-}
-
-/// A run from no file on, which is whole: its files, and their checkpoints.
-fn whole_run<R: Threads + Wait + Sync + Abort>(
-    rt: &R,
-    alloc: Global,
-) -> Result<(Files<Memory>, Vec<Checkpoint>), Fail> {
-    let records = records_of(alloc, b"e")?;
-    let (files, first) = ends(rt, alloc, new_files(alloc), 1, b"e")?;
-    assert!(rt; are_all(&first?, &records));
-    held(alloc, files)
-}
-
-/// The first checkpoint says what the run is of.
-fn assert_says_its_run(rt: &impl Abort, kept: &[Checkpoint]) {
-    assert!(rt; kept.len() > 2);
-    assert_eq!(rt; kept[0].saved.as_str(), FORM);
-    assert_eq!(rt; kept[0].results.as_slice(), DIGEST.as_slice());
-}
-
-/// Over a whole run: it is told again, and another step's and other records are refused.
-fn assert_told_apart<R: Threads + Wait + Sync + Abort>(
-    rt: &R,
-    alloc: Global,
-    files: Files<Memory>,
-) -> Result<Files<Memory>, Fail> {
-    let records = records_of(alloc, b"e")?;
-    let (files, again) = ends(rt, alloc, files, 1, b"e")?;
-    assert!(rt; are_all(&again?, &records));
-    let (files, other) = ends(rt, alloc, files, 2, b"e")?;
-    assert!(rt; matches!(other, Err(DurableError::OtherJob)));
-    let (files, other) = ends(rt, alloc, files, 1, b"f")?;
-    assert!(rt; matches!(other, Err(DurableError::OtherRecords)));
-    Ok(files)
-}
-
-/// A record that can't be read ends a run as failed, in each life.
-fn assert_fails_again<R: Threads + Wait + Sync + Abort>(rt: &R, alloc: Global) -> Result<(), Fail> {
-    let (files, failed) = ends(rt, alloc, new_files(alloc), 1, b"xyz")?;
-    assert!(rt; failed?.status == Status::Failed);
-    let (_, failed) = ends(rt, alloc, files, 1, b"xyz")?;
-    assert!(rt; failed?.status == Status::Failed);
+    let (_, now) = said(rt, alloc, files, &mut Listing)?;
+    assert_eq!(rt; now.as_str(), kept.as_str());
     Ok(())
 }
 
@@ -252,38 +281,12 @@ fn assert_fails_again<R: Threads + Wait + Sync + Abort>(rt: &R, alloc: Global) -
 #[test]
 fn runs_are_told_apart(rt: HostRuntime) -> Result<(), Fail> {
     let alloc = rt.alloc();
-    let (files, kept) = whole_run(&rt, alloc)?;
-    assert_says_its_run(&rt, kept.as_slice());
-    let files = assert_told_apart(&rt, alloc, files)?;
-    let (_, now) = held(alloc, files)?;
-    assert_eq!(rt; now.len(), kept.len());
-    assert_fails_again(&rt, alloc)
-}
-
-/// Three lives of a checkpoint or two that each end in a crash, and one more.
-#[test]
-fn a_step_through_crashes(rt: HostRuntime) -> Result<(), Fail> {
-    let alloc = rt.alloc();
-    let files = new_files(alloc);
-    assert!(rt; files.may_be_used());
-    let step = step_of(alloc, 1)?;
-    let records = records_of(alloc, b"e")?;
-    let last = records_through_crashes(
-        &rt,
-        alloc,
-        files,
-        Options::new(5),
-        &step,
-        gives_back(alloc),
-        &records,
-        Rounds(1),
-        Nobody,
-        &[0, 1, 2],
-        9,
-    );
-    let Some(last) = last else {
-        return Err(Fail::from("an open"));
-    };
-    assert!(rt; ended(last).1);
+    assert_told_apart(&rt, alloc)?;
+    let mut files = new_files(alloc);
+    for _ in 0..2 {
+        let (left, failed) = said(&rt, alloc, files, &mut run_to(b"xyz"))?;
+        assert!(rt; failed.as_str().starts_with("Failed "));
+        files = left;
+    }
     Ok(())
 }

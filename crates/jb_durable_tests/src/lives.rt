@@ -1,0 +1,97 @@
+//! The lives of processes over files, and what they say at their ends.
+//!
+//! Each place where a function hands a connection over files to a call over any store, or lets one go, is dear to prove. So what a life
+//! does is over any store, and `ended` alone has its connection.
+
+ghost use Rattle.std.specs.Thread.{IsSync};
+
+use crate::files::{opened, text_of};
+use jb_durable::LastLife;
+use jb_store::{StoreError, list};
+use sqlite::{Alter, Connection, FileStore, Files};
+use sqlite_disk::Disk;
+use std::alloc::{AllocError, Global};
+use std::sync::Wait;
+use std::test::*;
+use std::thread::Threads;
+
+/// What a process does with its connection.
+pub(crate) trait Life {
+    /// What it says at its end.
+    fn live<R: Threads + Wait + Sync, S: Alter>(
+        &mut self,
+        rt: &R,
+        alloc: Global,
+        conn: &mut Connection<S>,
+    ) -> Result<String, AllocError>
+        requires { IsSync R.row };
+}
+
+/// It says which checkpoints there are.
+#[derive(Drop)]
+pub(crate) struct Listing;
+
+impl Life for Listing {
+    fn live<R: Threads + Wait + Sync, S: Alter>(
+        &mut self,
+        _rt: &R,
+        alloc: Global,
+        conn: &mut Connection<S>,
+    ) -> Result<String, AllocError> {
+        listed(alloc, conn)
+    }
+}
+
+/// A life over a connection, and its end: the files, and what it says.
+pub(crate) fn ended<R: Threads + Wait + Sync, D: Disk + Drop, L: Life>(
+    rt: &R,
+    alloc: Global,
+    mut conn: Connection<FileStore<D>>,
+    life: &mut L,
+) -> (Files<D>, Result<String, AllocError>) {
+    let said = life.live(rt, alloc, &mut conn);
+    (conn.into_store().close(), said)
+}
+
+/// A life over files. Where they can't be opened it says why.
+pub(crate) fn lived<R: Threads + Wait + Sync, D: Disk + Drop, L: Life>(
+    rt: &R,
+    alloc: Global,
+    files: Files<D>,
+    life: &mut L,
+) -> (Files<D>, Result<String, AllocError>) {
+    match opened(alloc, files) {
+        Ok(conn) => ended(rt, alloc, conn, life),
+        Err((error, files)) => (files, named(alloc, error)),
+    }
+}
+
+/// What the last of some lives says: whether the work is done, and the checkpoints.
+pub(crate) fn last_says<R: Threads + Wait + Sync, D: Disk + Drop>(
+    rt: &R,
+    alloc: Global,
+    last: Option<LastLife<D>>,
+) -> Result<String, Fail> {
+    let Some(LastLife { conn, is_done }) = last else {
+        return Err(Fail::from("an open"));
+    };
+    let (_, said) = ended(rt, alloc, conn, &mut Listing);
+    let all = said?;
+    Ok(format!(in alloc; "{is_done} {all}")?)
+}
+
+/// The name of a refusal.
+pub(crate) fn named(alloc: Global, error: StoreError) -> Result<String, AllocError> {
+    format!(in alloc; "{error:?}")
+}
+
+/// The checkpoints that a connection shows, or the name of a refusal.
+pub(crate) fn listed<S: Alter>(
+    alloc: Global,
+    conn: &mut Connection<S>,
+) -> Result<String, AllocError> {
+    match list(alloc, conn) {
+        Ok(all) => text_of(alloc, &all),
+        Err(error) => named(alloc, error),
+    }
+}
