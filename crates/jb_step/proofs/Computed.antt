@@ -31,8 +31,8 @@ use Rattle.jb_step.specs.preparing.Prepare.{IsBegunThen}
 use Rattle.jb_step.specs.preparing.Setup.{Setup, counts_now}
 use Rattle.jb_step.specs.Worked.{CallsOfPrepare, CallsOfOverride, CallsWithoutMemory, AfterReducer, WithoutMemory, WorkedRows, whole_seven, skipped_run, stopped_seven, plan_run, chunks, faulted_rollback, well_rollback}
 use Rattle.jb_step.specs.inside.Below.{LawsBelow}
-use Rattle.jb_step.proofs.Planning.{least-wrapped}
-use Rattle.jb_step.proofs.Steady.{row_waits}
+use Rattle.jb_step.proofs.plans.Planning.{least-wrapped}
+use Rattle.jb_step.proofs.plans.Steady.{row_waits}
 
 -- A PLAN
 

@@ -14,14 +14,14 @@ use Rattle.jb_step.specs.rounds.Rounds.{AreRun, GoQuietly, after_round, after_ro
 use Rattle.jb_step.specs.rounds.Runs.{AreOver, ArePlanRuns, IsOver, IsPlanRun, PlanRun, rounds_of, rounds_run, table_after}
 use Rattle.jb_step.specs.preparing.Setup.{Setup, counts_now, rows_now}
 use Rattle.jb_step.specs.inside.Below.{ChunkLaws, LawsBelow}
-use Rattle.jb_step.proofs.Adding.{after-append, breaks-more, not-last, quiet-both, run-more}
-use Rattle.jb_step.proofs.Apart.{wait-in}
-use Rattle.jb_step.proofs.ChunksInOrder.{all-chunks, block-next, next-chunk}
-use Rattle.jb_step.proofs.Holding.{begins_with_table}
-use Rattle.jb_step.proofs.Leading.{alone_is_one_place, steps_end_alone}
-use Rattle.jb_step.proofs.Staying.{steady-rounds}
-use Rattle.jb_step.proofs.Steady.{IsSteadyTable, steady-table}
-use Rattle.jb_step.proofs.SoFar.{ready-of}
+use Rattle.jb_step.proofs.run.Adding.{after-append, breaks-more, not-last, quiet-both, run-more}
+use Rattle.jb_step.proofs.table.Apart.{wait-in}
+use Rattle.jb_step.proofs.plans.ChunksInOrder.{all-chunks, block-next, next-chunk}
+use Rattle.jb_step.proofs.plans.Holding.{begins_with_table}
+use Rattle.jb_step.proofs.run.Leading.{alone_is_one_place, steps_end_alone}
+use Rattle.jb_step.proofs.plans.Staying.{steady-rounds}
+use Rattle.jb_step.proofs.plans.Steady.{IsSteadyTable, steady-table}
+use Rattle.jb_step.proofs.run.SoFar.{ready-of}
 
 -- ONE PLAN
 

@@ -1,5 +1,5 @@
 -- A run of a step so far.
-use Rattle.std.specs.Prelude.{◌≡◌, ℕ, ◌+◌, ◌≤◌, Bool, false, Option, List, [], ◌++◌, length, MatchOption, map, take}
+use Rattle.std.specs.Prelude.{◌≡◌, ℕ, ◌≤◌, Bool, false, Option, List, [], ◌++◌, length, MatchOption, map}
 use Rattle.jb_cert.specs.Certificates.{Holds, bound_certificate}
 use Rattle.jb_cert.specs.Lawful.{Pair, IsLeast}
 use Rattle.jb_cert.specs.Load.{Load}

@@ -1,4 +1,4 @@
-use Rattle.jb_step.proofs.Apart.{others_dont_count, heard_of_partition, attempts_are_alone}
+use Rattle.jb_step.proofs.table.Apart.{others_dont_count, heard_of_partition, attempts_are_alone}
 use Rattle.jb_step.proofs.laws.others_dont_count.Goals as goal
 
 pub returns-clause-others : goal.returns-clause-others

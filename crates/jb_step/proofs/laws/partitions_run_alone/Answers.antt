@@ -1,4 +1,4 @@
-use Rattle.jb_step.proofs.Leading.{steps_are_on_the_way, steps_end_alone, alone_is_one_place, calm_steps_are_plain}
+use Rattle.jb_step.proofs.run.Leading.{steps_are_on_the_way, steps_end_alone, alone_is_one_place, calm_steps_are_plain}
 use Rattle.jb_step.proofs.laws.partitions_run_alone.Goals as goal
 
 pub returns-clause-on_the_way : goal.returns-clause-on_the_way

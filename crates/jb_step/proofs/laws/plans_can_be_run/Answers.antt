@@ -1,7 +1,7 @@
-use Rattle.jb_step.proofs.ChunksInOrder.{chunks_are_blocks, next_can_run, runs_in_order, runs_all}
-use Rattle.jb_step.proofs.Holding.{begins_with_table, partitions_stay}
-use Rattle.jb_step.proofs.Whole.{ends_whole}
-use Rattle.jb_step.proofs.Starting.{begins_with_rows}
+use Rattle.jb_step.proofs.plans.ChunksInOrder.{chunks_are_blocks, next_can_run, runs_in_order, runs_all}
+use Rattle.jb_step.proofs.plans.Holding.{begins_with_table, partitions_stay}
+use Rattle.jb_step.proofs.plans.Whole.{ends_whole}
+use Rattle.jb_step.proofs.beginning.Starting.{begins_with_rows}
 use Rattle.jb_step.proofs.laws.plans_can_be_run.Goals as goal
 
 pub returns-clause-next : goal.returns-clause-next

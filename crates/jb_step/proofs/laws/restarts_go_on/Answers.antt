@@ -1,4 +1,4 @@
-use Rattle.jb_step.proofs.Restarting.{restarts-fit, restarts-are-on-the-way, restarts-end-alone, restarts-end-as-unstopped}
+use Rattle.jb_step.proofs.restarts.Restarting.{restarts-fit, restarts-are-on-the-way, restarts-end-alone, restarts-end-as-unstopped}
 use Rattle.jb_step.proofs.laws.restarts_go_on.Goals as goal
 
 pub returns-clause-fit : goal.returns-clause-fit

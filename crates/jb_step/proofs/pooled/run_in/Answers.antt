@@ -5,7 +5,7 @@ use Rattle.jb_collect.specs.declared.calls.ReducerCall.{ReducerCall}
 use Rattle.jb_collect.specs.Taken.{Taken, Grew, since}
 use Rattle.jb_step.specs.Answers.{given_back, AreCallsAfter, AreCallsUndone, IsRunOfStep, IsStatus}
 use Rattle.jb_step.specs.Headline.{Headline}
-use Rattle.jb_step.proofs.Pooling.{both-given-back, given-back, same-calls}
+use Rattle.jb_step.proofs.calls.Pooling.{both-given-back, given-back, same-calls}
 use Rattle.jb_step.proofs.pooled.run_in.Goals as goal
 use Rattle.jb_step.proofs.pooled.run_in.OwnLists as own
 

@@ -1,4 +1,4 @@
-use Rattle.jb_step.proofs.Stepping.{status-later}
+use Rattle.jb_step.proofs.run.Stepping.{status-later}
 use Rattle.jb_step.proofs.step.run_step_by.Goals as goal
 
 pub returns-in-Ok-end_step-clause-status : goal.returns-in-Ok-end_step-clause-status

@@ -8,7 +8,7 @@ use Rattle.jb_step.specs.inside.SoFar.{IsRunSoFar, at_first}
 use Rattle.jb_step.specs.inside.Telling.{moment}
 use Rattle.jb_step.specs.rounds.PlanLaws.{IsTaskTable}
 use Rattle.jb_step.proofs.Heading.{headline-of}
-use Rattle.jb_step.proofs.Stepping.{IsLeft, run-is, way-is, heard-fault}
+use Rattle.jb_step.proofs.run.Stepping.{IsLeft, run-is, way-is, heard-fault}
 use Rattle.jb_step.proofs.step.run_tasks.Goals as goal
 
 -- the run that is answered

@@ -1,5 +1,5 @@
 use Rattle.std.proofs.Common.{rules}
-use Rattle.jb_step.proofs.CallsInPart.{undone-in-part, ending-failed-in-part, ending-well-in-part}
+use Rattle.jb_step.proofs.calls.CallsInPart.{undone-in-part, ending-failed-in-part, ending-well-in-part}
 use Rattle.jb_step.proofs.callbacks.reduce.complete.Goals as goal
 
 pub returns-in_err-failed-clause-memory : goal.returns-in_err-failed-clause-memory

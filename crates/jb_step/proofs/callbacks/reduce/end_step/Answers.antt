@@ -1,5 +1,5 @@
 use Rattle.std.proofs.Common.{rules}
-use Rattle.jb_step.proofs.CallsInPart.{undone-in-part}
+use Rattle.jb_step.proofs.calls.CallsInPart.{undone-in-part}
 use Rattle.jb_step.proofs.callbacks.reduce.end_step.Goals as goal
 
 pub returns-in_err-faulted-in-Started-clause-memory : goal.returns-in_err-faulted-in-Started-clause-memory

@@ -1,6 +1,6 @@
 use Rattle.std.proofs.Common.{rules}
-use Rattle.jb_step.proofs.Growing.{grew-more}
-use Rattle.jb_step.proofs.Telling.{place-told, place-faulted}
+use Rattle.jb_step.proofs.calls.Growing.{grew-more}
+use Rattle.jb_step.proofs.calls.Telling.{place-told, place-faulted}
 use Rattle.jb_step.proofs.callbacks.tell.tell_stopped.Goals as goal
 
 pub returns-then-is_some-clause-heard : goal.returns-then-is_some-clause-heard

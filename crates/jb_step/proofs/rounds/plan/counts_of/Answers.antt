@@ -1,6 +1,6 @@
 use Rattle.std.proofs.Common.{map}
 use Rattle.jb_step.specs.inside.Places.{held_in}
-use Rattle.jb_step.proofs.Opening.{now-sound-at}
+use Rattle.jb_step.proofs.beginning.Opening.{now-sound-at}
 use Rattle.jb_step.proofs.rounds.plan.counts_of.Goals as goal
 
 pub remaining-requires-clause-sound : goal.remaining-requires-clause-sound

@@ -6,8 +6,8 @@ use Rattle.jb_cert.specs.WrapAround.{wrapped_rounds}
 use Rattle.jb_chunk.specs.Standing.{TaskState}
 use Rattle.jb_step.specs.preparing.Setup.{Setup, counts_now}
 use Rattle.jb_step.specs.inside.SoFar.{IsPlanFor, plan_of}
-use Rattle.jb_step.proofs.Planning.{least-sets}
-use Rattle.jb_step.proofs.SoFar.{long-plan}
+use Rattle.jb_step.proofs.plans.Planning.{least-sets}
+use Rattle.jb_step.proofs.run.SoFar.{long-plan}
 use Rattle.jb_step.proofs.rounds.plan.new_plan.Goals as goal
 
 -- the wrap-around is a least plan, as sets of chunks

@@ -1,5 +1,5 @@
 use Rattle.std.proofs.Common.{◌≡◌, None, Option, slice_index_or, arith, ap, sym, ◌∙◌, zero-add}
-use Rattle.jb_step.proofs.Placing.{row-at, row_in}
+use Rattle.jb_step.proofs.table.Placing.{row-at, row_in}
 use Rattle.jb_step.proofs.rounds.plan.row_of.Goals as goal
 
 pub returns-in-Some-place : goal.returns-in-Some-place

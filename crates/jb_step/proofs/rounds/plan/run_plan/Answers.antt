@@ -7,9 +7,9 @@ use Rattle.jb_step.specs.preparing.Setup.{Setup}
 use Rattle.jb_step.specs.inside.Places.{held_in}
 use Rattle.jb_step.specs.inside.Round.{Progress, progress}
 use Rattle.jb_step.specs.inside.SoFar.{AreWithin, IsPlanFor, plan_of}
-use Rattle.jb_step.proofs.Growing.{grew-more, grew-none}
-use Rattle.jb_step.proofs.Numbers.{below-of}
-use Rattle.jb_step.proofs.SoFar.{ends, goes-on, long-plan, none-run, open-can-run, opens, ready-of, rises-of, table-round}
+use Rattle.jb_step.proofs.calls.Growing.{grew-more, grew-none}
+use Rattle.jb_step.proofs.table.Numbers.{below-of}
+use Rattle.jb_step.proofs.run.SoFar.{ends, goes-on, long-plan, none-run, open-can-run, opens, ready-of, rises-of, table-round}
 use Rattle.jb_step.proofs.rounds.plan.run_plan.Goals as goal
 use Rattle.jb_step.proofs.rounds.plan.run_plan.Goals.{then-broke, else-broke}
 

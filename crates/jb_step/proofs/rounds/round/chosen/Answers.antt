@@ -3,8 +3,8 @@ use Rattle.jb_cert.specs.Plans.{slot_pair}
 use Rattle.jb_step.specs.rounds.Rounds.{tasks_in}
 use Rattle.jb_step.specs.inside.Places.{picked}
 use Rattle.jb_step.specs.inside.Round.{tasks_of}
-use Rattle.jb_step.proofs.Placing.{in-turn, table, taken-are}
-use Rattle.jb_step.proofs.Splitting.{taken-can, taken-rise}
+use Rattle.jb_step.proofs.table.Placing.{in-turn, table, taken-are}
+use Rattle.jb_step.proofs.run.Splitting.{taken-can, taken-rise}
 use Rattle.jb_step.proofs.rounds.round.chosen.Goals as goal
 
 are : (g : _) (c : goal.In_ok-take_works g) → map g.T.PartitionTask.standing (tasks_of c.take_works.new.works.items) ≡ tasks_in (map slot_pair c.args.slots.now) (table g.T.PartitionTask.standing c.args.places.now.items)

@@ -1,9 +1,9 @@
 use Rattle.std.proofs.Common.{length, map, ap, subst}
 use Rattle.jb_cert.specs.Plans.{slot_pair}
 use Rattle.jb_step.specs.inside.Round.{AreDonesOf}
-use Rattle.jb_step.proofs.Placing.{IsPutBack, in-turn, put-back}
-use Rattle.jb_step.proofs.Rounding.{round-is}
-use Rattle.jb_step.proofs.Splitting.{done-by}
+use Rattle.jb_step.proofs.table.Placing.{IsPutBack, in-turn, put-back}
+use Rattle.jb_step.proofs.run.Rounding.{round-is}
+use Rattle.jb_step.proofs.run.Splitting.{done-by}
 use Rattle.jb_step.proofs.rounds.round.one_round.Goals as goal
 use Rattle.jb_step.proofs.rounds.round.one_round.Goals.{After-put_back}
 

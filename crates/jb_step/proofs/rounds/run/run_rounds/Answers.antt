@@ -2,8 +2,8 @@ use Rattle.std.proofs.Common.{◌≡◌, ℕ, Bool, Option, false, refl, rules, 
 use Rattle.jb_step.specs.preparing.Setup.{Setup}
 use Rattle.jb_step.specs.inside.Round.{Progress}
 use Rattle.jb_step.specs.inside.SoFar.{AreWithin, IsRunSoFar}
-use Rattle.jb_step.proofs.Growing.{grew-more, grew-none}
-use Rattle.jb_step.proofs.SoFar.{none-run, runs-more}
+use Rattle.jb_step.proofs.calls.Growing.{grew-more, grew-none}
+use Rattle.jb_step.proofs.run.SoFar.{none-run, runs-more}
 use Rattle.jb_step.proofs.rounds.run.run_rounds.Goals as goal
 
 -- whether the step stops, by another name

@@ -1,5 +1,5 @@
 use Rattle.jb_step.specs.inside.Preparing.{prepared_setup}
-use Rattle.jb_step.proofs.Holding.{all-begun}
+use Rattle.jb_step.proofs.plans.Holding.{all-begun}
 use Rattle.jb_step.proofs.preparing.prepared.Prepared.begun_rows.Goals as goal
 
 pub returns-clause-begun : goal.returns-clause-begun

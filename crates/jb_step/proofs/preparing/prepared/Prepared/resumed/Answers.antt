@@ -1,4 +1,4 @@
-use Rattle.jb_step.proofs.Beginning.{saved-may-open}
+use Rattle.jb_step.proofs.restarts.Beginning.{saved-may-open}
 use Rattle.jb_step.proofs.preparing.prepared.Prepared.resumed.Goals as goal
 
 pub with_rows-requires : goal.with_rows-requires

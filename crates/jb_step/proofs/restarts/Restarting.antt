@@ -30,15 +30,15 @@ use Rattle.jb_step.specs.preparing.Setup.{Setup, IsSetup, first_tasks, gone_on, 
 use Rattle.jb_step.specs.restarts.StepRuns.{IsAnswered, last_run, tasks_at_last, tasks_through, tasks_unfinished, artifacts_restarted}
 use Rattle.jb_step.specs.Alone.{AreAlone, AreOnTheWay, AreReady, have_ended}
 use Rattle.jb_step.specs.inside.Round.{partitions_of}
-use Rattle.jb_step.proofs.Apart.{pick}
-use Rattle.jb_step.proofs.Filters.{all-back, all-so, filter-again, filter-all, filter-map, map-stays}
-use Rattle.jb_step.proofs.Holding.{all-unfinished, apart-of, begins_with_table, first_from, is_open, none-of}
-use Rattle.jb_step.proofs.Leading.{steps_are_on_the_way, alone-all, alone_is_one_place}
-use Rattle.jb_step.proofs.Leftover.{kept}
-use Rattle.jb_step.proofs.Lookup.{IsIn, are-in, first-now, first_of, length-now, none-now, own-row, row-at, row-is, artifacts-is}
-use Rattle.jb_step.proofs.Numbers.{head-of, tail-of}
-use Rattle.jb_step.proofs.Starting.{IsRowAt, listed}
-use Rattle.jb_step.proofs.SoFar.{ready-of}
+use Rattle.jb_step.proofs.table.Apart.{pick}
+use Rattle.jb_step.proofs.table.Filters.{all-back, all-so, filter-again, filter-all, filter-map, map-stays}
+use Rattle.jb_step.proofs.plans.Holding.{all-unfinished, apart-of, begins_with_table, first_from, is_open, none-of}
+use Rattle.jb_step.proofs.run.Leading.{steps_are_on_the_way, alone-all, alone_is_one_place}
+use Rattle.jb_step.proofs.table.Leftover.{kept}
+use Rattle.jb_step.proofs.table.Lookup.{IsIn, are-in, first-now, first_of, length-now, none-now, own-row, row-at, row-is, artifacts-is}
+use Rattle.jb_step.proofs.table.Numbers.{head-of, tail-of}
+use Rattle.jb_step.proofs.beginning.Starting.{IsRowAt, listed}
+use Rattle.jb_step.proofs.run.SoFar.{ready-of}
 
 -- WHAT ONE RUN GIVES
 

@@ -19,8 +19,8 @@ use Rattle.jb_step.specs.OnePartition.{attempts_at, tasks_at, OthersDontCount, H
 use Rattle.jb_step.specs.rounds.Rounds.{has_partition, tasks_in, attempts_in, attempts_of, after_round, after_rounds, AreRun}
 use Rattle.jb_step.specs.rounds.Runs.{PlanRun, ArePlanRuns, all_attempts, table_after, rounds_of, rounds_run}
 use Rattle.jb_step.specs.preparing.Setup.{Setup}
-use Rattle.jb_step.proofs.Filters.{filter-all, filter-map, filter-swap}
-use Rattle.jb_step.proofs.Steady.{waits, same-partition, row_waits}
+use Rattle.jb_step.proofs.table.Filters.{filter-all, filter-map, filter-swap}
+use Rattle.jb_step.proofs.plans.Steady.{waits, same-partition, row_waits}
 
 -- what passes among the images of what passes
 pub pick : {X Y : Type 0} (q : Y → Bool) (h k : X → Bool) (f : X → Y) → ((x : X) → q (f x) ≡ k x) → (xs : List X) → filter q (map f (filter h xs)) ≡ map f (filter h (filter k xs))

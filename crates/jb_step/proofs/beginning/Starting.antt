@@ -8,10 +8,10 @@ use Rattle.jb_chunk.specs.Standing.{TaskState}
 use Rattle.jb_step.specs.rounds.PlanLaws.{BeginsWithRows}
 use Rattle.jb_step.specs.OnePartition.{tasks_at}
 use Rattle.jb_step.specs.preparing.Setup.{Setup, first_tasks, row_now, unfinished}
-use Rattle.jb_step.proofs.ChunksInOrder.{named, member}
-use Rattle.jb_step.proofs.Filters.{filter-all}
-use Rattle.jb_step.proofs.Holding.{first_from, is_open}
-use Rattle.jb_step.proofs.Lookup.{first-now, none-now}
+use Rattle.jb_step.proofs.plans.ChunksInOrder.{named, member}
+use Rattle.jb_step.proofs.table.Filters.{filter-all}
+use Rattle.jb_step.proofs.plans.Holding.{first_from, is_open}
+use Rattle.jb_step.proofs.table.Lookup.{first-now, none-now}
 
 abbrev pub IsRowAt : List Row → ℕ × Row → Type 0
 IsRowAt rows n = slice_get rows n.0 ≡ Some n.1

@@ -19,9 +19,9 @@ use Rattle.jb_step.specs.rounds.Rounds.{has_partition}
 use Rattle.jb_step.specs.preparing.Setup.{Setup, IsSetup, needs, row_now, unfinished}
 use Rattle.jb_step.specs.inside.Round.{partitions_of}
 use Rattle.jb_step.specs.inside.Starting.{IsRowBegun, AreBegun}
-use Rattle.jb_step.proofs.Apart.{stays}
-use Rattle.jb_step.proofs.Filters.{filter-all, filter-map, filter-swap, rise-lower}
-use Rattle.jb_step.proofs.Numbers.{differ, differ-back}
+use Rattle.jb_step.proofs.table.Apart.{stays}
+use Rattle.jb_step.proofs.table.Filters.{filter-all, filter-map, filter-swap, rise-lower}
+use Rattle.jb_step.proofs.table.Numbers.{differ, differ-back}
 
 abbrev pub is_open : ℕ × Row → Bool
 is_open n = not (is_finished n.1.state)

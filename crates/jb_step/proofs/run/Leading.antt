@@ -13,8 +13,8 @@ use Rattle.jb_step.specs.Laws.{StepsAreOnTheWay, StepsEndAlone, AloneIsOnePlace,
 use Rattle.jb_step.specs.rounds.Rounds.{has_partition, tasks_in, after_round, after_rounds}
 use Rattle.jb_step.specs.rounds.Runs.{table_after, rounds_of}
 use Rattle.jb_step.specs.Alone.{AreOnTheWay, AreAlone, AreReady, have_ended}
-use Rattle.jb_step.proofs.Apart.{AllIn, IsWaiting, all-wait, run-more}
-use Rattle.jb_step.proofs.Steady.{waits, row_waits}
+use Rattle.jb_step.proofs.table.Apart.{AllIn, IsWaiting, all-wait, run-more}
+use Rattle.jb_step.proofs.plans.Steady.{waits, row_waits}
 
 -- what is so of those in a set is so of the first task, if it is in it, and of the others that are
 pub first-so : (P : TaskState → Type 0) (b : Bool) (s : TaskState) (rest : List TaskState) → AllByRecursion P (cond b (s ∷ rest) rest) → b ≡ true → P s

@@ -14,8 +14,8 @@ use Rattle.jb_workers.specs.declared.worker.lane_work.Work.{Work}
 use Rattle.jb_step.specs.Alone.{AreReady}
 use Rattle.jb_step.specs.rounds.Rounds.{CanRun, has_partition, tasks_in}
 use Rattle.jb_step.specs.inside.Round.{tasks_of, partitions_of, AreDonesOf}
-use Rattle.jb_step.proofs.Filters.{filter-all, rise-filter}
-use Rattle.jb_step.proofs.Steady.{row_waits, waits}
+use Rattle.jb_step.proofs.table.Filters.{filter-all, rise-filter}
+use Rattle.jb_step.proofs.plans.Steady.{row_waits, waits}
 
 module _ {T : Type 0} (standing : T → TaskState) where
   abbrev part : Work T → ℕ

@@ -8,9 +8,9 @@ use Rattle.jb_cert.specs.Lawful.{Pair, IsLawful, StandsIn, HasOnePerPartition}
 use Rattle.jb_step.specs.rounds.PlanLaws.{EndsWhole}
 use Rattle.jb_step.specs.preparing.Setup.{counts_now}
 use Rattle.jb_step.specs.inside.Below.{ChunkLaws}
-use Rattle.jb_step.proofs.ChunkNumbers.{has-left}
-use Rattle.jb_step.proofs.ChunksInOrder.{runs-from-ended, number-of-counts}
-use Rattle.jb_step.proofs.Staying.{steady-held}
+use Rattle.jb_step.proofs.plans.ChunkNumbers.{has-left}
+use Rattle.jb_step.proofs.plans.ChunksInOrder.{runs-from-ended, number-of-counts}
+use Rattle.jb_step.proofs.plans.Staying.{steady-held}
 
 -- the first sets of a lawful list of sets are lawful, if each chunk stands in one of them
 module _ (counts : List ℕ) (threads : ℕ) (one more : List (List Pair)) (lawful : IsLawful counts threads (one ++ more)) where

@@ -9,10 +9,10 @@ use Rattle.jb_step.specs.rounds.Rounds.{after_round, after_rounds, has_partition
 use Rattle.jb_step.specs.rounds.Runs.{ArePlanRuns, PlanRun, rounds_of, table_after}
 use Rattle.jb_step.specs.preparing.Setup.{Setup}
 use Rattle.jb_step.specs.inside.Below.{ChunkLaws}
-use Rattle.jb_step.proofs.Apart.{AllIn, IsWaiting, all-wait}
-use Rattle.jb_step.proofs.Holding.{partitions_stay}
-use Rattle.jb_step.proofs.Leading.{first-so, others-so}
-use Rattle.jb_step.proofs.Steady.{IsSteadyIn, IsSteadyTable, next-steady, same-count, steady-table}
+use Rattle.jb_step.proofs.table.Apart.{AllIn, IsWaiting, all-wait}
+use Rattle.jb_step.proofs.plans.Holding.{partitions_stay}
+use Rattle.jb_step.proofs.run.Leading.{first-so, others-so}
+use Rattle.jb_step.proofs.plans.Steady.{IsSteadyIn, IsSteadyTable, next-steady, same-count, steady-table}
 
 steady-one : ChunkLaws → (s : Setup) (b : Bool) (t : TaskState) → IsSteadyIn s t → (b ≡ true → IsWaiting t) → IsSteadyIn s (cond b (attempt_of t).task t)
 steady-one law s true t here waiting = (next-steady law t here.0 (waiting refl), same-count t ∙ here.1)

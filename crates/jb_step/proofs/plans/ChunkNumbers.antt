@@ -5,7 +5,7 @@ use Rattle.std.proofs.lemmas.Bool.{cases_lt}
 use Rattle.std.proofs.lemmas.List.Folds.{Any-from_list_any, list_any_at}
 use Rattle.jb_cert.specs.Lawful.{Pair, IsLawful, StandsIn}
 use Rattle.jb_step.specs.rounds.Rounds.{has_partition}
-use Rattle.jb_step.proofs.Numbers.{itself}
+use Rattle.jb_step.proofs.table.Numbers.{itself}
 
 abbrev pub one_if : Bool → ℕ
 one_if true = 1

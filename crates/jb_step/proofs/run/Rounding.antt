@@ -10,7 +10,7 @@ use Rattle.jb_step.specs.Alone.{AreReady}
 use Rattle.jb_step.specs.rounds.Rounds.{breaks_in}
 use Rattle.jb_step.specs.inside.Round.{IsRound}
 use Rattle.jb_step.specs.inside.Telling.{HearsMore, Moment}
-use Rattle.jb_step.proofs.Placing.{IsPutBack, table}
+use Rattle.jb_step.proofs.table.Placing.{IsPutBack, table}
 
 -- the Dones of the set's tasks were put back, counted, judged and told
 pub round-is : {T : Type 0} (standing : T → TaskState) (set : List Pair) (before after : List (Option T)) (ds : List (Done T)) → IsPutBack standing set before ds after

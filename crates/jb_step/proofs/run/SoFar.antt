@@ -1,5 +1,5 @@
 -- A run of a step so far, by a round more, and by a plan more.
-use Rattle.std.proofs.Common.{◌≡◌, ℕ, ◌+◌, ◌<◌, ◌≤◌, ◌⊎◌, inl, inr, Bool, true, false, not, cond, Option, List, [], ◌∷◌, ◌++◌, length, map, drop, take, refl, ap, sym, ◌∙◌, subst, arith, append-nil, append_assoc, get_or, zero-add}
+use Rattle.std.proofs.Common.{◌≡◌, ℕ, ◌+◌, ◌<◌, ◌⊎◌, inl, inr, Bool, true, false, not, cond, Option, List, [], ◌∷◌, ◌++◌, length, map, drop, take, refl, ap, sym, ◌∙◌, subst, arith, append-nil, append_assoc, get_or, zero-add}
 use Rattle.std.specs.List.{range_with_len}
 use Rattle.std.proofs.lemmas.Bool.{not-false}
 use Rattle.std.proofs.lemmas.Grind.{flat_map-append}
@@ -24,11 +24,11 @@ use Rattle.jb_step.specs.inside.Below.{LawsBelow}
 use Rattle.jb_step.specs.inside.Round.{AreLeft, IsRound, Progress, partitions_of}
 use Rattle.jb_step.specs.inside.SoFar.{AreWithin, IsOpen, IsPlanFor, IsRunSoFar, plan_of, set_of_round}
 use Rattle.jb_step.specs.inside.Telling.{HearsMore}
-use Rattle.jb_step.proofs.Adding.{after-append, attempts-append, breaks-more, over-more, plans-more, run-more}
-use Rattle.jb_step.proofs.ChunksInOrder.{next_can_run}
-use Rattle.jb_step.proofs.Hearing.{hears-more, hears-none}
-use Rattle.jb_step.proofs.Holding.{partitions_stay, rise-needs}
-use Rattle.jb_step.proofs.Steady.{same-count}
+use Rattle.jb_step.proofs.run.Adding.{after-append, attempts-append, breaks-more, over-more, plans-more, run-more}
+use Rattle.jb_step.proofs.plans.ChunksInOrder.{next_can_run}
+use Rattle.jb_step.proofs.calls.Hearing.{hears-more, hears-none}
+use Rattle.jb_step.proofs.plans.Holding.{partitions_stay, rise-needs}
+use Rattle.jb_step.proofs.plans.Steady.{same-count}
 
 -- TABLES
 

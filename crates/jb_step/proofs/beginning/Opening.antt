@@ -10,7 +10,7 @@ use Rattle.jb_step.specs.rounds.PlanLaws.{AreTasksOf}
 use Rattle.jb_step.specs.preparing.Prepare.{FitRows}
 use Rattle.jb_step.specs.preparing.Setup.{Setup, row_now}
 use Rattle.jb_step.specs.inside.Starting.{IsRowBegun, AreBegun, tasks_from, unfinished_from}
-use Rattle.jb_step.proofs.Holding.{now-sound}
+use Rattle.jb_step.proofs.plans.Holding.{now-sound}
 
 -- the artifacts for the rows from the i-th on are for that row and those behind it
 pub fit-at : (rows : List Row) (i : ℕ) (d : Row) (len : ℕ) (artifacts : List ArtifactsMeaning) → i < length rows → len ≡ i → FitRows (unfinished_from i (drop i rows)) artifacts → (rest : List Row) × FitRows (unfinished_from len (get_or rows i d ∷ rest)) artifacts

@@ -1,5 +1,5 @@
 -- From the rounds of a step to its end.
-use Rattle.std.proofs.Common.{◌≡◌, ℕ, ◌+◌, ◌*◌, Bool, true, false, ◌||◌, Option, Some, None, List, [], ◌∷◌, ◌++◌, length, ap, sym, ◌∙◌, subst, arith, zero-add}
+use Rattle.std.proofs.Common.{◌≡◌, ◌+◌, ◌*◌, Bool, true, false, ◌||◌, Option, Some, None, List, [], ◌∷◌, ◌++◌, length, ap, sym, ◌∙◌, subst, arith, zero-add}
 use Rattle.std.specs.Prelude.{MatchOption, if◌then◌else◌, is_some}
 use Rattle.std.proofs.lemmas.List.{length-map}
 use Rattle.jb_base.specs.declared.class.ClassId.{ClassId}
@@ -22,9 +22,9 @@ use Rattle.jb_step.specs.inside.Below.{LawsBelow}
 use Rattle.jb_step.specs.inside.Round.{AreLeft, Progress, partitions_of}
 use Rattle.jb_step.specs.inside.SoFar.{AreWithin, IsRunSoFar, at_first}
 use Rattle.jb_step.specs.inside.Telling.{HearsMore, Moment, moment}
-use Rattle.jb_step.proofs.Hearing.{hears-more}
-use Rattle.jb_step.proofs.Leftover.{left-again}
-use Rattle.jb_step.proofs.Leading.{steps_are_on_the_way}
+use Rattle.jb_step.proofs.calls.Hearing.{hears-more}
+use Rattle.jb_step.proofs.table.Leftover.{left-again}
+use Rattle.jb_step.proofs.run.Leading.{steps_are_on_the_way}
 
 -- THE ANALYZER'S FAULT
 

@@ -11,7 +11,7 @@ use Rattle.jb_step.specs.Alone.{AreOnTheWay}
 use Rattle.jb_step.specs.Answers.{artifacts_of, newer, task_left, tasks_left}
 use Rattle.jb_step.specs.preparing.Setup.{needs, rows_now}
 use Rattle.jb_step.specs.inside.Round.{partitions_of}
-use Rattle.jb_step.proofs.Lookup.{IsIn, are-in, own-row, own-artifacts}
+use Rattle.jb_step.proofs.table.Lookup.{IsIn, are-in, own-row, own-artifacts}
 
 -- what an attempt leaves as it is, a way leaves as it is
 pub kept : {A : Type 0} (part : TaskState → A) → ((t : TaskState) → part (attempt_of t).task ≡ part t) → (t u : TaskState) → IsOnTheWay t u → part u ≡ part t

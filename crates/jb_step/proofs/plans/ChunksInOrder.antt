@@ -23,16 +23,16 @@ use Rattle.jb_step.specs.OnePartition.{tasks_at}
 use Rattle.jb_step.specs.rounds.Rounds.{AreRun, CanRun, GoQuietly, after_round, after_rounds, breaks_in, has_partition, has_task, is_commit, tasks_in}
 use Rattle.jb_step.specs.preparing.Setup.{Setup, row_now, counts_now}
 use Rattle.jb_step.specs.inside.Below.{ChunkLaws}
-use Rattle.jb_step.proofs.Adding.{quiet-parts}
-use Rattle.jb_step.proofs.Apart.{IsWaiting, all-waiting, stays, wait-in}
-use Rattle.jb_step.proofs.ChunkNumbers.{chunk-in, first-is, has-left, one_if, runs_of}
-use Rattle.jb_step.proofs.Holding.{apart-of, rest-of}
-use Rattle.jb_step.proofs.Leading.{first-so, others-so}
-use Rattle.jb_step.proofs.Lookup.{first-now, first_of, look-one, none-now}
-use Rattle.jb_step.proofs.Filters.{each-passes, filter-all}
-use Rattle.jb_step.proofs.Staying.{steady-held, steady-rounds}
-use Rattle.jb_step.proofs.Steady.{IsSteady, IsSteadyIn, IsSteadyTable, due, due-next, due-number, due-waiting, due-waits, listing, next-list, waits, row_waits}
-use Rattle.jb_step.proofs.Numbers.{itself}
+use Rattle.jb_step.proofs.run.Adding.{quiet-parts}
+use Rattle.jb_step.proofs.table.Apart.{IsWaiting, all-waiting, stays, wait-in}
+use Rattle.jb_step.proofs.plans.ChunkNumbers.{chunk-in, first-is, has-left, one_if, runs_of}
+use Rattle.jb_step.proofs.plans.Holding.{apart-of, rest-of}
+use Rattle.jb_step.proofs.run.Leading.{first-so, others-so}
+use Rattle.jb_step.proofs.table.Lookup.{first-now, first_of, look-one, none-now}
+use Rattle.jb_step.proofs.table.Filters.{each-passes, filter-all}
+use Rattle.jb_step.proofs.plans.Staying.{steady-held, steady-rounds}
+use Rattle.jb_step.proofs.plans.Steady.{IsSteady, IsSteadyIn, IsSteadyTable, due, due-next, due-number, due-waiting, due-waits, listing, next-list, waits, row_waits}
+use Rattle.jb_step.proofs.table.Numbers.{itself}
 
 -- ONE PARTITION OF A TABLE
 

@@ -10,8 +10,8 @@ use Rattle.jb_chunk.specs.declared.outcome.Done.{Done}
 use Rattle.jb_collect.specs.Heard.{collected_calls, ended_calls, endings_of, heard_in}
 use Rattle.jb_step.specs.rounds.Rounds.{CanRun, has_task, tasks_in}
 use Rattle.jb_step.specs.inside.Places.{ArePlaced}
-use Rattle.jb_step.proofs.Placing.{at, firsts, table, taken-are}
-use Rattle.jb_step.proofs.Numbers.{same-number}
+use Rattle.jb_step.proofs.table.Placing.{at, firsts, table, taken-are}
+use Rattle.jb_step.proofs.table.Numbers.{same-number}
 
 none-more : {X : Type 0} (here there rest : Bool) (x : X) (xs : List X) → here ≡ there → cond (here || false) (x ∷ xs) xs ≡ [] → (xs ≡ [] → rest ≡ true → ⊥) → (there || rest) ≡ true → ⊥
 none-more true there rest x xs same e k h = absurd cc

@@ -1,0 +1,5 @@
+pub mod CallsInPart
+pub mod Growing
+pub mod Hearing
+pub mod Pooling
+pub mod Telling
