@@ -9,12 +9,12 @@ use Rattle.csv.specs.declared.parser.Config.{Config}
 use Rattle.sqlite.specs.Tree.{Trees}
 use Rattle.jb_csv_job.specs.Kept.{IsJobSoFar}
 use Rattle.jb_durable.specs.Files.{IsOfARun}
-use Rattle.jb_durable_records.specs.Checkpoints.{IsRunSoFar, form_of}
-use Rattle.jb_durable_records.specs.Form.{Form, form_text}
+use Rattle.jb_records_checkpoints.specs.Checkpoints.{IsRunSoFar, form_of}
+use Rattle.jb_records_checkpoints.specs.Form.{Form, form_text}
 use Rattle.jb_ready.specs.Csv.{AreRowsOf, csv_row}
 use Rattle.jb_records.specs.Function.{Function}
 use Rattle.jb_records.specs.declared.step.RecordsStep.{RecordsStep}
-use Rattle.jb_store.specs.Checkpoints.{Kept}
+use Rattle.jb_checkpoint.specs.Checkpoints.{Kept}
 
 -- ---- FILES ARE READ IN ONE WAY ONLY
 

@@ -1,12 +1,12 @@
 -- What the file of a job over CSV keeps.
 use Rattle.std.specs.Prelude.{ℕ, ◌≡◌, List, Option, Some, length}
 use Rattle.jb_csv_job.specs.declared.job.CsvJob.{CsvJob}
-use Rattle.jb_durable_records.specs.Checkpoints.{IsRunSoFar, form_of}
-use Rattle.jb_durable_records.specs.Form.{Form}
+use Rattle.jb_records_checkpoints.specs.Checkpoints.{IsRunSoFar, form_of}
+use Rattle.jb_records_checkpoints.specs.Form.{Form}
 use Rattle.jb_ready.specs.Csv.{AreRowsOf}
 use Rattle.jb_records.specs.Function.{Function}
 use Rattle.jb_records.specs.declared.step.RecordsStep.{RecordsStep}
-use Rattle.jb_store.specs.Checkpoints.{Kept}
+use Rattle.jb_checkpoint.specs.Checkpoints.{Kept}
 
 -- the form of its step over so many records, which no number of threads changes
 abbrev pub job_form : CsvJob → (records : ℕ) → Form

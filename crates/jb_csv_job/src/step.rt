@@ -3,7 +3,7 @@
 ghost use Rattle.std.specs.Prelude.{◌≡◌, ◌≤◌, ℕ, IfOk};
 ghost use Rattle.jb_base.specs.Limits.{max_threads_asked};
 ghost use Rattle.jb_csv_job.specs.Kept.{job_form};
-ghost use Rattle.jb_durable_records.specs.Checkpoints.{form_of};
+ghost use Rattle.jb_records_checkpoints.specs.Checkpoints.{form_of};
 
 use crate::job::CsvJob;
 use jb_base::Name;

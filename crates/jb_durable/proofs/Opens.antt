@@ -24,7 +24,8 @@ use Rattle.sqlite.specs.Files.{AreFoundIn, HoldsDatabase, IsNothing, LeavesFiles
 use Rattle.sqlite.specs.Schema.{Schema}
 use Rattle.sqlite.specs.declared.file.Leftover.{Leftover}
 use Rattle.sqlite.specs.declared.file.Leftover.TheVariants as left
-use Rattle.jb_store.specs.Checkpoints.{Has, Kept}
+use Rattle.jb_store.specs.Checkpoints.{Has}
+use Rattle.jb_checkpoint.specs.Checkpoints.{Kept}
 use Rattle.jb_store.specs.Form.{checkpoint_schema, no_schema}
 use Rattle.jb_durable.specs.Files.{CanGoOn, IsResumable, HoldsPages, HoldsRun, HoldsRunOrNone, HoldsWhole, IsOfARun, Leaves, LeavesImage, MayGoOn, has_store}
 use Rattle.jb_durable.proofs.Pages.{pages_once, something, stands_pages}

@@ -3,7 +3,7 @@ use Rattle.std.proofs.Common.{true, false, List, IsTrue}
 use Rattle.sqlite_disk.specs.declared.Disk.{Ghosts}
 use Rattle.sqlite_disk.specs.declared.Files.{Files}
 use Rattle.sqlite_wal.specs.Reads.{AreClean}
-use Rattle.jb_store.specs.Checkpoints.{Kept}
+use Rattle.jb_checkpoint.specs.Checkpoints.{Kept}
 use Rattle.jb_durable.specs.declared.stop.Life.{Life}
 use Rattle.jb_durable.specs.Files.{HoldsRun, MayGoOn}
 use Rattle.jb_durable.specs.Lives.{IsLifeOver, Leads}

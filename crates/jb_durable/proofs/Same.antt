@@ -1,7 +1,7 @@
 -- The same work, call after call.
 use Rattle.std.proofs.Common.{ℕ, List}
 use Rattle.sqlite.specs.State.{State}
-use Rattle.jb_store.specs.Checkpoints.{Kept}
+use Rattle.jb_checkpoint.specs.Checkpoints.{Kept}
 use Rattle.jb_durable.specs.Works.{IsSame, StandsAt}
 
 pub same_self : (a : List Kept → Type 0) → IsSame a a

@@ -6,7 +6,7 @@ use Rattle.sqlite_disk.specs.declared.Files.{Files}
 use Rattle.sqlite_trees.specs.Tree.{Trees}
 use Rattle.sqlite_wal.specs.Reads.{AreClean}
 use Rattle.sqlite_wal.specs.Recovery.{Image}
-use Rattle.jb_store.specs.Checkpoints.{Kept}
+use Rattle.jb_checkpoint.specs.Checkpoints.{Kept}
 use Rattle.jb_durable.specs.Files.{CanGoOn, IsResumable, HoldsRun, HoldsRunOrNone, HoldsWhole, IsOfARun, Leaves, MayGoOn}
 use Rattle.jb_durable.specs.declared.stop.Life.{Life}
 use Rattle.jb_durable.specs.Lives.{IsLifeOver}

@@ -18,7 +18,8 @@ use Rattle.sqlite.specs.declared.file.Leftover.{Leftover}
 use Rattle.sqlite.specs.declared.file.Leftover.TheVariants as left
 use Rattle.sqlite.specs.Files.{IsNothing}
 use Rattle.sqlite.specs.Opening.{HoldsAt}
-use Rattle.jb_store.specs.Checkpoints.{Kept, Has}
+use Rattle.jb_checkpoint.specs.Checkpoints.{Kept}
+use Rattle.jb_store.specs.Checkpoints.{Has}
 
 -- the database has the checkpoints of a run so far
 abbrev pub IsOfARun : (so_far : List Kept → Type 0) → Trees → Type 0

@@ -1,18 +1,12 @@
 -- Work that goes on from its checkpoints.
-use Rattle.std.specs.Prelude.{◌≡◌, ◌↔◌, ◌≤◌, ◌-◌, ◌^◌, ℕ, List, [], ◌∷◌, ◌++◌, length, Option, Some, None}
+use Rattle.std.specs.Prelude.{◌≡◌, ◌↔◌, ◌≤◌, ◌-◌, ◌^◌, ℕ, List, length}
 use Rattle.sqlite.specs.State.{State}
-use Rattle.jb_store.specs.declared.checkpoint.Checkpoint.{Checkpoint}
-use Rattle.jb_store.specs.Checkpoints.{Kept, kept}
+use Rattle.jb_checkpoint.specs.Checkpoints.{Kept}
 use Rattle.jb_store.specs.Connections.{Keeps}
 
 -- it is the same work: the same lists are its own, before a call and after it
 abbrev pub IsSame : (before after : List Kept → Type 0) → Type 0
 IsSame before after = (all : List Kept) → before all ↔ after all
-
--- WHAT A STRETCH DOES: one checkpoint is added, behind which the work then stands; or none, where the run was whole
-abbrev pub GoesOn : (so_far whole stands : List Kept → Type 0) → List Kept → Option Checkpoint → Type 0
-GoesOn so_far whole stands all None = whole all × stands all
-GoesOn so_far whole stands all (Some next) = so_far (all ++ kept next ∷ []) × stands (all ++ kept next ∷ [])
 
 -- the work stands at these checkpoints, so many, and the connection keeps them
 pub record StandsAt (so_far stands : List Kept → Type 0) (s : State) (count : ℕ) (all : List Kept) : Type 0 where

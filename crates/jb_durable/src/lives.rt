@@ -1,7 +1,7 @@
 //! Lives of a process, each ended by a crash, and the last one.
 
 ghost use Rattle.std.specs.Prelude.{IfSome, IsTrue, List};
-ghost use Rattle.jb_store.specs.Checkpoints.{Kept};
+ghost use Rattle.jb_checkpoint.specs.Checkpoints.{Kept};
 ghost use Rattle.jb_store.specs.Connections.{Keeps};
 ghost use Rattle.jb_durable.specs.Files.{HoldsRunOrNone, Leaves};
 ghost use Rattle.sqlite.specs.Files.{file_state};

@@ -1,7 +1,7 @@
 //! The disk of one life.
 
 ghost use Rattle.std.specs.Prelude.{◌≡◌, ℕ, Bool, true, false, List, IsTrue};
-ghost use Rattle.jb_store.specs.Checkpoints.{Kept};
+ghost use Rattle.jb_checkpoint.specs.Checkpoints.{Kept};
 
 use sqlite_disk::{Crash, Disk, Tally};
 use std::io;

@@ -1,8 +1,8 @@
 //! Work that is done a stretch at a time.
 
 ghost use Rattle.std.specs.Prelude.{List, map, IfOk, OnOk};
-ghost use Rattle.jb_store.specs.Checkpoints.{Kept, kept};
-ghost use Rattle.jb_durable.specs.Works.{GoesOn, IsSame};
+ghost use Rattle.jb_checkpoint.specs.Checkpoints.{GoesOn, Kept, kept};
+ghost use Rattle.jb_durable.specs.Works.{IsSame};
 
 use jb_store::Checkpoint;
 use std::alloc::Global;

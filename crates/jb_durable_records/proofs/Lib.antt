@@ -1,11 +1,4 @@
-pub mod Each
-pub mod Codings
-pub mod Read
-pub mod Forms
-pub mod Feeding
-pub mod Growing
-pub mod Telling
-pub mod Behind
+pub mod Ending
 pub mod Filing
 pub mod Resting
 pub mod Causing

@@ -1,6 +1,2 @@
-pub mod Coding
-pub mod Form
-pub mod Checkpoints
 pub mod Work
 pub mod Refusals
-pub mod Pacing

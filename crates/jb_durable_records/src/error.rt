@@ -1,13 +1,11 @@
 //! Why a step over records has no end in its file.
 
 ghost use Rattle.std.specs.Prelude.{◌≡◌};
-ghost use Rattle.jb_records.specs.declared.error.RecordsStepError.TheVariants.{Step as StepFault};
 ghost use Rattle.jb_durable_records.specs.Refusals.{named};
-ghost use Rattle.jb_durable_records.specs.declared.error.DurableError.TheVariants.{Memory, Step, Store};
+ghost use Rattle.jb_durable_records.specs.declared.error.DurableError.TheVariants.{Memory, Store};
 
-use crate::coding::CodingError;
 use jb_records::RecordsStepError;
-use jb_step::StepError;
+use jb_records_checkpoints::CheckpointError;
 use jb_store::StoreError;
 use std::alloc::{AllocError, AllocFailed};
 use thiserror::Error;
@@ -57,22 +55,6 @@ impl<T: Drop> From<AllocFailed<T>> for DurableError {
     }
 }
 
-impl From<RecordsStepError> for DurableError {
-    ghost from_gives = { λ error e. e ≡ Step error };
-
-    fn from(error: RecordsStepError) -> DurableError {
-        DurableError::Step(error)
-    }
-}
-
-impl From<StepError> for DurableError {
-    ghost from_gives = { λ error e. e ≡ Step (StepFault error) };
-
-    fn from(error: StepError) -> DurableError {
-        DurableError::Step(RecordsStepError::Step(error))
-    }
-}
-
 impl From<StoreError> for DurableError {
     ghost from_gives = { λ error e. e ≡ Store error };
 
@@ -81,14 +63,17 @@ impl From<StoreError> for DurableError {
     }
 }
 
-impl From<CodingError> for DurableError {
+impl From<CheckpointError> for DurableError {
     ghost from_gives = { λ error e. e ≡ named error };
 
-    fn from(error: CodingError) -> DurableError {
+    fn from(error: CheckpointError) -> DurableError {
         match error {
-            CodingError::TooLong => DurableError::TooLong,
-            CodingError::Damaged => DurableError::Damaged,
-            CodingError::Memory => DurableError::Memory,
+            CheckpointError::OtherJob => DurableError::OtherJob,
+            CheckpointError::OtherRecords => DurableError::OtherRecords,
+            CheckpointError::Damaged => DurableError::Damaged,
+            CheckpointError::TooLong => DurableError::TooLong,
+            CheckpointError::Step(error) => DurableError::Step(error),
+            CheckpointError::Memory => DurableError::Memory,
         }
     }
 }

@@ -11,24 +11,27 @@ ghost use Rattle.jb_step.specs.Statuses.{status_of};
 ghost use Rattle.jb_records.specs.declared.step.RecordsStep.{RecordsStep as StepOfRecords};
 ghost use Rattle.jb_records.specs.Function.{Function, all_results};
 ghost use Rattle.jb_records.specs.Shares.{AreAtTheirEnds, IsSoFar, joined};
-ghost use Rattle.jb_store.specs.Checkpoints.{Has, Kept, ShowsList};
+ghost use Rattle.jb_store.specs.Checkpoints.{Has, ShowsList};
+ghost use Rattle.jb_checkpoint.specs.Checkpoints.{Kept};
 ghost use Rattle.jb_store.specs.Connections.{IsJustOpened, Keeps};
 ghost use Rattle.jb_durable.specs.Files.{IsOfARun};
-ghost use Rattle.jb_durable_records.specs.Checkpoints.{IsRunSoFar, IsWholeRun};
-ghost use Rattle.jb_durable_records.specs.Refusals.{IsCauseOfNoEnd, IsDamaged, IsGoneCause, IsOfAStretch, IsOtherJob, IsOverOthers, IsUntaken, OtherRun};
-ghost use Rattle.jb_durable_records.specs.Work.{IsAtRest, IsRunDone, IsTold};
+ghost use Rattle.jb_records_checkpoints.specs.Checkpoints.{IsRunSoFar, IsWholeRun};
+ghost use Rattle.jb_durable_records.specs.Refusals.{IsCauseOfNoEnd, IsGoneCause, IsOfAStretch, IsUntaken};
+ghost use Rattle.jb_records_checkpoints.specs.Refusals.{IsDamaged, IsOtherJob, IsOverOthers, OtherRun};
+ghost use Rattle.jb_durable_records.specs.Work.{IsAtRest};
+ghost use Rattle.jb_records_checkpoints.specs.Work.{IsRunDone, IsTold};
 ghost use Rattle.jb_durable_records.specs.declared.error.DurableError.TheVariants.{Damaged, OtherJob, OtherRecords, TooMany};
 ghost use Rattle.jb_durable_records.specs.declared.run.Pause.TheVariants.{Failed as Failing, Stretches, Whole};
-ghost use Rattle.jb_durable_records.specs.declared.place.Stage.TheVariants.{Underway};
+ghost use Rattle.jb_records_checkpoints.specs.declared.place.Stage.TheVariants.{Underway};
 
 use crate::error::DurableError;
 use crate::onlooker::{Onlooker, progress_of};
-use crate::pace::Pace;
-use crate::place::{Place, Stage};
-use crate::taking_up::taken_up;
 use jb_base::PackedList;
 use jb_collect::Status;
-use jb_records::{RecordFunction, RecordsRun, RecordsStep, Standing, steps_keep_results};
+use jb_records::{RecordFunction, RecordsRun, RecordsStep, Standing};
+use jb_records_checkpoints::{
+    Pace, Place, Stage, checkpoints_have_results, places_have_results, taken_up,
+};
 use jb_rules::Row;
 use jb_store::{append, begin};
 use sqlite::{Alter, Connection};
@@ -231,6 +234,7 @@ fn ended<F: RecordFunction + Drop>(
     ensures own { IfErr result IsOfAStretch }
     ensures cause { IfErr result (λ e. (e ≡ TooMany) × (pause ≡ Stretches)) }
 {
+    places_have_results();
     let status = match pause {
         Pause::Whole => Status::Completed,
         Pause::Failed => Status::Failed,
@@ -298,7 +302,8 @@ pub fn run_records_durably<
         → IsRunSoFar (F.function function) step.now records.now all
         → (db : _) → (state S.Store conn.new).may_leave db → IsOfARun (IsRunSoFar (F.function function) step.now records.now) db }
 {
-    steps_keep_results();
+    checkpoints_have_results();
+    places_have_results();
     let function = Arc::new(alloc, function)?;
     let mut pace = pace;
     let mut onlooker = onlooker;

@@ -32,7 +32,8 @@ use Rattle.sqlite.proofs.Callers.{IsPlain, command_of}
 use Rattle.jb_store.specs.declared.error.StoreError.{StoreError}
 use Rattle.jb_store.specs.Errors.{refusal_named, IsCaused}
 use Rattle.jb_store.specs.Form.{checkpoint, checkpoint_schema}
-use Rattle.jb_store.specs.Checkpoints.{HasNumber, HoldsList, IsTooLong, Kept, stored}
+use Rattle.jb_store.specs.Checkpoints.{HasNumber, HoldsList, IsTooLong, stored}
+use Rattle.jb_checkpoint.specs.Checkpoints.{Kept}
 use Rattle.sqlite.specs.Schema.{Schema}
 use Rattle.sqlite.specs.Edit.{Edit, edit_of}
 use Rattle.sqlite.specs.Rowids.TheVariants.{Chosen}

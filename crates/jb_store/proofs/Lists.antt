@@ -11,7 +11,8 @@ use Rattle.sqlite_value.proofs.OrderLemmas.{value_cmp-Int}
 use Rattle.sqlite_trees.specs.Tree.{rowid, put_row, IsAscending}
 use Rattle.sqlite_rules.specs.Edit.{is_taken}
 use Rattle.sqlite_sql.specs.Query.{Output, output, output_cmp}
-use Rattle.jb_store.specs.Checkpoints.{HasNumber, Kept, stored, shown, stored_from, shown_from}
+use Rattle.jb_store.specs.Checkpoints.{HasNumber, stored, shown, stored_from, shown_from}
+use Rattle.jb_checkpoint.specs.Checkpoints.{Kept}
 use Rattle.jb_store.proofs.Texts.{query}
 
 -- a row whose number is free is one row more

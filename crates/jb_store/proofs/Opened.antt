@@ -8,7 +8,8 @@ use Rattle.sqlite_trees.specs.Objects.{catalog_tree}
 use Rattle.sqlite_catalog.specs.Listing.{IsSound}
 use Rattle.sqlite_catalog.proofs.ReadLemmas.{lists_once}
 use Rattle.jb_store.specs.Form.{checkpoint_schema, no_schema}
-use Rattle.jb_store.specs.Checkpoints.{Kept, AreIn, HoldsList, StandsFor, Has, ShowsList}
+use Rattle.jb_checkpoint.specs.Checkpoints.{Kept}
+use Rattle.jb_store.specs.Checkpoints.{AreIn, HoldsList, StandsFor, Has, ShowsList}
 use Rattle.jb_store.specs.Connections.{IsJustOpened, Keeps}
 
 pub apart : checkpoint_schema ≡ no_schema → ⊥

@@ -26,7 +26,8 @@ use Rattle.sqlite.specs.Clock.{timed}
 use Rattle.sqlite.specs.State.{State, HasCleanDisk, IsUnchanged, Survives, Shown, ShowsRows, CommitsShowing}
 use Rattle.sqlite.proofs.Callers.{IsPlain, reads_as, never_commits}
 use Rattle.jb_store.specs.Form.{checkpoint, checkpoint_schema}
-use Rattle.jb_store.specs.Checkpoints.{Kept, AreIn, stored, stored_from, shown_from}
+use Rattle.jb_checkpoint.specs.Checkpoints.{Kept}
+use Rattle.jb_store.specs.Checkpoints.{AreIn, stored, stored_from, shown_from}
 use Rattle.jb_store.proofs.Texts.{select_text, query, select_is, select_plain}
 use Rattle.jb_store.proofs.Lists.{out, shown_of, rises}
 

@@ -1,33 +1,54 @@
 -- The rows that are read, one by one.
-use Rattle.std.proofs.Common.{◌≡◌, ◌+◌, ◌<◌, ◌++◌, ℕ, zero, suc, List, [], ◌∷◌, length, map, take, get_or, refl, sym, ap, ◌∙◌, arith}
-use Rattle.std.proofs.lemmas.List.{map-append, take_more, length-map}
+use Rattle.std.proofs.Common.{◌≡◌, ◌+◌, ◌<◌, ◌++◌, ℕ, suc, pos, List, [], ◌∷◌, length, map, take, get_or, refl, sym, ap, ◌∙◌}
+use Rattle.std.specs.List.{AllByRecursion}
+use Rattle.std.proofs.lemmas.List.{map-append, take_more}
 use Rattle.sqlite_value.specs.Order.{Row}
-use Rattle.jb_store.specs.declared.checkpoint.Checkpoint.{Checkpoint}
-use Rattle.jb_store.specs.Checkpoints.{Kept, kept, shown, shown_from}
+use Rattle.jb_checkpoint.specs.declared.numbered.NumberedCheckpoint.{NumberedCheckpoint}
+use Rattle.jb_checkpoint.specs.Checkpoints.{Kept, Numbered, numbered, numbered_from}
+use Rattle.jb_checkpoint.specs.declared.numbered.ListError.{ListError}
+use Rattle.jb_checkpoint.specs.declared.numbered.ListError.TheVariants as list
+use Rattle.jb_store.specs.Checkpoints.{row_of, shown_from}
+use Rattle.jb_store.specs.Errors.{list_refusal}
+use Rattle.jb_store.specs.declared.error.StoreError.TheVariants.{Gap}
 
-pub length-shown_from : (number : ℕ) (all : List Kept) → length (shown_from number all) ≡ length all
-length-shown_from number [] = refl
-length-shown_from number (it ∷ more) = ap (λ n. suc n) (length-shown_from (suc number) more)
+-- the rows of a list
+pub rows_of_list : (number : ℕ) (all : List Kept) → map row_of (numbered_from number all) ≡ shown_from number all
+rows_of_list number [] = refl
+rows_of_list number (it ∷ more) = ap (λ rows. row_of (record { number = pos number; it = it }) ∷ rows) (rows_of_list (suc number) more)
 
-pub shown_at : (number : ℕ) (all : List Kept) (at : ℕ) (d : Row) (e : Kept) → at < length all → get_or (shown_from number all) at d ≡ shown (number + at) (get_or all at e)
-shown_at number [] at d e lt = absurd (omega arith)
-shown_at number (it ∷ more) zero d e lt = ap (λ n. shown n it) (omega arith)
-shown_at number (it ∷ more) (suc at) d e lt =
-    let on : suc number + at ≡ number + suc at = omega arith in
-    shown_at (suc number) more at d e (omega arith) ∙ ap (λ n. shown n (get_or more at e)) on
+-- each has three values
+pub are_wide : (number : ℕ) (all : List Kept) → AllByRecursion (λ row. length row ≡ 3) (shown_from number all)
+are_wide number [] = tt
+are_wide number (it ∷ more) = (refl, are_wide (suc number) more)
 
-pub shown_push : (number : ℕ) (all : List Kept) (it : Kept) → shown_from number (all ++ it ∷ []) ≡ shown_from number all ++ shown (number + length all) it ∷ []
-shown_push number [] it = ap (λ n. shown n it ∷ []) (omega arith)
-shown_push number (x ∷ all) it =
-    let next : suc number + length all ≡ number + length (x ∷ all) = omega arith in
-    ap (λ rows. shown number x ∷ rows) (shown_push (suc number) all it ∙ ap (λ n. shown_from (suc number) all ++ shown n it ∷ []) next)
+-- a row is that of one number and checkpoint
+one_row : (a b : Numbered) → row_of a ≡ row_of b → a ≡ b
+one_row a b is =
+    let number : a.number ≡ b.number = cc in
+    let saved : a.it.saved ≡ b.it.saved = cc in
+    let results : a.it.results ≡ b.it.results = cc in
+    λ i. record { number = number i; it = record { saved = saved i; results = results i } }
 
--- a row more that shows the next checkpoint
-pub push_shown : (rows : List Row) (done : List Checkpoint) (at : ℕ) (c : Checkpoint) (d : Row) → at < length rows → length done ≡ at → take at rows ≡ shown_from 1 (map kept done)
-    → get_or rows at d ≡ shown (at + 1) (kept c) → take (at + 1) rows ≡ shown_from 1 (map kept (done ++ c ∷ []))
-push_shown rows done at c d lt long so is =
-    let place : at + 1 ≡ 1 + length (map kept done) = omega (arith, long, length-map done kept) in
-    take_more rows at d lt ∙ (λ i. so i ++ (is ∙ ap (λ n. shown n (kept c)) place) i ∷ []) ∙ sym (shown_push 1 (map kept done) (kept c)) ∙ ap (shown_from 1) (sym (map-append kept done (c ∷ [])))
+pub rows_once : (xs ys : List Numbered) → map row_of xs ≡ map row_of ys → xs ≡ ys
+rows_once [] [] is = refl
+rows_once [] (y ∷ ys) is = let none : [] ≡ row_of y ∷ map row_of ys = is in absurd cc
+rows_once (x ∷ xs) [] is = let none : row_of x ∷ map row_of xs ≡ [] = is in absurd cc
+rows_once (x ∷ xs) (y ∷ ys) is =
+    let both : row_of x ∷ map row_of xs ≡ row_of y ∷ map row_of ys = is in
+    let first : row_of x ≡ row_of y = cc in
+    let more : map row_of xs ≡ map row_of ys = cc in
+    λ i. one_row x y first i ∷ rows_once xs ys more i
+
+-- a row more
+pub push_row : (rows : List Row) (found : List NumberedCheckpoint) (at : ℕ) (c : NumberedCheckpoint) (d : Row) → at < length rows → take at rows ≡ map row_of (map numbered found)
+    → get_or rows at d ≡ row_of (numbered c) → take (at + 1) rows ≡ map row_of (map numbered (found ++ c ∷ []))
+push_row rows found at c d lt so is =
+    take_more rows at d lt ∙ (λ i. so i ++ is i ∷ []) ∙ sym (map-append row_of (map numbered found) (numbered c ∷ [])) ∙ ap (map row_of) (sym (map-append numbered found (c ∷ [])))
+
+-- a gap is told only where one was found
+pub is_gap : (e : ListError) → list_refusal e ≡ Gap → e ≡ list.Gap
+is_gap list.Gap is = refl
+is_gap list.Memory is = let none : ⊥ = cc in absurd none
 
 -- two lists that are shown alike are one
 pub shown_once : (number : ℕ) (all others : List Kept) → shown_from number all ≡ shown_from number others → all ≡ others

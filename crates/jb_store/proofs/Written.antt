@@ -1,6 +1,6 @@
 -- What the table's making and a checkpoint's insertion do to the list.
 use Rattle.std.proofs.Common.{IsTrue, OnErr, append-nil, subst₂, if◌then◌else◌, ◌≡◌, ◌⊎◌, inl, inr, ℕ, ◌+◌, pos, List, [], ◌∷◌, ◌++◌, length, Bool, true, false, cond, None, Ok, Err, Result, OnOk, IsPermutation, refl, sym, ap, subst, ◌∙◌, arith}
-use Rattle.std.proofs.lemmas.Bool.{and_parts, not-true}
+use Rattle.std.proofs.lemmas.Bool.{and_parts, cases_Bool, not-true}
 use Rattle.std.proofs.lemmas.List.Sorted.{IsPermutation-refl, IsPermutation-cons, IsPermutation-trans, IsPermutation-to_front}
 use Rattle.sqlite.specs.declared.types.Value.{Value}
 use Rattle.sqlite.specs.declared.types.Value.TheVariants.{Null, Int, Text as Words, Blob as Bytes}
@@ -27,9 +27,9 @@ use Rattle.sqlite.specs.Clock.{timed}
 use Rattle.sqlite.specs.Effect.{Database}
 use Rattle.sqlite.specs.State.{State, HasCleanDisk, mode_of, Writes, Executes, ExecutesIn, IsNotRun, IsUnchanged, IsRolledBack, Survives, CommitsBy, MayCommit, RunsCommand, shows_rows}
 use Rattle.sqlite.proofs.Callers.{IsPlain, command_of, statement_of, runs_as, one_step}
-use Rattle.std.proofs.lemmas.Bool.{cases_Bool}
 use Rattle.jb_store.specs.Form.{checkpoint, checkpoint_schema, no_schema}
-use Rattle.jb_store.specs.Checkpoints.{Kept, HoldsList, StandsFor, stored, stored_from}
+use Rattle.jb_checkpoint.specs.Checkpoints.{Kept}
+use Rattle.jb_store.specs.Checkpoints.{HoldsList, StandsFor, stored, stored_from}
 use Rattle.jb_store.specs.Connections.{Keeps}
 use Rattle.jb_store.proofs.Texts.{create_text, insert_text, terms, create_is, insert_is, create_plain, insert_plain}
 use Rattle.jb_store.proofs.Lists.{put_adds, stored_push}

@@ -1,28 +1,24 @@
 -- The list of checkpoints, and the rows that stand for it.
-use Rattle.std.specs.Prelude.{◌≡◌, ◌⊎◌, ◌≤◌, ◌<◌, ◌+◌, ◌^◌, ℕ, suc, List, [], ◌∷◌, length, pos, string_bytes, IsPermutation}
+use Rattle.std.specs.Prelude.{◌≡◌, ◌⊎◌, ◌≤◌, ◌<◌, ◌+◌, ◌^◌, ℕ, suc, List, [], ◌∷◌, length, pos, IsPermutation}
 use Rattle.sqlite.specs.declared.types.Value.TheVariants.{Null, Int, Text as Words, Blob as Bytes}
 use Rattle.sqlite.specs.Order.{Row}
 use Rattle.sqlite.specs.Tree.{Trees}
 use Rattle.sqlite.specs.Effect.{Database}
 use Rattle.sqlite_catalog.specs.Listing.{IsSound}
-use Rattle.jb_store.specs.declared.checkpoint.Checkpoint.{Checkpoint}
+use Rattle.jb_checkpoint.specs.Checkpoints.{Kept, Numbered}
 use Rattle.jb_store.specs.Form.{checkpoint_schema, no_schema}
 
--- what a checkpoint keeps, as bytes: the text to go on from, and the results that are new since the one before
-pub record Kept : Type 0 where
-  pub saved : List ℕ
-  pub results : List ℕ
-
-abbrev pub kept : Checkpoint → Kept
-kept c = record { saved = string_bytes c.saved; results = c.results.items }
-
--- its row: SQLite keeps the number as the row's own, and NULL in the column that stands for it
+-- the row of a checkpoint: SQLite keeps the number as the row's own, and NULL in the column that stands for it
 abbrev pub stored : ℕ → Kept → Row
 stored number it = Int (pos number) ∷ Null ∷ Words it.saved ∷ Bytes it.results ∷ []
 
 -- and as `SELECT number, saved, results` shows it
 abbrev pub shown : ℕ → Kept → Row
 shown number it = Int (pos number) ∷ Words it.saved ∷ Bytes it.results ∷ []
+
+-- the same of any number
+abbrev pub row_of : Numbered → Row
+row_of found = Int found.number ∷ Words found.it.saved ∷ Bytes found.it.results ∷ []
 
 -- numbered one after the other
 abbrev pub stored_from : ℕ → List Kept → List Row

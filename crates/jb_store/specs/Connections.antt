@@ -2,7 +2,8 @@
 use Rattle.std.specs.Prelude.{◌≡◌, false, List, IsTrue}
 use Rattle.sqlite.specs.State.{State, Opens, IsLive}
 use Rattle.sqlite.specs.Tree.{Trees}
-use Rattle.jb_store.specs.Checkpoints.{Kept, HoldsList, StandsFor}
+use Rattle.jb_checkpoint.specs.Checkpoints.{Kept}
+use Rattle.jb_store.specs.Checkpoints.{HoldsList, StandsFor}
 
 -- nothing was done since the open, and the database obeys its schema
 abbrev pub IsJustOpened : State → Type 0

@@ -6,8 +6,11 @@ use Rattle.sqlite.specs.declared.error.Error.{Error}
 use Rattle.sqlite.specs.declared.error.Error.TheVariants.{SqliteFailure}
 use Rattle.sqlite.specs.declared.error.ErrorCode.TheVariants as code
 use Rattle.sqlite_schema.specs.declared.schema.Constraint.TheVariants.{PrimaryKey}
+use Rattle.jb_checkpoint.specs.declared.numbered.ListError.{ListError}
+use Rattle.jb_checkpoint.specs.declared.numbered.ListError.TheVariants as list
 use Rattle.jb_store.specs.declared.error.StoreError.{StoreError}
-use Rattle.jb_store.specs.Checkpoints.{AreIn, Kept}
+use Rattle.jb_store.specs.Checkpoints.{AreIn}
+use Rattle.jb_checkpoint.specs.Checkpoints.{Kept}
 use Rattle.jb_store.specs.Form.{IsForeign, IsOtherVersion, checkpoint_schema}
 use Rattle.jb_store.specs.declared.error.StoreError.TheVariants.{Foreign, Version, Gap, Damaged, Busy, CannotOpen, Full, Disk, Shut, TooLong, Taken, Memory, Sql}
 
@@ -24,6 +27,11 @@ refusal_named (SqliteFailure code.TooBig) = TooLong
 refusal_named (SqliteFailure (code.ConstraintViolation PrimaryKey)) = Taken
 refusal_named (SqliteFailure code.OutOfMemory) = Memory
 refusal_named e = Sql e
+
+-- and one of numbered checkpoints
+abbrev pub list_refusal : ListError → StoreError
+list_refusal list.Gap = Gap
+list_refusal list.Memory = Memory
 
 -- a refusal of what the database holds
 abbrev pub IsOfTheList : StoreError → Type 0

@@ -1,15 +1,16 @@
 //! A crash at any moment of an append, and the next open.
 
 ghost use Rattle.std.specs.Prelude.{◌≡◌, ◌⊎◌, ◌++◌, ◌+◌, [], ◌∷◌, length, map, IfSome, IsTrue};
-ghost use Rattle.jb_store.specs.Checkpoints.{StandsFor, kept};
+ghost use Rattle.jb_store.specs.Checkpoints.{StandsFor};
+ghost use Rattle.jb_checkpoint.specs.Checkpoints.{kept};
 ghost use Rattle.jb_store.specs.Connections.{Keeps};
 ghost use Rattle.sqlite.specs.Files.{file_state};
 ghost use Rattle.sqlite.specs.Held.{state};
 ghost use Rattle.sqlite.specs.State.{HasCleanDisk};
 
-use crate::checkpoint::Checkpoint;
 use crate::files::{closed, open_files};
 use crate::statements::append;
+use jb_checkpoint::Checkpoint;
 use sqlite::{Alter, Connection, FileStore, Options};
 use sqlite_disk::Crash;
 use std::alloc::Global;

@@ -1,9 +1,10 @@
 //! Why a call on the checkpoints has no answer.
 
 ghost use Rattle.std.specs.Prelude.{◌≡◌};
-ghost use Rattle.jb_store.specs.Errors.{refusal_named};
+ghost use Rattle.jb_store.specs.Errors.{list_refusal, refusal_named};
 ghost use Rattle.jb_store.specs.declared.error.StoreError.TheVariants.{Memory};
 
+use jb_checkpoint::ListError;
 use sqlite::{Constraint, Error as SqlError, ErrorCode};
 use std::alloc::{AllocError, AllocFailed};
 use thiserror::Error;
@@ -87,5 +88,16 @@ impl<T: Drop> From<AllocFailed<T>> for StoreError {
 
     fn from(_: AllocFailed<T>) -> StoreError {
         StoreError::Memory
+    }
+}
+
+impl From<ListError> for StoreError {
+    ghost from_gives = { λ error e. e ≡ list_refusal error };
+
+    fn from(error: ListError) -> StoreError {
+        match error {
+            ListError::Gap => StoreError::Gap,
+            ListError::Memory => StoreError::Memory,
+        }
     }
 }

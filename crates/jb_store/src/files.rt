@@ -1,7 +1,8 @@
 //! The list of two files, or of those at a path, and a connection to these.
 
 ghost use Rattle.std.specs.Prelude.{◌≡◌, map, IfOk, IsTrue};
-ghost use Rattle.jb_store.specs.Checkpoints.{Has, ShowsList, kept};
+ghost use Rattle.jb_store.specs.Checkpoints.{Has, ShowsList};
+ghost use Rattle.jb_checkpoint.specs.Checkpoints.{kept};
 ghost use Rattle.jb_store.specs.Connections.{IsJustOpened, Keeps};
 ghost use Rattle.sqlite.specs.Files.{HoldsDatabase, file_state, image_of};
 ghost use Rattle.sqlite.specs.State.{HasCleanDisk};
@@ -10,9 +11,9 @@ ghost use Rattle.sqlite_wal.specs.Files.{image_at, outcomes};
 ghost use Rattle.sqlite_wal.specs.Reads.{AreClean};
 ghost use Rattle.sqlite_wal.specs.Recovery.{Image};
 
-use crate::checkpoint::Checkpoint;
 use crate::error::StoreError;
 use crate::opening::begin;
+use jb_checkpoint::Checkpoint;
 use sqlite::{Connection, FileFrom, FileStore, Files, Options, Start};
 use sqlite_disk::Disk;
 use std::alloc::Global;

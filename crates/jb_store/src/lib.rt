@@ -2,7 +2,7 @@
 //!
 //! - `files`: the list of two files, or of those at a path. `opening`: that of a connection which was just opened.
 //! - `statements`: the table, a checkpoint more, all of them. `listing`: the list of what they show.
-//! - `checkpoint`: what is kept of a stretch of a run. `form`: whether a database is one of these. `error`: why a call has no answer.
+//! - `checkpoint`: the list of rows. `form`: whether a database is one of these. `error`: why a call has no answer.
 //! - `crash`: a crash at any moment of an append, and the next open.
 #![tactic(auto)]
 
@@ -15,10 +15,10 @@ mod listing;
 mod opening;
 mod statements;
 
-pub use checkpoint::Checkpoint;
 pub use crash::{Found, append_over_crash};
 pub use error::StoreError;
 pub use files::{connect, open, open_files};
+pub use jb_checkpoint::Checkpoint;
 pub use listing::list;
 pub use opening::{begin, opened_leaves_its_list, takes};
 pub use statements::append;

@@ -4,7 +4,8 @@ ghost use Rattle.std.specs.Prelude.{◌≡◌, ◌≢◌, ◌⊎◌, ◌≤◌, 
 ghost use Rattle.jb_store.specs.declared.error.StoreError.TheVariants.{Foreign, Gap, Version};
 ghost use Rattle.jb_store.specs.Errors.{IsListFault};
 ghost use Rattle.jb_store.specs.Form.{checkpoint_schema};
-ghost use Rattle.jb_store.specs.Checkpoints.{AreIn, HoldsList, kept};
+ghost use Rattle.jb_store.specs.Checkpoints.{AreIn, HoldsList};
+ghost use Rattle.jb_checkpoint.specs.Checkpoints.{kept};
 ghost use Rattle.jb_store.specs.Connections.{Keeps};
 ghost use Rattle.sqlite.specs.Held.{state};
 ghost use Rattle.sqlite.specs.State.{HasCleanDisk};
@@ -12,9 +13,10 @@ ghost use Rattle.sqlite_catalog.specs.Listing.{IsSound};
 ghost use Rattle.sqlite_disk.specs.Disk.{MoreFaults};
 ghost use Rattle.sqlite_trees.specs.View.{doubt};
 
-use crate::checkpoint::{Checkpoint, checkpoints_of};
+use crate::checkpoint::checkpoints_of;
 use crate::error::StoreError;
 use crate::statements::select;
+use jb_checkpoint::Checkpoint;
 use sqlite::{Alter, Connection};
 use std::alloc::Global;
 

@@ -4,18 +4,19 @@ ghost use Rattle.std.specs.Prelude.{◌≡◌, ◌≢◌, ◌⊎◌, ◌≤◌, 
 ghost use Rattle.jb_store.specs.declared.error.StoreError.TheVariants.{Foreign, Version, Gap};
 ghost use Rattle.jb_store.specs.Errors.{IsStoreFault, IsOfTheList, IsOpenCause};
 ghost use Rattle.jb_store.specs.Form.{checkpoint_schema, no_schema, IsForeign, IsOtherVersion};
-ghost use Rattle.jb_store.specs.Checkpoints.{AreIn, Has, ShowsList, StandsFor, kept};
+ghost use Rattle.jb_store.specs.Checkpoints.{AreIn, Has, ShowsList, StandsFor};
+ghost use Rattle.jb_checkpoint.specs.Checkpoints.{kept};
 ghost use Rattle.jb_store.specs.Connections.{IsAsItWas, IsJustOpened, Keeps};
 ghost use Rattle.sqlite.specs.Held.{state};
 ghost use Rattle.sqlite.specs.State.{HasCleanDisk};
 ghost use Rattle.sqlite_disk.specs.Disk.{MoreFaults};
 ghost use Rattle.sqlite_trees.specs.View.{doubt};
 
-use crate::checkpoint::Checkpoint;
 use crate::error::StoreError;
 use crate::form::{is_blank, is_ours, names_checkpoint};
 use crate::listing::list;
 use crate::statements::create;
+use jb_checkpoint::Checkpoint;
 use sqlite::{Alter, Connection};
 use sqlite_schema::schema::Schema;
 use std::alloc::Global;

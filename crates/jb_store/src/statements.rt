@@ -4,7 +4,8 @@ ghost use Rattle.std.specs.Prelude.{◌≡◌, ◌⊎◌, ◌++◌, ◌+◌, ◌
 ghost use Rattle.std.specs.List.{AllByRecursion};
 ghost use Rattle.jb_store.specs.Errors.{IsCaused, IsStoreFault, refusal_named};
 ghost use Rattle.jb_store.specs.Form.{checkpoint_schema, no_schema};
-ghost use Rattle.jb_store.specs.Checkpoints.{Kept, AreIn, HasNumber, HoldsList, IsTooLong, StandsFor, shown_from};
+ghost use Rattle.jb_checkpoint.specs.Checkpoints.{Kept};
+ghost use Rattle.jb_store.specs.Checkpoints.{AreIn, HasNumber, HoldsList, IsTooLong, StandsFor, shown_from};
 ghost use Rattle.jb_store.specs.Connections.{Keeps};
 ghost use Rattle.sqlite.specs.Held.{state};
 ghost use Rattle.sqlite.specs.State.{HasCleanDisk, IsUnchanged};

@@ -3,8 +3,8 @@ use Rattle.std.specs.Prelude.{ℕ, List, Option, None, codes}
 use Rattle.jb_base.specs.Rules.{RulesRecord}
 use Rattle.jb_csv_job.specs.Done.{IsDoneSoFar}
 use Rattle.jb_csv_job.specs.Kept.{IsJobSoFar}
-use Rattle.jb_durable_records.specs.Form.{Form}
-use Rattle.jb_store.specs.Checkpoints.{Kept}
+use Rattle.jb_records_checkpoints.specs.Form.{Form}
+use Rattle.jb_checkpoint.specs.Checkpoints.{Kept}
 use Rattle.payroll.specs.Payroll.{payroll}
 
 -- a time sheet without a pay slip is skipped, and a try that fails is made again

@@ -3,7 +3,8 @@ use Rattle.std.proofs.Math.Logic.{∥∥₁_map}
 use Rattle.sqlite.specs.State.{HasCleanDisk}
 use Rattle.sqlite.specs.Files.{file_state, image_of}
 use Rattle.sqlite.specs.Effect.{Database}
-use Rattle.jb_store.specs.Checkpoints.{Has, Kept}
+use Rattle.jb_store.specs.Checkpoints.{Has}
+use Rattle.jb_checkpoint.specs.Checkpoints.{Kept}
 use Rattle.jb_store.specs.Connections.{Keeps}
 use Rattle.jb_store.specs.Form.{checkpoint_schema, no_schema}
 use Rattle.jb_durable.proofs.Over.{over_as}

@@ -1,6 +1,5 @@
 use Rattle.std.proofs.Common.{◌≡◌, ◌+◌, ◌++◌, inl, inr, Some, [], ◌∷◌, length, arith}
-use Rattle.jb_store.specs.Checkpoints.{kept}
-use Rattle.jb_durable.specs.Works.{GoesOn}
+use Rattle.jb_checkpoint.specs.Checkpoints.{GoesOn, kept}
 use Rattle.jb_durable.proofs.run.advance.Goals as goal
 
 pub returns-in-Err-append-clause-crash : goal.returns-in-Err-append-clause-crash

@@ -2,7 +2,7 @@ use Rattle.std.proofs.Common.{List, length, ◌≡◌, ◌≤◌, ◌+◌}
 use Rattle.sqlite.specs.Held.{state}
 use Rattle.sqlite.specs.State.{HasCleanDisk}
 use Rattle.sqlite_trees.specs.View.{doubt}
-use Rattle.jb_store.specs.Checkpoints.{Kept}
+use Rattle.jb_checkpoint.specs.Checkpoints.{Kept}
 use Rattle.jb_durable.specs.Works.{IsSame, StandsAt}
 use Rattle.jb_durable.proofs.run.go_on.Given as goal
 

@@ -1,7 +1,7 @@
 use Rattle.std.proofs.Common.{◌≡◌, List, ap, length, map, rules, subst, sym, ◌∙◌}
 use Rattle.std.proofs.lemmas.List.{length-map}
 use Rattle.sqlite.specs.Held.{state}
-use Rattle.jb_store.specs.Checkpoints.{Kept, kept}
+use Rattle.jb_checkpoint.specs.Checkpoints.{Kept, kept}
 use Rattle.jb_store.specs.Connections.{Keeps}
 use Rattle.jb_durable.proofs.run.taken_up.Goals as goal
 

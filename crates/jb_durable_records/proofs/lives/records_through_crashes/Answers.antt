@@ -2,11 +2,12 @@ use Rattle.std.proofs.Common.{◌≡◌, List, drop, sym, subst}
 use Rattle.std.proofs.Math.Logic.{∥∥₁_map}
 use Rattle.std.specs.Arc.{arc_value}
 use Rattle.sqlite.specs.Files.{file_state}
-use Rattle.jb_store.specs.Checkpoints.{Kept}
+use Rattle.jb_checkpoint.specs.Checkpoints.{Kept}
 use Rattle.jb_store.specs.Connections.{Keeps}
 use Rattle.jb_durable.specs.Files.{HoldsRunOrNone, Leaves}
-use Rattle.jb_durable_records.specs.Checkpoints.{HaveAllResults, IsRunSoFar, IsWholeRun}
-use Rattle.jb_durable_records.proofs.Resting.{some_weaker, whole_has_all}
+use Rattle.jb_records_checkpoints.specs.Checkpoints.{HaveAllResults, IsRunSoFar, IsWholeRun}
+use Rattle.jb_durable_records.proofs.Ending.{some_weaker}
+use Rattle.jb_durable_records.proofs.Resting.{whole_has_all}
 use Rattle.jb_durable_records.proofs.lives.records_through_crashes.Goals as goal
 
 pub returns : goal.returns

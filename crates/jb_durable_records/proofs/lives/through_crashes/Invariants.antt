@@ -3,7 +3,7 @@ use Rattle.std.specs.Arc.{arc_value}
 use Rattle.sqlite_wal.specs.Reads.{AreClean}
 use Rattle.jb_durable.specs.Files.{HoldsRunOrNone, Leaves}
 use Rattle.jb_durable.proofs.Stages.{StandAfter}
-use Rattle.jb_durable_records.specs.Checkpoints.{IsRunSoFar}
+use Rattle.jb_records_checkpoints.specs.Checkpoints.{IsRunSoFar}
 use Rattle.jb_durable_records.proofs.lives.through_crashes.Given as goal
 
 abbrev pub invariant-lives : goal.invariant-lives

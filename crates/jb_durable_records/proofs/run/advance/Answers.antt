@@ -1,8 +1,9 @@
 use Rattle.std.proofs.Common.{◌≡◌, ◌+◌, ◌++◌, inl, inr, Err, [], ◌∷◌, length, arith, rules, true≢false}
 use Rattle.sqlite.specs.Held.{state}
-use Rattle.jb_store.specs.Checkpoints.{kept}
+use Rattle.jb_checkpoint.specs.Checkpoints.{kept}
+use Rattle.jb_durable_records.specs.Refusals.{named}
 use Rattle.jb_durable_records.specs.declared.error.DurableError.TheVariants.{Store}
-use Rattle.jb_durable_records.proofs.Causing.{stretch_gone}
+use Rattle.jb_durable_records.proofs.Causing.{of_a_stretch, stretch_gone}
 use Rattle.jb_durable_records.proofs.Filing.{untaken}
 use Rattle.jb_durable_records.proofs.Resting.{rests_on}
 use Rattle.jb_durable_records.proofs.run.advance.Goals as goal
@@ -40,7 +41,7 @@ returns-in_default-clause-kept g c clean f step records all at =
 pub returns-in_err-place-clause-cause : goal.returns-in_err-place-clause-cause
 returns-in_err-place-clause-cause g c clean f step records all at =
     let e = c.in_err-place.field-0.0 in
-    let told : c.from_residual.result ≡ Err e = search rules in
+    let told : c.from_residual.result ≡ Err (named e) = search rules in
     rw told (stretch_gone f step records (state g.S.Store c.args.conn.now) (state g.S.Store c.args.conn.now) e (c.in_err-place.ensures.why f step records all at.place))
 
 pub returns-in_err-append-clause-cause : goal.returns-in_err-append-clause-cause
@@ -51,3 +52,9 @@ returns-in_err-append-clause-cause g c clean f step records all at =
     let number : c.args.count.now + 1 ≡ length all + 1 = omega (arith, at.number) in
     let cause = rw (c.as_str.ensures.value, c.deref.ensures.value) at (c.in_err-append.ensures.cause clean all at.keeps) in
     rw told (untaken f step records (state g.S.Store c.args.conn.now) (state g.S.Store c.append.new.conn) all (kept c.in-Some.next) (c.args.count.now + 1) number on.0 e cause)
+
+pub returns-in_err-place-clause-own : goal.returns-in_err-place-clause-own
+returns-in_err-place-clause-own g c =
+    let e = c.in_err-place.field-0.0 in
+    let told : c.from_residual.result ≡ Err (named e) = search rules in
+    rw told (of_a_stretch e c.in_err-place.ensures.own)

@@ -1,7 +1,7 @@
 use Rattle.std.proofs.Common.{◌≡◌, ◌∙◌, Err, arith, inl, rules, sym, true≢false}
 use Rattle.sqlite.specs.Held.{state}
 use Rattle.sqlite.specs.State.{HasCleanDisk}
-use Rattle.jb_durable_records.proofs.Behind.{match_ok}
+use Rattle.jb_durable_records.proofs.Ending.{match_ok}
 use Rattle.jb_durable_records.proofs.Causing.{gone_since}
 use Rattle.jb_durable_records.proofs.Filing.{open_since}
 use Rattle.jb_durable_records.proofs.run.run.Goals as goal

@@ -6,8 +6,9 @@ use Rattle.sqlite_trees.specs.View.{doubt}
 use Rattle.jb_records.specs.contracts.kept.RecordsRunStanding.TheImpl as run_of
 use Rattle.jb_records.specs.declared.step.RecordsStep.{RecordsStep}
 use Rattle.jb_records.specs.Function.{Function}
-use Rattle.jb_store.specs.Checkpoints.{Kept}
-use Rattle.jb_durable_records.specs.Work.{IsAtRest, IsRunDone, IsTold}
+use Rattle.jb_checkpoint.specs.Checkpoints.{Kept}
+use Rattle.jb_durable_records.specs.Work.{IsAtRest}
+use Rattle.jb_records_checkpoints.specs.Work.{IsRunDone, IsTold}
 use Rattle.jb_durable_records.proofs.run.run.Given as goal
 
 -- the connection keeps the checkpoints so far, and the run stands behind them

@@ -8,12 +8,11 @@ use Rattle.jb_rules.specs.declared.row.Row.{Row}
 use Rattle.jb_records.specs.Function.{all_results}
 use Rattle.jb_records.specs.Shares.{IsSoFar, joined}
 use Rattle.jb_durable.specs.Files.{IsOfARun}
-use Rattle.jb_durable_records.specs.Checkpoints.{IsRunSoFar, IsWholeRun}
+use Rattle.jb_records_checkpoints.specs.Checkpoints.{IsRunSoFar, IsWholeRun}
 use Rattle.jb_durable_records.specs.declared.error.DurableError.{DurableError}
 use Rattle.jb_durable_records.specs.Refusals.{IsCauseOfNoEnd}
-use Rattle.jb_durable_records.proofs.Causing.{err_to, gone_ends, taken_ends}
-use Rattle.jb_durable_records.proofs.Behind.{both_ok, match_ok, on_ok, told_again, whole_so_far}
-use Rattle.jb_durable_records.proofs.Resting.{ended_so, rows_so_far, whole_results}
+use Rattle.jb_durable_records.proofs.Causing.{gone_ends, taken_ends}
+use Rattle.jb_durable_records.proofs.Ending.{both_ok, ended_so, err_to, match_ok, on_ok, told_again}
 use Rattle.jb_durable_records.proofs.run.run_records_durably.Goals as goal
 
 pub returns-clause-all : goal.returns-clause-all
@@ -27,7 +26,7 @@ returns-clause-all g c clean opened all shows so =
     let rest = c.in_ok-place.ensures.rests early opened all shows (subst (λ x. IsRunSoFar (F x) step records all) (sym e) so) in
     let after = c.in_ok-place-2.ensures.kept clean (F own) step records all rest in
     both_ok c.ended.result _ _ _
-    (λ end results whole completed. ap joined results ∙ whole_results (F own) step records c.steps_keep_results.ensures.joined _ _ _ after.0 after.2.place (c.in_ok-place-2.ensures.whole (whole completed))
+    (λ end results whole completed. ap joined results ∙ c.places_have_results.ensures.all (F own) step records _ _ _ after.0 after.2.place (c.in_ok-place-2.ensures.whole (whole completed))
     ∙ ap (λ x. all_results (F x) records) e)
     c.ended.ensures.results c.ended.ensures.whole
 
@@ -59,7 +58,7 @@ returns-clause-so_far g c clean opened all shows so =
     ended_so c.ended.result _ _ _ _
     (λ end underway results rows. subst (λ x. IsSoFar (F x) records end.rows.items end.results.items) e
     (subst (λ (r : List Row). IsSoFar (F own) records r end.results.items) (sym rows)
-    (subst (λ (x : List (List (List ℕ))). IsSoFar (F own) records place.rows.items x) (sym results) (rows_so_far (F own) step records _ _ _ after.0 after.2.place underway))))
+    (subst (λ (x : List (List (List ℕ))). IsSoFar (F own) records place.rows.items x) (sym results) (c.places_have_results.ensures.so_far (F own) step records _ _ _ after.0 after.2.place underway))))
     settled c.ended.ensures.results c.ended.ensures.rows
 
 pub returns-clause-own : goal.returns-clause-own
@@ -109,10 +108,10 @@ returns-clause-again g c clean opened all shows whole =
     let early : HasCleanDisk (state g.S.Store c.taken_from.new.conn) = omega (arith, clean, c.run.ensures.clean) in
     let done = c.in_ok-place.ensures.done early opened all shows (subst (λ x. IsWholeRun (F x) step records all) (sym e) whole) in
     let went = c.run.ensures.again done (lit≤ tt) in
-    let rest = c.in_ok-place.ensures.rests early opened all shows (subst (λ x. IsRunSoFar (F x) step records all) (sym e) (whole_so_far (F c.args.function) step records all whole)) in
+    let rest = c.in_ok-place.ensures.rests early opened all shows (subst (λ x. IsRunSoFar (F x) step records all) (sym e) (c.checkpoints_have_results.ensures.so_far (F c.args.function) step records all whole)) in
     let keeps = subst (λ x. Keeps (state g.S.Store x) all) (sym went.1) rest.keeps in
     let pause = match_ok c.run.result _ _ _ c.in_ok-place-2.was went.0 in
-    told_again c.ended.result _ _ _ (c.ended.ensures.again pause) (returns-clause-all g c clean opened all shows (whole_so_far (F c.args.function) step records all whole)) keeps
+    told_again c.ended.result _ _ _ (c.ended.ensures.again pause) (returns-clause-all g c clean opened all shows (c.checkpoints_have_results.ensures.so_far (F c.args.function) step records all whole)) keeps
 
 pub returns-clause-untouched : goal.returns-clause-untouched
 returns-clause-untouched g c clean opened all shows whole db may =
@@ -153,7 +152,7 @@ returns-in_err-place-clause-cause g c clean opened all shows so =
     let why = c.in_err-place.field-0.0 in
     let told : c.from_residual-in_err-place.result ≡ Err why = search rules in
     rw told (subst (λ x. IsCauseOfNoEnd (F x) step records old new all why) e
-    (taken_ends (F (arc_value c.in_ok-function.function)) step records old new all (subst (λ x. IsRunSoFar (F x) step records all) (sym e) so) why (c.in_err-place.ensures.cause clean opened all shows)))
+    (taken_ends (F (arc_value c.in_ok-function.function)) step records c.checkpoints_have_results.ensures.own old new all (subst (λ x. IsRunSoFar (F x) step records all) (sym e) so) why (c.in_err-place.ensures.cause clean opened all shows)))
 
 pub returns-in_err-place-2-clause-cause : goal.returns-in_err-place-2-clause-cause
 returns-in_err-place-2-clause-cause g c clean opened all shows so =

@@ -3,7 +3,7 @@ use Rattle.std.proofs.Math.Logic.{∥∥₁_map}
 use Rattle.std.proofs.lemmas.Bool.{and_parts, and_from}
 use Rattle.sqlite_wal.specs.Reads.{AreClean}
 use Rattle.sqlite_wal.specs.Recovery.{Image}
-use Rattle.jb_store.specs.Checkpoints.{Kept}
+use Rattle.jb_checkpoint.specs.Checkpoints.{Kept}
 use Rattle.jb_store.proofs.crash.append_over_crash.Goals as goal
 
 pub returns-in-Ok-clause-either : goal.returns-in-Ok-clause-either

@@ -2,7 +2,7 @@ use Rattle.std.proofs.Common.{◌≡◌, length, map, sym, subst, ◌∙◌, OnO
 use Rattle.std.proofs.lemmas.Result.{IfOk-weaker}
 use Rattle.std.specs.List.{AllByRecursion}
 use Rattle.sqlite.specs.Held.{state}
-use Rattle.jb_store.specs.Checkpoints.{kept}
+use Rattle.jb_checkpoint.specs.Checkpoints.{kept}
 use Rattle.jb_store.proofs.Rows.{shown_once}
 use Rattle.jb_store.proofs.Opened.{keeps_read}
 use Rattle.jb_store.proofs.listing.list.Goals as goal

@@ -5,7 +5,8 @@ use Rattle.sqlite.specs.Tree.{Trees}
 use Rattle.jb_store.specs.declared.error.StoreError.TheVariants.{Foreign, Version, Gap}
 use Rattle.jb_store.specs.Errors.{IsOpenCause}
 use Rattle.jb_store.specs.Form.{checkpoint_schema, no_schema}
-use Rattle.jb_store.specs.Checkpoints.{Kept, kept, AreIn, HoldsList}
+use Rattle.jb_checkpoint.specs.Checkpoints.{Kept, kept}
+use Rattle.jb_store.specs.Checkpoints.{AreIn, HoldsList}
 use Rattle.jb_store.specs.Connections.{Keeps, IsJustOpened}
 use Rattle.jb_store.proofs.Opened.{is_left, is_sound, keeps_found, apart, shows_now, has_left}
 use Rattle.jb_store.proofs.CausedOpen.{later_fault}

@@ -1,5 +1,5 @@
 use Rattle.sqlite.specs.Held.{state}
-use Rattle.jb_store.specs.Checkpoints.{Kept}
+use Rattle.jb_checkpoint.specs.Checkpoints.{Kept}
 use Rattle.jb_store.proofs.Written.{appended, failed, survived}
 use Rattle.jb_store.proofs.Caused.{causes}
 use Rattle.jb_store.proofs.statements.insert.Goals as goal

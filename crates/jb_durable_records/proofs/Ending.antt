@@ -1,0 +1,31 @@
+-- What an answer tells.
+use Rattle.std.proofs.Common.{◌≡◌, Option, None, Some, IfSome, Result, Ok, Err, IfOk, IfErr, MatchResult, OnOk, subst}
+
+pub both_ok : {T E : Type 0} (r : Result T E) (P Q R : T → Type 0) → ((x : T) → P x → Q x → R x) → IfOk r P → IfOk r Q → IfOk r R
+both_ok (Ok x) P Q R to p q = to x p q
+both_ok (Err e) P Q R to p q = tt
+
+pub on_ok : {T E : Type 0} (r : Result T E) (P : Type 0) → P → OnOk r P
+on_ok (Ok x) P p = p
+on_ok (Err e) P p = tt
+
+-- what holds of the value that was answered
+pub match_ok : {T E : Type 0} (r : Result T E) (P : T → Type 0) (Q : E → Type 0) (x : T) → r ≡ Ok x → MatchResult r P Q → P x
+match_ok r P Q x is m = subst (λ y. MatchResult y P Q) is m
+
+pub told_again : {T E : Type 0} (r : Result T E) (P A : T → Type 0) (Keeping : Type 0) → MatchResult r P (λ e. ⊥) → IfOk r (λ x. P x → A x) → Keeping → IfOk r (λ x. P x × A x × Keeping)
+told_again (Ok x) P A Keeping said all keeps = (said, all said, keeps)
+told_again (Err e) P A Keeping said all keeps = tt
+
+-- what an end tells
+pub ended_so : {T E : Type 0} (r : Result T E) (P : Type 0) (A B C : T → Type 0) → ((x : T) → P → A x → B x → C x) → OnOk r P → IfOk r A → IfOk r B → IfOk r C
+ended_so (Ok x) P A B C to p a b = to x p a b
+ended_so (Err e) P A B C to p a b = tt
+
+pub err_to : {T E : Type 0} (r : Result T E) (P Q : E → Type 0) → ((e : E) → P e → Q e) → IfErr r P → IfErr r Q
+err_to (Ok x) P Q to p = tt
+err_to (Err e) P Q to p = to e p
+
+pub some_weaker : {T : Type 0} (o : Option T) (P Q : T → Type 0) → ((x : T) → P x → Q x) → IfSome o P → IfSome o Q
+some_weaker None P Q to p = tt
+some_weaker (Some x) P Q to p = to x p

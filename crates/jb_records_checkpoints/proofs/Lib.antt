@@ -1,0 +1,10 @@
+mod Each
+mod Codings
+mod Read
+mod Forms
+mod Feeding
+mod Growing
+mod Telling
+mod Behind
+mod Causing
+mod Having

@@ -1,0 +1,134 @@
+//! Where the work stands: a run in memory, behind its checkpoints.
+
+ghost use Rattle.std.specs.Prelude.{◌≡◌, List, ℕ, IfErr, IfOk, MatchResult, None};
+ghost use Rattle.jb_records.specs.declared.step.RecordsStep.{RecordsStep as StepOfRecords};
+ghost use Rattle.jb_records.specs.Function.{Function};
+ghost use Rattle.jb_records.specs.Shares.{AreAtTheirEnds};
+ghost use Rattle.jb_records.specs.Stretches.{StandsOver};
+ghost use Rattle.jb_checkpoint.specs.Checkpoints.{Kept, kept};
+ghost use Rattle.jb_checkpoint.specs.Checkpoints.{GoesOn};
+ghost use Rattle.jb_records_checkpoints.specs.Checkpoints.{IsRunSoFar, IsWholeRun};
+ghost use Rattle.jb_records_checkpoints.specs.Refusals.{IsOfAStretch, IsStretchCause};
+ghost use Rattle.jb_records_checkpoints.specs.Work.{GoesOnBehind, IsRunDone, IsTold, RunStandsAt};
+ghost use Rattle.jb_records_checkpoints.specs.declared.place.Stage.TheVariants.{Underway};
+
+use crate::coding::coding_of;
+use crate::error::CheckpointError;
+use jb_checkpoint::Checkpoint;
+use jb_collect::Status;
+use jb_records::{RecordFunction, RecordsRun, Standing, Stretch};
+use jb_repo::Snapshot;
+use jb_rules::Row;
+use std::alloc::Global;
+use std::sync::Wait;
+use std::thread::Threads;
+
+/// How far the checkpoints are that are kept.
+#[derive(Drop)]
+pub enum Stage {
+    /// None is. This is to be the first one.
+    Blank(Checkpoint),
+    /// The first one, which says what the run is of.
+    Begun,
+    /// Some stretch's.
+    Underway,
+}
+
+/// A run in memory, behind its checkpoints.
+#[derive(Drop)]
+pub struct Place<F> {
+    pub run: RecordsRun<F>,
+    /// The rows of the last stretch that is kept.
+    pub rows: Vec<Row>,
+    /// A partition failed in it.
+    pub has_failed: bool,
+    pub stage: Stage,
+}
+
+/// One stretch more of the run, and its checkpoint.
+fn stretched<F: RecordFunction + Drop + 'static, R: Threads + Wait + Sync>(
+    rt: &R,
+    alloc: Global,
+    run: RecordsRun<F>,
+    rounds: u64,
+) -> Result<(Place<F>, Checkpoint), CheckpointError>
+    ensures behind { IfOk result (λ r. GoesOnBehind (⟦<RecordsRun<F> as Standing>⟧.standing run) (⟦<RecordsRun<F> as Standing>⟧.standing r.0.run) r.0.rows.items (kept r.1)) }
+    ensures stage { IfOk result (λ r. r.0.stage ≡ Underway) }
+    ensures told { IfOk result (λ r. IsTold r.0.has_failed r.0.stage (⟦<RecordsRun<F> as Standing>⟧.standing r.0.run) r.0.rows.items) }
+    ensures own { IfErr result IsOfAStretch }
+    ensures why { (f : Function) (records : List (List ℕ)) → StandsOver f records (⟦<RecordsRun<F> as Standing>⟧.standing run) → IfErr result (IsStretchCause f records) }
+{
+    let (run, stretch) = run.go_on(rt, alloc, Some(rounds))?;
+    let results = coding_of(alloc, &stretch.results)?;
+    let Stretch {
+        status,
+        snapshot,
+        saved,
+        ..
+    } = stretch;
+    let Snapshot { rows, .. } = snapshot;
+    let place = Place {
+        run,
+        rows,
+        has_failed: matches!(status, Status::Failed),
+        stage: Stage::Underway,
+    };
+    Ok((place, Checkpoint { saved, results }))
+}
+
+impl<F: RecordFunction + Drop + 'static> Place<F> {
+    /// One checkpoint more: the first one, or that of a stretch of so many rounds at most; none where the run is whole and that is kept.
+    pub fn go_on<R: Threads + Wait + Sync>(
+        self,
+        rt: &R,
+        alloc: Global,
+        rounds: u64,
+    ) -> Result<(Place<F>, Option<Checkpoint>), CheckpointError>
+        ensures on { (f : Function) (step : StepOfRecords) (records : List (List ℕ)) (all : List Kept)
+            → RunStandsAt f step records self.stage (⟦<RecordsRun<F> as Standing>⟧.standing self.run) self.rows.items all
+            → IfOk result (λ r. GoesOn (IsRunSoFar f step records) (IsWholeRun f step records)
+            (RunStandsAt f step records r.0.stage (⟦<RecordsRun<F> as Standing>⟧.standing r.0.run) r.0.rows.items) all r.1) }
+        ensures own { IfErr result IsOfAStretch }
+        ensures why { (f : Function) (step : StepOfRecords) (records : List (List ℕ)) (all : List Kept)
+            → RunStandsAt f step records self.stage (⟦<RecordsRun<F> as Standing>⟧.standing self.run) self.rows.items all → IfErr result (IsStretchCause f records) }
+        ensures whole { IfOk result (λ r. r.1 ≡ None → AreAtTheirEnds (⟦<RecordsRun<F> as Standing>⟧.standing r.0.run).setup.rows) }
+        ensures settled { IfOk result (λ r. r.1 ≡ None → r.0.stage ≡ Underway) }
+        ensures told { IsTold self.has_failed self.stage (⟦<RecordsRun<F> as Standing>⟧.standing self.run) self.rows.items → IfOk result (λ r. IsTold r.0.has_failed r.0.stage (⟦<RecordsRun<F> as Standing>⟧.standing r.0.run) r.0.rows.items) }
+        ensures again { IsRunDone self.has_failed self.stage (⟦<RecordsRun<F> as Standing>⟧.standing self.run) → MatchResult result (λ r. r.1 ≡ None) (λ e. ⊥) }
+    {
+        let Place {
+            run,
+            rows,
+            has_failed,
+            stage,
+        } = self;
+        match stage {
+            Stage::Blank(first) => {
+                let place = Place {
+                    run,
+                    rows,
+                    has_failed,
+                    stage: Stage::Begun,
+                };
+                Ok((place, Some(first)))
+            }
+            Stage::Begun => {
+                let (place, next) = stretched(rt, alloc, run, rounds)?;
+                Ok((place, Some(next)))
+            }
+            Stage::Underway => {
+                if run.is_whole() {
+                    let place = Place {
+                        run,
+                        rows,
+                        has_failed,
+                        stage: Stage::Underway,
+                    };
+                    return Ok((place, None));
+                }
+                let (place, next) = stretched(rt, alloc, run, rounds)?;
+                Ok((place, Some(next)))
+            }
+        }
+    }
+}
