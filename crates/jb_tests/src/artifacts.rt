@@ -1,4 +1,4 @@
-//! Worked values of the definitions, and the ready artifacts, where there is memory enough and where it is refused.
+//! Worked values of the definitions, and what tests of artifacts share.
 
 ghost use Rattle.std.specs.Prelude.{◌≡◌, [], ◌∷◌, Some, None, codes, if◌then◌else◌, ◌==◌, true, false};
 ghost use Rattle.jb_artifacts.specs.declared.faults.FaultPlan.TheVariants.{Sound, Bad, Shaky};
@@ -8,10 +8,7 @@ ghost use Rattle.jb_artifacts.specs.Prefix.{prefixed};
 ghost use Rattle.jb_artifacts.specs.Reader.{Reader, read_fault, after_read, record_at};
 ghost use Rattle.jb_artifacts.specs.Writer.{Writer, write_fault, after_write, torn_write};
 
-use jb_artifacts::{
-    Collector, CountCollector, FaultList, FaultPlan, FaultPlans, Item, ItemProcessor, ItemReader,
-    ItemWriter, ListWriter, PrefixProcessor, RowView, TableReader,
-};
+use jb_artifacts::{FaultList, FaultPlan, FaultPlans, Item, RowView};
 use jb_base::{ArtifactError, ClassId, PackedList};
 use jb_rules::Counts;
 use std::alloc::{AllocError, Global};
@@ -84,68 +81,4 @@ pub(crate) fn holds(answer: &Result<Option<Item>, ArtifactError>, bytes: &[u8]) 
         Ok(Some(item)) => item.as_slice() == bytes,
         _ => false,
     }
-}
-
-/// Whether there was no memory for what a call was to answer.
-fn wants_memory(answer: &Result<Option<Item>, ArtifactError>) -> bool {
-    match answer {
-        Err(fault) => *fault == ArtifactError::Memory,
-        Ok(_) => false,
-    }
-}
-
-/// Whether the record is read, if not at the first call at the second, before which the reader stays where it was.
-fn reads(reader: &mut TableReader) -> bool {
-    let answer = reader.read_item();
-    if wants_memory(&answer) {
-        return reader.place() == 0 && holds(&reader.read_item(), b"a") && reader.place() == 1;
-    }
-    holds(&answer, b"a") && reader.place() == 1
-}
-
-/// Whether the result is made, if not at the first call at the second.
-fn processes(processor: &mut PrefixProcessor) -> bool {
-    let answer = processor.process_item(0, b"a");
-    if wants_memory(&answer) {
-        return holds(&processor.process_item(0, b"a"), b"xa");
-    }
-    holds(&answer, b"xa")
-}
-
-/// Whether the writer holds this result alone.
-fn has_one(writer: &ListWriter, bytes: &[u8]) -> bool {
-    writer.count() == 1 && writer.item_at(0) == Some(bytes)
-}
-
-/// Whether the result is written, if not at the first call at the second, before which the list stays as it was.
-fn writes(writer: &mut ListWriter, results: &[(u64, Item)]) -> bool {
-    if let Err(fault) = writer.write_items(results) {
-        if fault != ArtifactError::Memory || writer.count() != 0 {
-            return false;
-        }
-        return writer.write_items(results) == Ok(()) && has_one(writer, b"xa");
-    }
-    has_one(writer, b"xa")
-}
-
-/// What the three work with: a record, a prefix and a result.
-fn three_items(alloc: Global) -> Result<(PackedList, Item, Item), AllocError> {
-    let records = records(alloc, &["a"])?;
-    let prefix = Item::copy_of(alloc, b"x")?;
-    let result = Item::copy_of(alloc, b"xa")?;
-    Ok((records, prefix, result))
-}
-
-/// With any one request refused, each call answers in full, or want of memory, and then in full.
-#[test]
-fn wants_memory_or_answers_in_full(rt: HostRuntime) {
-    let alloc = rt.alloc();
-    let Ok((records, prefix, result)) = three_items(alloc) else {
-        return;
-    };
-    assert!(rt; reads(&mut TableReader::new(alloc, 0, records, FaultPlans::new(alloc))));
-    let mut processor = PrefixProcessor::new(alloc, prefix, None, FaultPlans::new(alloc));
-    assert!(rt; processes(&mut processor));
-    let mut writer = ListWriter::new(PackedList::new(alloc), FaultPlans::new(alloc));
-    assert!(rt; writes(&mut writer, &[(0, result)]));
 }

@@ -2,8 +2,9 @@
 
 mod calls;
 mod counted;
-mod lent;
+mod course;
 pub(crate) mod memory;
 mod own;
 mod rows;
+mod told;
 mod worked;

@@ -3,13 +3,12 @@
 use crate::chunk::memory::committed;
 use jb_base::ArtifactError;
 use jb_collect::{Analyzer, AnalyzerCall, ListAnalyzer, Status, deliver};
+use std::test::Fail;
 
 /// With any one request refused, the analyzer is told all of an attempt, or there is no memory for one of the calls.
 #[test]
-fn wants_memory_or_answers_in_full(rt: HostRuntime) {
-    let Some(done) = committed(&rt, rt.alloc()) else {
-        return;
-    };
+fn wants_memory_or_answers_in_full(rt: HostRuntime) -> Result<(), Fail> {
+    let done = committed(&rt, rt.alloc())?;
     let mut analyzer = ListAnalyzer::new(rt.alloc(), None);
     match deliver(&[done], &mut analyzer) {
         Ok(()) => {
@@ -21,4 +20,5 @@ fn wants_memory_or_answers_in_full(rt: HostRuntime) {
             assert!(rt; fault == ArtifactError::Memory && analyzer.calls().len() < 3);
         }
     }
+    Ok(())
 }

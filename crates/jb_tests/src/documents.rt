@@ -6,12 +6,10 @@ ghost use Rattle.jb_documents.specs.Worked.{three_equal, three_equal_document, t
 
 use jb_cert::Certificate;
 use jb_documents::{
-    ChunkLoad, Document, FaultKind, PlanClaim, RestartDocument, RestartFault, StepData, read_claim,
+    ChunkLoad, Document, FaultKind, PlanClaim, RestartDocument, StepData, read_claim,
     read_document, read_load, read_restart,
 };
-use jb_job::JobError;
 use std::alloc::{AllocError, Global};
-use std::test::Fail;
 
 // This fact speaks of no code.
 fn worked_documents()
@@ -83,40 +81,42 @@ fn is_that_restart(document: &RestartDocument) -> bool {
     saved == 3 && held == 3 && document.step_data.as_slice().len() == 1
 }
 
-#[test]
-fn documents_are_read(rt: HostRuntime) -> Result<(), Fail> {
-    worked_documents();
-    let alloc = rt.alloc();
-    for text in [ONE_STEP, DATA_TWICE] {
-        assert!(rt; has_one_step(&read_document(alloc, bytes_of(alloc, text)?)?));
-    }
-    assert!(rt; is_that_load(&read_load(alloc, bytes_of(alloc, LOAD)?)?));
-    assert!(rt; is_that_claim(&read_claim(alloc, bytes_of(alloc, CLAIM)?)?));
-    assert!(rt; is_that_restart(&read_restart(alloc, bytes_of(alloc, RESTART)?)?));
-    Ok(())
+/// Whether the document of a step is read in full, where there is memory for it; and so each of the three below.
+fn reads_step(alloc: Global, text: &str) -> Option<bool> {
+    let document = read_document(alloc, bytes_of(alloc, text).ok()?).ok()?;
+    Some(has_one_step(&document))
 }
 
-/// With any one request refused, each document is read in full or there is no memory for it.
+fn reads_load(alloc: Global) -> Option<bool> {
+    let load = read_load(alloc, bytes_of(alloc, LOAD).ok()?).ok()?;
+    Some(is_that_load(&load))
+}
+
+fn reads_claim(alloc: Global) -> Option<bool> {
+    let claim = read_claim(alloc, bytes_of(alloc, CLAIM).ok()?).ok()?;
+    Some(is_that_claim(&claim))
+}
+
+fn reads_restart(alloc: Global) -> Option<bool> {
+    let document = read_restart(alloc, bytes_of(alloc, RESTART).ok()?).ok()?;
+    Some(is_that_restart(&document))
+}
+
+/// Whether all of them are read.
+fn reads_all(alloc: Global) -> bool {
+    let answers = [
+        reads_step(alloc, ONE_STEP),
+        reads_step(alloc, DATA_TWICE),
+        reads_load(alloc),
+        reads_claim(alloc),
+        reads_restart(alloc),
+    ];
+    answers == [Some(true); 5]
+}
+
+/// With any one request refused, each document is read in full at the second try.
 #[test]
-fn wants_memory_or_answers_in_full(rt: HostRuntime) -> Result<(), Fail> {
-    let alloc = rt.alloc();
-    for text in [ONE_STEP, DATA_TWICE] {
-        match read_document(alloc, bytes_of(alloc, text)?) {
-            Ok(document) => assert!(rt; has_one_step(&document)),
-            Err(fault) => assert!(rt; fault == JobError::Memory),
-        }
-    }
-    match read_load(alloc, bytes_of(alloc, LOAD)?) {
-        Ok(load) => assert!(rt; is_that_load(&load)),
-        Err(fault) => assert!(rt; fault == JobError::Memory),
-    }
-    match read_claim(alloc, bytes_of(alloc, CLAIM)?) {
-        Ok(claim) => assert!(rt; is_that_claim(&claim)),
-        Err(fault) => assert!(rt; fault == JobError::Memory),
-    }
-    match read_restart(alloc, bytes_of(alloc, RESTART)?) {
-        Ok(document) => assert!(rt; is_that_restart(&document)),
-        Err(fault) => assert!(rt; fault == RestartFault::Document(JobError::Memory)),
-    }
-    Ok(())
+fn wants_memory_or_answers_in_full(rt: HostRuntime) {
+    worked_documents();
+    assert!(rt; reads_all(rt.alloc()) || reads_all(rt.alloc()));
 }

@@ -227,35 +227,19 @@ fn what_a_repository_is_opened_with(rt: HostRuntime) -> Result<(), AllocError> {
     for (threads, item_count, want) in SIZES {
         assert!(rt; can_open(&[row], threads, item_count) == want);
     }
-    Ok(())
-}
-
-#[test]
-fn which_rows_a_repository_is_opened_with(rt: HostRuntime) -> Result<(), AllocError> {
     let state = RowState::Running(0);
-    let row = Row::fresh(Range { lo: 0, hi: 2 });
     assert!(rt; !can_open(&[Row { state, ..row }], 1, 1));
     let many = vec![in rt.alloc(); Row::fresh(Range { lo: 0, hi: 0 }); 1_025]?;
     assert!(rt; !can_open(&many, 1, 1) && can_open(&many[1..], 1, 1));
     Ok(())
 }
 
-/// Whether the event ends a chunk, which takes no memory.
-fn ends_a_chunk(event: &Event) -> bool {
-    match event {
-        Event::Commit(_, _, _, _) | Event::Roll(_, _, _) | Event::Fail(_, _, _) | Event::Drop(_) =>
-            true,
-        Event::Plan(_, _) | Event::Begin(_, _) | Event::Round | Event::Stop => false,
-    }
-}
-
-/// Applies a lawful event. Where its memory is refused nothing changes, and the event is accepted afterwards; the end of a chunk
-/// is always accepted.
+/// Applies a lawful event. Where its memory is refused nothing changes, and the event is accepted afterwards.
 fn apply_lawful(rt: &impl Abort, repo: &mut Repo, event: Event) {
     let events = repo.history().len();
     let totals = repo.totals();
     if let Err(refused) = repo.apply(event) {
-        assert!(rt; refused == Refused::Memory && !ends_a_chunk(&event));
+        assert!(rt; refused == Refused::Memory);
         assert!(rt; repo.history().len() == events && repo.totals() == totals);
         assert!(rt; repo.apply(event).is_ok());
     }
@@ -285,8 +269,8 @@ fn memory_refused_before_each_end(rt: HostRuntime) {
             return;
         };
         let plan = Event::Plan(1, Certificate::Longest(0));
-        apply_each(&rt, &mut repo, &[plan, Event::Begin(0, 0), end]);
-        assert!(rt; repo.history().len() == 3);
+        apply_each(&rt, &mut repo, &[plan, Event::Begin(0, 0)]);
+        assert!(rt; repo.apply(end).is_ok() && repo.history().len() == 3);
     }
 }
 

@@ -66,29 +66,20 @@ impl Calls {
     }
 }
 
-/// A call of a reader, a processor or a writer.
-#[derive(Clone, Copy, Debug, PartialEq, Eq)]
-pub(super) enum Call {
-    /// It was opened at this place.
-    Open(u64),
-    /// The record of this number was to be read.
-    Read(u64),
-    /// An item that begins with this letter was to be processed, that of the record of this number.
-    Process(u64, char),
-    /// So many results were to be written.
-    Write(usize),
-}
+/// Calls that were made: of a reader or a writer `o`, opened at this place, `r`, to read the record of this number, and `w`, to write so
+/// many results; of a processor the letter with which the item begins, and the number of its record.
+pub(super) type Noted = Vec<(char, u64)>;
 
 /// Notes a call, where there is memory.
-fn note(noted: &mut Vec<Call>, call: Call) {
-    let _unnoted = noted.push(call);
+fn note(noted: &mut Noted, call: char, number: u64) {
+    let _unnoted = noted.push((call, number));
 }
 
 #[derive(Drop)]
 pub(super) struct CountedReader {
     pub(super) table: TableReader,
     pub(super) calls: AllCalls,
-    pub(super) noted: Vec<Call>,
+    pub(super) noted: Noted,
 }
 
 impl ItemReader for CountedReader {
@@ -107,13 +98,13 @@ impl ItemReader for CountedReader {
     }
 
     fn open_at(&mut self, at: u64) {
-        note(&mut self.noted, Call::Open(at));
+        note(&mut self.noted, 'o', at);
         self.table.open_at(at);
     }
 
     fn read_item(&mut self) -> Result<Option<Item>, ArtifactError> {
         count(&self.calls.reads);
-        note(&mut self.noted, Call::Read(self.table.place()));
+        note(&mut self.noted, 'r', self.table.place());
         self.table.read_item()
     }
 }
@@ -121,7 +112,7 @@ impl ItemReader for CountedReader {
 impl LendingReader for CountedReader {
     fn pass_item(&mut self) -> Result<(), ArtifactError> {
         count(&self.calls.reads);
-        note(&mut self.noted, Call::Read(self.table.place()));
+        note(&mut self.noted, 'r', self.table.place());
         self.table.pass_item()
     }
 
@@ -137,7 +128,7 @@ pub(super) struct CountedProcessor {
     pub(super) prefixer: PrefixProcessor,
     pub(super) forgets: Option<u64>,
     pub(super) calls: AllCalls,
-    pub(super) noted: Vec<Call>,
+    pub(super) noted: Noted,
 }
 
 impl CountedProcessor {
@@ -147,7 +138,7 @@ impl CountedProcessor {
     {
         count(&self.calls.processes);
         let letter = item.first().map_or(' ', |letter| char::from(*letter));
-        note(&mut self.noted, Call::Process(number, letter));
+        note(&mut self.noted, letter, number);
         if self.forgets != Some(number) {
             return true;
         }
@@ -185,7 +176,7 @@ impl PackingProcessor for CountedProcessor {
 pub(super) struct CountedWriter {
     pub(super) list: ListWriter,
     pub(super) calls: AllCalls,
-    pub(super) noted: Vec<Call>,
+    pub(super) noted: Noted,
 }
 
 impl ItemWriter for CountedWriter {
@@ -196,13 +187,13 @@ impl ItemWriter for CountedWriter {
     }
 
     fn open_at(&mut self, count: u64) {
-        note(&mut self.noted, Call::Open(count));
+        note(&mut self.noted, 'o', count);
         self.list.open_at(count);
     }
 
     fn write_items(&mut self, results: &[(u64, Item)]) -> Result<(), ArtifactError> {
         count(&self.calls.writes);
-        note(&mut self.noted, Call::Write(results.len()));
+        note(&mut self.noted, 'w', results.len() as u64);
         self.list.write_items(results)
     }
 
@@ -214,7 +205,7 @@ impl ItemWriter for CountedWriter {
 impl PackedWriter for CountedWriter {
     fn write_packed(&mut self, results: &PackedResults) -> Result<(), ArtifactError> {
         count(&self.calls.writes);
-        note(&mut self.noted, Call::Write(results.len()));
+        note(&mut self.noted, 'w', results.len() as u64);
         self.list.write_packed(results)
     }
 }

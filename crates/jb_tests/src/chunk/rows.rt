@@ -1,22 +1,12 @@
 //! Partitions run alone with the ready artifacts: that they find their memory.
 
-use jb_artifacts::{
-    ArtifactsOf, CountCollector, FaultPlans, Item, ItemWriter, ListWriter, PrefixProcessor,
-    TableReader,
-};
-use jb_base::{MAX_ITEM_COUNT, PackedList, Range, Rules};
+use super::course::waits;
+use super::told::{ReadyArtifacts, artifacts_of, begun};
+use jb_artifacts::{ItemReader, ItemWriter};
 use jb_chunk::{Alone, AloneEnd, PartitionTask, Task, run_alone};
-use jb_rules::{Row, RowState};
+use jb_rules::Row;
 use std::alloc::{AllocError, Global};
 use std::test::*;
-
-/// What a partition works with.
-pub(super) type RowArtifacts = ArtifactsOf<
-    TableReader,
-    PrefixProcessor,
-    ListWriter,
-    CountCollector,
->;
 
 /// What a partition that ran alone left.
 #[derive(Drop)]
@@ -26,27 +16,8 @@ struct Ran {
     last: Vec<u8>,
 }
 
-fn letters(alloc: Global) -> Result<PackedList, Fail> {
-    let mut records = PackedList::new(alloc);
-    for byte in b"abcd" {
-        records.push(&[*byte])?;
-    }
-    Ok(records)
-}
-
-/// What a partition of these records works with.
-pub(super) fn artifacts(alloc: Global, records: PackedList) -> Result<RowArtifacts, AllocError> {
-    let prefix = Item::copy_of(alloc, b"x")?;
-    Ok(ArtifactsOf {
-        reader: TableReader::new(alloc, 0, records, FaultPlans::new(alloc)),
-        processor: PrefixProcessor::new(alloc, prefix, None, FaultPlans::new(alloc)),
-        writer: ListWriter::new(PackedList::new(alloc), FaultPlans::new(alloc)),
-        collector: CountCollector::new(alloc),
-    })
-}
-
 /// What the partition left.
-fn left(alloc: Global, alone: Alone<Task<RowArtifacts>>) -> Result<Ran, Fail> {
+fn left(alloc: Global, alone: Alone<Task<ReadyArtifacts>>) -> Result<Ran, Fail> {
     let row = *alone.task.row();
     let artifacts = alone.task.into_artifacts();
     let last = match artifacts.writer.item_at(row.written.saturating_sub(1)) {
@@ -60,25 +31,14 @@ fn left(alloc: Global, alone: Alone<Task<RowArtifacts>>) -> Result<Ran, Fail> {
     })
 }
 
-/// Runs a partition of these records alone, with a processor that puts an x before each. Answers the last output too.
-fn run(alloc: Global, records: PackedList, item_count: u64) -> Result<Ran, Fail> {
-    let hi = records.len() as u64;
-    let artifacts = artifacts(alloc, records)?;
-    let row = Row::fresh(Range { lo: 0, hi });
-    if !row.sound() || row.state != RowState::Waiting || !Task::fits(&artifacts, &row) {
-        return Err(Fail::from("a task"));
+/// Runs a partition of these records alone. Answers the last output too.
+fn run(alloc: Global, told: &str, item_count: u64) -> Result<Ran, Fail> {
+    let (artifacts, _) = artifacts_of(alloc, told)?;
+    let hi = artifacts.reader.end();
+    let task = begun(hi, item_count, artifacts).ok_or("a task")?;
+    if !task.is_ready() || !waits(task.row()) {
+        return Err(Fail::from("a task that waits"));
     }
-    if item_count < 1 || item_count > MAX_ITEM_COUNT {
-        return Err(Fail::from("an item count"));
-    }
-    let rules = Rules {
-        skippable: 0,
-        retryable: 0,
-        no_rollback: 0,
-        skip_limit: None,
-        retry_limit: 0,
-    };
-    let task = Task::start(0, row, rules, item_count, artifacts);
     left(alloc, run_alone(alloc, task))
 }
 
@@ -86,8 +46,7 @@ fn run(alloc: Global, records: PackedList, item_count: u64) -> Result<Ran, Fail>
 /// before that chunk.
 #[test]
 fn finishes_or_wants_memory(rt: HostRuntime) -> Result<(), Fail> {
-    let alloc = rt.alloc();
-    let ran = run(alloc, letters(alloc)?, 2)?;
+    let ran = run(rt.alloc(), "a,b,c,d", 2)?;
     let stands = (ran.row.at, ran.row.written, ran.row.counts.commit);
     if ran.end == AloneEnd::Finished {
         assert!(rt; stands == (4, 4, 2));
@@ -98,25 +57,22 @@ fn finishes_or_wants_memory(rt: HostRuntime) -> Result<(), Fail> {
     Ok(())
 }
 
-fn many_records(alloc: Global) -> Result<PackedList, AllocError> {
-    let mut records = PackedList::new(alloc);
-    for _ in 0..100_000 {
-        records.push(b"r")?;
+/// 100,000 records, with this behind the last.
+pub(super) fn many_records(alloc: Global, end: &str) -> Result<String, AllocError> {
+    let mut row = String::new(alloc);
+    for _ in 0..99_999 {
+        row.push_str("r,")?;
     }
-    Ok(records)
+    row.push_str(end)?;
+    Ok(row)
 }
 
-/// 100,000 records in chunks of so many, each of which has a result.
-fn run_many(alloc: Global, item_count: u64) -> Result<Ran, Fail> {
-    let records = many_records(alloc)?;
-    run(alloc, records, item_count)
-}
-
-/// One chunk of many records, and many chunks of few.
+/// One chunk of many records, and many chunks of few: each record has a result.
 #[test]
 fn a_hundred_thousand_records(rt: HostRuntime) -> Result<(), Fail> {
+    let records = many_records(rt.alloc(), "r")?;
     for (item_count, commits) in [(1_000_000, 1), (10, 10_000)] {
-        let ran = run_many(rt.alloc(), item_count)?;
+        let ran = run(rt.alloc(), records.as_str(), item_count)?;
         assert!(rt; ran.end == AloneEnd::Finished && ran.last.as_slice() == b"xr".as_slice());
         assert!(rt; ran.row.written == 100_000 && ran.row.counts.commit == commits);
     }
