@@ -62,18 +62,20 @@ fn ranges_are_read_or_memory_is_wanted(rt: HostRuntime) -> Result<(), Fail> {
 const CLASSES: &str =
     r#"{"exception-classes":["E","F","E","é"],"id":"j","step":[{"chunk":{"retry-limit":0,"skip-limit":1,"retryable-exception-classes":{"include":["*"],"exclude":["F"]},"no-rollback-exception-classes":{"include":["*"],"exclude":["é"]},"skippable-exception-classes":{"include":["é","E"]}},"id":"s","partition":{"plan":{"override":true,"partitions":3}}}]}"#;
 
-/// The number of a class of the job.
-fn number_of(job: &Job, name: &str) -> Option<u8> {
-    let class = job.class(name)?;
-    Some(class.number())
+/// Whether the job has a class of this name and number.
+fn has_class(job: &Job, name: &str, number: u8) -> bool {
+    match job.class(name) {
+        Some(class) => class.number() == number,
+        None => false,
+    }
 }
 
 /// Whether the job knows these classes by their numbers, and `*` is none.
 fn has_classes(job: &Job) -> bool {
-    number_of(job, "E") == Some(0)
-        && number_of(job, "F") == Some(1)
-        && number_of(job, "é") == Some(2)
-        && number_of(job, "*") == None
+    has_class(job, "E", 0)
+        && has_class(job, "F", 1)
+        && has_class(job, "é", 2)
+        && job.class("*").is_none()
 }
 
 /// Whether the step follows the rules that it asks for.

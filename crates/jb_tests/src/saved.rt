@@ -2,10 +2,10 @@
 //! `cases/restart`.
 
 use crate::repo::{most_rows, opened, rows_of};
+use jb_rules::Row;
 use jb_saved::{Saved, StepError, read_saved, rows_to_go_on, saved_text, written_and_read};
 use std::alloc::{AllocError, Global};
 use std::process::Abort;
-use std::test::Fail;
 
 /// Rows of a step `s`, without the object around them: seven records in three partitions after one round, the same once it is done,
 /// a partition that failed beside one that is done, no record at all, one record with the most rollbacks, and chunks that were rolled
@@ -35,18 +35,6 @@ fn text_of(alloc: Global, rows: &str) -> Result<String, AllocError> {
     format!(in alloc; r#"{{"rows":[{rows}],"step":"s","version":2}}"#)
 }
 
-fn read_rows(alloc: Global, rows: &str) -> Result<Saved, Fail> {
-    let text = text_of(alloc, rows)?;
-    let saved = read_saved(alloc, text.as_bytes()).ok().ok_or("refused")?;
-    Ok(saved)
-}
-
-/// Whether this text is written of the rows.
-fn is_written(alloc: Global, saved: &Saved, text: &str) -> Result<bool, AllocError> {
-    let written = saved_text(alloc, saved)?;
-    Ok(written.as_str() == text)
-}
-
 /// Whether the rows are what is read, if it was accepted.
 fn are_those(saved: &Saved, read: Result<Saved, StepError>) -> bool {
     match read {
@@ -55,35 +43,39 @@ fn are_those(saved: &Saved, read: Result<Saved, StepError>) -> bool {
     }
 }
 
-/// Whether the rows of a line are written as they stand there, and are what is read again.
-fn are_kept(alloc: Global, saved: &Saved, line: &str) -> Result<bool, AllocError> {
-    let text = text_of(alloc, line)?;
-    Ok(is_written(alloc, saved, text.as_str())? && are_those(saved, written_and_read(alloc, saved)))
+/// Whether the rows are written as they stand in this text, and are what is read again.
+fn are_kept(alloc: Global, saved: &Saved, text: &str) -> Option<bool> {
+    let written = saved_text(alloc, saved).ok()?;
+    Some(written.as_str() == text && are_those(saved, written_and_read(alloc, saved)))
 }
 
 /// Whether there are rows to go on from, as many as were saved.
 fn goes_on(alloc: Global, saved: &Saved) -> bool {
-    match rows_to_go_on(alloc, "s", 7, saved) {
+    match rows_to_go_on(alloc, "s", 1_024, saved) {
         Ok(rows) => rows.len() == saved.rows().len(),
         Err(_) => false,
     }
 }
 
-#[test]
-fn rows_are_written_and_read(rt: HostRuntime) -> Result<(), Fail> {
-    for line in ROWS.lines() {
-        let saved = read_rows(rt.alloc(), line)?;
-        assert!(rt;
-            saved.step_id() == "s" && goes_on(rt.alloc(), &saved),
-            "{line}"
-        );
-        assert!(rt; are_kept(rt.alloc(), &saved, line)?, "{line}");
-    }
-    Ok(())
+/// Whether these rows are read, written, read again, and gone on from, where there is memory for it.
+fn is_read(alloc: Global, rows: &str) -> Option<bool> {
+    let text = text_of(alloc, rows).ok()?;
+    let saved = read_saved(alloc, text.as_bytes()).ok()?;
+    let is_kept = are_kept(alloc, &saved, text.as_str())?;
+    Some(is_kept && saved.step_id() == "s" && goes_on(alloc, &saved))
 }
 
-/// The text of as many fresh rows as a table has, of one record each.
-fn most_text(alloc: Global) -> Result<String, AllocError> {
+/// Whether these rows of a repository are saved, written, read, and gone on from, where there is memory for it.
+fn is_saved(rt: &impl Abort, alloc: Global, rows: Vec<Row>, told: &str) -> Option<bool> {
+    let text = text_of(alloc, told).ok()?;
+    let snapshot = opened(rt, rows, 64, 2).snapshot().ok()?;
+    let saved = Saved::of(alloc, "s", &snapshot).ok()?;
+    let is_kept = are_kept(alloc, &saved, text.as_str())?;
+    Some(is_kept && saved.rows() == snapshot.rows.as_slice() && goes_on(alloc, &saved))
+}
+
+/// As many fresh rows as a table has, of one record each.
+fn most_told(alloc: Global) -> Result<String, AllocError> {
     let mut rows = String::new(alloc);
     for lo in 0..1_024u64 {
         let comma = if lo == 0 { "" } else { "," };
@@ -93,30 +85,19 @@ fn most_text(alloc: Global) -> Result<String, AllocError> {
         )?;
         rows.push_str(row.as_str())?;
     }
-    text_of(alloc, rows.as_str())
+    Ok(rows)
 }
 
-/// Those rows, saved of what a repository shows.
-fn most_saved(rt: &impl Abort, alloc: Global) -> Result<Saved, Fail> {
-    let snapshot = opened(rt, most_rows(alloc)?, 64, 1).snapshot()?;
-    let saved = Saved::of(alloc, "s", &snapshot).ok().ok_or("refused")?;
-    assert!(rt; saved.rows() == snapshot.rows.as_slice() && saved.rows().len() == 1_024);
-    Ok(saved)
-}
-
-/// Whether the rows are what is read of their text.
-fn are_in_their_text(alloc: Global, saved: &Saved) -> Result<bool, AllocError> {
-    let text = saved_text(alloc, saved)?;
-    Ok(are_those(saved, read_saved(alloc, text.as_bytes())))
-}
-
-/// A table of as many rows as there may be is saved, written and read.
+/// The rows of each line, and a table of as many rows as there may be.
 #[test]
-fn a_table_of_most_rows(rt: HostRuntime) -> Result<(), Fail> {
-    let saved = most_saved(&rt, rt.alloc())?;
-    assert!(rt; is_written(rt.alloc(), &saved, most_text(rt.alloc())?.as_str())?);
-    assert!(rt; are_in_their_text(rt.alloc(), &saved)?);
-    assert!(rt; are_those(&saved, written_and_read(rt.alloc(), &saved)));
+fn rows_are_written_and_read(rt: HostRuntime) -> Result<(), AllocError> {
+    let alloc = rt.alloc();
+    for line in ROWS.lines() {
+        assert!(rt; is_read(alloc, line) == Some(true), "{line}");
+    }
+    let most = most_told(alloc)?;
+    assert!(rt; is_read(alloc, most.as_str()) == Some(true));
+    assert!(rt; is_saved(&rt, alloc, most_rows(alloc)?, most.as_str()) == Some(true));
     Ok(())
 }
 
@@ -124,17 +105,15 @@ fn a_table_of_most_rows(rt: HostRuntime) -> Result<(), Fail> {
 const TWO_ROWS: &str =
     r#"[0,2,0,0,0,0,0,0,0,0,0,0,0,0,0,"waiting"],[2,4,2,2,0,0,0,0,0,0,0,0,0,0,0,"waiting"]"#;
 
-/// Whether these rows of a repository are saved, written, read, and gone on from, where there is memory for it.
-fn is_saved(rt: &impl Abort, alloc: Global) -> Option<bool> {
+/// Whether they are saved and read, where there is memory for it.
+fn are_two(rt: &impl Abort, alloc: Global) -> Option<bool> {
     let rows = rows_of(alloc, &[(0, 2), (2, 4)]).ok()?;
-    let snapshot = opened(rt, rows, 1, 2).snapshot().ok()?;
-    let saved = Saved::of(alloc, "s", &snapshot).ok()?;
-    Some(are_kept(alloc, &saved, TWO_ROWS).ok()? && goes_on(alloc, &saved))
+    Some(is_saved(rt, alloc, rows, TWO_ROWS)? && is_read(alloc, TWO_ROWS)?)
 }
 
 /// With any one request refused, all of it is done at the second try.
 #[test]
 fn wants_memory_or_answers_in_full(rt: HostRuntime) {
-    let is_done = is_saved(&rt, rt.alloc()) == Some(true);
-    assert!(rt; is_done || is_saved(&rt, rt.alloc()) == Some(true));
+    let is_done = are_two(&rt, rt.alloc()) == Some(true);
+    assert!(rt; is_done || are_two(&rt, rt.alloc()) == Some(true));
 }

@@ -10,14 +10,14 @@ use super::counted::{
 use super::told::{ReadyArtifacts, artifacts_of, begun};
 use jb_artifacts::{Artifacts, ArtifactsOf, ItemReader, ItemWriter, PackedArtifacts};
 use jb_base::{MAX_IN_PLACE, MAX_RETRY_LIMIT, MAX_ROLLBACKS};
-use jb_chunk::{Done, Outcome, PartitionTask};
+use jb_chunk::{Alone, Done, Outcome, PartitionTask, run_alone};
 use jb_rules::Row;
 use std::alloc::{AllocError, Global};
 use std::sync::Arc;
 use std::test::*;
 
 /// Whether a chunk may be attempted after this row, or all those that are left, alone.
-pub(super) fn waits(row: &Row) -> bool
+fn waits(row: &Row) -> bool
     ensures state { result ≡ true → row.now.state ≡ Waiting }
     ensures rollbacks { result ≡ true → row.now.counts.rollback < max_rollbacks }
     ensures room { result ≡ true → row.now.counts.rollback + max_retry_limit < max_rollbacks }
@@ -34,6 +34,14 @@ pub(super) fn attempted<T: PartitionTask>(alloc: Global, task: T) -> Result<Done
         return Err(task);
     }
     Ok(task.attempt(alloc))
+}
+
+/// The chunks of a task that are left, attempted alone.
+pub(super) fn ran_alone<T: PartitionTask>(alloc: Global, task: T) -> Option<Alone<T>> {
+    if !task.is_ready() || !waits(task.row()) {
+        return None;
+    }
+    Some(run_alone(alloc, task))
 }
 
 fn name_of(outcome: &Outcome) -> &'static str {
@@ -57,6 +65,9 @@ struct Course {
     outputs: String,
     /// The calls of reader, processor and writer, each kind on a line.
     noted: String,
+    /// How often a record was lent, and how often one was processed.
+    lent: u64,
+    processed: u64,
 }
 
 impl Course {
@@ -67,6 +78,8 @@ impl Course {
             answers: Vec::new(alloc),
             outputs: String::new(alloc),
             noted: String::new(alloc),
+            lent: 0,
+            processed: 0,
         })
     }
 
@@ -138,6 +151,8 @@ impl Course {
 
     /// Notes what the artifacts tell of their calls, and their outputs.
     fn end(&mut self, alloc: Global, artifacts: &Counting) -> Result<(), Fail> {
+        self.lent = self.calls.lent();
+        self.processed = artifacts.processor.noted.len() as u64;
         let reads = &artifacts.reader.noted;
         let processes = &artifacts.processor.noted;
         let writes = &artifacts.writer.noted;
@@ -146,18 +161,22 @@ impl Course {
     }
 }
 
-/// Artifacts over what a row tells, which tell of their calls.
-fn counting(
-    alloc: Global,
-    told: (ReadyArtifacts, Option<u64>),
-    calls: &AllCalls,
-) -> Result<Counting, AllocError> {
+/// The calls, as each of the four artifacts holds them.
+type Handles = (AllCalls, AllCalls, AllCalls, AllCalls);
+
+fn handles_of(calls: &AllCalls) -> Result<Handles, AllocError> {
     let of_reader = Arc::try_clone(calls)?;
     let of_processor = Arc::try_clone(calls)?;
     let of_writer = Arc::try_clone(calls)?;
     let of_collector = Arc::try_clone(calls)?;
+    Ok((of_reader, of_processor, of_writer, of_collector))
+}
+
+/// Artifacts over what a row tells, which tell of their calls.
+fn counting(alloc: Global, told: (ReadyArtifacts, Option<u64>), handles: Handles) -> Counting {
     let (ready, forgets) = told;
-    Ok(ArtifactsOf {
+    let (of_reader, of_processor, of_writer, of_collector) = handles;
+    ArtifactsOf {
         reader: CountedReader {
             table: ready.reader,
             calls: of_reader,
@@ -178,46 +197,49 @@ fn counting(
             counter: ready.collector,
             calls: of_collector,
         },
+    }
+}
+
+/// Those in boxes.
+fn in_boxes(alloc: Global, each: Counting) -> Result<Artifacts, Fail> {
+    Ok(Artifacts {
+        reader: Box::new(alloc, each.reader)?,
+        processor: Box::new(alloc, each.processor)?,
+        writer: Box::new(alloc, each.writer)?,
+        collector: Box::new(alloc, each.collector)?,
     })
 }
 
 /// The attempts by artifacts that own what they carry.
 fn owned(alloc: Global, row: &str, item_count: u64) -> Result<Course, Fail> {
     let mut course = Course::new(alloc)?;
-    let artifacts = counting(alloc, artifacts_of(alloc, row)?, &course.calls)?;
-    let hi = artifacts.reader.end();
-    let task = begun(hi, item_count, artifacts).ok_or("a task")?;
+    let handles = handles_of(&course.calls)?;
+    let artifacts = counting(alloc, artifacts_of(alloc, row)?, handles);
+    let task = begun(artifacts.reader.end(), item_count, artifacts).ok_or("a task")?;
     let artifacts = course.run(alloc, task)?;
     course.end(alloc, &artifacts)?;
     Ok(course)
 }
 
-/// The same where they lend and pack it: a record is lent for each call that processes it.
+/// The same where they lend and pack it.
 fn lent(alloc: Global, row: &str, item_count: u64) -> Result<Course, Fail> {
     let mut course = Course::new(alloc)?;
-    let inner = counting(alloc, artifacts_of(alloc, row)?, &course.calls)?;
+    let handles = handles_of(&course.calls)?;
+    let inner = counting(alloc, artifacts_of(alloc, row)?, handles);
     let hi = inner.reader.end();
     let task = begun(hi, item_count, PackedArtifacts { inner }).ok_or("a task")?;
-    let PackedArtifacts { inner } = course.run(alloc, task)?;
-    if course.calls.lent() != inner.processor.noted.len() as u64 {
-        return Err(Fail::from("a record lent for each call that processes it"));
-    }
-    course.end(alloc, &inner)?;
+    let packed = course.run(alloc, task)?;
+    course.end(alloc, &packed.inner)?;
     Ok(course)
 }
 
 /// The same where each stands in a box: a call of a box is one call of what it holds.
 fn boxed(alloc: Global, row: &str, item_count: u64) -> Result<Course, Fail> {
     let mut course = Course::new(alloc)?;
-    let each = counting(alloc, artifacts_of(alloc, row)?, &course.calls)?;
+    let handles = handles_of(&course.calls)?;
+    let each = counting(alloc, artifacts_of(alloc, row)?, handles);
     let hi = each.reader.end();
-    let artifacts = Artifacts {
-        reader: Box::new(alloc, each.reader)?,
-        processor: Box::new(alloc, each.processor)?,
-        writer: Box::new(alloc, each.writer)?,
-        collector: Box::new(alloc, each.collector)?,
-    };
-    let task = begun(hi, item_count, artifacts).ok_or("a task")?;
+    let task = begun(hi, item_count, in_boxes(alloc, each)?).ok_or("a task")?;
     let _left = course.run(alloc, task)?;
     Ok(course)
 }
@@ -226,8 +248,8 @@ fn boxed(alloc: Global, row: &str, item_count: u64) -> Result<Course, Fail> {
 fn story_of(alloc: Global, row: &str, item_count: u64, has_calls: bool) -> Result<String, Fail> {
     let course = owned(alloc, row, item_count)?;
     let other = lent(alloc, row, item_count)?;
-    if !course.is_as(&other) || !course.left_as(&other) {
-        return Err(Fail::from("the same where records are lent"));
+    if !course.is_as(&other) || !course.left_as(&other) || other.lent != other.processed {
+        return Err(Fail::from("the same where a record is lent for each call that processes it"));
     }
     if !course.is_as(&boxed(alloc, row, item_count)?) {
         return Err(Fail::from("the same in boxes"));

@@ -10,15 +10,12 @@ use std::test::*;
 
 pub(crate) type Plain = Task<ReadyArtifacts>;
 
-/// A task over two letters, which are one chunk.
-fn letters(alloc: Global) -> Result<Plain, Fail> {
-    let (artifacts, _) = artifacts_of(alloc, "a,b")?;
-    Ok(begun(2, 2, artifacts).ok_or("a task")?)
-}
-
 /// The attempt that committed the chunk: the first, or the second where the first found no memory and left the row as it was.
-pub(crate) fn committed(rt: &impl Abort, alloc: Global) -> Result<Done<Plain>, Fail> {
-    let task = letters(alloc)?;
+fn committed_by<T: PartitionTask>(
+    rt: &impl Abort,
+    alloc: Global,
+    task: T,
+) -> Result<Done<T>, Fail> {
     let row = *task.row();
     let done = attempted(alloc, task).ok().ok_or("a task")?;
     if done.outcome != Outcome::NoMemory {
@@ -28,6 +25,13 @@ pub(crate) fn committed(rt: &impl Abort, alloc: Global) -> Result<Done<Plain>, F
     let again = attempted(alloc, done.task);
     assert!(rt; again.is_ok());
     Ok(again.ok().ok_or("a task")?)
+}
+
+/// The same of a task over two letters, which are one chunk.
+pub(crate) fn committed(rt: &impl Abort, alloc: Global) -> Result<Done<Plain>, Fail> {
+    let (artifacts, _) = artifacts_of(alloc, "a,b")?;
+    let task = begun(2, 2, artifacts).ok_or("a task")?;
+    committed_by(rt, alloc, task)
 }
 
 /// With any one request refused, the chunk is committed or finds no memory; and then the same task commits it.

@@ -1,9 +1,9 @@
 //! Partitions run alone with the ready artifacts: that they find their memory.
 
-use super::course::waits;
+use super::course::ran_alone;
 use super::told::{ReadyArtifacts, artifacts_of, begun};
 use jb_artifacts::{ItemReader, ItemWriter};
-use jb_chunk::{Alone, AloneEnd, PartitionTask, Task, run_alone};
+use jb_chunk::{Alone, AloneEnd, PartitionTask, Task};
 use jb_rules::Row;
 use std::alloc::{AllocError, Global};
 use std::test::*;
@@ -36,10 +36,7 @@ fn run(alloc: Global, told: &str, item_count: u64) -> Result<Ran, Fail> {
     let (artifacts, _) = artifacts_of(alloc, told)?;
     let hi = artifacts.reader.end();
     let task = begun(hi, item_count, artifacts).ok_or("a task")?;
-    if !task.is_ready() || !waits(task.row()) {
-        return Err(Fail::from("a task that waits"));
-    }
-    left(alloc, run_alone(alloc, task))
+    left(alloc, ran_alone(alloc, task).ok_or("a task that waits")?)
 }
 
 /// With any one request refused, the partition finishes, or there is no memory for one of its two chunks: then it waits at the checkpoint
