@@ -8,7 +8,7 @@
 //! - `sheet`: a time sheet and its pay slip. `clerk`: what is done to a time sheet.
 #![tactic(auto)]
 
-ghost use Rattle.std.specs.Prelude.{◌≡◌, ◌≤◌, List, IfOk};
+ghost use Rattle.std.specs.Prelude.{◌≡◌, ◌≤◌, ◌⊎◌, List, IfOk};
 ghost use Rattle.sqlite.specs.Held.{state};
 ghost use Rattle.sqlite.specs.State.{HasCleanDisk};
 ghost use Rattle.jb_base.specs.Limits.{max_threads};
@@ -64,6 +64,7 @@ fn answer<
         → IfOk result (λ status. status ≡ 0 → IsPaid (R.remaining reader.old) (W.contents writer.old) (W.contents writer.new)) }
     ensures so_far { HasCleanDisk (state S.Store conn.new) → IsJustOpened (state S.Store conn.old) → (all : List Kept) → ShowsList (state S.Store conn.old).now all
         → IsPayrollSoFar (R.remaining reader.old) all → IfOk result (IsPaidSoFar (R.remaining reader.old) (W.contents writer.old) (W.contents writer.new)) }
+    ensures status { IfOk result (λ status. (status ≡ 0) ⊎ (status ≡ 1)) }
     ensures crash { HasCleanDisk (state S.Store conn.new) → IsJustOpened (state S.Store conn.old) → (all : List Kept) → ShowsList (state S.Store conn.old).now all
         → IsPayrollSoFar (R.remaining reader.old) all
         → (db : _) → (state S.Store conn.new).may_leave db → IsOfARun (IsPayrollSoFar (R.remaining reader.old)) db }
