@@ -1,9 +1,5 @@
 pub mod Below
-pub mod Fresh
-pub mod Places
-pub mod Preparing
-pub mod Reducing
-pub mod Round
-pub mod SoFar
-pub mod Starting
-pub mod Telling
+pub mod callbacks
+pub mod preparing
+pub mod rounds
+pub mod table

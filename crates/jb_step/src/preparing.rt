@@ -7,7 +7,7 @@ ghost use Rattle.jb_collect.specs.Taken.{Grew, since, well};
 ghost use Rattle.jb_saved.specs.declared.error.StepError.TheVariants.{Memory};
 ghost use Rattle.jb_step.specs.preparing.Prepare.{AreCallsBefore, IsAnew, IsPreparation, IsPrepareRefusal, discards_by};
 ghost use Rattle.jb_step.specs.preparing.Setup.{IsSetup, fresh_rows, saved_faults};
-ghost use Rattle.jb_step.specs.inside.Fresh.{IsDiscardRefused, IsUnopened, IsUnplanned, opened_setup, setup_of_rows};
+ghost use Rattle.jb_step.specs.inside.preparing.Fresh.{IsDiscardRefused, IsUnopened, IsUnplanned, opened_setup, setup_of_rows};
 
 pub(crate) mod prepared;
 pub(crate) mod start;

@@ -1,7 +1,7 @@
 //! A step, from its artifacts to its end.
 
 ghost use Rattle.std.specs.Prelude.{◌≡◌, ◌⊎◌, ◌+◌, ◌*◌, ◌++◌, ◌∷◌, [], true, false, IfOk, IfErr, OnOk, length, map};
-ghost use Rattle.jb_step.specs.inside.Places.{held_in};
+ghost use Rattle.jb_step.specs.inside.table.Places.{held_in};
 ghost use Rattle.jb_step.specs.Answers.{artifacts_of, given_back, AreCallsAfter, AreCallsUndone, AreLeftOnTheWay, IsRunError, IsRunOfStep, IsStatus};
 ghost use Rattle.jb_step.specs.preparing.Prepare.{DoFit};
 ghost use Rattle.jb_collect.specs.Taken.{Grew, since};
@@ -11,7 +11,6 @@ ghost use Rattle.jb_step.specs.preparing.Setup.{first_tasks};
 ghost use Rattle.jb_step.specs.Statuses.{status_of};
 ghost use Rattle.jb_saved.specs.declared.error.StepError.TheVariants.{WrongArtifacts, Memory};
 
-use crate::callbacks::finish::rows_shown;
 use crate::callbacks::reduce::{end_step, status_now, undone};
 use crate::callbacks::tell::{tell_first, tell_last};
 use crate::error::RunError;
@@ -19,7 +18,6 @@ use crate::laws::laws_below;
 use crate::preparing::prepared::Prepared;
 use crate::preparing::start::start_all;
 use crate::rounds::ran::Ran;
-use crate::rounds::run::run_rounds;
 use crate::rounds::runner::{RoundRunner, StepGate, StepLedger, StepTask, StepThreads};
 use jb_artifacts::Meaning;
 use jb_cert::PlanNote;
@@ -87,83 +85,72 @@ fn are_numbers<T: PartitionTask>(snapshot: &Snapshot, ran: &Ran<T>) -> bool
     !ran.stopped && snapshot.plans == plans && u128::from(snapshot.events) == events
 }
 
-// The desk has the prepared rows, and no event yet.
-fn is_new<T: StepTask, L: StepLedger, G: StepGate, R: StepThreads>(
-    runner: &RoundRunner<L, G, R>,
-    alloc: Global,
-    prepared: &Prepared,
-) -> Result<(), RunError> {
-    let none: Vec<Option<T>> = Vec::new(alloc);
-    let snapshot = rows_shown(runner, prepared, none.as_slice())?;
-    if snapshot.events != 0 {
-        return Err(RunError::Desk);
+impl<L: StepLedger, G: StepGate, R: StepThreads> RoundRunner<'_, L, G, R> {
+    // The desk has the prepared rows, and no event yet.
+    fn is_new<T: StepTask>(&self, alloc: Global, prepared: &Prepared) -> Result<(), RunError> {
+        let none: Vec<Option<T>> = Vec::new(alloc);
+        let snapshot = self.rows_shown(prepared, none.as_slice())?;
+        if snapshot.events != 0 {
+            return Err(RunError::Desk);
+        }
+        Ok(())
     }
-    Ok(())
-}
 
-// The rounds of a step whose artifacts fit, and how it stands before the reducer is told.
-fn run_tasks<T: StepTask, L: StepLedger, G: StepGate, R: StepThreads>(
-    runner: &RoundRunner<L, G, R>,
-    pool: &mut Pool<T, L>,
-    alloc: Global,
-    prepared: &Prepared,
-    artifacts: Vec<T::Artifacts>,
-    analyzer: &mut dyn Analyzer,
-    round_limit: Option<u64>,
-) -> Result<StepEnd<T::Artifacts>, RunError>
-    requires { DoFit prepared.now (map T.Artifacts.meaning artifacts.items) }
-    ensures run { IfOk result (λ end. IsRunOfStep (record {
-      setup = prepared.now;
-      artifacts = map T.Artifacts.meaning artifacts.items;
-      round_limit = round_limit;
-      heard_before = analyzed analyzer.old;
-      heard_after = analyzed analyzer.new;
-      notes = end.plans.items;
-      snapshot = end.snapshot;
-      left = given_back T.Artifacts.meaning end.artifacts.items;
-    })) }
-    ensures headline { IfOk result (λ end. Headline (record {
-      setup = prepared.now;
-      artifacts = map T.Artifacts.meaning artifacts.items;
-      round_limit = round_limit;
-      heard_before = analyzed analyzer.old;
-      heard_after = analyzed analyzer.new;
-      notes = end.plans.items;
-      snapshot = end.snapshot;
-      left = given_back T.Artifacts.meaning end.artifacts.items;
-    })) }
-    ensures on_the_way { IfOk result (λ end.
-        AreLeftOnTheWay (first_tasks prepared.now (map T.Artifacts.meaning artifacts.items)) end.snapshot.rows.items (given_back T.Artifacts.meaning end.artifacts.items)) }
-    ensures status { IfOk result (λ end. end.status ≡ status_of end.snapshot.rows.items (has_fault (since (analyzed analyzer.old) (analyzed analyzer.new)))) }
-    ensures grew { Grew (analyzed analyzer.old) (analyzed analyzer.new) }
-{
-    laws_below();
-    is_new::<T, L, G, R>(runner, alloc, prepared)?;
-    let tasks = start_all::<T>(alloc, prepared, artifacts)?;
-    let fault = tell_first(prepared, analyzer)?;
-    let mut ran = run_rounds(
-        runner,
-        pool,
-        alloc,
-        prepared,
-        tasks,
-        fault,
-        analyzer,
-        round_limit,
-    )?;
-    ran.fault = tell_last(ran.held.as_slice(), ran.fault, analyzer)?;
-    let snapshot = rows_shown(runner, prepared, ran.held.as_slice())?;
-    if !are_numbers(&snapshot, &ran) {
-        return Err(RunError::Desk);
+    // The rounds of a step whose artifacts fit, and how it stands before the reducer is told.
+    fn run_tasks<T: StepTask>(
+        &self,
+        pool: &mut Pool<T, L>,
+        alloc: Global,
+        prepared: &Prepared,
+        artifacts: Vec<T::Artifacts>,
+        analyzer: &mut dyn Analyzer,
+        round_limit: Option<u64>,
+    ) -> Result<StepEnd<T::Artifacts>, RunError>
+        requires { DoFit prepared.now (map T.Artifacts.meaning artifacts.items) }
+        ensures run { IfOk result (λ end. IsRunOfStep (record {
+          setup = prepared.now;
+          artifacts = map T.Artifacts.meaning artifacts.items;
+          round_limit = round_limit;
+          heard_before = analyzed analyzer.old;
+          heard_after = analyzed analyzer.new;
+          notes = end.plans.items;
+          snapshot = end.snapshot;
+          left = given_back T.Artifacts.meaning end.artifacts.items;
+        })) }
+        ensures headline { IfOk result (λ end. Headline (record {
+          setup = prepared.now;
+          artifacts = map T.Artifacts.meaning artifacts.items;
+          round_limit = round_limit;
+          heard_before = analyzed analyzer.old;
+          heard_after = analyzed analyzer.new;
+          notes = end.plans.items;
+          snapshot = end.snapshot;
+          left = given_back T.Artifacts.meaning end.artifacts.items;
+        })) }
+        ensures on_the_way { IfOk result (λ end.
+            AreLeftOnTheWay (first_tasks prepared.now (map T.Artifacts.meaning artifacts.items)) end.snapshot.rows.items (given_back T.Artifacts.meaning end.artifacts.items)) }
+        ensures status { IfOk result (λ end. end.status ≡ status_of end.snapshot.rows.items (has_fault (since (analyzed analyzer.old) (analyzed analyzer.new)))) }
+        ensures grew { Grew (analyzed analyzer.old) (analyzed analyzer.new) }
+    {
+        laws_below();
+        self.is_new::<T>(alloc, prepared)?;
+        let tasks = start_all::<T>(alloc, prepared, artifacts)?;
+        let fault = tell_first(prepared, analyzer)?;
+        let mut ran = self.run_rounds(pool, alloc, prepared, tasks, fault, analyzer, round_limit)?;
+        ran.fault = tell_last(ran.held.as_slice(), ran.fault, analyzer)?;
+        let snapshot = self.rows_shown(prepared, ran.held.as_slice())?;
+        if !are_numbers(&snapshot, &ran) {
+            return Err(RunError::Desk);
+        }
+        let status = status_now(snapshot.rows.as_slice(), ran.fault.is_some());
+        let artifacts = give_back(alloc, ran.held)?;
+        Ok(StepEnd {
+            status,
+            snapshot,
+            plans: ran.notes,
+            artifacts,
+        })
     }
-    let status = status_now(snapshot.rows.as_slice(), ran.fault.is_some());
-    let artifacts = give_back(alloc, ran.held)?;
-    Ok(StepEnd {
-        status,
-        snapshot,
-        plans: ran.notes,
-        artifacts,
-    })
 }
 
 /// Runs each unfinished partition to its end, in rounds of least plans, each round over the desk's threads. The desk must be
@@ -317,8 +304,7 @@ pub fn run_step_by<
     }
     let runner = RoundRunner { desk, gate, rt };
     let rows = prepared.rows().len() as u32;
-    let mut end = match run_tasks::<T, L, G, R>(
-        &runner,
+    let mut end = match runner.run_tasks::<T>(
         pool,
         alloc,
         &prepared,

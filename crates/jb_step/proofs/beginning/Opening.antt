@@ -9,7 +9,7 @@ use Rattle.jb_rules.specs.declared.row.Row.{Row}
 use Rattle.jb_step.specs.rounds.PlanLaws.{AreTasksOf}
 use Rattle.jb_step.specs.preparing.Prepare.{FitRows}
 use Rattle.jb_step.specs.preparing.Setup.{Setup, row_now}
-use Rattle.jb_step.specs.inside.Starting.{IsRowBegun, AreBegun, tasks_from, unfinished_from}
+use Rattle.jb_step.specs.inside.preparing.Starting.{IsRowBegun, AreBegun, tasks_from, unfinished_from}
 use Rattle.jb_step.proofs.plans.Holding.{now-sound}
 
 -- the artifacts for the rows from the i-th on are for that row and those behind it

@@ -13,7 +13,7 @@ use Rattle.jb_collect.proofs.Taking.{behind, since_is}
 use Rattle.jb_step.specs.declared.error.RunError.{RunError}
 use Rattle.jb_step.specs.Answers.{AreCallsInPart}
 use Rattle.jb_step.specs.callbacks.Callbacks.{AreSome}
-use Rattle.jb_step.specs.inside.Reducing.{IsReducing, callback_fault}
+use Rattle.jb_step.specs.inside.callbacks.Reducing.{IsReducing, callback_fault}
 
 -- WITHOUT MEMORY
 

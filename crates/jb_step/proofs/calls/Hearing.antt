@@ -8,7 +8,7 @@ use Rattle.jb_collect.specs.declared.calls.AnalyzerCall.{AnalyzerCall}
 use Rattle.jb_collect.specs.Laws.{TakenOneAfterAnother, NoneAfterAFault}
 use Rattle.jb_collect.specs.Taken.{Taken, HasTaken, TakesCall, TakesCalls}
 use Rattle.jb_collect.proofs.Taking.{none_taken, takes_one}
-use Rattle.jb_step.specs.inside.Telling.{Moment, IsCallbackAnswer, IsHearing, HearsMore, moment}
+use Rattle.jb_step.specs.inside.callbacks.Telling.{Moment, IsCallbackAnswer, IsHearing, HearsMore, moment}
 
 -- none, and more calls behind some
 pub hears-none : (fault : Option ClassId) (taken : List (Taken AnalyzerCall)) → IsHearing fault taken [] (moment taken fault)

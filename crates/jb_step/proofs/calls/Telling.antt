@@ -11,8 +11,8 @@ use Rattle.jb_collect.specs.declared.calls.AnalyzerCall.{AnalyzerCall}
 use Rattle.jb_collect.specs.Heard.{heard_last}
 use Rattle.jb_collect.specs.Laws.{TakenOneAfterAnother, NoneAfterAFault}
 use Rattle.jb_collect.specs.Taken.{Taken, HasTaken}
-use Rattle.jb_step.specs.inside.Places.{held_in}
-use Rattle.jb_step.specs.inside.Telling.{empties}
+use Rattle.jb_step.specs.inside.table.Places.{held_in}
+use Rattle.jb_step.specs.inside.callbacks.Telling.{empties}
 
 by-test : {X Y : Type 0} (b : Bool) (f : X → Y) (x : X) (xs : List X) → map f (cond b (x ∷ xs) xs) ≡ map f (cond b (x ∷ []) []) ++ map f xs
 by-test true f x xs = refl

@@ -17,8 +17,8 @@ use Rattle.jb_step.specs.OnePartition.{tasks_at}
 use Rattle.jb_step.specs.preparing.Prepare.{FitRows}
 use Rattle.jb_step.specs.rounds.Rounds.{has_partition}
 use Rattle.jb_step.specs.preparing.Setup.{Setup, IsSetup, needs, row_now, unfinished}
-use Rattle.jb_step.specs.inside.Round.{partitions_of}
-use Rattle.jb_step.specs.inside.Starting.{IsRowBegun, AreBegun}
+use Rattle.jb_step.specs.inside.rounds.Round.{partitions_of}
+use Rattle.jb_step.specs.inside.preparing.Starting.{IsRowBegun, AreBegun}
 use Rattle.jb_step.proofs.table.Apart.{stays}
 use Rattle.jb_step.proofs.table.Filters.{filter-all, filter-map, filter-swap, rise-lower}
 use Rattle.jb_step.proofs.table.Numbers.{differ, differ-back}

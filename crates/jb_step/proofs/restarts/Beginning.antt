@@ -18,8 +18,8 @@ use Rattle.jb_saved.specs.GoingOn.{AreUnfailed}
 use Rattle.jb_saved.specs.SavedRows.{SavedRows, IsSaved}
 use Rattle.jb_chunk.specs.Standing.{HasItemCount}
 use Rattle.jb_step.specs.preparing.Setup.{IsSetup, fresh_rows}
-use Rattle.jb_step.specs.inside.Fresh.{setup_of_rows}
-use Rattle.jb_step.specs.inside.Preparing.{MayOpen}
+use Rattle.jb_step.specs.inside.preparing.Fresh.{setup_of_rows}
+use Rattle.jb_step.specs.inside.preparing.Preparing.{MayOpen}
 
 abbrev IsFreshAt : List Range → ℕ → Row → Type 0
 IsFreshAt ranges i row = (x : Range) × (i < length ranges) × (slice_index_or ranges i x ≡ x) × (row ≡ fresh_row x)

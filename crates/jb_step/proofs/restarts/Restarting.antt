@@ -29,7 +29,7 @@ use Rattle.jb_step.specs.restarts.Restarts.{IsChain, IsPreparedFor, IsRestart, A
 use Rattle.jb_step.specs.preparing.Setup.{Setup, IsSetup, first_tasks, gone_on, needs, opening_rows, row_now, rows_now, unfinished}
 use Rattle.jb_step.specs.restarts.StepRuns.{IsAnswered, last_run, tasks_at_last, tasks_through, tasks_unfinished, artifacts_restarted}
 use Rattle.jb_step.specs.Alone.{AreAlone, AreOnTheWay, AreReady, have_ended}
-use Rattle.jb_step.specs.inside.Round.{partitions_of}
+use Rattle.jb_step.specs.inside.rounds.Round.{partitions_of}
 use Rattle.jb_step.proofs.table.Apart.{pick}
 use Rattle.jb_step.proofs.table.Filters.{all-back, all-so, filter-again, filter-all, filter-map, map-stays}
 use Rattle.jb_step.proofs.plans.Holding.{all-unfinished, apart-of, begins_with_table, first_from, is_open, none-of}

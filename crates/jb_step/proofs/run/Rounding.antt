@@ -8,8 +8,8 @@ use Rattle.jb_chunk.specs.declared.outcome.Done.{Done}
 use Rattle.jb_collect.specs.Heard.{endings_of, heard_in}
 use Rattle.jb_step.specs.Alone.{AreReady}
 use Rattle.jb_step.specs.rounds.Rounds.{breaks_in}
-use Rattle.jb_step.specs.inside.Round.{IsRound}
-use Rattle.jb_step.specs.inside.Telling.{HearsMore, Moment}
+use Rattle.jb_step.specs.inside.rounds.Round.{IsRound}
+use Rattle.jb_step.specs.inside.callbacks.Telling.{HearsMore, Moment}
 use Rattle.jb_step.proofs.table.Placing.{IsPutBack, table}
 
 -- the Dones of the set's tasks were put back, counted, judged and told

@@ -9,7 +9,7 @@ use Rattle.jb_chunk.specs.Standing.{TaskState}
 use Rattle.jb_chunk.specs.declared.outcome.Done.{Done}
 use Rattle.jb_collect.specs.Heard.{collected_calls, ended_calls, endings_of, heard_in}
 use Rattle.jb_step.specs.rounds.Rounds.{CanRun, has_task, tasks_in}
-use Rattle.jb_step.specs.inside.Places.{ArePlaced}
+use Rattle.jb_step.specs.inside.table.Places.{ArePlaced}
 use Rattle.jb_step.proofs.table.Placing.{at, firsts, table, taken-are}
 use Rattle.jb_step.proofs.table.Numbers.{same-number}
 

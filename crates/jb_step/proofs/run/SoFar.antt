@@ -21,9 +21,9 @@ use Rattle.jb_step.specs.rounds.Runs.{AreOver, ArePlanRuns, note_of, rounds_run}
 use Rattle.jb_step.specs.preparing.Setup.{Setup, counts_now}
 use Rattle.jb_step.specs.Alone.{AreReady}
 use Rattle.jb_step.specs.inside.Below.{LawsBelow}
-use Rattle.jb_step.specs.inside.Round.{AreLeft, IsRound, Progress, partitions_of}
-use Rattle.jb_step.specs.inside.SoFar.{AreWithin, IsOpen, IsPlanFor, IsRunSoFar, plan_of, set_of_round}
-use Rattle.jb_step.specs.inside.Telling.{HearsMore}
+use Rattle.jb_step.specs.inside.rounds.Round.{AreLeft, IsRound, Progress, partitions_of}
+use Rattle.jb_step.specs.inside.rounds.SoFar.{AreWithin, IsOpen, IsPlanFor, IsRunOfStepSoFar, plan_run_of, set_of_round}
+use Rattle.jb_step.specs.inside.callbacks.Telling.{HearsMore}
 use Rattle.jb_step.proofs.run.Adding.{after-append, attempts-append, breaks-more, over-more, plans-more, run-more}
 use Rattle.jb_step.proofs.plans.ChunksInOrder.{next_can_run}
 use Rattle.jb_step.proofs.calls.Hearing.{hears-more, hears-none}
@@ -84,7 +84,7 @@ long-plan load = length-map (wrapped_rounds load.counts load.threads) (map slot_
 pub opens : (s : Setup) (load : Load) (first : Progress) → IsTaskTable s first.table → IsOpen s load 0 first first
 opens s load first table = record { run = tt; quiet = refl; notes_are = refl; left = none-left first; table = table }
 
-module _ (below : LawsBelow) (s : Setup) (load : Load) (first : Progress) (made : IsPlanFor s first.table (plan_of load 0)) (table : IsTaskTable s first.table) where
+module _ (below : LawsBelow) (s : Setup) (load : Load) (first : Progress) (made : IsPlanFor s first.table (plan_run_of load 0)) (table : IsTaskTable s first.table) where
   abbrev sets : List (List Pair)
   sets = sets_of (wrapped_rounds load.counts load.threads)
 
@@ -141,10 +141,10 @@ module _ (below : LawsBelow) (s : Setup) (load : Load) (first : Progress) (made 
       goes-on quiet = record { run = run-next; quiet = breaks-next ∙ quiet; notes_are = round.notes_are ∙ o.notes_are; left = left-next; table = table-round s set broke now later o.table round }
 
       -- or its note is taken
-      pub ends : (limit : Option ℕ) (over : Bool) (notes : List PlanNote) → (over ≡ true → (broke ≡ true) ⊎ (ran + 1 ≡ length sets)) → AreWithin limit later.rounds → notes ≡ later.notes ++ note_of (plan_of load (ran + 1)) ∷ []
-          → IsRunSoFar s limit (not over) first (record later { notes = notes })
+      pub ends : (limit : Option ℕ) (over : Bool) (notes : List PlanNote) → (over ≡ true → (broke ≡ true) ⊎ (ran + 1 ≡ length sets)) → AreWithin limit later.rounds → notes ≡ later.notes ++ note_of (plan_run_of load (ran + 1)) ∷ []
+          → IsRunOfStepSoFar s limit (not over) first (record later { notes = notes })
       ends limit over notes ended few noted =
-          let plan = plan_of load (ran + 1) in
+          let plan = plan_run_of load (ran + 1) in
           let l = subst (λ rounds. AreLeft rounds first later) (sym (append-nil (take (ran + 1) sets))) left-next in
           record {
             plans = plan ∷ [];
@@ -157,10 +157,10 @@ module _ (below : LawsBelow) (s : Setup) (load : Load) (first : Progress) (made 
 
 -- PLANS
 
-pub none-run : (s : Setup) (limit : Option ℕ) (stopped : Bool) (now : Progress) → AreWithin limit now.rounds → IsRunSoFar s limit stopped now now
+pub none-run : (s : Setup) (limit : Option ℕ) (stopped : Bool) (now : Progress) → AreWithin limit now.rounds → IsRunOfStepSoFar s limit stopped now now
 none-run s limit stopped now few = record { plans = []; run = tt; over = λ going. tt; notes_are = sym (append-nil now.notes); few = few; left = none-left now }
 
-pub runs-more : LawsBelow → (s : Setup) (limit : Option ℕ) (stopped : Bool) (first now later : Progress) → IsRunSoFar s limit false first now → IsRunSoFar s limit stopped now later → IsRunSoFar s limit stopped first later
+pub runs-more : LawsBelow → (s : Setup) (limit : Option ℕ) (stopped : Bool) (first now later : Progress) → IsRunOfStepSoFar s limit false first now → IsRunOfStepSoFar s limit stopped now later → IsRunOfStepSoFar s limit stopped first later
 runs-more below s limit stopped first now later one more =
     let is = one.left.table_is in
     record {

@@ -13,7 +13,7 @@ use Rattle.jb_workers.specs.Works.{CanBegin, AllCanBegin, RiseByPartition}
 use Rattle.jb_workers.specs.declared.worker.lane_work.Work.{Work}
 use Rattle.jb_step.specs.Alone.{AreReady}
 use Rattle.jb_step.specs.rounds.Rounds.{CanRun, has_partition, tasks_in}
-use Rattle.jb_step.specs.inside.Round.{tasks_of, partitions_of, AreDonesOf}
+use Rattle.jb_step.specs.inside.rounds.Round.{tasks_of, partitions_of, AreDonesOf}
 use Rattle.jb_step.proofs.table.Filters.{filter-all, rise-filter}
 use Rattle.jb_step.proofs.plans.Steady.{row_waits, waits}
 

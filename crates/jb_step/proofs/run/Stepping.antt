@@ -19,9 +19,9 @@ use Rattle.jb_step.specs.Statuses.{status_of}
 use Rattle.jb_step.specs.Alone.{AreOnTheWay, have_ended}
 use Rattle.jb_step.specs.rounds.PlanLaws.{IsTaskTable}
 use Rattle.jb_step.specs.inside.Below.{LawsBelow}
-use Rattle.jb_step.specs.inside.Round.{AreLeft, Progress, partitions_of}
-use Rattle.jb_step.specs.inside.SoFar.{AreWithin, IsRunSoFar, at_first}
-use Rattle.jb_step.specs.inside.Telling.{HearsMore, Moment, moment}
+use Rattle.jb_step.specs.inside.rounds.Round.{AreLeft, Progress, partitions_of}
+use Rattle.jb_step.specs.inside.rounds.SoFar.{AreWithin, IsRunOfStepSoFar, at_first}
+use Rattle.jb_step.specs.inside.callbacks.Telling.{HearsMore, Moment, moment}
 use Rattle.jb_step.proofs.calls.Hearing.{hears-more}
 use Rattle.jb_step.proofs.table.Leftover.{left-again}
 use Rattle.jb_step.proofs.run.Leading.{steps_are_on_the_way}
@@ -56,7 +56,7 @@ pub record IsLeft (r : StepRun) (fault : Option ClassId) : Type 0 where
   pub now : Progress
   pub stopped : Bool
   pub begun : HasTaken r.heard_before (heard_first r.setup.begun_anew r.setup.rows) first.fault first.calls
-  pub run : IsRunSoFar r.setup r.round_limit stopped (at_first first (tasks_before r)) now
+  pub run : IsRunOfStepSoFar r.setup r.round_limit stopped (at_first first (tasks_before r)) now
   pub ended : stopped ≡ false → have_ended now.table ≡ true
   pub table : IsTaskTable r.setup now.table
   pub told : HearsMore now.moment (heard_last now.table) (moment r.heard_after fault)

@@ -4,7 +4,7 @@ use Rattle.std.specs.Prelude.{filter}
 use Rattle.std.specs.List.{AllByRecursion}
 use Rattle.jb_cert.specs.Rising.{RiseFrom}
 use Rattle.jb_chunk.specs.Standing.{TaskState}
-use Rattle.jb_step.specs.inside.Round.{partitions_of}
+use Rattle.jb_step.specs.inside.rounds.Round.{partitions_of}
 
 -- what is so of all is so of those that are kept
 pub filter-all : {X : Type 0} (P : X → Type 0) (keep : X → Bool) (xs : List X) → AllByRecursion P xs → AllByRecursion P (filter keep xs)

@@ -10,7 +10,7 @@ use Rattle.jb_chunk.specs.Standing.{TaskState}
 use Rattle.jb_step.specs.Alone.{AreOnTheWay}
 use Rattle.jb_step.specs.Answers.{artifacts_of, newer, task_left, tasks_left}
 use Rattle.jb_step.specs.preparing.Setup.{needs, rows_now}
-use Rattle.jb_step.specs.inside.Round.{partitions_of}
+use Rattle.jb_step.specs.inside.rounds.Round.{partitions_of}
 use Rattle.jb_step.proofs.table.Lookup.{IsIn, are-in, own-row, own-artifacts}
 
 -- what an attempt leaves as it is, a way leaves as it is

@@ -9,7 +9,7 @@ use Rattle.jb_chunk.specs.Standing.{TaskState}
 use Rattle.jb_step.specs.Answers.{artifacts_of, newer}
 use Rattle.jb_step.specs.OnePartition.{tasks_at}
 use Rattle.jb_step.specs.preparing.Setup.{needs, row_now, rows_now}
-use Rattle.jb_step.specs.inside.Round.{partitions_of}
+use Rattle.jb_step.specs.inside.rounds.Round.{partitions_of}
 use Rattle.jb_step.proofs.table.Filters.{all-back, all-map, filter-all}
 use Rattle.jb_step.proofs.plans.Holding.{is_open, rise-needs}
 use Rattle.jb_step.proofs.table.Numbers.{add-next, differ, differ-back, itself}

@@ -20,8 +20,8 @@ use Rattle.jb_workers.specs.Works.{IsAttemptOf}
 use Rattle.jb_step.specs.Alone.{AreReady}
 use Rattle.jb_step.specs.rounds.Rounds.{after_round, attempts_in, attempts_of, has_partition, tasks_in}
 use Rattle.jb_step.specs.preparing.Setup.{row_now}
-use Rattle.jb_step.specs.inside.Places.{AreAtPlaces, ArePlaced, emptied, filled, held_in, picked}
-use Rattle.jb_step.specs.inside.Round.{AreDonesOf, AreWhole, had_memory}
+use Rattle.jb_step.specs.inside.table.Places.{AreAtPlaces, ArePlaced, emptied, filled, held_in, picked}
+use Rattle.jb_step.specs.inside.rounds.Round.{AreDonesOf, AreWhole, had_memory}
 use Rattle.jb_step.proofs.plans.Steady.{same-partition}
 use Rattle.jb_step.proofs.table.Numbers.{differ, differ-back}
 

@@ -3,7 +3,7 @@
 ghost use Rattle.std.specs.Prelude.{◌≡◌, ◌≤◌, None, IfOk, map, length};
 ghost use Rattle.jb_base.specs.Limits.{max_partitions};
 ghost use Rattle.jb_step.specs.preparing.Setup.{rows_now};
-ghost use Rattle.jb_step.specs.inside.Places.{ArePlaced, held_in};
+ghost use Rattle.jb_step.specs.inside.table.Places.{ArePlaced, held_in};
 
 use crate::error::RunError;
 use crate::preparing::prepared::Prepared;
@@ -34,19 +34,21 @@ fn first_other<T: PartitionTask>(rows: &[Row], held: &[Option<T>], shown: &[Row]
     None
 }
 
-/// The repository's rows, which are the tasks' own and the prepared ones.
-pub(crate) fn rows_shown<T: StepTask, L: StepLedger, G: StepGate, R: StepThreads>(
-    runner: &RoundRunner<L, G, R>,
-    prepared: &Prepared,
-    held: &[Option<T>],
-) -> Result<Snapshot, RunError>
-    requires { ArePlaced T.standing 0 held.now }
-    ensures { IfOk result (λ snapshot. snapshot.rows.items ≡ rows_now prepared.now.rows (map T.standing (held_in held.now))) }
-{
-    let snapshot = runner.snapshot()?;
-    let rows = prepared.begun_rows();
-    if let Some(partition) = first_other(rows, held, snapshot.rows.as_slice()) {
-        return Err(RunError::Row(partition));
+impl<L: StepLedger, G: StepGate, R: StepThreads> RoundRunner<'_, L, G, R> {
+    /// The repository's rows, which are the tasks' own and the prepared ones.
+    pub(crate) fn rows_shown<T: StepTask>(
+        &self,
+        prepared: &Prepared,
+        held: &[Option<T>],
+    ) -> Result<Snapshot, RunError>
+        requires { ArePlaced T.standing 0 held.now }
+        ensures { IfOk result (λ snapshot. snapshot.rows.items ≡ rows_now prepared.now.rows (map T.standing (held_in held.now))) }
+    {
+        let snapshot = self.snapshot()?;
+        let rows = prepared.begun_rows();
+        if let Some(partition) = first_other(rows, held, snapshot.rows.as_slice()) {
+            return Err(RunError::Row(partition));
+        }
+        Ok(snapshot)
     }
-    Ok(snapshot)
 }

@@ -11,7 +11,7 @@ ghost use Rattle.jb_step.specs.callbacks.Callbacks.{AreSome};
 ghost use Rattle.jb_step.specs.Answers.{AreCallsInPart, AreCallsUndone};
 ghost use Rattle.jb_step.specs.Statuses.{status_of};
 ghost use Rattle.jb_saved.specs.declared.error.StepError.TheVariants.{Memory};
-ghost use Rattle.jb_step.specs.inside.Reducing.{IsEnding, IsReducing, callback_fault};
+ghost use Rattle.jb_step.specs.inside.callbacks.Reducing.{IsEnding, IsReducing, callback_fault};
 
 use crate::error::RunError;
 use jb_base::ArtifactError;

@@ -5,8 +5,8 @@ ghost use Rattle.jb_base.specs.Limits.{max_partitions};
 ghost use Rattle.jb_collect.specs.declared.calls.AnalyzerCall.TheVariants as call;
 ghost use Rattle.jb_collect.specs.Heard.{collected_calls, ended_calls, endings_of, heard_first, heard_in, heard_last};
 ghost use Rattle.jb_collect.specs.Taken.{Grew, HasTaken};
-ghost use Rattle.jb_step.specs.inside.Places.{held_in};
-ghost use Rattle.jb_step.specs.inside.Telling.{IsCallbackAnswer, IsHearing, empties, moment};
+ghost use Rattle.jb_step.specs.inside.table.Places.{held_in};
+ghost use Rattle.jb_step.specs.inside.callbacks.Telling.{IsCallbackAnswer, IsHearing, empties, moment};
 
 use crate::error::RunError;
 use crate::preparing::prepared::Prepared;

@@ -5,9 +5,9 @@ ghost use Rattle.jb_base.specs.Limits.{max_partitions, max_parts};
 ghost use Rattle.jb_chunk.specs.Standing.{HasItemCount};
 ghost use Rattle.jb_step.specs.preparing.Setup.{IsSetup, fresh_rows, needs};
 ghost use Rattle.jb_saved.specs.GoingOn.{Refuses, rows_restarted, step_faults};
-ghost use Rattle.jb_step.specs.inside.Fresh.{setup_of_rows};
-ghost use Rattle.jb_step.specs.inside.Preparing.{MayOpen};
-ghost use Rattle.jb_step.specs.inside.Starting.{AreBegun};
+ghost use Rattle.jb_step.specs.inside.preparing.Fresh.{setup_of_rows};
+ghost use Rattle.jb_step.specs.inside.preparing.Preparing.{MayOpen};
+ghost use Rattle.jb_step.specs.inside.preparing.Starting.{AreBegun};
 
 use jb_base::{Range, Rules};
 use jb_job::Step;
@@ -36,7 +36,7 @@ impl Model for Prepared {
 
     ghost Value = { Setup };
 
-    ghost use Rattle.jb_step.specs.inside.Preparing.{prepared_setup, IsPrepared};
+    ghost use Rattle.jb_step.specs.inside.preparing.Preparing.{prepared_setup, IsPrepared};
 
     ghost view = { prepared_setup };
 

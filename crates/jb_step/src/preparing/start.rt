@@ -7,8 +7,8 @@ ghost use Rattle.jb_rules.specs.declared.row.Row.{Row};
 ghost use Rattle.jb_step.specs.rounds.PlanLaws.{IsTaskTable};
 ghost use Rattle.jb_step.specs.preparing.Prepare.{DoFit, FitRows};
 ghost use Rattle.jb_step.specs.preparing.Setup.{first_tasks, unfinished};
-ghost use Rattle.jb_step.specs.inside.Places.{ArePlaced, held_in};
-ghost use Rattle.jb_step.specs.inside.Starting.{IsRowBegun, tasks_from, unfinished_from};
+ghost use Rattle.jb_step.specs.inside.table.Places.{ArePlaced, held_in};
+ghost use Rattle.jb_step.specs.inside.preparing.Starting.{IsRowBegun, tasks_from, unfinished_from};
 
 use crate::error::RunError;
 use crate::preparing::prepared::Prepared;

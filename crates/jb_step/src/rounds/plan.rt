@@ -5,15 +5,14 @@ ghost use Rattle.jb_collect.specs.Taken.{Grew};
 ghost use Rattle.jb_step.specs.rounds.PlanLaws.{IsTaskTable};
 ghost use Rattle.jb_step.specs.rounds.Runs.{note_of};
 ghost use Rattle.jb_step.specs.preparing.Setup.{row_now, counts_now};
-ghost use Rattle.jb_step.specs.inside.SoFar.{AreWithin, IsPlanFor, IsRunSoFar, plan_of};
-ghost use Rattle.jb_step.specs.inside.Round.{progress, table_of};
-ghost use Rattle.jb_step.specs.inside.Places.{ArePlaced, held_in};
+ghost use Rattle.jb_step.specs.inside.rounds.SoFar.{AreWithin, IsPlanFor, IsRunOfStepSoFar, plan_run_of};
+ghost use Rattle.jb_step.specs.inside.rounds.Round.{progress, table_of};
+ghost use Rattle.jb_step.specs.inside.table.Places.{ArePlaced, held_in};
 
 use crate::error::RunError;
 use crate::laws::laws_below;
 use crate::preparing::prepared::Prepared;
 use crate::rounds::ran::Ran;
-use crate::rounds::round::next_round;
 use crate::rounds::runner::{RoundRunner, StepGate, StepLedger, StepTask, StepThreads};
 use jb_cert::{PlanNote, fits};
 use jb_chunk::PartitionTask;
@@ -61,34 +60,9 @@ fn counts_of<T: PartitionTask>(
     Ok(counts)
 }
 
-// A plan for what is left.
-fn new_plan<T: StepTask, L: StepLedger, G: StepGate, R: StepThreads>(
-    runner: &RoundRunner<L, G, R>,
-    alloc: Global,
-    prepared: &Prepared,
-    held: &[Option<T>],
-) -> Result<RoundCursor, RunError>
-    requires table { IsTaskTable prepared.now (map T.standing (held_in held.now)) }
-    requires placed { ArePlaced T.standing 0 held.now }
-    ensures { IfOk result (λ cursor. IsPlanFor prepared.now (map T.standing (held_in held.now)) (plan_of cursor 0)) }
-{
-    let counts = counts_of(alloc, prepared, held)?;
-    let threads = prepared.threads();
-    if !fits(counts.as_slice(), threads) {
-        return Err(RunError::Row(0));
-    }
-    let cursor = RoundCursor::new(alloc, counts.as_slice(), threads)?;
-    let rounds = cursor.rounds();
-    if rounds < 1 {
-        return Err(RunError::Row(0));
-    }
-    runner.plan(rounds, cursor.certificate())?;
-    Ok(cursor)
-}
-
 // Notes a plan of which so many rounds were run.
 fn take_note(cursor: &RoundCursor, ran: u64, notes: &mut Vec<PlanNote>) -> Result<(), RunError>
-    ensures { OnOk result (notes.new.items ≡ notes.old.items ++ note_of (plan_of cursor.now ran) ∷ []) }
+    ensures { OnOk result (notes.new.items ≡ notes.old.items ++ note_of (plan_run_of cursor.now ran) ∷ []) }
 {
     let note = PlanNote {
         certificate: cursor.certificate(),
@@ -99,56 +73,79 @@ fn take_note(cursor: &RoundCursor, ran: u64, notes: &mut Vec<PlanNote>) -> Resul
     Ok(())
 }
 
-// True where no round more may be run: a stop was asked for, or the limit is reached.
-fn is_cut<L: StepLedger, G: StepGate, R: StepThreads>(
-    runner: &RoundRunner<L, G, R>,
-    round_limit: Option<u64>,
-    rounds: u64,
-) -> bool
-    ensures { result ≡ false → AreWithin round_limit (rounds + 1) }
-{
-    if runner.is_stopping() {
-        return true;
+impl<L: StepLedger, G: StepGate, R: StepThreads> RoundRunner<'_, L, G, R> {
+    // A plan for what is left.
+    fn new_plan<T: StepTask>(
+        &self,
+        alloc: Global,
+        prepared: &Prepared,
+        held: &[Option<T>],
+    ) -> Result<RoundCursor, RunError>
+        requires table { IsTaskTable prepared.now (map T.standing (held_in held.now)) }
+        requires placed { ArePlaced T.standing 0 held.now }
+        ensures { IfOk result (λ cursor. IsPlanFor prepared.now (map T.standing (held_in held.now)) (plan_run_of cursor 0)) }
+    {
+        let counts = counts_of(alloc, prepared, held)?;
+        let threads = prepared.threads();
+        if !fits(counts.as_slice(), threads) {
+            return Err(RunError::Row(0));
+        }
+        let cursor = RoundCursor::new(alloc, counts.as_slice(), threads)?;
+        let rounds = cursor.rounds();
+        if rounds < 1 {
+            return Err(RunError::Row(0));
+        }
+        self.plan(rounds, cursor.certificate())?;
+        Ok(cursor)
     }
-    match round_limit {
-        Some(limit) => limit <= rounds,
-        None => false,
-    }
-}
 
-/// Runs a least plan for what is left, round after round, until one has a rollback or a failure, or all were run; or until a
-/// stop, or the limit. Answers whether the step stops.
-pub(crate) fn run_plan<T: StepTask, L: StepLedger, G: StepGate, R: StepThreads>(
-    runner: &RoundRunner<L, G, R>,
-    pool: &mut Pool<T, L>,
-    alloc: Global,
-    prepared: &Prepared,
-    ran: &mut Ran<T>,
-    analyzer: &mut dyn Analyzer,
-    round_limit: Option<u64>,
-) -> Result<bool, RunError>
-    requires table { IsTaskTable prepared.now (table_of T.standing ran.old) }
-    requires placed { ArePlaced T.standing 0 ran.old.held.items }
-    requires few { AreWithin round_limit ran.old.rounds }
-    ensures run { IfOk result (λ stopped. IsRunSoFar prepared.now round_limit stopped (progress T.standing (analyzed analyzer.old) ran.old) (progress T.standing (analyzed analyzer.new) ran.new)) }
-    ensures table { OnOk result (IsTaskTable prepared.now (table_of T.standing ran.new)) }
-    ensures placed { OnOk result (ArePlaced T.standing 0 ran.new.held.items) }
-    ensures grew { Grew (analyzed analyzer.old) (analyzed analyzer.new) }
-{
-    laws_below();
-    if is_cut(runner, round_limit, ran.rounds) {
-        return Ok(true);
-    }
-    let plan = new_plan(runner, alloc, prepared, ran.held.as_slice())?;
-    let cursor = &plan;
-    let rounds = cursor.rounds();
-    for round in 0..rounds {
-        let broke = next_round(runner, pool, alloc, ran, cursor, round, analyzer)?;
-        let over = broke || round + 1 == rounds;
-        if over || is_cut(runner, round_limit, ran.rounds) {
-            take_note(cursor, round + 1, &mut ran.notes)?;
-            return Ok(!over);
+    // True where no round more may be run: a stop was asked for, or the limit is reached.
+    fn is_cut(&self, round_limit: Option<u64>, rounds: u64) -> bool
+        ensures { result ≡ false → AreWithin round_limit (rounds + 1) }
+    {
+        if self.is_stopping() {
+            return true;
+        }
+        match round_limit {
+            Some(limit) => limit <= rounds,
+            None => false,
         }
     }
-    unreachable!()
+
+    /// Runs a least plan for what is left, round after round, until one has a rollback or a failure, or all were run; or until a
+    /// stop, or the limit. Answers whether the step stops.
+    pub(crate) fn run_plan<T: StepTask>(
+        &self,
+        pool: &mut Pool<T, L>,
+        alloc: Global,
+        prepared: &Prepared,
+        ran: &mut Ran<T>,
+        analyzer: &mut dyn Analyzer,
+        round_limit: Option<u64>,
+    ) -> Result<bool, RunError>
+        requires table { IsTaskTable prepared.now (table_of T.standing ran.old) }
+        requires placed { ArePlaced T.standing 0 ran.old.held.items }
+        requires few { AreWithin round_limit ran.old.rounds }
+        ensures run { IfOk result (λ stopped. IsRunOfStepSoFar prepared.now round_limit stopped (progress T.standing (analyzed analyzer.old) ran.old) (progress T.standing (analyzed analyzer.new) ran.new)) }
+        ensures table { OnOk result (IsTaskTable prepared.now (table_of T.standing ran.new)) }
+        ensures placed { OnOk result (ArePlaced T.standing 0 ran.new.held.items) }
+        ensures grew { Grew (analyzed analyzer.old) (analyzed analyzer.new) }
+    {
+        laws_below();
+        if self.is_cut(round_limit, ran.rounds) {
+            return Ok(true);
+        }
+        let plan = self.new_plan(alloc, prepared, ran.held.as_slice())?;
+        let cursor = &plan;
+        let rounds = cursor.rounds();
+        for round in 0..rounds {
+            let broke = self.next_round(pool, alloc, ran, cursor, round, analyzer)?;
+            let over = broke || round + 1 == rounds;
+            if over || self.is_cut(round_limit, ran.rounds) {
+                take_note(cursor, round + 1, &mut ran.notes)?;
+                return Ok(!over);
+            }
+        }
+        unreachable!()
+    }
 }

@@ -8,9 +8,9 @@ ghost use Rattle.jb_cert.specs.Rising.{Rise};
 ghost use Rattle.jb_step.specs.rounds.Rounds.{CanRun, breaks_in, is_commit};
 ghost use Rattle.jb_collect.specs.Heard.{endings_of};
 ghost use Rattle.jb_collect.specs.Taken.{Grew};
-ghost use Rattle.jb_step.specs.inside.SoFar.{set_of_round};
-ghost use Rattle.jb_step.specs.inside.Places.{ArePlaced, emptied, filled, held_in, picked};
-ghost use Rattle.jb_step.specs.inside.Round.{IsRound, partitions_of, progress, table_of, tasks_of};
+ghost use Rattle.jb_step.specs.inside.rounds.SoFar.{set_of_round};
+ghost use Rattle.jb_step.specs.inside.table.Places.{ArePlaced, emptied, filled, held_in, picked};
+ghost use Rattle.jb_step.specs.inside.rounds.Round.{IsRound, partitions_of, progress, table_of, tasks_of};
 ghost use Rattle.jb_step.specs.Alone.{AreReady};
 ghost use Rattle.jb_workers.specs.Works.{AllCanBegin, RiseByPartition as AreInOrder};
 
@@ -19,7 +19,6 @@ mod single;
 use crate::callbacks::tell::tell_round;
 use crate::error::RunError;
 use crate::rounds::ran::Ran;
-use crate::rounds::round::single::round_of_one;
 use crate::rounds::runner::{RoundRunner, StepGate, StepLedger, StepTask, StepThreads};
 use jb_cert::{Slot, lanes_are_found};
 use jb_chunk::{Done, Outcome, PartitionTask};
@@ -151,56 +150,58 @@ pub(crate) fn sum(number: u64, more: u64) -> Result<u64, RunError>
     number.checked_add(more).ok_or(RunError::Desk)
 }
 
-// One round: an attempt for each task of the slots' partitions, and for no other; and the analyzer is told. Answers whether
-// some partition was rolled back or failed.
-fn one_round<T: StepTask, L: StepLedger, G: StepGate, R: StepThreads>(
-    runner: &RoundRunner<L, G, R>,
-    pool: &mut Pool<T, L>,
-    alloc: Global,
-    ran: &mut Ran<T>,
-    slots: &[Slot],
-    analyzer: &mut dyn Analyzer,
-) -> Result<bool, RunError>
-    requires placed { ArePlaced T.standing 0 ran.old.held.items }
-    requires in_turn { Rise (map (λ slot. slot.partition) slots.now) }
-    requires rise { Rise (partitions_of (table_of T.standing ran.old)) }
-    requires ready { AreReady (table_of T.standing ran.old) }
-    requires can_run { CanRun (map slot_pair slots.now) (table_of T.standing ran.old) }
-    ensures round { IfOk result (λ broke. IsRound (map slot_pair slots.now) broke (progress T.standing (analyzed analyzer.old) ran.old) (progress T.standing (analyzed analyzer.new) ran.new)) }
-    ensures placed { OnOk result (ArePlaced T.standing 0 ran.new.held.items) }
-    ensures grew { Grew (analyzed analyzer.old) (analyzed analyzer.new) }
-{
-    let works = chosen(alloc, &mut ran.held, slots)?;
-    let dones = runner.run_round(alloc, pool, works)?;
-    ran.fault = tell_round(dones.as_slice(), ran.fault, analyzer)?;
-    ran.rounds = sum(ran.rounds, 1)?;
-    ran.attempts = sum(ran.attempts, dones.as_slice().len() as u64)?;
-    let broke = some_breaks(dones.as_slice());
-    put_back(&mut ran.held, dones);
-    Ok(broke)
-}
-
-/// The plan's next round, as `one_round`: where it has one slot alone, that one takes no memory for lists.
-pub(crate) fn next_round<T: StepTask, L: StepLedger, G: StepGate, R: StepThreads>(
-    runner: &RoundRunner<L, G, R>,
-    pool: &mut Pool<T, L>,
-    alloc: Global,
-    ran: &mut Ran<T>,
-    cursor: &RoundCursor,
-    round: u64,
-    analyzer: &mut dyn Analyzer,
-) -> Result<bool, RunError>
-    requires placed { ArePlaced T.standing 0 ran.old.held.items }
-    requires rise { Rise (partitions_of (table_of T.standing ran.old)) }
-    requires ready { AreReady (table_of T.standing ran.old) }
-    requires can_run { CanRun (set_of_round cursor.now round) (table_of T.standing ran.old) }
-    ensures round { IfOk result (λ broke. IsRound (set_of_round cursor.now round) broke (progress T.standing (analyzed analyzer.old) ran.old) (progress T.standing (analyzed analyzer.new) ran.new)) }
-    ensures placed { OnOk result (ArePlaced T.standing 0 ran.new.held.items) }
-    ensures grew { Grew (analyzed analyzer.old) (analyzed analyzer.new) }
-{
-    if let Some(slot) = cursor.only_slot(round, ran.near) {
-        return round_of_one(runner, alloc, ran, slot, analyzer);
+impl<L: StepLedger, G: StepGate, R: StepThreads> RoundRunner<'_, L, G, R> {
+    // One round: an attempt for each task of the slots' partitions, and for no other; and the analyzer is told. Answers whether
+    // some partition was rolled back or failed.
+    fn one_round<T: StepTask>(
+        &self,
+        pool: &mut Pool<T, L>,
+        alloc: Global,
+        ran: &mut Ran<T>,
+        slots: &[Slot],
+        analyzer: &mut dyn Analyzer,
+    ) -> Result<bool, RunError>
+        requires placed { ArePlaced T.standing 0 ran.old.held.items }
+        requires in_turn { Rise (map (λ slot. slot.partition) slots.now) }
+        requires rise { Rise (partitions_of (table_of T.standing ran.old)) }
+        requires ready { AreReady (table_of T.standing ran.old) }
+        requires can_run { CanRun (map slot_pair slots.now) (table_of T.standing ran.old) }
+        ensures round { IfOk result (λ broke. IsRound (map slot_pair slots.now) broke (progress T.standing (analyzed analyzer.old) ran.old) (progress T.standing (analyzed analyzer.new) ran.new)) }
+        ensures placed { OnOk result (ArePlaced T.standing 0 ran.new.held.items) }
+        ensures grew { Grew (analyzed analyzer.old) (analyzed analyzer.new) }
+    {
+        let works = chosen(alloc, &mut ran.held, slots)?;
+        let dones = self.run_round(alloc, pool, works)?;
+        ran.fault = tell_round(dones.as_slice(), ran.fault, analyzer)?;
+        ran.rounds = sum(ran.rounds, 1)?;
+        ran.attempts = sum(ran.attempts, dones.as_slice().len() as u64)?;
+        let broke = some_breaks(dones.as_slice());
+        put_back(&mut ran.held, dones);
+        Ok(broke)
     }
-    let slots = slots_of(alloc, cursor, round)?;
-    one_round(runner, pool, alloc, ran, slots.as_slice(), analyzer)
+
+    /// The plan's next round, as `one_round`: where it has one slot alone, that one takes no memory for lists.
+    pub(crate) fn next_round<T: StepTask>(
+        &self,
+        pool: &mut Pool<T, L>,
+        alloc: Global,
+        ran: &mut Ran<T>,
+        cursor: &RoundCursor,
+        round: u64,
+        analyzer: &mut dyn Analyzer,
+    ) -> Result<bool, RunError>
+        requires placed { ArePlaced T.standing 0 ran.old.held.items }
+        requires rise { Rise (partitions_of (table_of T.standing ran.old)) }
+        requires ready { AreReady (table_of T.standing ran.old) }
+        requires can_run { CanRun (set_of_round cursor.now round) (table_of T.standing ran.old) }
+        ensures round { IfOk result (λ broke. IsRound (set_of_round cursor.now round) broke (progress T.standing (analyzed analyzer.old) ran.old) (progress T.standing (analyzed analyzer.new) ran.new)) }
+        ensures placed { OnOk result (ArePlaced T.standing 0 ran.new.held.items) }
+        ensures grew { Grew (analyzed analyzer.old) (analyzed analyzer.new) }
+    {
+        if let Some(slot) = cursor.only_slot(round, ran.near) {
+            return self.round_of_one(alloc, ran, slot, analyzer);
+        }
+        let slots = slots_of(alloc, cursor, round)?;
+        self.one_round(pool, alloc, ran, slots.as_slice(), analyzer)
+    }
 }

@@ -4,15 +4,14 @@ ghost use Rattle.std.specs.Prelude.{◌≡◌, true, false, IfOk, [], ◌∷◌,
 ghost use Rattle.jb_step.specs.rounds.PlanLaws.{IsTaskTable};
 ghost use Rattle.jb_collect.specs.Taken.{Grew};
 ghost use Rattle.jb_step.specs.Alone.{have_ended};
-ghost use Rattle.jb_step.specs.inside.SoFar.{IsRunSoFar, at_first};
-ghost use Rattle.jb_step.specs.inside.Round.{progress, table_of};
-ghost use Rattle.jb_step.specs.inside.Telling.{moment};
-ghost use Rattle.jb_step.specs.inside.Places.{ArePlaced, held_in};
+ghost use Rattle.jb_step.specs.inside.rounds.SoFar.{IsRunOfStepSoFar, at_first};
+ghost use Rattle.jb_step.specs.inside.rounds.Round.{progress, table_of};
+ghost use Rattle.jb_step.specs.inside.callbacks.Telling.{moment};
+ghost use Rattle.jb_step.specs.inside.table.Places.{ArePlaced, held_in};
 
 use crate::error::RunError;
 use crate::laws::laws_below;
 use crate::preparing::prepared::Prepared;
-use crate::rounds::plan::run_plan;
 use crate::rounds::ran::Ran;
 use crate::rounds::runner::{RoundRunner, StepGate, StepLedger, StepTask, StepThreads};
 use jb_base::ClassId;
@@ -42,53 +41,47 @@ fn has_ended<T: PartitionTask>(place: &Option<T>) -> bool
     }
 }
 
-/// Runs the tasks in rounds, each of a least plan for what is left, until all have ended, or a stop, or the limit. `fault` is
-/// what the analyzer answered before.
-pub(crate) fn run_rounds<T: StepTask, L: StepLedger, G: StepGate, R: StepThreads>(
-    runner: &RoundRunner<L, G, R>,
-    pool: &mut Pool<T, L>,
-    alloc: Global,
-    prepared: &Prepared,
-    tasks: Vec<Option<T>>,
-    fault: Option<ClassId>,
-    analyzer: &mut dyn Analyzer,
-    round_limit: Option<u64>,
-) -> Result<Ran<T>, RunError>
-    requires table { IsTaskTable prepared.now (map T.standing (held_in tasks.items)) }
-    requires placed { ArePlaced T.standing 0 tasks.items }
-    ensures run { IfOk result (λ ran. IsRunSoFar prepared.now round_limit ran.stopped (at_first (moment (analyzed analyzer.old) fault) (map T.standing (held_in tasks.items))) (progress T.standing (analyzed analyzer.new) ran)) }
-    ensures ended { IfOk result (λ ran. ran.stopped ≡ false → have_ended (table_of T.standing ran) ≡ true) }
-    ensures table { IfOk result (λ ran. IsTaskTable prepared.now (table_of T.standing ran)) }
-    ensures placed { IfOk result (λ ran. ArePlaced T.standing 0 ran.held.items) }
-    ensures grew { Grew (analyzed analyzer.old) (analyzed analyzer.new) }
-{
-    laws_below();
-    let mut ran = Ran {
-        held: tasks,
-        notes: Vec::new(alloc),
-        fault,
-        rounds: 0,
-        attempts: 0,
-        near: 0,
-        stopped: false,
-    };
-    for _ in runner.rt.forever() {
-        if all_ended(ran.held.as_slice()) {
-            return Ok(ran);
+impl<L: StepLedger, G: StepGate, R: StepThreads> RoundRunner<'_, L, G, R> {
+    /// Runs the tasks in rounds, each of a least plan for what is left, until all have ended, or a stop, or the limit. `fault` is
+    /// what the analyzer answered before.
+    pub(crate) fn run_rounds<T: StepTask>(
+        &self,
+        pool: &mut Pool<T, L>,
+        alloc: Global,
+        prepared: &Prepared,
+        tasks: Vec<Option<T>>,
+        fault: Option<ClassId>,
+        analyzer: &mut dyn Analyzer,
+        round_limit: Option<u64>,
+    ) -> Result<Ran<T>, RunError>
+        requires table { IsTaskTable prepared.now (map T.standing (held_in tasks.items)) }
+        requires placed { ArePlaced T.standing 0 tasks.items }
+        ensures run { IfOk result (λ ran. IsRunOfStepSoFar prepared.now round_limit ran.stopped (at_first (moment (analyzed analyzer.old) fault) (map T.standing (held_in tasks.items))) (progress T.standing (analyzed analyzer.new) ran)) }
+        ensures ended { IfOk result (λ ran. ran.stopped ≡ false → have_ended (table_of T.standing ran) ≡ true) }
+        ensures table { IfOk result (λ ran. IsTaskTable prepared.now (table_of T.standing ran)) }
+        ensures placed { IfOk result (λ ran. ArePlaced T.standing 0 ran.held.items) }
+        ensures grew { Grew (analyzed analyzer.old) (analyzed analyzer.new) }
+    {
+        laws_below();
+        let mut ran = Ran {
+            held: tasks,
+            notes: Vec::new(alloc),
+            fault,
+            rounds: 0,
+            attempts: 0,
+            near: 0,
+            stopped: false,
+        };
+        for _ in self.rt.forever() {
+            if all_ended(ran.held.as_slice()) {
+                return Ok(ran);
+            }
+            ran.stopped = self.run_plan(pool, alloc, prepared, &mut ran, analyzer, round_limit)?;
+            if ran.stopped {
+                self.stop()?;
+                return Ok(ran);
+            }
         }
-        ran.stopped = run_plan(
-            runner,
-            pool,
-            alloc,
-            prepared,
-            &mut ran,
-            analyzer,
-            round_limit,
-        )?;
-        if ran.stopped {
-            runner.stop()?;
-            return Ok(ran);
-        }
+        unreachable!()
     }
-    unreachable!()
 }

@@ -1,7 +1,7 @@
 //! The desk, as what runs the rounds of a step.
 
 ghost use Rattle.std.specs.Prelude.{◌≡◌, true, IfOk};
-ghost use Rattle.jb_step.specs.inside.Round.{AreWhole, had_memory};
+ghost use Rattle.jb_step.specs.inside.rounds.Round.{AreWhole, had_memory};
 ghost use Rattle.jb_workers.specs.Round.{AreDones};
 ghost use Rattle.jb_workers.specs.Turns.{IsDoneOf};
 ghost use Rattle.jb_workers.specs.Works.{AllCanBegin, CanBegin, RiseByPartition};

@@ -1,7 +1,7 @@
 use Rattle.std.proofs.Common.{◌≡◌, ◌++◌, map}
 use Rattle.std.specs.Vec.Iter.{into_iter_items}
 use Rattle.jb_step.specs.Answers.{artifacts_of, given_back}
-use Rattle.jb_step.specs.inside.Places.{held_in}
+use Rattle.jb_step.specs.inside.table.Places.{held_in}
 use Rattle.jb_step.proofs.step.give_back.Given as goal
 
 abbrev pub invariant-loop-place : goal.invariant-loop-place

@@ -4,8 +4,8 @@ ghost use Rattle.std.specs.Prelude.{◌∷◌, [], IfOk, OnOk};
 ghost use Rattle.jb_cert.specs.Plans.{slot_pair};
 ghost use Rattle.jb_collect.specs.Taken.{Grew};
 ghost use Rattle.jb_step.specs.rounds.Rounds.{CanRun};
-ghost use Rattle.jb_step.specs.inside.Round.{IsRound, progress, table_of};
-ghost use Rattle.jb_step.specs.inside.Places.{ArePlaced};
+ghost use Rattle.jb_step.specs.inside.rounds.Round.{IsRound, progress, table_of};
+ghost use Rattle.jb_step.specs.inside.table.Places.{ArePlaced};
 ghost use Rattle.jb_step.specs.Alone.{AreReady};
 
 use crate::callbacks::tell::tell_one;
@@ -19,35 +19,37 @@ use jb_collect::Analyzer;
 use jb_workers::Work;
 use std::alloc::Global;
 
-/// One round of one slot, as `one_round`: the caller's thread does its work, and no list takes memory.
-pub(crate) fn round_of_one<T: StepTask, L: StepLedger, G: StepGate, R: StepThreads>(
-    runner: &RoundRunner<L, G, R>,
-    alloc: Global,
-    ran: &mut Ran<T>,
-    slot: Slot,
-    analyzer: &mut dyn Analyzer,
-) -> Result<bool, RunError>
-    requires placed { ArePlaced T.standing 0 ran.old.held.items }
-    requires ready { AreReady (table_of T.standing ran.old) }
-    requires can_run { CanRun (slot_pair slot ∷ []) (table_of T.standing ran.old) }
-    ensures round { IfOk result (λ broke. IsRound (slot_pair slot ∷ []) broke (progress T.standing (analyzed analyzer.old) ran.old) (progress T.standing (analyzed analyzer.new) ran.new)) }
-    ensures placed { OnOk result (ArePlaced T.standing 0 ran.new.held.items) }
-    ensures grew { Grew (analyzed analyzer.old) (analyzed analyzer.new) }
-{
-    let Some(task) = take_task(&mut ran.held, &slot) else {
-        unreachable!();
-    };
-    let work = Work {
-        lane: slot.lane,
-        task,
-    };
-    let done = runner.run_one(alloc, work)?;
-    let broke = !is_committed(&done);
-    let Done { task, values, .. } = done;
-    ran.fault = tell_one(&task, values, ran.fault, analyzer)?;
-    ran.rounds = sum(ran.rounds, 1)?;
-    ran.attempts = sum(ran.attempts, 1)?;
-    ran.near = slot.partition;
-    put_task(&mut ran.held, task);
-    Ok(broke)
+impl<L: StepLedger, G: StepGate, R: StepThreads> RoundRunner<'_, L, G, R> {
+    /// One round of one slot, as `one_round`: the caller's thread does its work, and no list takes memory.
+    pub(crate) fn round_of_one<T: StepTask>(
+        &self,
+        alloc: Global,
+        ran: &mut Ran<T>,
+        slot: Slot,
+        analyzer: &mut dyn Analyzer,
+    ) -> Result<bool, RunError>
+        requires placed { ArePlaced T.standing 0 ran.old.held.items }
+        requires ready { AreReady (table_of T.standing ran.old) }
+        requires can_run { CanRun (slot_pair slot ∷ []) (table_of T.standing ran.old) }
+        ensures round { IfOk result (λ broke. IsRound (slot_pair slot ∷ []) broke (progress T.standing (analyzed analyzer.old) ran.old) (progress T.standing (analyzed analyzer.new) ran.new)) }
+        ensures placed { OnOk result (ArePlaced T.standing 0 ran.new.held.items) }
+        ensures grew { Grew (analyzed analyzer.old) (analyzed analyzer.new) }
+    {
+        let Some(task) = take_task(&mut ran.held, &slot) else {
+            unreachable!();
+        };
+        let work = Work {
+            lane: slot.lane,
+            task,
+        };
+        let done = self.run_one(alloc, work)?;
+        let broke = !is_committed(&done);
+        let Done { task, values, .. } = done;
+        ran.fault = tell_one(&task, values, ran.fault, analyzer)?;
+        ran.rounds = sum(ran.rounds, 1)?;
+        ran.attempts = sum(ran.attempts, 1)?;
+        ran.near = slot.partition;
+        put_task(&mut ran.held, task);
+        Ok(broke)
+    }
 }

@@ -1,7 +1,7 @@
 use Rattle.std.proofs.Common.{◌≡◌, map, drop}
 use Rattle.std.specs.List.{enumerate_from}
 use Rattle.jb_step.specs.preparing.Setup.{row_now, rows_now}
-use Rattle.jb_step.specs.inside.Places.{held_in}
+use Rattle.jb_step.specs.inside.table.Places.{held_in}
 use Rattle.jb_step.proofs.callbacks.finish.first_other.Given as goal
 
 -- where the other rows are as they are shown, all are

@@ -2,7 +2,7 @@ use Rattle.std.proofs.Common.{List, Option, drop}
 use Rattle.jb_base.specs.declared.class.ClassId.{ClassId}
 use Rattle.jb_collect.specs.declared.calls.AnalyzerCall.{AnalyzerCall}
 use Rattle.jb_collect.specs.Taken.{Taken, Grew, HasTaken}
-use Rattle.jb_step.specs.inside.Telling.{empties}
+use Rattle.jb_step.specs.inside.callbacks.Telling.{empties}
 use Rattle.jb_step.proofs.callbacks.tell.tell_empties.Given as goal
 
 -- what is told of the other rows is told of all

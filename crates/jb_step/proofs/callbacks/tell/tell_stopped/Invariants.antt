@@ -3,7 +3,7 @@ use Rattle.jb_base.specs.declared.class.ClassId.{ClassId}
 use Rattle.jb_collect.specs.declared.calls.AnalyzerCall.{AnalyzerCall}
 use Rattle.jb_collect.specs.Heard.{heard_last}
 use Rattle.jb_collect.specs.Taken.{Taken, Grew, HasTaken}
-use Rattle.jb_step.specs.inside.Places.{held_in}
+use Rattle.jb_step.specs.inside.table.Places.{held_in}
 use Rattle.jb_step.proofs.callbacks.tell.tell_stopped.Given as goal
 
 -- what is told of the other places is told of all

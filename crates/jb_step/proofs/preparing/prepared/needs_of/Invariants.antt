@@ -1,6 +1,6 @@
 use Rattle.std.proofs.Common.{◌≡◌, ◌++◌, map, drop}
 use Rattle.jb_step.specs.preparing.Setup.{needs}
-use Rattle.jb_step.specs.inside.Starting.{unfinished_from}
+use Rattle.jb_step.specs.inside.preparing.Starting.{unfinished_from}
 use Rattle.jb_step.proofs.preparing.prepared.needs_of.Given as goal
 
 abbrev pub invariant-loop-partition : goal.invariant-loop-partition

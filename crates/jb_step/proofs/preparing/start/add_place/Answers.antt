@@ -1,6 +1,6 @@
 use Rattle.std.proofs.Common.{rules, ◌≡◌, ◌++◌, ◌∷◌, [], length, List, Option, ap, sym, ◌∙◌, subst, zero-add}
 use Rattle.std.proofs.lemmas.List.Elements.{filter_map-append}
-use Rattle.jb_step.specs.inside.Places.{ArePlaced, held_in}
+use Rattle.jb_step.specs.inside.table.Places.{ArePlaced, held_in}
 use Rattle.jb_step.proofs.table.Placing.{at-more}
 use Rattle.jb_step.proofs.preparing.start.add_place.Goals as goal
 

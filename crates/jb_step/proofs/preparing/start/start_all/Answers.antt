@@ -3,8 +3,8 @@ use Rattle.jb_rules.specs.declared.row.Row.{Row}
 use Rattle.jb_chunk.specs.Standing.{TaskState}
 use Rattle.jb_step.specs.rounds.PlanLaws.{IsTaskTable}
 use Rattle.jb_step.specs.preparing.Setup.{first_tasks}
-use Rattle.jb_step.specs.inside.Places.{held_in}
-use Rattle.jb_step.specs.inside.Starting.{tasks_from}
+use Rattle.jb_step.specs.inside.table.Places.{held_in}
+use Rattle.jb_step.specs.inside.preparing.Starting.{tasks_from}
 use Rattle.jb_step.proofs.plans.Holding.{begins_with_table}
 use Rattle.jb_step.proofs.beginning.Opening.{all-started, begun-at, fit-at}
 use Rattle.jb_step.proofs.preparing.start.start_all.Goals as goal

@@ -1,8 +1,8 @@
 use Rattle.std.proofs.Common.{◌≡◌, ◌++◌, length, map, drop}
 use Rattle.std.specs.Vec.Iter.{into_iter_items}
 use Rattle.jb_step.specs.preparing.Prepare.{FitRows}
-use Rattle.jb_step.specs.inside.Places.{ArePlaced, held_in}
-use Rattle.jb_step.specs.inside.Starting.{tasks_from, unfinished_from}
+use Rattle.jb_step.specs.inside.table.Places.{ArePlaced, held_in}
+use Rattle.jb_step.specs.inside.preparing.Starting.{tasks_from, unfinished_from}
 use Rattle.jb_step.proofs.preparing.start.start_all.Given as goal
 
 abbrev pub invariant-loop-row : goal.invariant-loop-row

@@ -1,5 +1,5 @@
 use Rattle.std.proofs.Common.{map}
-use Rattle.jb_step.specs.inside.Places.{held_in}
+use Rattle.jb_step.specs.inside.table.Places.{held_in}
 use Rattle.jb_step.proofs.beginning.Opening.{now-sound-at}
 use Rattle.jb_step.proofs.rounds.plan.counts_of.Goals as goal
 

@@ -2,7 +2,7 @@ use Rattle.std.proofs.Common.{◌≡◌, ◌++◌, map, drop}
 use Rattle.std.specs.List.{enumerate_from}
 use Rattle.jb_repo.specs.Rows.{remaining}
 use Rattle.jb_step.specs.preparing.Setup.{counts_now, row_now}
-use Rattle.jb_step.specs.inside.Places.{held_in}
+use Rattle.jb_step.specs.inside.table.Places.{held_in}
 use Rattle.jb_step.proofs.rounds.plan.counts_of.Given as goal
 
 abbrev pub invariant-loop-partition : goal.invariant-loop-partition

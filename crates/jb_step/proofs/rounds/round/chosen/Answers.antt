@@ -1,8 +1,8 @@
 use Rattle.std.proofs.Common.{rules, ◌≡◌, ◌∙◌, ap, map}
 use Rattle.jb_cert.specs.Plans.{slot_pair}
 use Rattle.jb_step.specs.rounds.Rounds.{tasks_in}
-use Rattle.jb_step.specs.inside.Places.{picked}
-use Rattle.jb_step.specs.inside.Round.{tasks_of}
+use Rattle.jb_step.specs.inside.table.Places.{picked}
+use Rattle.jb_step.specs.inside.rounds.Round.{tasks_of}
 use Rattle.jb_step.proofs.table.Placing.{in-turn, table, taken-are}
 use Rattle.jb_step.proofs.run.Splitting.{taken-can, taken-rise}
 use Rattle.jb_step.proofs.rounds.round.chosen.Goals as goal

@@ -1,6 +1,6 @@
 use Rattle.std.proofs.Common.{◌≡◌}
 use Rattle.std.specs.Vec.Iter.{into_iter_items}
-use Rattle.jb_step.specs.inside.Places.{filled}
+use Rattle.jb_step.specs.inside.table.Places.{filled}
 use Rattle.jb_step.proofs.rounds.round.put_back.Given as goal
 
 abbrev pub invariant-loop-done : goal.invariant-loop-done

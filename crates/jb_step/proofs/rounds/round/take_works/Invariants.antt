@@ -1,7 +1,7 @@
 use Rattle.std.proofs.Common.{◌≡◌, ◌++◌, drop, map}
 use Rattle.jb_cert.specs.Plans.{slot_pair}
-use Rattle.jb_step.specs.inside.Places.{emptied, picked}
-use Rattle.jb_step.specs.inside.Round.{tasks_of}
+use Rattle.jb_step.specs.inside.table.Places.{emptied, picked}
+use Rattle.jb_step.specs.inside.rounds.Round.{tasks_of}
 use Rattle.jb_step.proofs.rounds.round.take_works.Given as goal
 
 -- the other slots' tasks are taken after these

@@ -1,5 +1,5 @@
 use Rattle.std.proofs.Common.{drop}
-use Rattle.jb_step.specs.inside.Round.{AreWhole}
+use Rattle.jb_step.specs.inside.rounds.Round.{AreWhole}
 use Rattle.jb_step.proofs.rounds.runner.are_whole.Given as goal
 
 -- where the other attempts had memory, all had it

@@ -1,4 +1,4 @@
-use Rattle.jb_step.specs.inside.Preparing.{prepared_setup}
+use Rattle.jb_step.specs.inside.preparing.Preparing.{prepared_setup}
 use Rattle.jb_step.proofs.plans.Holding.{all-begun}
 use Rattle.jb_step.proofs.preparing.prepared.Prepared.begun_rows.Goals as goal
 

@@ -1,6 +1,6 @@
 use Rattle.std.proofs.Common.{rules, ◌≡◌, sym, subst}
 use Rattle.jb_step.specs.preparing.Setup.{fresh_rows}
-use Rattle.jb_step.specs.inside.Preparing.{MayOpen}
+use Rattle.jb_step.specs.inside.preparing.Preparing.{MayOpen}
 use Rattle.jb_step.proofs.restarts.Beginning.{fresh-may-open}
 use Rattle.jb_step.proofs.preparing.prepared.Prepared.fresh.Goals as goal
 

@@ -1,14 +1,14 @@
 use Rattle.std.proofs.Common.{◌≡◌, ℕ, Bool, Option, false, refl, rules, sym, subst}
 use Rattle.jb_step.specs.preparing.Setup.{Setup}
-use Rattle.jb_step.specs.inside.Round.{Progress}
-use Rattle.jb_step.specs.inside.SoFar.{AreWithin, IsRunSoFar}
+use Rattle.jb_step.specs.inside.rounds.Round.{Progress}
+use Rattle.jb_step.specs.inside.rounds.SoFar.{AreWithin, IsRunOfStepSoFar}
 use Rattle.jb_step.proofs.calls.Growing.{grew-more, grew-none}
 use Rattle.jb_step.proofs.run.SoFar.{none-run, runs-more}
-use Rattle.jb_step.proofs.rounds.run.run_rounds.Goals as goal
+use Rattle.jb_step.proofs.rounds.runner.RoundRunner.run_rounds.Goals as goal
 
 -- whether the step stops, by another name
-named : (s : Setup) (limit : Option ℕ) (stopped other : Bool) (first now : Progress) → stopped ≡ other → IsRunSoFar s limit stopped first now → IsRunSoFar s limit other first now
-named s limit stopped other first now is run = subst (λ (b : Bool). IsRunSoFar s limit b first now) is run
+named : (s : Setup) (limit : Option ℕ) (stopped other : Bool) (first now : Progress) → stopped ≡ other → IsRunOfStepSoFar s limit stopped first now → IsRunOfStepSoFar s limit other first now
+named s limit stopped other first now is run = subst (λ (b : Bool). IsRunOfStepSoFar s limit b first now) is run
 
 pub loop-init : goal.loop-init
 loop-init g c =

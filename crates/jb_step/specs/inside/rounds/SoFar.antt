@@ -10,16 +10,16 @@ use Rattle.jb_step.specs.rounds.PlanLaws.{IsTaskTable}
 use Rattle.jb_step.specs.rounds.Rounds.{AreRun, GoQuietly}
 use Rattle.jb_step.specs.rounds.Runs.{PlanRun, AreOver, ArePlanRuns, note_of, rounds_of, rounds_run}
 use Rattle.jb_step.specs.preparing.Setup.{Setup, counts_now}
-use Rattle.jb_step.specs.inside.Round.{AreLeft, Progress}
-use Rattle.jb_step.specs.inside.Telling.{Moment}
+use Rattle.jb_step.specs.inside.rounds.Round.{AreLeft, Progress}
+use Rattle.jb_step.specs.inside.callbacks.Telling.{Moment}
 
 -- the chunks of a round of the load's plan
 abbrev pub set_of_round : Load → ℕ → List Pair
 set_of_round load r = map slot_pair (slots_of_round load.counts load.threads r)
 
 -- the load's plan, of which so many rounds were run
-abbrev pub plan_of : Load → ℕ → PlanRun
-plan_of load ran = record {
+abbrev pub plan_run_of : Load → ℕ → PlanRun
+plan_run_of load ran = record {
   certificate = bound_certificate load.counts load.threads;
   rounds = sets_of (wrapped_rounds load.counts load.threads);
   ran = ran;
@@ -35,7 +35,7 @@ at_first moment start = record { moment = moment; table = start; rounds = 0; att
 
 -- Run of a step so far, from where it stood at first: some plans were run, one after another, each a least one for what was
 -- left; these are their notes, and what their rounds left. All of them are over, unless the step stops.
-pub record IsRunSoFar (s : Setup) (limit : Option ℕ) (stopped : Bool) (first now : Progress) : Type 0 where
+pub record IsRunOfStepSoFar (s : Setup) (limit : Option ℕ) (stopped : Bool) (first now : Progress) : Type 0 where
   pub plans : List PlanRun
   pub run : ArePlanRuns s first.table plans
   pub over : stopped ≡ false → AreOver first.table plans
@@ -53,8 +53,8 @@ pub record IsPlanFor (s : Setup) (before : List TaskState) (plan : PlanRun) : Ty
 
 -- so many rounds of it were run so far, none of them with a rollback or a failure
 pub record IsOpen (s : Setup) (load : Load) (ran : ℕ) (first now : Progress) : Type 0 where
-  pub run : AreRun (rounds_run (plan_of load ran)) first.table
-  pub quiet : GoQuietly (rounds_run (plan_of load ran)) first.table
+  pub run : AreRun (rounds_run (plan_run_of load ran)) first.table
+  pub quiet : GoQuietly (rounds_run (plan_run_of load ran)) first.table
   pub notes_are : now.notes ≡ first.notes
-  pub left : AreLeft (rounds_run (plan_of load ran)) first now
+  pub left : AreLeft (rounds_run (plan_run_of load ran)) first now
   pub table : IsTaskTable s now.table

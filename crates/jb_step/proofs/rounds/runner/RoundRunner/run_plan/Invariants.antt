@@ -1,9 +1,9 @@
 use Rattle.std.proofs.Common.{◌+◌, ◌<◌}
 use Rattle.jb_collect.specs.Taken.{Grew}
-use Rattle.jb_step.specs.inside.Places.{ArePlaced}
-use Rattle.jb_step.specs.inside.Round.{progress}
-use Rattle.jb_step.specs.inside.SoFar.{AreWithin, IsOpen}
-use Rattle.jb_step.proofs.rounds.plan.run_plan.Given as goal
+use Rattle.jb_step.specs.inside.table.Places.{ArePlaced}
+use Rattle.jb_step.specs.inside.rounds.Round.{progress}
+use Rattle.jb_step.specs.inside.rounds.SoFar.{AreWithin, IsOpen}
+use Rattle.jb_step.proofs.rounds.runner.RoundRunner.run_plan.Given as goal
 
 abbrev pub invariant-loop-round : goal.invariant-loop-round
 invariant-loop-round g l =

@@ -1,18 +1,18 @@
 use Rattle.std.proofs.Common.{◌≡◌, false, map}
 use Rattle.jb_collect.specs.Taken.{Grew}
 use Rattle.jb_step.specs.rounds.PlanLaws.{IsTaskTable}
-use Rattle.jb_step.specs.inside.Places.{ArePlaced, held_in}
-use Rattle.jb_step.specs.inside.Round.{progress, table_of}
-use Rattle.jb_step.specs.inside.SoFar.{IsRunSoFar, at_first}
-use Rattle.jb_step.specs.inside.Telling.{moment}
-use Rattle.jb_step.proofs.rounds.run.run_rounds.Given as goal
+use Rattle.jb_step.specs.inside.table.Places.{ArePlaced, held_in}
+use Rattle.jb_step.specs.inside.rounds.Round.{progress, table_of}
+use Rattle.jb_step.specs.inside.rounds.SoFar.{IsRunOfStepSoFar, at_first}
+use Rattle.jb_step.specs.inside.callbacks.Telling.{moment}
+use Rattle.jb_step.proofs.rounds.runner.RoundRunner.run_rounds.Given as goal
 
 abbrev pub invariant-loop : goal.invariant-loop
 invariant-loop g l =
     let standing = g.T.PartitionTask.standing in
     let calls = (goal.Analyzer-dyn g l.fn.analyzer.now).analyzed l.fn.analyzer.now.1 in
     let later = (goal.Analyzer-dyn g l.analyzer.now).analyzed l.analyzer.now.1 in
-    IsRunSoFar l.prepared l.round_limit false (at_first (moment calls l.fn.fault) (map standing (held_in l.fn.tasks.items))) (progress standing later l.ran)
+    IsRunOfStepSoFar l.prepared l.round_limit false (at_first (moment calls l.fn.fault) (map standing (held_in l.fn.tasks.items))) (progress standing later l.ran)
     × IsTaskTable l.prepared (table_of standing l.ran)
     × ArePlaced standing 0 l.ran.held.items
     × Grew calls later

@@ -4,18 +4,18 @@ use Rattle.jb_cert.specs.Plans.{sets_of}
 use Rattle.jb_cert.specs.WrapAround.{wrapped_rounds}
 use Rattle.jb_chunk.specs.Standing.{TaskState}
 use Rattle.jb_step.specs.preparing.Setup.{Setup}
-use Rattle.jb_step.specs.inside.Places.{held_in}
-use Rattle.jb_step.specs.inside.Round.{Progress, progress}
-use Rattle.jb_step.specs.inside.SoFar.{AreWithin, IsPlanFor, plan_of}
+use Rattle.jb_step.specs.inside.table.Places.{held_in}
+use Rattle.jb_step.specs.inside.rounds.Round.{Progress, progress}
+use Rattle.jb_step.specs.inside.rounds.SoFar.{AreWithin, IsPlanFor, plan_run_of}
 use Rattle.jb_step.proofs.calls.Growing.{grew-more, grew-none}
 use Rattle.jb_step.proofs.table.Numbers.{below-of}
 use Rattle.jb_step.proofs.run.SoFar.{ends, goes-on, long-plan, none-run, open-can-run, opens, ready-of, rises-of, table-round}
-use Rattle.jb_step.proofs.rounds.plan.run_plan.Goals as goal
-use Rattle.jb_step.proofs.rounds.plan.run_plan.Goals.{then-broke, else-broke}
+use Rattle.jb_step.proofs.rounds.runner.RoundRunner.run_plan.Goals as goal
+use Rattle.jb_step.proofs.rounds.runner.RoundRunner.run_plan.Goals.{then-broke, else-broke}
 
 -- the plan was made for the tasks that were held
-made-for : {T : Type 0} (standing : T → TaskState) (s : Setup) (load : Load) (held places : List (Option T)) → held ≡ places → IsPlanFor s (map standing (held_in held)) (plan_of load 0) → IsPlanFor s (map standing (held_in places)) (plan_of load 0)
-made-for standing s load held places is made = subst (λ (os : List (Option _)). IsPlanFor s (map standing (held_in os)) (plan_of load 0)) is made
+made-for : {T : Type 0} (standing : T → TaskState) (s : Setup) (load : Load) (held places : List (Option T)) → held ≡ places → IsPlanFor s (map standing (held_in held)) (plan_run_of load 0) → IsPlanFor s (map standing (held_in places)) (plan_run_of load 0)
+made-for standing s load held places is made = subst (λ (os : List (Option _)). IsPlanFor s (map standing (held_in os)) (plan_run_of load 0)) is made
 
 in-plan : (load : Load) (rounds round : ℕ) → length (wrapped_rounds load.counts load.threads) ≡ rounds → round < rounds → round < length (sets_of (wrapped_rounds load.counts load.threads))
 in-plan load rounds round long lt = omega (arith, lt, long, long-plan load)
@@ -66,7 +66,7 @@ returns-then-over-clause-run g c =
     let round = c.loop-round.round in
     let one = c.in_ok-broke.ensures.round.left.rounds_are in
     let now : c.next_round.new.ran.rounds ≡ c.loop-round.ran.rounds + 1 = omega (arith, one) in
-    let over : c.if-broke.over ≡ true → (c.in_ok-broke.broke ≡ true) ⊎ (round + 1 ≡ length (plan_of load 0).rounds) =
+    let over : c.if-broke.over ≡ true → (c.in_ok-broke.broke ≡ true) ⊎ (round + 1 ≡ length (plan_run_of load 0).rounds) =
     elim c.if-broke.branch [
       | then-broke w ↦ λ it. inl w.if-broke.true
       | else-broke w ↦ λ it. inr (eqb-true (round + 1) c.rounds-rounds.result (sym w.over-is ∙ it) ∙ sym (long-plan load ∙ c.rounds-rounds.ensures.length))

@@ -2,13 +2,13 @@ use Rattle.std.proofs.Common.{[], ◌∷◌, not, ap, sym, ◌∙◌, subst, ari
 use Rattle.std.specs.List.{cons_option}
 use Rattle.jb_cert.specs.Plans.{slot_pair}
 use Rattle.jb_workers.specs.declared.worker.lane_work.Work.{Work}
-use Rattle.jb_step.specs.inside.Round.{AreDonesOf}
+use Rattle.jb_step.specs.inside.rounds.Round.{AreDonesOf}
 use Rattle.jb_step.proofs.table.Placing.{IsPutBack, put-back, table}
 use Rattle.jb_step.proofs.run.Rounding.{round-is}
 use Rattle.jb_step.proofs.run.SingleSlot.{has-one, heard-one, one-rises, taken-one, or-false}
 use Rattle.jb_step.proofs.run.Splitting.{taken-can}
-use Rattle.jb_step.proofs.rounds.round.single.round_of_one.Goals as goal
-use Rattle.jb_step.proofs.rounds.round.single.round_of_one.Goals.{After-put_task}
+use Rattle.jb_step.proofs.rounds.runner.RoundRunner.round_of_one.Goals as goal
+use Rattle.jb_step.proofs.rounds.runner.RoundRunner.round_of_one.Goals.{After-put_task}
 
 pub unreachable-requires : goal.unreachable-requires
 unreachable-requires g c =

@@ -1,11 +1,11 @@
 use Rattle.std.proofs.Common.{length, map, ap, subst}
 use Rattle.jb_cert.specs.Plans.{slot_pair}
-use Rattle.jb_step.specs.inside.Round.{AreDonesOf}
+use Rattle.jb_step.specs.inside.rounds.Round.{AreDonesOf}
 use Rattle.jb_step.proofs.table.Placing.{IsPutBack, in-turn, put-back}
 use Rattle.jb_step.proofs.run.Rounding.{round-is}
 use Rattle.jb_step.proofs.run.Splitting.{done-by}
-use Rattle.jb_step.proofs.rounds.round.one_round.Goals as goal
-use Rattle.jb_step.proofs.rounds.round.one_round.Goals.{After-put_back}
+use Rattle.jb_step.proofs.rounds.runner.RoundRunner.one_round.Goals as goal
+use Rattle.jb_step.proofs.rounds.runner.RoundRunner.one_round.Goals.{After-put_back}
 
 -- The round's attempts are those of the tasks that were taken out, and each had memory.
 back : (g : _) (c : After-put_back g) → IsPutBack g.T.PartitionTask.standing (map slot_pair c.args.slots.now) c.args.ran.now.held.items c.in_ok-dones.dones.items c.put_back.new.places.items

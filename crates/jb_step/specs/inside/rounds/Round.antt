@@ -14,8 +14,8 @@ use Rattle.jb_cert.specs.declared.notes.PlanNote.{PlanNote}
 use Rattle.jb_step.specs.Alone.{AreReady}
 use Rattle.jb_step.specs.rounds.Rounds.{after_rounds, attempts_of, breaks_in}
 use Rattle.jb_step.specs.declared.rounds.ran.Ran.{Ran}
-use Rattle.jb_step.specs.inside.Places.{held_in}
-use Rattle.jb_step.specs.inside.Telling.{HearsMore, Moment, moment}
+use Rattle.jb_step.specs.inside.table.Places.{held_in}
+use Rattle.jb_step.specs.inside.callbacks.Telling.{HearsMore, Moment, moment}
 use Rattle.jb_workers.specs.declared.worker.lane_work.Work.{Work}
 use Rattle.jb_workers.specs.Works.{IsAttemptOf}
 

@@ -3,13 +3,13 @@ use Rattle.jb_base.specs.declared.class.ClassId.{ClassId}
 use Rattle.jb_chunk.specs.Standing.{TaskState}
 use Rattle.jb_step.specs.Answers.{StepRun, given_back}
 use Rattle.jb_step.specs.Statuses.{status_of}
-use Rattle.jb_step.specs.inside.Round.{progress}
-use Rattle.jb_step.specs.inside.SoFar.{IsRunSoFar, at_first}
-use Rattle.jb_step.specs.inside.Telling.{moment}
+use Rattle.jb_step.specs.inside.rounds.Round.{progress}
+use Rattle.jb_step.specs.inside.rounds.SoFar.{IsRunOfStepSoFar, at_first}
+use Rattle.jb_step.specs.inside.callbacks.Telling.{moment}
 use Rattle.jb_step.specs.rounds.PlanLaws.{IsTaskTable}
 use Rattle.jb_step.proofs.Heading.{headline-of}
 use Rattle.jb_step.proofs.run.Stepping.{IsLeft, run-is, way-is, heard-fault}
-use Rattle.jb_step.proofs.step.run_tasks.Goals as goal
+use Rattle.jb_step.proofs.rounds.runner.RoundRunner.run_tasks.Goals as goal
 
 -- the run that is answered
 abbrev run-of : (g : _) → goal.In_ok-artifacts g → StepRun
@@ -41,7 +41,7 @@ left g c =
       now = now;
       stopped = ran.stopped;
       begun = c.in_ok-fault.ensures.heard;
-      run = subst (λ (ts : List TaskState). IsRunSoFar r.setup r.round_limit ran.stopped (at_first first ts) now) c.in_ok-tasks.ensures.tasks c.in_ok-ran.ensures.run;
+      run = subst (λ (ts : List TaskState). IsRunOfStepSoFar r.setup r.round_limit ran.stopped (at_first first ts) now) c.in_ok-tasks.ensures.tasks c.in_ok-ran.ensures.run;
       ended = c.in_ok-ran.ensures.ended;
       table = c.in_ok-ran.ensures.table;
       told = rw c.as_slice.ensures.value at c.in_ok-ran-2.ensures.heard;
