@@ -5,8 +5,8 @@ use Rattle.jb_csv_job.specs.declared.failure.Failure.TheVariants as failure
 use Rattle.jb_durable_records.specs.declared.error.DurableError.{DurableError}
 use Rattle.jb_durable_records.specs.declared.error.DurableError.TheVariants as run
 use Rattle.jb_records.specs.declared.error.RecordsStepError.TheVariants as step
-use Rattle.jb_store.specs.declared.error.StoreError.{StoreError}
-use Rattle.jb_store.specs.declared.error.StoreError.TheVariants as store
+use Rattle.jb_checkpoint_table.specs.declared.error.StoreError.{StoreError}
+use Rattle.jb_checkpoint_table.specs.declared.error.StoreError.TheVariants as store
 
 -- why the file isn't taken, and why the run over such records has no end; nothing is said here of the texts of faults that come from below
 abbrev pub file_text : StoreError → Option (List ℕ)

@@ -19,6 +19,7 @@ mod writing;
 
 pub use exit::exit_code;
 pub use failure::{Failure, FailureText};
+pub use jb_store::closed;
 pub use job::CsvJob;
 pub use opening::{Asked, opened};
 pub use run::run_csv_job;

@@ -2,8 +2,8 @@
 
 ghost use Rattle.std.specs.Prelude.{◌≤◌, IfOk};
 ghost use Rattle.jb_base.specs.Limits.{max_threads};
-ghost use Rattle.jb_store.specs.Checkpoints.{Has, ShowsList};
-ghost use Rattle.jb_store.specs.Connections.{IsJustOpened};
+ghost use Rattle.jb_checkpoint_table.specs.Checkpoints.{Has, ShowsList};
+ghost use Rattle.jb_checkpoint_table.specs.Connections.{IsJustOpened};
 ghost use Rattle.sqlite.specs.Files.{HoldsDatabase, file_state};
 ghost use Rattle.sqlite.specs.State.{HasCleanDisk};
 ghost use Rattle.sqlite_wal.specs.Files.{image_at};

@@ -8,8 +8,8 @@ ghost use Rattle.jb_csv_job.specs.Done.{IsJobDone, IsDoneSoFar, exit_status};
 ghost use Rattle.jb_csv_job.specs.Kept.{IsJobSoFar, job_form};
 ghost use Rattle.jb_durable.specs.Files.{IsOfARun};
 ghost use Rattle.jb_checkpoint.specs.Checkpoints.{Kept};
-ghost use Rattle.jb_store.specs.Checkpoints.{ShowsList};
-ghost use Rattle.jb_store.specs.Connections.{IsJustOpened};
+ghost use Rattle.jb_checkpoint_table.specs.Checkpoints.{ShowsList};
+ghost use Rattle.jb_checkpoint_table.specs.Connections.{IsJustOpened};
 
 use crate::failure::Failure;
 use crate::job::CsvJob;

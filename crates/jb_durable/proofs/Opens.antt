@@ -24,13 +24,15 @@ use Rattle.sqlite.specs.Files.{AreFoundIn, HoldsDatabase, IsNothing, LeavesFiles
 use Rattle.sqlite.specs.Schema.{Schema}
 use Rattle.sqlite.specs.declared.file.Leftover.{Leftover}
 use Rattle.sqlite.specs.declared.file.Leftover.TheVariants as left
-use Rattle.jb_store.specs.Checkpoints.{Has}
+use Rattle.jb_checkpoint_table.specs.Checkpoints.{Has}
 use Rattle.jb_checkpoint.specs.Checkpoints.{Kept}
-use Rattle.jb_store.specs.Form.{checkpoint_schema, no_schema}
-use Rattle.jb_durable.specs.Files.{CanGoOn, IsResumable, HoldsPages, HoldsRun, HoldsRunOrNone, HoldsWhole, IsOfARun, Leaves, LeavesImage, MayGoOn, has_store}
+use Rattle.jb_checkpoint_table.specs.Form.{checkpoint_schema, no_schema}
+use Rattle.jb_store.specs.Files.{HoldsWhole}
+use Rattle.jb_store.proofs.Whole.{whole_is_database}
+use Rattle.jb_durable.specs.Files.{CanGoOn, IsResumable, HoldsPages, HoldsRun, HoldsRunOrNone, IsOfARun, Leaves, LeavesImage, MayGoOn, has_store}
 use Rattle.jb_durable.proofs.Pages.{pages_once, something, stands_pages}
 use Rattle.jb_durable.proofs.Tables.{IsChecked, one_list}
-use Rattle.jb_durable.proofs.Whole.{database_pages, stands_whole, whole_is_database, whole_pages}
+use Rattle.jb_durable.proofs.Whole.{database_pages, stands_whole, whole_pages}
 
 -- the same file, of whose numbers nothing is said
 loose_file : (size : ℕ) (is_numbered : Bool) (wanted : List Wanted) (pages : Pages) → IsOurs size is_numbered wanted pages → IsOurs size false wanted pages

@@ -7,7 +7,8 @@ use Rattle.sqlite_trees.specs.Tree.{Trees}
 use Rattle.sqlite_wal.specs.Reads.{AreClean}
 use Rattle.sqlite_wal.specs.Recovery.{Image}
 use Rattle.jb_checkpoint.specs.Checkpoints.{Kept}
-use Rattle.jb_durable.specs.Files.{CanGoOn, IsResumable, HoldsRun, HoldsRunOrNone, HoldsWhole, IsOfARun, Leaves, MayGoOn}
+use Rattle.jb_store.specs.Files.{HoldsWhole}
+use Rattle.jb_durable.specs.Files.{CanGoOn, IsResumable, HoldsRun, HoldsRunOrNone, IsOfARun, Leaves, MayGoOn}
 use Rattle.jb_durable.specs.declared.stop.Life.{Life}
 use Rattle.jb_durable.specs.Lives.{IsLifeOver}
 use Rattle.jb_durable.proofs.Opens.{Resumes, may_go_on, none_goes_on, run_goes_on}

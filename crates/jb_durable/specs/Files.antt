@@ -17,17 +17,13 @@ use Rattle.sqlite_store.specs.declared.catalog.Wanted.{Wanted}
 use Rattle.sqlite.specs.declared.file.Leftover.{Leftover}
 use Rattle.sqlite.specs.declared.file.Leftover.TheVariants as left
 use Rattle.sqlite.specs.Files.{IsNothing}
-use Rattle.sqlite.specs.Opening.{HoldsAt}
 use Rattle.jb_checkpoint.specs.Checkpoints.{Kept}
-use Rattle.jb_store.specs.Checkpoints.{Has}
+use Rattle.jb_checkpoint_table.specs.Checkpoints.{Has}
+use Rattle.jb_store.specs.Files.{HoldsWhole}
 
 -- the database has the checkpoints of a run so far
 abbrev pub IsOfARun : (so_far : List Kept → Type 0) → Trees → Type 0
 IsOfARun so_far db = (all : List Kept) × Has db all × so_far all
-
--- the files hold this database and, where its pages have sums, each page its own
-abbrev pub HoldsWhole : Image → Trees → Type 0
-HoldsWhole image db = (size : ℕ) × IsPageSize (stored_size size) × HoldsAt size image db
 
 -- THE FILES HOLD A RUN: a database with the checkpoints of a run so far
 abbrev pub HoldsRun : (so_far : List Kept → Type 0) → Image → Type 0

@@ -2,7 +2,7 @@
 use Rattle.std.specs.Prelude.{◌≡◌, ◌↔◌, ◌≤◌, ◌-◌, ◌^◌, ℕ, List, length}
 use Rattle.sqlite.specs.State.{State}
 use Rattle.jb_checkpoint.specs.Checkpoints.{Kept}
-use Rattle.jb_store.specs.Connections.{Keeps}
+use Rattle.jb_checkpoint_table.specs.Connections.{Keeps}
 
 -- it is the same work: the same lists are its own, before a call and after it
 abbrev pub IsSame : (before after : List Kept → Type 0) → Type 0

@@ -1,8 +1,8 @@
 //! An open that may be cut.
 
 ghost use Rattle.std.specs.Prelude.{◌≡◌, ◌⊎◌, Bool, false, true, IfOk, IfErr, IfSome, IsTrue};
-ghost use Rattle.jb_store.specs.Connections.{IsJustOpened};
-ghost use Rattle.jb_store.specs.Form.{checkpoint_schema, no_schema};
+ghost use Rattle.jb_checkpoint_table.specs.Connections.{IsJustOpened};
+ghost use Rattle.jb_checkpoint_table.specs.Form.{checkpoint_schema, no_schema};
 ghost use Rattle.jb_durable.specs.Files.{IsOfARun, Leaves, LeavesImage, MayGoOn, has_store};
 ghost use Rattle.jb_durable.specs.Lives.{IsLifeOver};
 ghost use Rattle.jb_durable.specs.Watching.{AreGiven};
@@ -12,9 +12,9 @@ ghost use Rattle.sqlite_wal.specs.Files.{outcomes};
 ghost use Rattle.sqlite_wal.specs.Reads.{AreClean};
 ghost use Rattle.sqlite_wal.specs.Recovery.{Image};
 
-use crate::stop::{Life, closed, has_store, stop_cut, unwatch, watch};
+use crate::stop::{Life, has_store, stop_cut, unwatch, watch};
 use crate::watched::{Given, Watched};
-use jb_store::takes;
+use jb_store::{closed, takes};
 use sqlite::{Connection, FileStore, Leftover, Options};
 use sqlite_disk::{Crash, Disk, Files};
 use std::alloc::Global;

@@ -2,7 +2,7 @@
 
 ghost use Rattle.std.specs.Prelude.{IfSome, IsTrue, List};
 ghost use Rattle.jb_checkpoint.specs.Checkpoints.{Kept};
-ghost use Rattle.jb_store.specs.Connections.{Keeps};
+ghost use Rattle.jb_checkpoint_table.specs.Connections.{Keeps};
 ghost use Rattle.jb_durable.specs.Files.{HoldsRunOrNone, Leaves};
 ghost use Rattle.sqlite.specs.Files.{file_state};
 ghost use Rattle.sqlite.specs.State.{HasCleanDisk};
@@ -10,8 +10,8 @@ ghost use Rattle.sqlite.specs.State.{HasCleanDisk};
 use crate::cut::open_own;
 use crate::life::live_and_crash;
 use crate::run::run_over_files;
-use crate::stop::closed;
 use crate::work::DurableWork;
+use jb_store::closed;
 use sqlite::{Connection, FileStore, Options};
 use sqlite_disk::{Crash, Disk, Files};
 use std::alloc::Global;

@@ -1,9 +1,9 @@
 //! Stretch after stretch, each kept before the next begins.
 
 ghost use Rattle.std.specs.Prelude.{◌≡◌, ◌≤◌, ◌+◌, ◌-◌, ◌^◌, List, length, IfErr, IfOk, IsTrue, false, true};
-ghost use Rattle.jb_store.specs.Checkpoints.{Has, ShowsList};
+ghost use Rattle.jb_checkpoint_table.specs.Checkpoints.{Has, ShowsList};
 ghost use Rattle.jb_checkpoint.specs.Checkpoints.{Kept};
-ghost use Rattle.jb_store.specs.Connections.{IsJustOpened, Keeps};
+ghost use Rattle.jb_checkpoint_table.specs.Connections.{IsJustOpened, Keeps};
 ghost use Rattle.jb_durable.specs.Files.{IsOfARun};
 ghost use Rattle.jb_durable.specs.Works.{HasEachNumber, IsSame, StandsAt};
 ghost use Rattle.jb_durable.specs.declared.run.RunError.TheVariants.{TooMany};

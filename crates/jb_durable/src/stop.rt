@@ -1,7 +1,8 @@
 //! The machine stops, and what it leaves.
 
 ghost use Rattle.std.specs.Prelude.{◌≡◌, ◌&&◌, ◌||◌, not, Bool, false, true, IfSome, IsTrue};
-ghost use Rattle.jb_durable.specs.Files.{HoldsRun, HoldsWhole, IsOfARun, Leaves, LeavesImage, has_store};
+ghost use Rattle.jb_store.specs.Files.{HoldsWhole};
+ghost use Rattle.jb_durable.specs.Files.{HoldsRun, IsOfARun, Leaves, LeavesImage, has_store};
 ghost use Rattle.jb_durable.specs.Watching.{AreGiven};
 ghost use Rattle.jb_durable.specs.Watched.{disk_of, has_written};
 ghost use Rattle.sqlite.specs.Files.{IsCleanLeft, file_state};
@@ -12,6 +13,7 @@ ghost use Rattle.sqlite_wal.specs.Reads.{AreClean};
 ghost use Rattle.sqlite_wal.specs.Recovery.{Image};
 
 use crate::watched::{Given, Watched};
+use jb_store::closed;
 use sqlite::{Connection, FileStore, Leftover};
 use sqlite_disk::{Crash, Disk, Files};
 
@@ -49,15 +51,6 @@ fn crash<D: Crash>(mut files: Files<D>) -> Files<D>
     files.log.crash();
     files.db.crash();
     files
-}
-
-/// The files of a connection that ends. Each place where one over files ends, or is handed to a call over any store, is dear to prove.
-pub(crate) fn closed<D: Disk + Drop>(conn: Connection<FileStore<D>>) -> Files<D>
-    ensures clean { AreClean D.Disk result.log result.db → HasCleanDisk (file_state conn) }
-    ensures left { AreClean D.Disk result.log result.db → (image : Image) → outcomes D.Disk result.log result.db image
-        → ∥ ((db : Trees) × HoldsWhole image db × (file_state conn).may_leave db) ∥₁ }
-{
-    conn.into_store().close()
 }
 
 /// It stops while the connection is open.

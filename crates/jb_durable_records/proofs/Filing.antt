@@ -4,11 +4,11 @@ use Rattle.sqlite_disk.specs.Disk.{MoreFaults}
 use Rattle.sqlite.specs.State.{State}
 use Rattle.jb_records.specs.declared.step.RecordsStep.{RecordsStep}
 use Rattle.jb_records.specs.Function.{Function}
-use Rattle.jb_store.specs.Checkpoints.{HasNumber, IsTooLong}
+use Rattle.jb_checkpoint_table.specs.Checkpoints.{HasNumber, IsTooLong}
 use Rattle.jb_checkpoint.specs.Checkpoints.{Kept}
-use Rattle.jb_store.specs.Errors.{IsCaused, IsOfTheList, IsOpenCause}
-use Rattle.jb_store.specs.declared.error.StoreError.{StoreError}
-use Rattle.jb_store.specs.declared.error.StoreError.TheVariants as named
+use Rattle.jb_checkpoint_table.specs.Errors.{IsCaused, IsOfTheList, IsOpenCause}
+use Rattle.jb_checkpoint_table.specs.declared.error.StoreError.{StoreError}
+use Rattle.jb_checkpoint_table.specs.declared.error.StoreError.TheVariants as named
 use Rattle.jb_records_checkpoints.specs.Checkpoints.{IsRunSoFar}
 use Rattle.jb_durable_records.specs.Refusals.{HasALongOne, IsFileCause}
 

@@ -7,7 +7,7 @@ use Rattle.jb_records.specs.declared.step.RecordsStep.{RecordsStep}
 use Rattle.jb_records.specs.Function.{Function}
 use Rattle.jb_records.specs.Stretches.{RunState}
 use Rattle.jb_checkpoint.specs.Checkpoints.{Kept}
-use Rattle.jb_store.specs.Connections.{Keeps}
+use Rattle.jb_checkpoint_table.specs.Connections.{Keeps}
 use Rattle.jb_durable.specs.Files.{IsOfARun}
 use Rattle.jb_records_checkpoints.specs.Checkpoints.{HaveAllResults, IsRunSoFar, IsWholeRun, WholeRunsHaveAll}
 use Rattle.jb_records_checkpoints.specs.Work.{RunStandsAt}

@@ -6,9 +6,9 @@ use Rattle.jb_records.specs.declared.step.RecordsStep.{RecordsStep}
 use Rattle.jb_records.specs.Function.{Function}
 use Rattle.jb_records.specs.Stretches.{IsBrokenOff}
 use Rattle.jb_checkpoint.specs.Checkpoints.{Kept}
-use Rattle.jb_store.specs.Checkpoints.{IsTooLong}
-use Rattle.jb_store.specs.declared.error.StoreError.{StoreError}
-use Rattle.jb_store.specs.declared.error.StoreError.TheVariants as store
+use Rattle.jb_checkpoint_table.specs.Checkpoints.{IsTooLong}
+use Rattle.jb_checkpoint_table.specs.declared.error.StoreError.{StoreError}
+use Rattle.jb_checkpoint_table.specs.declared.error.StoreError.TheVariants as store
 use Rattle.jb_records_checkpoints.specs.declared.error.CheckpointError.{CheckpointError}
 use Rattle.jb_records_checkpoints.specs.declared.error.CheckpointError.TheVariants as refusal
 use Rattle.jb_records_checkpoints.specs.Checkpoints.{IsRunSoFar}

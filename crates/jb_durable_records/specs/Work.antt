@@ -9,7 +9,7 @@ use Rattle.jb_records_checkpoints.specs.Work.{RunStandsAt}
 use Rattle.jb_records_checkpoints.specs.declared.place.Stage.{Stage}
 use Rattle.jb_checkpoint.specs.Checkpoints.{Kept}
 use Rattle.sqlite.specs.State.{State}
-use Rattle.jb_store.specs.Connections.{Keeps}
+use Rattle.jb_checkpoint_table.specs.Connections.{Keeps}
 
 -- The connection keeps so many checkpoints, those of a run so far, and the work stands behind them.
 pub record IsAtRest (f : Function) (step : RecordsStep) (records : List (List ℕ)) (s : State) (stage : Stage) (run : RunState) (rows : List Row) (count : ℕ) (all : List Kept) : Type 0 where

@@ -6,9 +6,9 @@ ghost use Rattle.sqlite.specs.Files.{file_state};
 ghost use Rattle.sqlite.specs.Held.{state};
 ghost use Rattle.sqlite.specs.State.{HasCleanDisk};
 ghost use Rattle.sqlite_trees.specs.View.{doubt};
-ghost use Rattle.jb_store.specs.Checkpoints.{Has};
+ghost use Rattle.jb_checkpoint_table.specs.Checkpoints.{Has};
 ghost use Rattle.jb_checkpoint.specs.Checkpoints.{Kept};
-ghost use Rattle.jb_store.specs.Connections.{IsJustOpened, Keeps};
+ghost use Rattle.jb_checkpoint_table.specs.Connections.{IsJustOpened, Keeps};
 ghost use Rattle.jb_durable.specs.Files.{HoldsRunOrNone, IsOfARun, Leaves};
 ghost use Rattle.jb_durable.specs.Lives.{IsLifeOver};
 ghost use Rattle.jb_durable.specs.Watching.{AreGiven};
@@ -23,6 +23,7 @@ use jb_base::PackedList;
 use jb_durable::{Given, LastLife, Life, open_own, open_watched, stop_watched};
 use jb_records::{RecordFunction, RecordsStep};
 use jb_records_checkpoints::{Pace, checkpoints_have_results};
+use jb_store::closed;
 use sqlite::{Alter, Connection, Options};
 use sqlite_disk::{Crash, Files};
 use std::alloc::Global;
@@ -185,7 +186,10 @@ fn through_crashes<
         rt, alloc, &mut conn, step, function, records, stretches, pace, onlooker,
     ) {
         Ok(is_done) => Some(LastLife { conn, is_done }),
-        Err(_) => None,
+        Err(_) => {
+            let _files = closed(conn);
+            None
+        }
     }
 }
 

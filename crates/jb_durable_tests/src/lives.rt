@@ -1,13 +1,13 @@
 //! The lives of processes over files, and what they say at their ends.
 //!
-//! Each place where a function hands a connection over files to a call over any store, or lets one go, is dear to prove. So what a life
-//! does is over any store, and `ended` alone has its connection.
+//! Each place where a function hands a connection over files to a call over any store is dear to prove. So what a life does is over any
+//! store, and `ended` alone has its connection.
 
 ghost use Rattle.std.specs.Thread.{IsSync};
 
 use crate::files::{opened, text_of};
 use jb_durable::LastLife;
-use jb_store::{StoreError, list};
+use jb_store::{StoreError, closed, list};
 use sqlite::{Alter, Connection, FileStore, Files};
 use sqlite_disk::Disk;
 use std::alloc::{AllocError, Global};
@@ -50,7 +50,7 @@ pub(crate) fn ended<R: Threads + Wait + Sync, D: Disk + Drop, L: Life>(
     life: &mut L,
 ) -> (Files<D>, Result<String, AllocError>) {
     let said = life.live(rt, alloc, &mut conn);
-    (conn.into_store().close(), said)
+    (closed(conn), said)
 }
 
 /// A life over files. Where they can't be opened it says why.

@@ -1,4 +1,1 @@
-pub mod Form
-pub mod Checkpoints
-pub mod Connections
-pub mod Errors
+pub mod Files

@@ -1,17 +1,15 @@
 //! A crash at any moment of an append, and the next open.
 
 ghost use Rattle.std.specs.Prelude.{◌≡◌, ◌⊎◌, ◌++◌, ◌+◌, [], ◌∷◌, length, map, IfSome, IsTrue};
-ghost use Rattle.jb_store.specs.Checkpoints.{StandsFor};
 ghost use Rattle.jb_checkpoint.specs.Checkpoints.{kept};
-ghost use Rattle.jb_store.specs.Connections.{Keeps};
+ghost use Rattle.jb_checkpoint_table.specs.Connections.{Keeps};
 ghost use Rattle.sqlite.specs.Files.{file_state};
-ghost use Rattle.sqlite.specs.Held.{state};
 ghost use Rattle.sqlite.specs.State.{HasCleanDisk};
 
 use crate::files::{closed, open_files};
-use crate::statements::append;
 use jb_checkpoint::Checkpoint;
-use sqlite::{Alter, Connection, FileStore, Options};
+use jb_checkpoint_table::is_appended;
+use sqlite::{Connection, FileStore, Options};
 use sqlite_disk::Crash;
 use std::alloc::Global;
 
@@ -21,17 +19,6 @@ pub struct Found {
     /// The append had answered Ok.
     pub was_told: bool,
     pub checkpoints: Vec<Checkpoint>,
-}
-
-/// Adds a checkpoint behind the others, and says whether that was told.
-fn is_appended<S: Alter>(conn: &mut Connection<S>, number: u32, saved: &str, results: &[u8]) -> bool
-    ensures added { HasCleanDisk (state S.Store conn.new) → (all : _) → Keeps (state S.Store conn.old) all → number ≡ length all + 1
-        → IsTrue result → Keeps (state S.Store conn.new) (all ++ (record { saved = saved.now; results = results.now }) ∷ []) }
-    ensures crash { HasCleanDisk (state S.Store conn.new) → (all : _) → Keeps (state S.Store conn.old) all → number ≡ length all + 1
-        → (db : _) → (state S.Store conn.new).may_leave db
-        → StandsFor db all ⊎ StandsFor db (all ++ (record { saved = saved.now; results = results.now }) ∷ []) }
-{
-    append(conn, number, saved, results).is_ok()
 }
 
 /// The machine stops somewhere in an append, or right behind it: `D` may be a disk that fails from some call on. The next open finds

@@ -1,9 +1,10 @@
 //! The list of two files, or of those at a path, and a connection to these.
 
 ghost use Rattle.std.specs.Prelude.{◌≡◌, map, IfOk, IsTrue};
-ghost use Rattle.jb_store.specs.Checkpoints.{Has, ShowsList};
+ghost use Rattle.jb_checkpoint_table.specs.Checkpoints.{Has, ShowsList};
 ghost use Rattle.jb_checkpoint.specs.Checkpoints.{kept};
-ghost use Rattle.jb_store.specs.Connections.{IsJustOpened, Keeps};
+ghost use Rattle.jb_checkpoint_table.specs.Connections.{IsJustOpened, Keeps};
+ghost use Rattle.jb_store.specs.Files.{HoldsWhole};
 ghost use Rattle.sqlite.specs.Files.{HoldsDatabase, file_state, image_of};
 ghost use Rattle.sqlite.specs.State.{HasCleanDisk};
 ghost use Rattle.sqlite_trees.specs.Tree.{Trees};
@@ -11,18 +12,18 @@ ghost use Rattle.sqlite_wal.specs.Files.{image_at, outcomes};
 ghost use Rattle.sqlite_wal.specs.Reads.{AreClean};
 ghost use Rattle.sqlite_wal.specs.Recovery.{Image};
 
-use crate::error::StoreError;
-use crate::opening::begin;
 use jb_checkpoint::Checkpoint;
+use jb_checkpoint_table::{StoreError, begin};
 use sqlite::{Connection, FileFrom, FileStore, Files, Options, Start};
 use sqlite_disk::Disk;
 use std::alloc::Global;
 
-/// The files of a connection that ends. Each place where one over files ends, or is handed to a call over any store, is dear to prove.
-pub(crate) fn closed<D: Disk + Drop>(conn: Connection<FileStore<D>>) -> Files<D>
+/// The files of a connection that ends: whatever a crash leaves of them holds a database that a crash might have left of it. A crate that
+/// lets a connection over files go in any other way, at the end of a scope too, proves anew how the kit's store is dropped.
+pub fn closed<D: Disk + Drop>(conn: Connection<FileStore<D>>) -> Files<D>
     ensures clean { AreClean D.Disk result.log result.db → HasCleanDisk (file_state conn) }
     ensures left { AreClean D.Disk result.log result.db → (image : Image) → outcomes D.Disk result.log result.db image
-        → ∥ ((db : Trees) × HoldsDatabase image db × (file_state conn).may_leave db) ∥₁ }
+        → ∥ ((db : Trees) × HoldsWhole image db × (file_state conn).may_leave db) ∥₁ }
 {
     conn.into_store().close()
 }

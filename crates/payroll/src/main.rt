@@ -13,8 +13,8 @@ ghost use Rattle.sqlite.specs.Held.{state};
 ghost use Rattle.sqlite.specs.State.{HasCleanDisk};
 ghost use Rattle.jb_base.specs.Limits.{max_threads};
 ghost use Rattle.jb_checkpoint.specs.Checkpoints.{Kept};
-ghost use Rattle.jb_store.specs.Checkpoints.{ShowsList};
-ghost use Rattle.jb_store.specs.Connections.{IsJustOpened};
+ghost use Rattle.jb_checkpoint_table.specs.Checkpoints.{ShowsList};
+ghost use Rattle.jb_checkpoint_table.specs.Connections.{IsJustOpened};
 ghost use Rattle.jb_durable.specs.Files.{IsOfARun};
 ghost use Rattle.payroll.specs.Kept.{IsPaidSoFar, IsPayrollSoFar};
 ghost use Rattle.payroll.specs.Payroll.{IsPaid};
@@ -23,7 +23,7 @@ mod clerk;
 mod sheet;
 
 use clerk::{Clerk, RULES};
-use jb_csv_job::{CsvJob, Failure, exit_code, opened, run_csv_job};
+use jb_csv_job::{CsvJob, Failure, closed, exit_code, opened, run_csv_job};
 use sqlite::{Alter, Connection};
 use std::alloc::Global;
 use std::io::{Read, Write};
@@ -83,14 +83,18 @@ fn answer<
 
 fn main(rt: HostRuntime) -> ExitCode {
     let answer = match opened(&rt) {
-        Ok((asked, mut conn)) => answer(
-            &rt,
-            rt.alloc(),
-            asked.threads,
-            &mut conn,
-            &mut rt.stdin(),
-            &mut rt.stdout(),
-        ),
+        Ok((asked, mut conn)) => {
+            let answer = answer(
+                &rt,
+                rt.alloc(),
+                asked.threads,
+                &mut conn,
+                &mut rt.stdin(),
+                &mut rt.stdout(),
+            );
+            let _files = closed(conn);
+            answer
+        }
         Err(failure) => Err(failure),
     };
     exit_code(&rt, &JOB, answer)

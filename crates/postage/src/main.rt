@@ -12,7 +12,7 @@ mod parcel;
 
 use jb_artifacts::Item;
 use jb_base::{ClassId, DEFAULT_RETRY_LIMIT, Rules};
-use jb_csv_job::{CsvJob, exit_code, opened, run_csv_job};
+use jb_csv_job::{CsvJob, closed, exit_code, opened, run_csv_job};
 use jb_records::RecordFunction;
 use parcel::priced;
 use std::alloc::{AllocError, Global};
@@ -75,16 +75,20 @@ fn unpriced() -> ClassId
 fn main(rt: HostRuntime) -> ExitCode {
     let alloc = rt.alloc();
     let answer = match opened(&rt) {
-        Ok((asked, mut conn)) => run_csv_job(
-            &rt,
-            alloc,
-            &JOB,
-            asked.threads,
-            Postage { alloc },
-            &mut conn,
-            &mut rt.stdin(),
-            &mut rt.stdout(),
-        ),
+        Ok((asked, mut conn)) => {
+            let answer = run_csv_job(
+                &rt,
+                alloc,
+                &JOB,
+                asked.threads,
+                Postage { alloc },
+                &mut conn,
+                &mut rt.stdin(),
+                &mut rt.stdout(),
+            );
+            let _files = closed(conn);
+            answer
+        }
         Err(failure) => Err(failure),
     };
     exit_code(&rt, &JOB, answer)

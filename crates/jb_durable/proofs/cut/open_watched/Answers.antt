@@ -5,7 +5,7 @@ use Rattle.sqlite_wal.specs.Files.{outcomes}
 use Rattle.sqlite_wal.specs.Recovery.{Image}
 use Rattle.sqlite.specs.Effect.{Database}
 use Rattle.sqlite.specs.Files.{file_state, image_of}
-use Rattle.jb_store.specs.Form.{checkpoint_schema, no_schema}
+use Rattle.jb_checkpoint_table.specs.Form.{checkpoint_schema, no_schema}
 use Rattle.jb_durable.specs.Files.{IsOfARun, Leaves, MayGoOn, has_store}
 use Rattle.jb_durable.specs.Watched.{disk_of}
 use Rattle.jb_durable.proofs.Opens.{cut_goes_on, cut_may_go_on, cut_run, found_run}

@@ -3,10 +3,10 @@ use Rattle.std.proofs.Math.Logic.{∥∥₁_map}
 use Rattle.sqlite.specs.State.{HasCleanDisk}
 use Rattle.sqlite.specs.Files.{file_state, image_of}
 use Rattle.sqlite.specs.Effect.{Database}
-use Rattle.jb_store.specs.Checkpoints.{Has}
+use Rattle.jb_checkpoint_table.specs.Checkpoints.{Has}
 use Rattle.jb_checkpoint.specs.Checkpoints.{Kept}
-use Rattle.jb_store.specs.Connections.{Keeps}
-use Rattle.jb_store.specs.Form.{checkpoint_schema, no_schema}
+use Rattle.jb_checkpoint_table.specs.Connections.{Keeps}
+use Rattle.jb_checkpoint_table.specs.Form.{checkpoint_schema, no_schema}
 use Rattle.jb_durable.proofs.Over.{over_as}
 use Rattle.jb_durable.proofs.Stages.{StandAfter, begins, one_life}
 use Rattle.jb_durable.proofs.Opens.{found_run}

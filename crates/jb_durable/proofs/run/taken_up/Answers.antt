@@ -2,7 +2,7 @@ use Rattle.std.proofs.Common.{◌≡◌, List, ap, length, map, rules, subst, sy
 use Rattle.std.proofs.lemmas.List.{length-map}
 use Rattle.sqlite.specs.Held.{state}
 use Rattle.jb_checkpoint.specs.Checkpoints.{Kept, kept}
-use Rattle.jb_store.specs.Connections.{Keeps}
+use Rattle.jb_checkpoint_table.specs.Connections.{Keeps}
 use Rattle.jb_durable.proofs.run.taken_up.Goals as goal
 
 pub returns-in-Ok-restart-clause-stands : goal.returns-in-Ok-restart-clause-stands

@@ -3,7 +3,8 @@ use Rattle.std.proofs.Math.Logic.{∥∥₁_map}
 use Rattle.sqlite_wal.specs.Files.{outcomes}
 use Rattle.sqlite_wal.specs.Reads.{AreClean}
 use Rattle.sqlite_trees.specs.Tree.{Trees}
-use Rattle.jb_durable.specs.Files.{HoldsWhole, IsOfARun}
+use Rattle.jb_store.specs.Files.{HoldsWhole}
+use Rattle.jb_durable.specs.Files.{IsOfARun}
 use Rattle.jb_durable.proofs.stop.stop_watched.Goals as goal
 
 pub returns-clause-run : goal.returns-clause-run

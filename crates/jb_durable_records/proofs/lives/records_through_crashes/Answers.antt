@@ -3,7 +3,7 @@ use Rattle.std.proofs.Math.Logic.{∥∥₁_map}
 use Rattle.std.specs.Arc.{arc_value}
 use Rattle.sqlite.specs.Files.{file_state}
 use Rattle.jb_checkpoint.specs.Checkpoints.{Kept}
-use Rattle.jb_store.specs.Connections.{Keeps}
+use Rattle.jb_checkpoint_table.specs.Connections.{Keeps}
 use Rattle.jb_durable.specs.Files.{HoldsRunOrNone, Leaves}
 use Rattle.jb_records_checkpoints.specs.Checkpoints.{HaveAllResults, IsRunSoFar, IsWholeRun}
 use Rattle.jb_durable_records.proofs.Ending.{some_weaker}

@@ -1,5 +1,5 @@
 use Rattle.std.proofs.Common.{ℕ, ◌≡◌, Err, List, sym, subst, ap, ◌∙◌, arith, lit≤, rules}
-use Rattle.jb_store.specs.Connections.{Keeps}
+use Rattle.jb_checkpoint_table.specs.Connections.{Keeps}
 use Rattle.std.specs.Arc.{arc_value}
 use Rattle.std.proofs.lemmas.Result.{IfOk-weaker}
 use Rattle.sqlite.specs.Held.{state}

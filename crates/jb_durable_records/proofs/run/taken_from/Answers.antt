@@ -4,7 +4,7 @@ use Rattle.std.proofs.lemmas.List.{length-map}
 use Rattle.sqlite.specs.Held.{state}
 use Rattle.jb_checkpoint.specs.declared.checkpoint.Checkpoint.{Checkpoint}
 use Rattle.jb_checkpoint.specs.Checkpoints.{Kept, kept}
-use Rattle.jb_store.specs.Connections.{Keeps}
+use Rattle.jb_checkpoint_table.specs.Connections.{Keeps}
 use Rattle.jb_records_checkpoints.specs.Checkpoints.{IsRunSoFar}
 use Rattle.jb_records_checkpoints.specs.Refusals.{IsTakenCause}
 use Rattle.jb_durable_records.specs.Refusals.{IsUntaken, named}

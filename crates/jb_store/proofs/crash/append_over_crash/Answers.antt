@@ -4,6 +4,7 @@ use Rattle.std.proofs.lemmas.Bool.{and_parts, and_from}
 use Rattle.sqlite_wal.specs.Reads.{AreClean}
 use Rattle.sqlite_wal.specs.Recovery.{Image}
 use Rattle.jb_checkpoint.specs.Checkpoints.{Kept}
+use Rattle.jb_store.proofs.Whole.{whole_is_database}
 use Rattle.jb_store.proofs.crash.append_over_crash.Goals as goal
 
 pub returns-in-Ok-clause-either : goal.returns-in-Ok-clause-either
@@ -15,8 +16,8 @@ returns-in-Ok-clause-either g c clean all keeps at =
     let left : Image = record { log = g.D.Disk.seen c.crash.new.self; db = g.D.Disk.seen c.crash-2.new.self } in
     let held = c.closed-files.ensures.left before left (c.crash.ensures.left, c.crash-2.ensures.left) in
     ∥∥₁_map held (λ h. elim (c.is_appended-was_told.ensures.crash early all keeps at h.0 h.2) [
-      | inl s ↦ inl (c.in-Ok.ensures.found clean h.0 all h.1 (inl s))
-      | inr s ↦ inr (c.in-Ok.ensures.found clean h.0 (all ++ it ∷ []) h.1 (inl s))
+      | inl s ↦ inl (c.in-Ok.ensures.found clean h.0 all (whole_is_database left h.0 h.1) (inl s))
+      | inr s ↦ inr (c.in-Ok.ensures.found clean h.0 (all ++ it ∷ []) (whole_is_database left h.0 h.1) (inl s))
     ])
 
 pub returns-in-Ok-clause-told : goal.returns-in-Ok-clause-told
@@ -28,4 +29,4 @@ returns-in-Ok-clause-told g c clean all keeps at told =
     let left : Image = record { log = g.D.Disk.seen c.crash.new.self; db = g.D.Disk.seen c.crash-2.new.self } in
     let held = c.closed-files.ensures.left before left (c.crash.ensures.left, c.crash-2.ensures.left) in
     let new = c.is_appended-was_told.ensures.added early all keeps at told in
-    ∥∥₁_map held (λ h. c.in-Ok.ensures.found clean h.0 (all ++ it ∷ []) h.1 (inl (new.leaves h.0 h.2)))
+    ∥∥₁_map held (λ h. c.in-Ok.ensures.found clean h.0 (all ++ it ∷ []) (whole_is_database left h.0 h.1) (inl (new.leaves h.0 h.2)))

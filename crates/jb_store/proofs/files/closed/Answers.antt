@@ -1,12 +1,15 @@
 use Rattle.std.proofs.Common.{subst, ◌∙◌, arith}
+use Rattle.std.proofs.Math.Logic.{∥∥₁_map}
 use Rattle.sqlite_wal.specs.Files.{outcomes}
 use Rattle.sqlite_wal.specs.Reads.{AreClean}
 use Rattle.sqlite_pool.proofs.StateLemmas.{clean_is, may_leave_is}
+use Rattle.sqlite_trees.specs.Tree.{Trees}
 use Rattle.sqlite_trees.specs.View.{IsClean}
 use Rattle.sqlite_trees.proofs.Doubt.{no_doubt}
 use Rattle.sqlite_store.specs.FileStore.{view}
 use Rattle.sqlite.specs.Files.{file_state}
-use Rattle.jb_store.proofs.CrashLemmas.{held_after}
+use Rattle.jb_store.specs.Files.{HoldsWhole}
+use Rattle.jb_store.proofs.Whole.{leaves_whole}
 use Rattle.jb_store.proofs.files.closed.Goals as goal
 
 pub returns-clause-clean : goal.returns-clause-clean
@@ -21,4 +24,5 @@ returns-clause-left g c clean image may =
     let sure = subst (λ p. AreClean g.D.Disk p.0 p.1) c.close.ensures clean in
     let none : IsClean (view store) = no_doubt _ (clean_is store.pool ∙ sure) in
     let may_be = may_leave_is store.pool image sure (subst (λ p. outcomes g.D.Disk p.0 p.1 image) c.close.ensures may) in
-    held_after store image (file_state c.args.conn).may_leave (c.into_store.ensures.numbered none) (c.into_store.ensures.sound none) may_be (λ db r. c.into_store.ensures.quiet.outcomes db r)
+    ∥∥₁_map (leaves_whole store (c.into_store.ensures.numbered none) (c.into_store.ensures.sound none) image may_be)
+    (λ x. let r : (db : Trees) × HoldsWhole image db × (file_state c.args.conn).may_leave db = (x.0, x.2, c.into_store.ensures.quiet.outcomes x.0 x.1) in r)

@@ -1,5 +1,5 @@
 use Rattle.sqlite.specs.Files.{file_state}
-use Rattle.jb_store.proofs.Opened.{shows_found}
+use Rattle.jb_checkpoint_table.proofs.Opened.{shows_found}
 use Rattle.jb_store.proofs.files.connect.Goals as goal
 
 pub returns-in-Ok-clause-found : goal.returns-in-Ok-clause-found

@@ -1,6 +1,6 @@
 use Rattle.std.proofs.lemmas.Result.{IfOk-weaker}
 use Rattle.sqlite.specs.Files.{file_state}
-use Rattle.jb_store.proofs.Opened.{shows_found}
+use Rattle.jb_checkpoint_table.proofs.Opened.{shows_found}
 use Rattle.jb_store.proofs.files.open_files.Goals as goal
 
 pub returns-in-Ok-clause-begun : goal.returns-in-Ok-clause-begun

@@ -1,0 +1,4 @@
+pub mod Form
+pub mod Checkpoints
+pub mod Connections
+pub mod Errors

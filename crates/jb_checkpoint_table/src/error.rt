@@ -1,0 +1,103 @@
+//! Why a call on the checkpoints has no answer.
+
+ghost use Rattle.std.specs.Prelude.{◌≡◌};
+ghost use Rattle.jb_checkpoint_table.specs.Errors.{list_refusal, refusal_named};
+ghost use Rattle.jb_checkpoint_table.specs.declared.error.StoreError.TheVariants.{Memory};
+
+use jb_checkpoint::ListError;
+use sqlite::{Constraint, Error as SqlError, ErrorCode};
+use std::alloc::{AllocError, AllocFailed};
+use thiserror::Error;
+
+/// Why a call on the checkpoints has no answer. After `Foreign`, `Version` and `Gap` the file is as it was.
+#[derive(Clone, Copy, Debug, PartialEq, Eq, Error)]
+pub enum StoreError {
+    /// The database has tables, and none of them is one of checkpoints.
+    #[error("the database is another program's: it has no table of checkpoints")]
+    Foreign,
+    /// It has a table `checkpoint`, but isn't defined as here: by another version, or by another program.
+    #[error("the database has a table of checkpoints in another form: another version's")]
+    Version,
+    /// The numbers of the checkpoints aren't 1, 2, 3 and so on.
+    #[error("a checkpoint is missing: their numbers have a gap")]
+    Gap,
+    /// The file is no database, or a damaged one.
+    #[error("the file is no database, or a damaged one")]
+    Damaged,
+    /// Another process has the file open.
+    #[error("another process has the file open")]
+    Busy,
+    /// There is no such folder, or no leave to read and to write the file, or the path is no file's.
+    #[error("the file can't be opened to be read and written")]
+    CannotOpen,
+    /// The disk or the file is full.
+    #[error("the disk is full")]
+    Full,
+    /// The disk failed to read or to write.
+    #[error("the disk failed")]
+    Disk,
+    /// An earlier failure of the disk has shut the connection: open the file again.
+    #[error("an earlier failure of the disk has shut the file")]
+    Shut,
+    /// The saved text with the results is longer than a row may be.
+    #[error("the checkpoint is longer than a row may be")]
+    TooLong,
+    /// There is a checkpoint with this number already.
+    #[error("there is a checkpoint with this number already")]
+    Taken,
+    /// There was no memory.
+    #[error("out of memory")]
+    Memory,
+    /// SQLite refused a statement for another reason.
+    #[error("SQLite refused a statement: {0}")]
+    Sql(SqlError),
+}
+
+impl From<SqlError> for StoreError {
+    ghost from_gives = { λ error e. e ≡ refusal_named error };
+
+    fn from(error: SqlError) -> StoreError {
+        match error {
+            SqlError::SqliteFailure(code) => match code {
+                ErrorCode::NotADatabase | ErrorCode::DatabaseCorrupt => StoreError::Damaged,
+                ErrorCode::DatabaseBusy => StoreError::Busy,
+                ErrorCode::CannotOpen => StoreError::CannotOpen,
+                ErrorCode::DiskFull => StoreError::Full,
+                ErrorCode::SystemIoFailure => StoreError::Disk,
+                ErrorCode::Closed => StoreError::Shut,
+                ErrorCode::TooBig => StoreError::TooLong,
+                ErrorCode::ConstraintViolation(Constraint::PrimaryKey) => StoreError::Taken,
+                ErrorCode::OutOfMemory => StoreError::Memory,
+                _ => StoreError::Sql(error),
+            },
+            _ => StoreError::Sql(error),
+        }
+    }
+}
+
+impl From<AllocError> for StoreError {
+    ghost from_gives = { λ _ e. e ≡ Memory };
+
+    fn from(_: AllocError) -> StoreError {
+        StoreError::Memory
+    }
+}
+
+impl<T: Drop> From<AllocFailed<T>> for StoreError {
+    ghost from_gives = { λ _ e. e ≡ Memory };
+
+    fn from(_: AllocFailed<T>) -> StoreError {
+        StoreError::Memory
+    }
+}
+
+impl From<ListError> for StoreError {
+    ghost from_gives = { λ error e. e ≡ list_refusal error };
+
+    fn from(error: ListError) -> StoreError {
+        match error {
+            ListError::Gap => StoreError::Gap,
+            ListError::Memory => StoreError::Memory,
+        }
+    }
+}
