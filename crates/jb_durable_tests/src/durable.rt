@@ -138,6 +138,16 @@ fn files_of<R: Threads + Wait + Sync>(rt: &R, alloc: Global, kept: u32) -> Files
     crashed(files)
 }
 
+/// A life says that the work is done, and which checkpoints there are.
+fn assert_whole<R: Abort>(rt: &R, said: &str, kept: u32, calls: [u64; 2]) {
+    assert_eq!(rt; said, WHOLE, "{kept} {calls:?}");
+}
+
+/// No checkpoint that was kept is missing.
+fn assert_none_lost<R: Abort>(rt: &R, work: &Count, kept: u32, calls: [u64; 2]) {
+    assert!(rt; !work.has_lost, "{kept} {calls:?}");
+}
+
 /// Two such lives by the function that has the theorem: it answers, wherever the first one ends.
 fn assert_answered<R: Threads + Wait + Sync + Abort>(
     rt: &R,
@@ -149,12 +159,8 @@ fn assert_answered<R: Threads + Wait + Sync + Abort>(
     let mut work = count_from(kept);
     let lives = [STRETCHES + 1];
     let last = last_life(rt, alloc, files, &mut work, &lives, STRETCHES + 1);
-    assert_eq!(rt;
-        last_says(rt, alloc, last)?.as_str(),
-        WHOLE,
-        "{kept} {calls:?}"
-    );
-    assert!(rt; !work.has_lost, "{kept} {calls:?}");
+    assert_whole(rt, last_says(rt, alloc, last)?.as_str(), kept, calls);
+    assert_none_lost(rt, &work, kept, calls);
     Ok(())
 }
 
@@ -170,9 +176,9 @@ fn is_whole_at_once<R: Threads + Wait + Sync + Abort>(
     let (files, first) = lived(rt, alloc, files, &mut life);
     let (files, next) = lived(rt, alloc, crashed(files), &mut life);
     let (_, last) = lived(rt, alloc, crashed(files), &mut life);
-    assert_eq!(rt; next?.as_str(), WHOLE, "{kept} {calls:?}");
-    assert_eq!(rt; last?.as_str(), WHOLE, "{kept} {calls:?}");
-    assert!(rt; !life.work.has_lost, "{kept} {calls:?}");
+    assert_whole(rt, next?.as_str(), kept, calls);
+    assert_whole(rt, last?.as_str(), kept, calls);
+    assert_none_lost(rt, &life.work, kept, calls);
     Ok(first?.as_str() == WHOLE)
 }
 

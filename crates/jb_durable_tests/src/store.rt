@@ -158,7 +158,8 @@ fn bytes_of(alloc: Global, files: &Files<Memory>) -> Result<[Vec<u8>; 2], AllocE
 }
 
 fn is_same(files: &Files<Memory>, bytes: &[Vec<u8>; 2]) -> bool {
-    files.log.bytes() == bytes[0].as_slice() && files.db.bytes() == bytes[1].as_slice()
+    let [log, db] = bytes;
+    files.log.bytes() == log.as_slice() && files.db.bytes() == db.as_slice()
 }
 
 /// What an append says that has a crash right behind it: whether it was told, the list that the next open finds, and what that shows.
