@@ -24,8 +24,8 @@ use jb_durable::{Given, LastLife, Life, open_own, open_watched, stop_watched};
 use jb_records::{RecordFunction, RecordsStep};
 use jb_records_checkpoints::{Pace, checkpoints_have_results};
 use jb_store::closed;
-use sqlite::{Alter, Connection, Options};
-use sqlite_disk::{Crash, Files};
+use sqlite::{Alter, Connection, FileStore, Options};
+use sqlite_disk::{Crash, Disk, Files};
 use std::alloc::Global;
 use std::marker::Brand;
 use std::sync::{Arc, Wait};
@@ -78,6 +78,37 @@ fn lived<
     Ok(is_whole(pause))
 }
 
+/// The same over files: the one place where a connection over files is handed to it.
+fn lived_over_files<
+    F: RecordFunction + Drop + 'static,
+    P: Pace,
+    O: Onlooker,
+    R: Threads + Wait + Sync,
+    D: Disk + Drop,
+>(
+    rt: &R,
+    alloc: Global,
+    conn: &mut Connection<FileStore<D>>,
+    step: &RecordsStep,
+    function: &Arc<F, Global>,
+    records: &PackedList,
+    stretches: u32,
+    pace: &mut P,
+    onlooker: &mut O,
+) -> Result<bool, DurableError>
+    ensures done { HasCleanDisk (file_state conn.new) → IsJustOpened (file_state conn.old) → (all : List Kept) → Has (file_state conn.old).now.trees all
+        → IsRunSoFar (F.function (arc_value function.now)) step.now records.now all
+        → IfOk result (λ done. IsTrue done → (now : List Kept) × Keeps (file_state conn.new) now × IsWholeRun (F.function (arc_value function.now)) step.now records.now now) }
+    ensures clean { doubt (file_state conn.old).is_clean ≤ doubt (file_state conn.new).is_clean }
+    ensures crash { HasCleanDisk (file_state conn.new) → IsJustOpened (file_state conn.old) → (so_far : List Kept) → Has (file_state conn.old).now.trees so_far
+        → IsRunSoFar (F.function (arc_value function.now)) step.now records.now so_far
+        → (db : _) → (file_state conn.new).may_leave db → IsOfARun (IsRunSoFar (F.function (arc_value function.now)) step.now records.now) db }
+{
+    lived(
+        rt, alloc, conn, step, function, records, stretches, pace, onlooker,
+    )
+}
+
 /// A life over disks that know what they were as it began.
 fn watched_life<
     F: RecordFunction + Drop + 'static,
@@ -106,7 +137,7 @@ fn watched_life<
 {
     match open_watched::<D, G>(alloc, files, options) {
         Ok(mut conn) => {
-            let _ = lived(
+            let _ = lived_over_files(
                 rt, alloc, &mut conn, step, function, records, stretches, pace, onlooker,
             );
             stop_watched(conn)
@@ -182,7 +213,7 @@ fn through_crashes<
         Ok(conn) => conn,
         Err(_) => return None,
     };
-    match lived(
+    match lived_over_files(
         rt, alloc, &mut conn, step, function, records, stretches, pace, onlooker,
     ) {
         Ok(is_done) => Some(LastLife { conn, is_done }),

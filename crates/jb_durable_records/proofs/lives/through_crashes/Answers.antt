@@ -33,8 +33,8 @@ lives-preserved g c =
           (one_life so_far c.lives.left life c.lives.is_sure c.in_ok-is_sure.ensures.known clean over (c.lives.invariant.stands (over.clean clean) begun));
     }
 
-pub returns-in-Ok-lived : goal.returns-in-Ok-lived
-returns-in-Ok-lived g c = record {
+pub returns-in-Ok-lived_over_files : goal.returns-in-Ok-lived_over_files
+returns-in-Ok-lived_over_files g c = record {
   whole = λ clean begun done.
       let f = g.F.RecordFunction.function (arc_value c.args.function.now) in
       let step = c.args.step.now in
@@ -42,7 +42,7 @@ returns-in-Ok-lived g c = record {
       let left = c.lives.left in
       let s = file_state c.in-Ok.conn in
       let stays = g.met.D.Disk.seen_may_stay in
-      let early : HasCleanDisk s = omega (arith, clean, c.lived.ensures.clean) in
+      let early : HasCleanDisk s = omega (arith, clean, c.lived_over_files.ensures.clean) in
       let opened = c.in-Ok.ensures.opened early in
       let found = c.in-Ok.ensures.found early in
       let at = c.lives.invariant.stands found.honest begun in
@@ -51,6 +51,6 @@ returns-in-Ok-lived g c = record {
       (opened.1 opened.0.is_open).1 ours in
       ∥∥₁_map run (λ h.
       let has = subst (λ t. Has t h.0) (sym (ap (λ (d : Database). d.trees) opened.0.clean)) h.1 in
-      let r = c.in-Ok-lived.ensures.done clean opened h.0 has h.2 done in
-      let w : (all : List Kept) × Keeps (file_state c.lived.new.conn) all × IsWholeRun f step records all = r in w);
+      let r = c.in-Ok-lived_over_files.ensures.done clean opened h.0 has h.2 done in
+      let w : (all : List Kept) × Keeps (file_state c.lived_over_files.new.conn) all × IsWholeRun f step records all = r in w);
 }

@@ -13,15 +13,15 @@ use Rattle.jb_durable.proofs.Somes.{some_both, some_from}
 use Rattle.jb_durable_records.proofs.lives.watched_life.Goals as goal
 
 -- a life that had the files open leaves a run
-leaves_run : (g : _) (c : goal.After-stop_watched g) (life : Life g.row.D.Denot) → (AreClean g.D.Disk life.files.log life.files.db → HasCleanDisk (file_state c.lived.new.conn))
-    → (AreClean g.D.Disk life.files.log life.files.db → ((db : Trees) → (file_state c.lived.new.conn).may_leave db → IsOfARun g.G.Given.is_so_far db) → Leaves g.D.Disk (HoldsRun g.G.Given.is_so_far) life.files)
+leaves_run : (g : _) (c : goal.After-stop_watched g) (life : Life g.row.D.Denot) → (AreClean g.D.Disk life.files.log life.files.db → HasCleanDisk (file_state c.lived_over_files.new.conn))
+    → (AreClean g.D.Disk life.files.log life.files.db → ((db : Trees) → (file_state c.lived_over_files.new.conn).may_leave db → IsOfARun g.G.Given.is_so_far db) → Leaves g.D.Disk (HoldsRun g.G.Given.is_so_far) life.files)
     → Leads g.D.Disk c.args.files life (MayGoOn g.G.Given.is_so_far) (HoldsRun g.G.Given.is_so_far)
 leaves_run g c life was run clean leaves image may =
     let late = was clean in
-    let early : HasCleanDisk (file_state c.in-Ok.conn) = omega (arith, late, c.lived.ensures.clean) in
+    let early : HasCleanDisk (file_state c.in-Ok.conn) = omega (arith, late, c.lived_over_files.ensures.clean) in
     let opened = c.in-Ok.ensures.opened early in
     ∥∥₁_elim (c.in-Ok.ensures.found early leaves) squash₁ (λ h.
-    run clean (λ db m. let r = c.lived.ensures.crash late opened h.0 h.1 ((c.requires.run h.0).0 h.2) db m in (r.0, r.1, (c.requires.run r.0).1 r.2)) image may)
+    run clean (λ db m. let r = c.lived_over_files.ensures.crash late opened h.0 h.1 ((c.requires.run h.0).0 h.2) db m in (r.0, r.1, (c.requires.run r.0).1 r.2)) image may)
 
 pub returns-in-Ok : goal.returns-in-Ok
 returns-in-Ok g c =
