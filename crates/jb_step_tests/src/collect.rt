@@ -2,12 +2,12 @@
 
 ghost use Rattle.jb_collect.specs.Worked.{FirstRunHeard, OneFailedHeard, StoppedAfterARound, NoRecordHeard, RolledBack, CallsTaken, ListedCalls, ReducerCalls, ReducerFaults};
 
+use crate::lines::assert_text;
 use crate::workers::most::{OneRecordTask, own_task};
 use jb_base::{ArtifactError, ClassId, MAX_ROLLBACKS};
 use jb_chunk::{Done, PartitionTask};
 use jb_collect::{
-    Analyzer, AnalyzerCall, ListAnalyzer, ListReducer, PartitionStatus, Reducer, ReducerCall,
-    deliver,
+    Analyzer, AnalyzerCall, ListAnalyzer, ListReducer, PartitionStatus, Reducer, deliver,
 };
 use std::alloc::{AllocError, Global};
 use std::test::*;
@@ -102,22 +102,31 @@ fn a_round_of_most_partitions_is_delivered(rt: HostRuntime) -> Result<(), Fail> 
 }
 
 /// The third of a reducer's calls fails; it hears all four.
+const REDUCED: &str =
+    "Ok(()) Ok(()) Err(Fault(ClassId { number: 5 })) Ok(()) Begin Before Rollback After(Rollback) .\n";
+
 #[test]
-fn a_reducer_takes_its_calls(rt: HostRuntime) {
-    let class = ClassId::new(5);
-    let mut reducer = ListReducer::new(rt.alloc(), Some((2, class)));
-    let answers = [
-        reducer.begin(),
-        reducer.before_completion(),
-        reducer.rollback(),
-        reducer.after(PartitionStatus::Rollback),
-    ];
-    let wanted = [Ok(()), Ok(()), Err(ArtifactError::Fault(class)), Ok(())];
-    let calls = [
-        ReducerCall::Begin,
-        ReducerCall::Before,
-        ReducerCall::Rollback,
-        ReducerCall::After(PartitionStatus::Rollback),
-    ];
-    assert!(rt; answers == wanted && reducer.calls() == calls.as_slice());
+fn a_reducer_takes_its_calls(rt: HostRuntime) -> Result<(), Fail> {
+    let alloc = rt.alloc();
+    let mut reducer = ListReducer::new(alloc, Some((2, ClassId::new(5))));
+    let begun = reducer.begin();
+    let before = reducer.before_completion();
+    let undone = reducer.rollback();
+    let after = reducer.after(PartitionStatus::Rollback);
+    let mut text = format!(in alloc; "{begun:?} {before:?} {undone:?} {after:?} ")?;
+    add_reduced(&mut text, alloc, &reducer)?;
+    assert_text(&rt, text.as_str(), REDUCED);
+    Ok(())
+}
+
+/// Adds a line of the reducer's calls.
+pub(crate) fn add_reduced(
+    text: &mut String,
+    alloc: Global,
+    reducer: &dyn Reducer,
+) -> Result<(), AllocError> {
+    for call in reducer.calls() {
+        text.push_str(format!(in alloc; "{call:?} ")?.as_str())?;
+    }
+    text.push_str(".\n")
 }

@@ -8,6 +8,8 @@
 #[cfg(test)]
 mod collect;
 #[cfg(test)]
+mod lines;
+#[cfg(test)]
 mod records;
 #[cfg(test)]
 mod step;

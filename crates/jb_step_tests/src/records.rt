@@ -2,8 +2,9 @@
 
 ghost use Rattle.std.specs.Prelude.{◌==◌, ◌∷◌, [], None, Some, if◌then◌else◌, length};
 
+use crate::lines::{add_line, assert_text, number, rules, value};
 use jb_artifacts::Item;
-use jb_base::{ClassId, MAX_ITEM_COUNT, Name, PackedList, Rules};
+use jb_base::{ClassId, MAX_ITEM_COUNT, Name, PackedList};
 use jb_collect::Status;
 use jb_records::{
     RecordFunction, RecordsEnd, RecordsRun, RecordsStep, RecordsStepError, Watcher, run_records,
@@ -11,7 +12,6 @@ use jb_records::{
 };
 use jb_workers::Desk;
 use std::alloc::{AllocError, Global};
-use std::process::Abort;
 use std::sync::atomic::{AtomicU64, Ordering};
 use std::sync::ledger::Ledger;
 use std::sync::{Arc, Wait};
@@ -102,109 +102,61 @@ impl Watcher for Looker {
     }
 }
 
-/// What comes of a step: its status, its results, each with a bar behind it, and its faults: the records that were skipped, each as
-/// NUMBER/CLASS, and the partitions that failed, each as PARTITION:NUMBER/CLASS.
-type Came = Result<(Status, &'static str, &'static str), RecordsStepError>;
-
-/// Four records, in chunks of so many on two threads, and what comes of them: in one run, and in stretches.
-#[derive(Clone, Copy)]
-struct Case {
-    records: [&'static str; 4],
-    item_count: u64,
-    rules: Rules,
-    rounds: Option<u64>,
-    came: Came,
-    /// None where it is the same. A stretch that fails is the last one.
-    in_stretches: Option<Came>,
-}
-
-/// Nothing is skipped or retried.
-const STRICT: Rules = Rules {
-    skippable: 0,
-    retryable: 0,
-    no_rollback: 0,
-    skip_limit: None,
-    retry_limit: 2,
-};
-
-const PLAIN: Case = Case {
-    records: ["a", "b", "c", "d"],
-    item_count: 1,
-    rules: STRICT,
-    rounds: None,
-    came: Ok((Status::Completed, "a|b|c|d|", "")),
-    in_stretches: None,
-};
-
+/// Steps of four records in two partitions on two threads, and what comes of them.
+///
+/// In `records` each stands before a dot. Of the step, its item count, the sets of classes that are skipped, retried, and retried in place,
+/// and whether one fault alone is skipped; and the greatest number of rounds. Behind it stand, in one run, in one with who looks on, in
+/// stretches of one round, and in stretches of which the later ones go on from what was kept of the first: the status, the number of skipped
+/// reads, the results, each with a bar behind it, and the faults: the records that were skipped, each as NUMBER/CLASS, and the partitions
+/// that failed, each as PARTITION:NUMBER/CLASS; or why there is none. A stretch that fails is the last one.
+///
 /// A record that can't be read, and a try that fails, each under several rules, and both in one chunk.
-const CASES: [Case; 9] = [
-    PLAIN,
-    Case {
-        rounds: Some(1),
-        came: Ok((Status::Stopped, "a|c|", "")),
-        ..PLAIN
-    },
-    Case {
-        records: ["a", "", "c", "d"],
-        came: Ok((Status::Failed, "a|c|d|", "0:1/0 ")),
-        ..PLAIN
-    },
-    Case {
-        records: ["", "", "c", "d"],
-        rules: Rules {
-            skippable: 1,
-            ..STRICT
-        },
-        came: Ok((Status::Completed, "c|d|", "0/0 1/0 ")),
-        ..PLAIN
-    },
-    Case {
-        records: ["", "", "c", "d"],
-        item_count: 2,
-        rules: Rules {
-            skippable: 1,
-            skip_limit: Some(1),
-            ..STRICT
-        },
-        came: Ok((Status::Failed, "c|d|", "0:1/0 ")),
-        ..PLAIN
-    },
-    Case {
-        records: ["aa", "", "c", "d"],
-        item_count: 2,
-        rules: Rules {
-            retryable: 2,
-            no_rollback: 2,
-            ..STRICT
-        },
-        came: Ok((Status::Failed, "c|d|", "0:1/0 ")),
-        ..PLAIN
-    },
-    Case {
-        records: ["aa", "b", "c", "d"],
-        came: Ok((Status::Failed, "c|d|", "0:0/1 ")),
-        in_stretches: Some(Ok((Status::Failed, "c|", "0:0/1 "))),
-        ..PLAIN
-    },
-    Case {
-        records: ["aa", "b", "c", "d"],
-        rules: Rules {
-            retryable: 2,
-            ..STRICT
-        },
-        came: Ok((Status::Completed, "aa|b|c|d|", "")),
-        ..PLAIN
-    },
-    Case {
-        records: ["aa", "b", "c", "d"],
-        rules: Rules {
-            skippable: 2,
-            ..STRICT
-        },
-        came: Err(RecordsStepError::SkippedTry),
-        ..PLAIN
-    },
-];
+const STEPS: &str = "> records=a.b.c.d. items=1
+Completed 0 a|b|c|d|
+Completed 0 a|b|c|d| after 3 looks
+Completed 0 a|b|c|d|
+Completed 0 a|b|c|d|
+> records=a.b.c.d. items=1 rounds=1
+Stopped 0 a|c|
+Stopped 0 a|c| after 3 looks
+Stopped 0 a|c|
+Stopped 0 a|c|
+> records=a..c.d. items=1
+Failed 0 a|c|d| 0:1/0
+Failed 0 a|c|d| 0:1/0 after 3 looks
+Failed 0 a|c|d| 0:1/0
+Failed 0 a|c|d| 0:1/0
+> records=..c.d. items=1 skippable=1
+Completed 2 c|d| 0/0 1/0
+Completed 2 c|d| 0/0 1/0 after 3 looks
+Completed 2 c|d| 0/0 1/0
+Completed 2 c|d| 0/0 1/0
+> records=..c.d. items=2 skippable=1 one-skip
+Failed 0 c|d| 0:1/0
+Failed 0 c|d| 0:1/0 after 3 looks
+Failed 0 c|d| 0:1/0
+Failed 0 c|d| 0:1/0
+> records=aa..c.d. items=2 retryable=2 in-place=2
+Failed 0 c|d| 0:1/0
+Failed 0 c|d| 0:1/0 after 3 looks
+Failed 0 c|d| 0:1/0
+Failed 0 c|d| 0:1/0
+> records=aa.b.c.d. items=1
+Failed 0 c|d| 0:0/1
+Failed 0 c|d| 0:0/1 after 3 looks
+Failed 0 c| 0:0/1
+Failed 0 c| 0:0/1
+> records=aa.b.c.d. items=1 retryable=2
+Completed 0 aa|b|c|d|
+Completed 0 aa|b|c|d| after 3 looks
+Completed 0 aa|b|c|d|
+Completed 0 aa|b|c|d|
+> records=aa.b.c.d. items=1 skippable=2
+SkippedTry
+SkippedTry
+SkippedTry
+SkippedTry
+";
 
 /// Puts what is new of each partition behind what was told of it.
 fn grow(told: &mut Vec<PackedList>, news: Vec<PackedList>) -> Result<(), AllocError> {
@@ -254,60 +206,52 @@ fn in_stretches<F: RecordFunction + Drop + 'static, R: Threads + Wait + Sync>(
     })
 }
 
-/// The results, each with a bar behind it.
-fn results_of(alloc: Global, end: &RecordsEnd) -> Result<Vec<u8>, AllocError> {
+/// Adds the results, each with a bar behind it.
+fn add_results(text: &mut String, alloc: Global, end: &RecordsEnd) -> Result<(), AllocError> {
     let all = end.all_results(alloc)?;
-    let mut text = Vec::new(alloc);
     for index in 0..all.len() {
-        text.extend_from_slice(all.at(index))?;
-        text.push(b'|')?;
+        text.push_str(String::from_utf8_lossy(alloc, all.at(index))?.as_str())?;
+        text.push_str("|")?;
     }
-    Ok(text)
+    Ok(())
 }
 
-/// The faults, as `Came` has them.
-fn faults_of<R: Clock + Send + Sync>(
+/// Adds the records that were skipped, and the partitions that failed.
+fn add_faults<R: Clock + Send + Sync>(
+    text: &mut String,
     alloc: Global,
     end: &RecordsEnd,
     function: &Letters<R>,
     records: &PackedList,
-) -> Result<String, AllocError> {
-    let mut text = String::new(alloc);
+) -> Result<(), AllocError> {
     for skip in &end.skipped(alloc, function, records)? {
-        text.push_str(&format!(in alloc; "{}/{} ", skip.number, skip.class.number())?)?;
+        text.push_str(&format!(in alloc; " {}/{}", skip.number, skip.class.number())?)?;
     }
     for failure in &end.failures {
-        match failure.fault {
-            Some(fault) => text.push_str(&format!(in alloc;
-                "{}:{}/{} ",
-                failure.partition,
-                fault.number,
-                fault.class.number()
-            )?)?,
-            None => text.push_str("?")?,
+        text.push_str(&format!(in alloc; " {}:", failure.partition)?)?;
+        if let Some(fault) = failure.fault {
+            text.push_str(&format!(in alloc; "{}/{}", fault.number, fault.class.number())?)?;
         }
     }
-    Ok(text)
+    Ok(())
 }
 
-/// Whether the step came to this. As many records are counted as skipped as are told.
-fn is_so<R: Clock + Send + Sync>(
+/// Adds what came of a step.
+fn add_end<R: Clock + Send + Sync>(
+    text: &mut String,
     alloc: Global,
     end: Result<RecordsEnd, RecordsStepError>,
     function: &Letters<R>,
     records: &PackedList,
-    came: Came,
-) -> Result<bool, AllocError> {
-    match (end, came) {
-        (Ok(end), Ok((status, results, faults))) => {
-            let skips = end.skipped(alloc, function, records)?.len() as u64;
-            let is_told = end.status == status && end.snapshot.totals.read_skip == skips;
-            let are_results = results_of(alloc, &end)?.as_slice() == results.as_bytes();
-            let are_faults = faults_of(alloc, &end, function, records)?.as_str() == faults;
-            Ok(is_told && are_results && are_faults)
+) -> Result<(), AllocError> {
+    match end {
+        Ok(end) => {
+            let skips = end.snapshot.totals.read_skip;
+            text.push_str(&format!(in alloc; "{:?} {skips} ", end.status)?)?;
+            add_results(text, alloc, &end)?;
+            add_faults(text, alloc, &end, function, records)
         }
-        (Err(error), Err(wanted)) => Ok(error == wanted),
-        _ => Ok(false),
+        Err(error) => text.push_str(&format!(in alloc; "{error:?}")?),
     }
 }
 
@@ -328,8 +272,9 @@ fn new_letters<R: Copy>(
     })
 }
 
-fn step_of(alloc: Global, case: &Case) -> Result<RecordsStep, Fail> {
-    let item_count = case.item_count;
+/// The line's step.
+fn step_of(alloc: Global, line: &str) -> Result<RecordsStep, Fail> {
+    let item_count = number(line, "items").unwrap_or(0);
     if item_count == 0 || MAX_ITEM_COUNT < item_count {
         return Err(Fail::from("an item count"));
     }
@@ -338,66 +283,102 @@ fn step_of(alloc: Global, case: &Case) -> Result<RecordsStep, Fail> {
         partitions: 2,
         threads: 2,
         item_count,
-        rules: case.rules,
+        rules: rules(line),
     })
 }
 
-/// Whether the case comes to what it should in stretches, in memory and behind what was kept of the first.
-fn are_stretches_so<R: Threads + Wait + Clock + Copy + Send + Sync + 'static>(
-    rt: &R,
-    alloc: Global,
-    case: &Case,
-    step: &RecordsStep,
-    records: &PackedList,
-) -> Result<bool, Fail> {
-    let looks = Arc::new(alloc, AtomicU64::new(0))?;
-    let function = Arc::new(alloc, new_letters(rt, alloc, &looks, 0)?)?;
-    let came = case.in_stretches.unwrap_or(case.came);
-    let stretches = case.rounds.unwrap_or(8);
-    let end = in_stretches(rt, alloc, step, &function, records, stretches, false);
-    let is_run = is_so(alloc, end, &*function, records, came)?;
-    let end = in_stretches(rt, alloc, step, &function, records, stretches, true);
-    Ok(is_run && is_so(alloc, end, &*function, records, came)?)
+/// The line's records.
+fn records_of(alloc: Global, line: &str) -> Result<PackedList, AllocError> {
+    let mut records = PackedList::new(alloc);
+    let mut record = Vec::new(alloc);
+    for sign in value(line, "records").unwrap_or("").as_bytes() {
+        if *sign == b'.' {
+            records.push(record.as_slice())?;
+            record.clear();
+        } else {
+            record.push(*sign)?;
+        }
+    }
+    Ok(records)
 }
 
-/// Runs the case by itself, with who looks on, and in stretches: whether all come to what they should, and how often it was looked.
-fn ran<R: Threads + Wait + Clock + Copy + Send + Sync + 'static>(
+/// Adds what comes of the line's step in stretches, in memory, or behind what was kept of the first.
+fn add_stretches<R: Threads + Wait + Clock + Copy + Send + Sync + 'static>(
+    text: &mut String,
     rt: &R,
     alloc: Global,
-    case: &Case,
-) -> Result<(bool, u64), Fail> {
-    let step = step_of(alloc, case)?;
-    let mut records = PackedList::new(alloc);
-    for text in &case.records {
-        records.push(text.as_bytes())?;
-    }
+    line: &str,
+    step: &RecordsStep,
+    records: &PackedList,
+    is_kept: bool,
+) -> Result<(), AllocError> {
     let looks = Arc::new(alloc, AtomicU64::new(0))?;
-    let function = new_letters(rt, alloc, &looks, 0)?;
-    let alone = new_letters(rt, alloc, &looks, 0)?;
+    let function = Arc::new(alloc, new_letters(rt, alloc, &looks, 0)?)?;
+    let stretches = number(line, "rounds").unwrap_or(8);
+    let end = in_stretches(rt, alloc, step, &function, records, stretches, is_kept);
+    add_end(text, alloc, end, &*function, records)?;
+    text.push_str("\n")
+}
+
+/// Adds what comes of the line's step with who looks on, and how often it was looked. A step that has no answer may be over before the first
+/// look: of it that is added only where it was looked too often.
+fn add_watched<R: Threads + Wait + Clock + Copy + Send + Sync + 'static>(
+    text: &mut String,
+    rt: &R,
+    alloc: Global,
+    step: &RecordsStep,
+    function: &Letters<R>,
+    records: &PackedList,
+    rounds: Option<u64>,
+) -> Result<(), AllocError> {
+    let looks = Arc::new(alloc, AtomicU64::new(0))?;
     let seen = new_letters(rt, alloc, &looks, LOOKS)?;
     let looker = Looker {
         looks: Arc::try_clone(&looks)?,
         rows: 2,
     };
-    let end = run_records(rt, alloc, &step, alone, &records, None, case.rounds);
-    let is_alone = is_so(alloc, end, &function, &records, case.came)?;
-    let end = run_records_watched(rt, alloc, &step, seen, &records, None, case.rounds, looker);
-    let is_seen = is_so(alloc, end, &function, &records, case.came)?;
-    let is_stretched = are_stretches_so(rt, alloc, case, &step, &records)?;
-    Ok((
-        is_alone && is_seen && is_stretched,
-        looks.load(Ordering::SeqCst),
-    ))
+    let end = run_records_watched(rt, alloc, step, seen, records, None, rounds, looker);
+    let has_end = end.is_ok();
+    add_end(text, alloc, end, function, records)?;
+    let looks = looks.load(Ordering::SeqCst);
+    if has_end || LOOKS < looks {
+        text.push_str(&format!(in alloc; " after {looks} looks")?)?;
+    }
+    text.push_str("\n")
 }
 
-/// A step is looked at as often as its watcher asks for, and that changes nothing; one that has no answer may be over before the first
-/// look.
+/// Adds what comes of the line's step.
+fn add_told<R: Threads + Wait + Clock + Copy + Send + Sync + 'static>(
+    text: &mut String,
+    rt: &R,
+    alloc: Global,
+    line: &str,
+) -> Result<(), Fail> {
+    let step = step_of(alloc, line)?;
+    let records = records_of(alloc, line)?;
+    let rounds = number(line, "rounds");
+    let looks = Arc::new(alloc, AtomicU64::new(0))?;
+    let function = new_letters(rt, alloc, &looks, 0)?;
+    let alone = new_letters(rt, alloc, &looks, 0)?;
+    let end = run_records(rt, alloc, &step, alone, &records, None, rounds);
+    add_end(text, alloc, end, &function, &records)?;
+    text.push_str("\n")?;
+    add_watched(text, rt, alloc, &step, &function, &records, rounds)?;
+    add_stretches(text, rt, alloc, line, &step, &records, false)?;
+    add_stretches(text, rt, alloc, line, &step, &records, true)?;
+    Ok(())
+}
+
+/// A step is looked at as often as its watcher asks for, and neither that nor a stretch changes what comes of it.
 #[test]
 fn steps_over_records(rt: HostRuntime) -> Result<(), Fail> {
-    for case in &CASES {
-        let (is_so, looks) = ran(&rt, rt.alloc(), case)?;
-        assert!(rt; is_so);
-        assert!(rt; looks == LOOKS || case.came.is_err() && looks < LOOKS);
+    let mut text = String::new(rt.alloc());
+    for line in STEPS.lines() {
+        if line.starts_with("> ") {
+            add_line(&mut text, line)?;
+            add_told(&mut text, &rt, rt.alloc(), line)?;
+        }
     }
+    assert_text(&rt, text.as_str(), STEPS);
     Ok(())
 }

@@ -1,8 +1,10 @@
 //! Steps over threads.
 
 mod anew;
+mod answers;
+mod beginning;
+mod between;
 mod callbacks;
-mod four;
 mod given;
 mod lacking;
 mod meeting;
@@ -13,5 +15,6 @@ mod restarts;
 mod resumed;
 mod rows;
 mod runs;
+mod stopping;
 mod watched;
 mod ways;

@@ -8,7 +8,7 @@ ghost use Rattle.jb_chunk.specs.Attempt.{IsAttempt, ending_of};
 ghost use Rattle.jb_chunk.specs.Standing.{IsReady, HasRepeats};
 
 use crate::workers::tasks::{RULES, boxes, fresh_rows, task_of};
-use jb_artifacts::{Artifacts, FaultPlans, Item};
+use jb_artifacts::{Artifacts, Item};
 use jb_base::MAX_ROLLBACKS;
 use jb_chunk::{Done, Outcome, PartitionTask, Task};
 use std::alloc::Global;
@@ -79,7 +79,7 @@ fn is_whole(outcome: Outcome, values: &[Item]) -> bool {
 #[test]
 fn task_in_a_thread(rt: HostRuntime) -> Result<(), Fail> {
     let alloc = rt.alloc();
-    let boxes = boxes(alloc, FaultPlans::new(alloc), true)?;
+    let boxes = boxes(alloc)?;
     let artifacts = Artifacts {
         reader: boxes.reader,
         processor: boxes.processor,

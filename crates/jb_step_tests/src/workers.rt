@@ -2,7 +2,7 @@
 
 mod answers;
 mod ending;
-pub(crate) mod meeting;
+mod meeting;
 mod memory;
 pub(crate) mod most;
 pub(crate) mod rounds;

@@ -1,22 +1,17 @@
-//! What the steps of the tests are made of.
+//! The records of a step, and what its partitions work with.
 
+use crate::lines::value;
+use crate::step::meeting::Meetings;
 use jb_artifacts::{
     ArtifactsOf, CountCollector, FaultList, FaultPlan, FaultPlans, Item, ItemProcessor, ListWriter,
     PrefixProcessor, TableReader,
 };
-use jb_base::{
-    ArtifactError, ClassId, MAX_ITEM_COUNT, MAX_RECORDS, Name, PackedList, Range, Ranges, Rules,
-};
+use jb_base::{ArtifactError, ClassId, PackedList, Range, Ranges};
 use jb_chunk::Task;
-use jb_collect::Reducer;
-use jb_job::{Spec, Step};
-use jb_mapper::PartitionMapper;
 use jb_plan::PartitionPlan;
-use jb_repo::Snapshot;
 use jb_rules::Row;
-use jb_step::{Prepared, Saved, StepError, prepare, read_saved, saved_text};
 use std::alloc::{AllocError, Global};
-use std::test::*;
+use std::sync::Arc;
 
 /// What a partition works with.
 pub(crate) type GivenArtifacts = ArtifactsOf<TableReader, Processor, ListWriter, CountCollector>;
@@ -24,17 +19,22 @@ pub(crate) type GivenArtifacts = ArtifactsOf<TableReader, Processor, ListWriter,
 /// A partition's task.
 pub(crate) type Letters = Task<GivenArtifacts>;
 
-/// A processor that puts an x before each record, and finds no memory the first time that it gets the record of this number.
+/// A processor that puts an x before each record, and finds no memory the first time that it gets the record of this number. Before that
+/// it comes to its meetings, if it has some.
 #[derive(Drop)]
 pub(crate) struct Processor {
     prefix: PrefixProcessor,
     wanting: Option<u64>,
+    pub(crate) meetings: Option<Arc<Meetings>>,
 }
 
 impl ItemProcessor for Processor {
     ghost processor = { λ p. ⟦<PrefixProcessor as ItemProcessor>⟧.processor p.prefix };
 
     fn process_item(&mut self, number: u64, item: &[u8]) -> Result<Option<Item>, ArtifactError> {
+        if let Some(meetings) = &self.meetings {
+            meetings.come(number);
+        }
         if self.wanting == Some(number) {
             self.wanting = None;
             return Err(ArtifactError::Memory);
@@ -43,10 +43,7 @@ impl ItemProcessor for Processor {
     }
 }
 
-/// The step's id.
-const STEP: &str = "step";
-
-/// Records and their partitions.
+/// The records of a line, and their partitions.
 ///
 /// They are written as a text: each letter is a record, and each `/` ends a partition. Behind a letter stands how it fails to be
 /// processed: `!` each time, `?` and `*` the first time. The class of `?` is 1, that of the others 0. `~` is no fault: the first time
@@ -62,7 +59,7 @@ pub(crate) struct Given {
 }
 
 impl Given {
-    pub(crate) fn read(alloc: Global, text: &str) -> Result<Given, AllocError> {
+    pub(crate) fn read(alloc: Global, line: &str) -> Result<Given, AllocError> {
         let mut given = Given {
             records: PackedList::new(alloc),
             ranges: Vec::new(alloc),
@@ -70,7 +67,7 @@ impl Given {
             wanting: None,
             bad: Vec::new(alloc),
         };
-        for sign in text.as_bytes() {
+        for sign in value(line, "records").unwrap_or("").as_bytes() {
             given.take(alloc, *sign)?;
         }
         Ok(given)
@@ -110,17 +107,12 @@ impl Given {
         self.records.len() as u64
     }
 
-    /// The records of each partition.
-    pub(crate) fn ranges(&self) -> &[Range] {
-        self.ranges.as_slice()
-    }
-
     /// The plan of these partitions.
-    pub(crate) fn plan(self, threads: u32) -> PartitionPlan {
+    pub(crate) fn plan(self, threads: u32, replace: bool) -> PartitionPlan {
         PartitionPlan {
             ranges: Ranges::new(self.ranges),
             threads,
-            replace: false,
+            replace,
         }
     }
 
@@ -142,6 +134,7 @@ impl Given {
         let processor = Processor {
             prefix: PrefixProcessor::new(alloc, prefix, None, self.processes),
             wanting: self.wanting,
+            meetings: None,
         };
         Ok(ArtifactsOf {
             reader: TableReader::new(alloc, 0, self.records, FaultPlans::new(alloc)),
@@ -158,73 +151,19 @@ fn once(alloc: Global, class: ClassId) -> Result<FaultPlan, AllocError> {
     Ok(FaultPlan::Shaky(FaultList::from_vec(classes)))
 }
 
-/// The artifacts of one partition of the records.
-pub(crate) fn artifacts(alloc: Global, text: &str) -> Result<GivenArtifacts, AllocError> {
-    Given::read(alloc, text)?.artifacts(alloc, PackedList::new(alloc))
+/// The artifacts of one partition of the line's records.
+pub(crate) fn artifacts(alloc: Global, line: &str) -> Result<GivenArtifacts, AllocError> {
+    Given::read(alloc, line)?.artifacts(alloc, PackedList::new(alloc))
 }
 
 /// The artifacts of one partition of records of which none was left out but those that fail each time that they are processed,
 /// whose writer has what was written up to the row's place.
 pub(crate) fn artifacts_from(
     alloc: Global,
-    text: &str,
+    line: &str,
     row: &Row,
 ) -> Result<GivenArtifacts, AllocError> {
-    let given = Given::read(alloc, text)?;
+    let given = Given::read(alloc, line)?;
     let written = given.written(alloc, row)?;
     given.artifacts(alloc, written)
-}
-
-/// The artifacts of so many partitions of the records.
-pub(crate) fn all_artifacts(
-    alloc: Global,
-    text: &str,
-    partitions: usize,
-) -> Result<Vec<GivenArtifacts>, AllocError> {
-    let mut all = Vec::new(alloc);
-    for _ in 0..partitions {
-        all.push(artifacts(alloc, text)?)?;
-    }
-    Ok(all)
-}
-
-/// What a step of this item count and these rules begins with.
-pub(crate) fn begun(
-    alloc: Global,
-    item_count: u64,
-    rules: Rules,
-    records: u64,
-    mapper: &mut dyn PartitionMapper,
-    reducer: &mut dyn Reducer,
-) -> Result<Result<Prepared, StepError>, Fail> {
-    begun_from(alloc, item_count, rules, records, mapper, reducer, None)
-}
-
-/// The same, where an earlier run of the step saved rows.
-pub(crate) fn begun_from(
-    alloc: Global,
-    item_count: u64,
-    rules: Rules,
-    records: u64,
-    mapper: &mut dyn PartitionMapper,
-    reducer: &mut dyn Reducer,
-    saved: Option<Saved>,
-) -> Result<Result<Prepared, StepError>, Fail> {
-    if item_count < 1 || MAX_ITEM_COUNT < item_count || MAX_RECORDS < records {
-        return Err(Fail::from("a step"));
-    }
-    let id = Name::new(String::from_str(alloc, STEP)?);
-    let step = Step::new(id, item_count, rules, Spec::new(1, 0, false, None));
-    Ok(prepare(alloc, &step, records, mapper, reducer, saved))
-}
-
-/// The rows of a run of the step, saved as a text and read again.
-pub(crate) fn saved_again(alloc: Global, snapshot: &Snapshot) -> Result<Saved, Fail> {
-    let saved = Saved::of(alloc, STEP, snapshot)?;
-    let text = saved_text(alloc, &saved)?;
-    let read = read_saved(alloc, text.as_bytes())?;
-    if read.step_id() != saved.step_id() || read.rows() != saved.rows() {
-        return Err(Fail::from("other rows"));
-    }
-    Ok(read)
 }

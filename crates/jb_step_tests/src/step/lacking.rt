@@ -1,5 +1,6 @@
 //! A reducer that can find no memory.
 
+use crate::lines::{number, value};
 use jb_base::{ArtifactError, ClassId};
 use jb_collect::{ListReducer, PartitionStatus, Reducer, ReducerCall};
 use std::alloc::Global;
@@ -11,18 +12,29 @@ pub(crate) struct Lacking {
     call: Option<ReducerCall>,
 }
 
-impl Lacking {
-    /// A reducer that never fails.
-    pub(crate) fn nothing(alloc: Global) -> Lacking {
-        Lacking::new(alloc, None, None)
+/// The call that finds no memory.
+fn lacking_call(line: &str) -> Option<ReducerCall> {
+    match value(line, "lacking")? {
+        "begin" => Some(ReducerCall::Begin),
+        "before" => Some(ReducerCall::Before),
+        "rollback" => Some(ReducerCall::Rollback),
+        "after-commit" => Some(ReducerCall::After(PartitionStatus::Commit)),
+        "after-rollback" => Some(ReducerCall::After(PartitionStatus::Rollback)),
+        _ => None,
     }
+}
 
-    /// With `fault`, the call of this number, the first being 0, is answered with a fault of class 3; `call` finds no memory.
-    pub(crate) fn new(alloc: Global, fault: Option<u64>, call: Option<ReducerCall>) -> Lacking {
-        let fault = fault.map(|number| (number, ClassId::new(3)));
+impl Lacking {
+    /// The reducer of the line: the call of the number `fault`, the first being 0, is answered with a fault of class 3, and the call
+    /// `lacking` finds no memory.
+    pub(crate) fn told(alloc: Global, line: &str) -> Lacking {
+        let fault = match number(line, "fault") {
+            Some(number) => Some((number, ClassId::new(3))),
+            None => None,
+        };
         Lacking {
             list: ListReducer::new(alloc, fault),
-            call,
+            call: lacking_call(line),
         }
     }
 }

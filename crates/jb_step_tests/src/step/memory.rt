@@ -1,50 +1,45 @@
 //! Want of memory, or of workers, in a step.
 
-use crate::step::restarts::{Between, gone_on};
-use crate::step::rows::{Asked, Case, SEVEN, case_at};
+use crate::step::between::Between;
+use crate::step::rows::{ROWS, SEVEN, Worked};
+use crate::step::runs::run_told;
 use crate::way::{BOTH_WAYS, Way};
 use jb_collect::Status;
-use std::alloc::{AllocError, Global};
+use std::alloc::Global;
 use std::process::Abort;
 use std::sync::Wait;
 use std::test::*;
 use std::thread::Threads;
 
-/// What the restart of a case comes to without faults.
+/// A restart on one thread and without faults.
 struct Unmet {
-    /// The number of the case.
-    number: usize,
-    /// Its records without their faults.
-    records: &'static str,
+    line: &'static str,
     /// What its partitions come to where none of the faults was met, and where some were.
     partitions: [&'static str; 2],
 }
 
+/// Those of the worked rows.
 const UNMET: [Unmet; 4] = [
     Unmet {
-        number: 0,
-        records: "abc/de/fg/",
+        line: "again new threads=1 records=abc/de/fg/",
         partitions: [SEVEN, SEVEN],
     },
     Unmet {
-        number: 1,
-        records: "abcd/",
+        line: "again new threads=1 records=abcd/ items=4 retryable=2",
         partitions: [
             "0 4 4 0 0 4 4 4 1 0 0 0 0 0 0 done xa xb xc xd\n",
             "0 4 4 4 1 4 4 4 4 1 0 0 0 0 0 done xa xb xc xd\n",
         ],
     },
     Unmet {
-        number: 2,
-        records: "abcd/",
+        line: "again new threads=1 records=abcd/ retryable=1 skippable=1 one-skip",
         partitions: [
             "0 4 4 0 0 4 4 4 2 0 0 0 0 0 0 done xa xb xc xd\n",
             "0 4 4 2 1 4 4 4 3 1 0 0 0 0 0 done xa xb xc xd\n",
         ],
     },
     Unmet {
-        number: 3,
-        records: "ab/",
+        line: "again new threads=1 records=ab/ retryable=3 in-place=1",
         partitions: [
             "0 2 2 0 0 2 2 2 1 0 0 0 0 0 0 done xa xb\n",
             "0 2 2 2 2 2 2 2 2 1 0 0 0 0 1 done xa xb\n",
@@ -52,75 +47,62 @@ const UNMET: [Unmet; 4] = [
     },
 ];
 
-/// Runs the case's step. Where it got no desk, for want of memory, nothing was begun, and it is run anew.
+/// Runs the row's step. Where it got no desk, for want of memory, nothing was begun, and it is run anew.
 fn first_run<R: Threads + Wait + Sync>(
+    way: Way,
     rt: &R,
     alloc: Global,
-    case: &Case,
+    row: &Worked,
     between: &mut Between,
-) -> Result<(Option<Status>, String), Fail> {
-    let (status, course) = gone_on(rt, alloc, case.asked, case.records, false, None, between)?;
-    if course.as_str() != "no desk: Memory\n" {
-        return Ok((status, course));
+    text: &mut String,
+) -> Result<Option<Status>, Fail> {
+    let status = run_told(way, rt, alloc, row.line, between, text)?;
+    if !text.as_str().starts_with("no desk: Memory") {
+        return Ok(status);
     }
-    *between = Between::first(alloc, case.records)?;
-    gone_on(rt, alloc, case.asked, case.records, false, None, between)
+    text.clear();
+    run_told(way, rt, alloc, row.line, between, text)
 }
 
-/// After a whole first run: its course, and what its partitions come to.
-fn assert_whole(
-    rt: &impl Abort,
-    alloc: Global,
-    case: &Case,
-    course: &str,
-    between: &Between,
-) -> Result<(), AllocError> {
-    assert!(rt; course.ends_with(case.course));
-    between.assert_partitions(rt, alloc, case.partitions)
-}
-
-/// After a first run that says what it lacked: the restart, on one thread and without faults, is completed.
+/// After a first run that says what it lacked: the restart is completed.
 fn assert_restarted<R: Threads + Wait + Abort + Sync>(
+    way: Way,
     rt: &R,
     alloc: Global,
-    case: &Case,
+    row: &Worked,
     unmet: &Unmet,
-    course: &str,
     between: &mut Between,
 ) -> Result<(), Fail> {
-    assert!(rt; course.contains("Memory") || course.contains("Workers"));
-    let asked = Asked {
-        threads: 1,
-        ..case.asked
-    };
-    let (status, _) = gone_on(rt, alloc, asked, unmet.records, true, None, between)?;
-    assert!(rt; status == Some(Status::Completed));
-    let partitions = between.partitions(alloc)?;
-    let partitions = partitions.as_str();
-    assert!(rt; unmet.partitions.contains(&partitions) || partitions == case.partitions);
+    let mut text = String::new(alloc);
+    let status = run_told(way, rt, alloc, unmet.line, between, &mut text)?;
+    assert!(rt; matches!(status, Some(Status::Completed)));
+    text.clear();
+    between.add_to(&mut text, alloc)?;
+    let partitions = text.as_str();
+    let [none, some] = unmet.partitions;
+    assert!(rt; partitions == none || partitions == some || partitions == row.partitions);
     Ok(())
 }
 
-/// A first run of the case's step, which may lack something, and then what belongs to it.
+/// A first run of the row's step, which may lack something, and then what belongs to it.
 fn tried<R: Threads + Wait + Abort + Sync>(
     way: Way,
     rt: &R,
     alloc: Global,
+    row: &Worked,
     unmet: &Unmet,
 ) -> Result<(), Fail> {
-    let Some(case) = case_at(unmet.number) else {
-        return Err(Fail::from("a case"));
-    };
-    let case = case.run_in(way);
-    let mut between = Between::first(alloc, case.records)?;
-    let (status, course) = first_run(rt, alloc, &case, &mut between)?;
-    let course = course.as_str();
+    let mut between = Between::nothing(alloc);
+    let mut text = String::new(alloc);
+    let status = first_run(way, rt, alloc, row, &mut between, &mut text)?;
+    let text = text.as_str();
     if status.is_some() {
-        assert_whole(rt, alloc, &case, course, &between)?;
-        Ok(())
-    } else {
-        assert_restarted(rt, alloc, &case, unmet, course, &mut between)
+        let partitions = text.strip_prefix(row.course).ok_or("its course")?;
+        assert!(rt; partitions == row.partitions);
+        return Ok(());
     }
+    assert!(rt; text.contains("Memory") || text.contains("Workers"));
+    assert_restarted(way, rt, alloc, row, unmet, &mut between)
 }
 
 /// `tests/refused-memory` runs it also with each request for memory refused in turn, and `tests/no-worker` where no thread can be made:
@@ -130,8 +112,8 @@ fn tried<R: Threads + Wait + Abort + Sync>(
 #[test]
 fn memory_refused(rt: HostRuntime) -> Result<(), Fail> {
     for way in BOTH_WAYS {
-        for unmet in &UNMET {
-            tried(way, &rt, rt.alloc(), unmet)?;
+        for (row, unmet) in ROWS.iter().zip(UNMET.iter()) {
+            tried(way, &rt, rt.alloc(), row, unmet)?;
         }
     }
     Ok(())

@@ -3,17 +3,16 @@
 ghost use Rattle.std.specs.Prelude.{◌≡◌};
 ghost use Rattle.jb_base.specs.Limits.{max_parts};
 
+use crate::lines::{assert_text, number};
+use crate::step::beginning::begun;
+use crate::step::between::Between;
 use crate::step::given::{GivenArtifacts, Letters};
 use crate::step::lacking::Lacking;
-use crate::step::restarts::{Between, artifacts_restarted};
-use crate::step::rows::{Asked, SEVEN, assert_text, plain_in};
-use crate::step::runs::started;
+use crate::step::rows::SEVEN;
 use crate::step::ways::run_in;
 use crate::way::{BOTH_WAYS, Way};
 use jb_base::MAX_PARTS;
 use jb_collect::{ListAnalyzer, Status};
-use jb_repo::Snapshot;
-use jb_rules::Counts;
 use jb_step::{Prepared, StepEnd, StepError};
 use jb_workers::{Desk, Gate};
 use std::alloc::Global;
@@ -26,30 +25,15 @@ use std::thread;
 use std::thread::{Scope, Threads};
 use std::time::{Clock, Duration};
 
-/// Seven records, as those of `SEVEN`.
-const RECORDS: &str = "abc/de/fg/";
-
-fn added(sum: &Counts, more: &Counts) -> Counts {
-    Counts {
-        read: sum.read.saturating_add(more.read),
-        write: sum.write.saturating_add(more.write),
-        commit: sum.commit.saturating_add(more.commit),
-        rollback: sum.rollback.saturating_add(more.rollback),
-        read_skip: sum.read_skip.saturating_add(more.read_skip),
-        process_skip: sum.process_skip.saturating_add(more.process_skip),
-        filter: sum.filter.saturating_add(more.filter),
-        write_skip: sum.write_skip.saturating_add(more.write_skip),
-    }
-}
-
-/// Whether the rows are sound, and the totals their sum.
-fn adds_up(snapshot: &Snapshot) -> bool {
-    let mut sum = Counts::ZERO;
-    for row in &snapshot.rows {
-        sum = added(&sum, &row.counts);
-    }
-    sum == snapshot.totals && snapshot.rows.iter().all(|row| row.sound())
-}
+/// Steps of seven records, those of `SEVEN`, and the number of commits from which on a stop is asked for.
+const LINES: &str = "records=abc/de/fg/ threads=1 commits=0
+records=abc/de/fg/ threads=1 commits=1
+records=abc/de/fg/ threads=1 commits=2
+records=abc/de/fg/ threads=2 commits=0
+records=abc/de/fg/ threads=2 commits=2
+records=abc/de/fg/ threads=3 commits=1
+records=abc/de/fg/ threads=4 commits=0
+";
 
 /// Where both lookers say that a look is over.
 #[derive(Drop)]
@@ -104,15 +88,15 @@ impl<R: Clock + Sync> Gate for Held<'_, R> {
     }
 }
 
-/// Looks at the table until it was read after the step was over, and answers how often it saw more commits than before. `None` if the
-/// table didn't add up once, or had fewer commits than before.
+/// Looks at the table until it was read after the step was over, and answers how often it saw more commits than before. `None` if it had
+/// fewer commits than before.
 fn watch<L: Ledger, R: Wait>(rt: &R, desk: &Desk<L>, looks: &Looks) -> Option<u64> {
     let mut commits = desk.status(rt).ok()?.totals.commit;
     let mut rises = 0u64;
     for _ in 0..10_000_000 {
         let is_last = looks.is_over.load(Ordering::SeqCst);
         if let Ok(snapshot) = desk.status(rt) {
-            if snapshot.totals.commit < commits || !adds_up(&snapshot) {
+            if snapshot.totals.commit < commits {
                 return None;
             }
             if commits < snapshot.totals.commit {
@@ -214,94 +198,98 @@ fn in_scope<L: Ledger + Send + Sync + 'static, R: Threads + Wait + Clock + Copy 
     })
 }
 
-/// Runs the step so, from what the run before left: its status, and how often more commits were seen, if all was well with its table.
+/// Runs the step so from what the run before left: its status, and how often more commits were seen.
+fn watched_on<L: Ledger + Send + Sync + 'static, R: Threads + Wait + Clock + Copy + Sync>(
+    way: Way,
+    rt: &R,
+    alloc: Global,
+    desk: &Desk<L>,
+    line: &str,
+    prepared: Prepared,
+    reducer: Lacking,
+    commits: u64,
+    between: &mut Between,
+) -> Result<(Option<Status>, u64), Fail> {
+    let artifacts = between.artifacts(alloc, line, prepared.needs())?;
+    let (end, rises) = in_scope(rt, alloc, desk, prepared, reducer, artifacts, way, commits);
+    let table = desk.status(rt)?;
+    let status = between.take(alloc, line, &table, end)?;
+    Ok((status, rises.ok_or("a table whose commits never fall")?))
+}
+
+/// The same on a desk that is made for it.
 fn run_watched<L: Ledger + Send + Sync + 'static, R: Threads + Wait + Clock + Copy + Sync>(
+    way: Way,
     rt: &R,
     alloc: Global,
     blank: Blank,
-    asked: Asked,
+    line: String,
     commits: u64,
     between: &mut Between,
-) -> Result<(Status, Option<u64>), Fail>
+) -> Result<(Option<Status>, u64), Fail>
     requires name { blank.name ≡ L.name }
     requires parts { blank.parts ≡ L.parts }
     requires all { blank.parts ≡ max_parts }
 {
-    let way = asked.way;
-    let mut reducer = Lacking::nothing(alloc);
-    let (saved, left) = between.give_up(alloc);
-    let artifacts = artifacts_restarted(alloc, left, None)?;
-    let prepared = started(alloc, asked, RECORDS, &mut reducer, saved)?;
+    let line = line.as_str();
+    let mut reducer = Lacking::told(alloc, line);
+    let mut text = String::new(alloc);
+    let saved = between.saved(alloc, line)?;
+    let prepared = begun(alloc, line, &mut reducer, saved, &mut text)??;
     let desk = prepared.desk::<L>(alloc, blank)?;
-    let (end, rises) = in_scope(rt, alloc, &desk, prepared, reducer, artifacts, way, commits);
-    let end = end.ok().ok_or("an end")?;
-    let status = end.status;
-    between.keep(alloc, end)?;
-    Ok((status, rises))
+    watched_on(
+        way, rt, alloc, &desk, line, prepared, reducer, commits, between,
+    )
 }
 
-/// What a step that was watched came to, in all its runs.
-#[derive(Drop)]
-struct WatchedEnd {
-    status: Status,
-    /// How often it was stopped before its last run.
-    stops: u64,
-    /// How often more commits were seen than before.
-    rises: u64,
-    partitions: String,
-}
-
-/// Runs the step so, and goes on until it isn't stopped, each time with a stop from one commit more on.
+/// Runs the step so, and goes on until it isn't stopped, each time with a stop from one commit more on. Its status, how often it was stopped
+/// before its last run, how often more commits were seen than before, and what its partitions come to.
 fn watched<R: Threads + Wait + Clock + Copy + Sync>(
+    way: Way,
     rt: &R,
     alloc: Global,
-    asked: Asked,
-    commits: u64,
-) -> Result<WatchedEnd, Fail> {
-    let mut between = Between::first(alloc, RECORDS)?;
+    line: &str,
+) -> Result<(Option<Status>, u64, u64, String), Fail> {
+    let mut between = Between::nothing(alloc);
+    let commits = number(line, "commits").unwrap_or(0);
     let mut stops = 0;
     let mut rises = 0u64;
-    let mut status = Status::Stopped;
+    let mut status = Some(Status::Stopped);
     for run in 0..8 {
-        if status == Status::Stopped {
+        if matches!(status, Some(Status::Stopped)) {
             let blank = Blank::new(MAX_PARTS);
             let from = commits.saturating_add(run);
+            let line = String::from_str(alloc, line)?;
             let (next, more) = run_watched::<Brand, R>(
+                way,
                 rt,
                 alloc,
                 blank,
-                asked,
+                line,
                 from,
                 &mut between,
             )?;
             status = next;
-            rises = rises.saturating_add(more.ok_or("a table that adds up")?);
+            rises = rises.saturating_add(more);
             stops = run;
         }
     }
-    Ok(WatchedEnd {
-        status,
-        stops,
-        rises,
-        partitions: between.partitions(alloc)?,
-    })
+    let mut partitions = String::new(alloc);
+    between.add_to(&mut partitions, alloc)?;
+    Ok((status, stops, rises, partitions))
 }
 
 /// However often it is stopped, the step comes to the same once it isn't. Each row is stopped at least once, before it runs or after a
 /// commit that was seen; in each of its two rounds a commit is seen, and on one thread each of its four.
 #[test]
 fn a_table_is_watched(rt: HostRuntime) -> Result<(), Fail> {
-    for (threads, commits) in [(1, 0), (1, 1), (1, 2), (2, 0), (2, 2), (3, 1), (4, 0)] {
+    for line in LINES.lines() {
         for way in BOTH_WAYS {
-            let asked = Asked {
-                threads,
-                ..plain_in(way)
-            };
-            let watched = watched(&rt, rt.alloc(), asked, commits)?;
-            let seen = if threads == 1 { 4..5 } else { 2..5 };
-            assert!(rt; watched.status == Status::Completed && watched.stops > 0);
-            assert!(rt; seen.contains(&watched.rises));
-            assert_text(&rt, watched.partitions.as_str(), SEVEN);
+            let (status, stops, rises, partitions) = watched(way, &rt, rt.alloc(), line)?;
+            let least = if line.contains("threads=1") { 4 } else { 2 };
+            assert!(rt; matches!(status, Some(Status::Completed)) && stops > 0);
+            assert!(rt; least <= rises && rises <= 4);
+            assert_text(&rt, partitions.as_str(), SEVEN);
         }
     }
     Ok(())

@@ -116,6 +116,7 @@ fn workers_end_with_their_pool(rt: HostRuntime) -> Result<(), Fail> {
     let alloc = rt.alloc();
     let works = works(alloc, 2, |lane| own_task(alloc, lane)).ok_or("works")?;
     let workers = on_a_desk::<Brand, _, _>(&rt, alloc, Blank::new(MAX_PARTS), works);
-    assert!(rt; workers == Some((WORKERS, WORKERS)));
+    let (before, behind) = workers.ok_or("workers")?;
+    assert!(rt; before == WORKERS && behind == WORKERS);
     Ok(())
 }

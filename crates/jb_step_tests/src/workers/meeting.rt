@@ -4,16 +4,17 @@ ghost use Rattle.std.specs.Prelude.{◌≡◌, ◌<◌, IfSome};
 ghost use Rattle.jb_workers.specs.Works.{AllCanBegin};
 ghost use Rattle.jb_base.specs.Limits.{max_parts};
 
+use crate::lines::assert_text;
 use crate::way::{BOTH_WAYS, Way};
 use crate::workers::rounds::run_round_in;
 use crate::workers::tasks::{RULES, boxes, fresh_rows, repository, task_of, with_work};
-use jb_artifacts::{Artifacts, FaultPlans};
+use jb_artifacts::Artifacts;
 use jb_base::MAX_PARTS;
 use jb_cert::Certificate;
 use jb_chunk::{Done, PartitionTask, Task};
 use jb_repo::{Event, Snapshot};
 use jb_workers::{Desk, Gate, Work};
-use std::alloc::Global;
+use std::alloc::{AllocError, Global};
 use std::marker::Brand;
 use std::sync::atomic::{AtomicBool, AtomicU64, Ordering};
 use std::sync::ledger::{Blank, Ledger};
@@ -25,7 +26,7 @@ use std::time::{Clock, Duration};
 
 /// Each lane waits for the other in `arrive`. Then lane 0 waits for lane 1's end and asks for the status.
 #[derive(Drop)]
-pub(crate) struct Meeting<L: Ledger, R> {
+struct Meeting<L: Ledger, R> {
     rt: R,
     desk: Arc<Desk<L>>,
     here: [AtomicBool; 2],
@@ -46,7 +47,7 @@ pub(crate) fn wait_for<R: Clock>(rt: &R, flag: &AtomicBool) -> bool {
 }
 
 impl<L: Ledger, R: Wait + Clock> Meeting<L, R> {
-    pub(crate) fn new(rt: R, desk: Arc<Desk<L>>) -> Meeting<L, R> {
+    fn new(rt: R, desk: Arc<Desk<L>>) -> Meeting<L, R> {
         Meeting {
             rt,
             desk,
@@ -58,7 +59,7 @@ impl<L: Ledger, R: Wait + Clock> Meeting<L, R> {
     }
 
     /// How often a lane waited in vain, and the numbers of Commits of partitions 0 and 1 that lane 0 saw.
-    pub(crate) fn seen(&self) -> [u64; 3] {
+    fn seen(&self) -> [u64; 3] {
         [
             self.alone.load(Ordering::SeqCst),
             self.commits[0].load(Ordering::SeqCst),
@@ -156,11 +157,15 @@ fn runs<
     }
 }
 
-/// How often a lane waited in vain, and the Commits that lane 0 saw; and of the table after the round the events, the plans, the
-/// Commits, and whether a stop was asked for.
-type Met = ([u64; 3], (u64, u64, u64, bool));
+fn text_of(alloc: Global, seen: &[u64; 3], after: &Snapshot) -> Result<String, AllocError> {
+    let (events, plans, commits) = (after.events, after.plans, after.totals.commit);
+    let [alone, first, second] = *seen;
+    let stopping = after.stopping;
+    format!(in alloc; "{alone} {first} {second}; {events} {plans} {commits} {stopping}")
+}
 
-/// The tasks of partitions 1 and 0, handed over in this order, meet in one round. After it the desk takes a stop.
+/// The tasks of partitions 1 and 0, handed over in this order, meet in one round: how often a lane waited in vain, and the Commits that lane 0
+/// saw; and of the table after the round the events, the plans, the Commits, and whether a stop was asked for. After it the desk takes a stop.
 fn meet<
     L: Ledger + Send + Sync + 'static,
     T: PartitionTask + Send + 'static,
@@ -172,7 +177,7 @@ fn meet<
     blank: Blank,
     later: T::Artifacts,
     earlier: T::Artifacts,
-) -> Option<Met>
+) -> Option<String>
     requires name { blank.name ≡ L.name }
     requires parts { blank.parts ≡ L.parts }
     requires all { blank.parts ≡ max_parts }
@@ -181,14 +186,8 @@ fn meet<
     let desk = Desk::<L>::new(repository(alloc, &fresh_rows())?, blank);
     let gate = Meeting::new(*rt, Arc::new(alloc, desk).ok()?);
     let after = runs(way, rt, alloc, &gate, works)?;
-    let table = (
-        after.events,
-        after.plans,
-        after.totals.commit,
-        after.stopping,
-    );
     if takes_a_stop(rt, &gate.desk) {
-        Some((gate.seen(), table))
+        text_of(alloc, &gate.seen(), &after).ok()
     } else {
         None
     }
@@ -198,14 +197,14 @@ fn meet<
 fn two_lanes_meet(rt: HostRuntime) -> Result<(), Fail> {
     let alloc = rt.alloc();
     for way in BOTH_WAYS {
-        let boxed = boxes(alloc, FaultPlans::new(alloc), true)?;
+        let boxed = boxes(alloc)?;
         let later = Artifacts {
             reader: boxed.reader,
             processor: boxed.processor,
             writer: boxed.writer,
             collector: boxed.collector,
         };
-        let boxed = boxes(alloc, FaultPlans::new(alloc), true)?;
+        let boxed = boxes(alloc)?;
         let earlier = Artifacts {
             reader: boxed.reader,
             processor: boxed.processor,
@@ -214,7 +213,7 @@ fn two_lanes_meet(rt: HostRuntime) -> Result<(), Fail> {
         };
         let blank = Blank::new(MAX_PARTS);
         let met = meet::<Brand, Task, _>(way, &rt, alloc, blank, later, earlier);
-        assert_eq!(rt; met, Some(([0, 0, 1], (6, 1, 2, false))), "{way:?}");
+        assert_text(&rt, met.ok_or("a round")?.as_str(), "0 0 1; 6 1 2 false");
     }
     Ok(())
 }

@@ -125,7 +125,7 @@ fn memory_refused(rt: HostRuntime) {
         if let (Some(task), Some(other)) = (own_task(alloc, 0), own_task(alloc, 1)) {
             let blank = Blank::new(MAX_PARTS);
             let is_well = run_short::<Brand, _, _>(way, &rt, alloc, blank, task, other);
-            assert!(rt; is_well != Some(false));
+            assert!(rt; is_well.unwrap_or(true));
         }
     }
 }

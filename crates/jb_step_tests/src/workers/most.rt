@@ -5,6 +5,7 @@ ghost use Rattle.jb_chunk.specs.Standing.{IsReady};
 ghost use Rattle.jb_workers.specs.Works.{AllCanBegin};
 ghost use Rattle.jb_base.specs.Limits.{max_parts};
 
+use crate::lines::assert_text;
 use crate::way::{BOTH_WAYS, Way};
 use crate::workers::rounds::run_round_in;
 use crate::workers::tasks::{Processor, RULES, prefixing, task_of, with_work, writer};
@@ -89,9 +90,6 @@ fn repository(alloc: Global, partitions: u32) -> Option<Repo>
     }
 }
 
-/// The Dones of the round and those that are Committed; and of the table after it the events, the rows and the Commits.
-type Came = ((usize, usize), u64, usize, u64);
-
 /// A desk of 1,024 partitions with a plan for a round.
 pub(crate) fn planned_desk<L: Ledger>(
     rt: &impl Wait,
@@ -107,12 +105,13 @@ pub(crate) fn planned_desk<L: Ledger>(
     Some(desk)
 }
 
-/// What comes of a round of these works.
+/// What comes of a round of these works: the Dones and those that are Committed; and of the table after it the events, the rows and the
+/// Commits.
 fn run<
     L: Ledger + Send + Sync + 'static,
     T: PartitionTask + Send + 'static,
     R: Threads + Wait + Sync,
->(way: Way, rt: &R, alloc: Global, blank: Blank, works: Vec<Work<T>>) -> Option<Came>
+>(way: Way, rt: &R, alloc: Global, blank: Blank, works: Vec<Work<T>>) -> Option<String>
     requires name { blank.name ≡ L.name }
     requires parts { blank.parts ≡ L.parts }
     requires all { blank.parts ≡ max_parts }
@@ -120,9 +119,11 @@ fn run<
 {
     let desk = planned_desk::<L>(rt, alloc, blank)?;
     let dones = run_round_in(way, &desk, rt, alloc, &NoGate, works).ok()?;
-    let commits = commits(dones.as_slice());
+    let (all, committed) = commits(dones.as_slice());
     let after = desk.status(rt).ok()?;
-    Some((commits, after.events, after.rows.len(), after.totals.commit))
+    let (events, rows, commits) = (after.events, after.rows.len(), after.totals.commit);
+    let text = format!(in alloc; "{committed} of {all}; {events} {rows} {commits}");
+    text.ok()
 }
 
 /// How many Dones there are, and how many of them are Committed.
@@ -142,7 +143,11 @@ fn a_round_on_64_lanes(rt: HostRuntime) -> Result<(), Fail> {
     for way in BOTH_WAYS {
         let works = works(alloc, 64, |lane| own_task(alloc, lane)).ok_or("works")?;
         let came = run::<Brand, _, _>(way, &rt, alloc, Blank::new(MAX_PARTS), works);
-        assert!(rt; came == Some(((64, 64), 130, 1_024, 64)), "{way:?}");
+        assert_text(
+            &rt,
+            came.ok_or("a round")?.as_str(),
+            "64 of 64; 130 1024 64",
+        );
     }
     Ok(())
 }

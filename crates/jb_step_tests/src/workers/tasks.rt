@@ -90,17 +90,17 @@ pub(crate) fn writer(alloc: Global) -> ListWriter {
 
 /// The artifacts of a partition, each in a box of its own. A test hands them on as objects.
 #[derive(Drop)]
-pub(crate) struct Boxed<P: Drop = Processor> {
+pub(crate) struct Boxed {
     pub(crate) reader: Box<TableReader>,
-    pub(crate) processor: Box<P>,
+    pub(crate) processor: Box<Processor>,
     pub(crate) writer: Box<ListWriter>,
     pub(crate) collector: Box<CountCollector>,
 }
 
-/// The boxes of the letters, of this processor, of a writer with no result yet, and of a collector.
-pub(crate) fn boxes_of<P: Drop>(alloc: Global, processor: P) -> Result<Boxed<P>, AllocError> {
+/// The boxes of the letters, of a processor without faults, of a writer with no result yet, and of a collector.
+pub(crate) fn boxes(alloc: Global) -> Result<Boxed, AllocError> {
     let reader = Box::new(alloc, letters(alloc)?)?;
-    let processor = Box::new(alloc, processor)?;
+    let processor = Box::new(alloc, prefixing(alloc, FaultPlans::new(alloc), true)?)?;
     let writer = Box::new(alloc, writer(alloc))?;
     let collector = Box::new(alloc, CountCollector::new(alloc))?;
     Ok(Boxed {
@@ -109,11 +109,6 @@ pub(crate) fn boxes_of<P: Drop>(alloc: Global, processor: P) -> Result<Boxed<P>,
         writer,
         collector,
     })
-}
-
-/// The same with a processor that has these faults.
-pub(crate) fn boxes(alloc: Global, faults: FaultPlans, memory: bool) -> Result<Boxed, AllocError> {
-    boxes_of(alloc, prefixing(alloc, faults, memory)?)
 }
 
 /// The task of this row, where the row is sound and waits, and the artifacts serve it.
