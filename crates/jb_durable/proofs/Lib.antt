@@ -1,3 +1,4 @@
+pub mod Clean
 pub mod Left
 pub mod Opens
 pub mod Over

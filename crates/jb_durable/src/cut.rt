@@ -12,7 +12,7 @@ ghost use Rattle.sqlite_wal.specs.Files.{outcomes};
 ghost use Rattle.sqlite_wal.specs.Reads.{AreClean};
 ghost use Rattle.sqlite_wal.specs.Recovery.{Image};
 
-use crate::stop::{Life, has_store, stop_cut, unwatch, watch};
+use crate::stop::{Life, crash, unwatch, watch};
 use crate::watched::{Given, Watched};
 use jb_store::{closed, takes};
 use sqlite::{Connection, FileStore, Leftover, Options};
@@ -55,10 +55,10 @@ fn cut_short<D: Crash + Drop, G: Given>(left: Leftover<Watched<D, G>>) -> Option
     ensures same { IfSome result (λ life. life.is_loose ≡ false → IsTrue (has_store left) → (image : Image) → outcomes D.Disk life.files.log life.files.db image
         → ∥ G.Given.could_leave true image.log × G.Given.could_leave false image.db ∥₁) }
 {
-    let is_behind = has_store(&left);
-    let (files, has_written) = unwatch(stop_cut(left))?;
+    let is_behind = matches!(&left, Leftover::Store(_));
+    let (files, has_written) = unwatch(left.into_files())?;
     Some(Life {
-        files,
+        files: crash(files),
         has_run: false,
         is_loose: is_behind & has_written,
     })

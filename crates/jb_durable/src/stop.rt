@@ -1,11 +1,10 @@
 //! The machine stops, and what it leaves.
 
 ghost use Rattle.std.specs.Prelude.{◌≡◌, ◌&&◌, ◌||◌, not, Bool, false, true, IfSome, IsTrue};
-ghost use Rattle.jb_store.specs.Files.{HoldsWhole};
-ghost use Rattle.jb_durable.specs.Files.{HoldsRun, IsOfARun, Leaves, LeavesImage, has_store};
+ghost use Rattle.jb_durable.specs.Files.{HoldsRun, IsOfARun, Leaves};
 ghost use Rattle.jb_durable.specs.Watching.{AreGiven};
 ghost use Rattle.jb_durable.specs.Watched.{disk_of, has_written};
-ghost use Rattle.sqlite.specs.Files.{IsCleanLeft, file_state};
+ghost use Rattle.sqlite.specs.Files.{file_state};
 ghost use Rattle.sqlite.specs.State.{HasCleanDisk};
 ghost use Rattle.sqlite_trees.specs.Tree.{Trees};
 ghost use Rattle.sqlite_wal.specs.Files.{outcomes};
@@ -14,7 +13,7 @@ ghost use Rattle.sqlite_wal.specs.Recovery.{Image};
 
 use crate::watched::{Given, Watched};
 use jb_store::closed;
-use sqlite::{Connection, FileStore, Leftover};
+use sqlite::{Connection, FileStore};
 use sqlite_disk::{Crash, Disk, Files};
 
 /// What a life leaves.
@@ -43,7 +42,7 @@ impl<D: Disk> Life<D> {
 }
 
 /// The machine stops, and starts again.
-fn crash<D: Crash>(mut files: Files<D>) -> Files<D>
+pub(crate) fn crash<D: Crash>(mut files: Files<D>) -> Files<D>
     ensures usable { IsTrue (D.Disk.is_usable result.log) × IsTrue (D.Disk.is_usable result.db) }
     ensures clean { AreClean D.Disk result.log result.db → AreClean D.Disk files.log files.db }
     ensures left { (image : Image) → outcomes D.Disk result.log result.db image → outcomes D.Disk files.log files.db image }
@@ -51,32 +50,6 @@ fn crash<D: Crash>(mut files: Files<D>) -> Files<D>
     files.log.crash();
     files.db.crash();
     files
-}
-
-/// It stops while the connection is open.
-pub fn stop<D: Crash + Drop>(conn: Connection<FileStore<D>>) -> Files<D>
-    ensures usable { IsTrue (D.Disk.is_usable result.log) × IsTrue (D.Disk.is_usable result.db) }
-    ensures clean { AreClean D.Disk result.log result.db → HasCleanDisk (file_state conn) }
-    ensures left { AreClean D.Disk result.log result.db → (image : Image) → outcomes D.Disk result.log result.db image
-        → ∥ ((db : Trees) × HoldsWhole image db × (file_state conn).may_leave db) ∥₁ }
-{
-    crash(closed(conn))
-}
-
-/// A store stands over the files.
-pub(crate) fn has_store<D: Disk>(left: &Leftover<D>) -> bool
-    ensures { result ≡ has_store left.now }
-{
-    matches!(left, Leftover::Store(_))
-}
-
-/// It stops in an open, or behind one that failed.
-pub(crate) fn stop_cut<D: Crash + Drop>(left: Leftover<D>) -> Files<D>
-    ensures usable { IsTrue (D.Disk.is_usable result.log) × IsTrue (D.Disk.is_usable result.db) }
-    ensures clean { AreClean D.Disk result.log result.db → IsCleanLeft left }
-    ensures left { AreClean D.Disk result.log result.db → (image : Image) → outcomes D.Disk result.log result.db image → LeavesImage left image }
-{
-    crash(left.into_files())
 }
 
 /// Disks that know what these two are now.
@@ -132,9 +105,9 @@ pub fn stop_watched<D: Crash + Drop, G: Given>(
     ensures run { IfSome result (λ life. AreClean D.Disk life.files.log life.files.db
         → ((db : Trees) → (file_state conn).may_leave db → IsOfARun G.Given.is_so_far db) → Leaves D.Disk (HoldsRun G.Given.is_so_far) life.files) }
 {
-    let (files, _) = unwatch(stop(conn))?;
+    let (files, _) = unwatch(closed(conn))?;
     Some(Life {
-        files,
+        files: crash(files),
         has_run: true,
         is_loose: false,
     })

@@ -1,4 +1,4 @@
-use Rattle.std.proofs.Common.{◌∙◌, true, false, sym, arith}
+use Rattle.std.proofs.Common.{◌∙◌, true, false, sym}
 use Rattle.std.proofs.Math.Logic.{∥∥₁_elim}
 use Rattle.std.proofs.lemmas.Bool.{and_from}
 use Rattle.sqlite_wal.specs.Reads.{AreClean}
@@ -8,6 +8,7 @@ use Rattle.sqlite.specs.State.{HasCleanDisk}
 use Rattle.jb_durable.specs.declared.stop.Life.{Life}
 use Rattle.jb_durable.specs.Files.{HoldsRun, IsOfARun, Leaves, MayGoOn}
 use Rattle.jb_durable.specs.Lives.{Leads}
+use Rattle.jb_durable.proofs.Clean.{clean_before}
 use Rattle.jb_durable.proofs.Over.{run_is_left}
 use Rattle.jb_durable.proofs.Somes.{some_both, some_from}
 use Rattle.jb_durable.proofs.life.watched_life.Goals as goal
@@ -18,7 +19,7 @@ leaves_run : (g : _) (c : goal.After-stop_watched g) (life : Life g.row.D.Denot)
     → Leads g.D.Disk c.args.files life (MayGoOn g.G.Given.is_so_far) (HoldsRun g.G.Given.is_so_far)
 leaves_run g c life was run clean leaves image may =
     let late = was clean in
-    let early : HasCleanDisk (file_state c.in-Ok.conn) = omega (arith, late, c.run_over_files.ensures.clean) in
+    let early = clean_before _ _ c.run_over_files.ensures.clean late in
     let opened = c.in-Ok.ensures.opened early in
     ∥∥₁_elim (c.in-Ok.ensures.found early leaves) squash₁ (λ h.
     run clean (λ db m. let r = c.run_over_files.ensures.crash late opened h.0 h.1 ((c.requires.run h.0).0 h.2) db m in (r.0, r.1, (c.requires.run r.0).1 r.2)) image may)

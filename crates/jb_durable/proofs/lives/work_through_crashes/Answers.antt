@@ -1,12 +1,12 @@
-use Rattle.std.proofs.Common.{◌≡◌, ◌⊎◌, List, sym, ap, subst, arith}
+use Rattle.std.proofs.Common.{◌≡◌, ◌⊎◌, List, sym, ap, subst}
 use Rattle.std.proofs.Math.Logic.{∥∥₁_map}
-use Rattle.sqlite.specs.State.{HasCleanDisk}
 use Rattle.sqlite.specs.Files.{file_state, image_of}
 use Rattle.sqlite.specs.Effect.{Database}
 use Rattle.jb_checkpoint_table.specs.Checkpoints.{Has}
 use Rattle.jb_checkpoint.specs.Checkpoints.{Kept}
 use Rattle.jb_checkpoint_table.specs.Connections.{Keeps}
 use Rattle.jb_checkpoint_table.specs.Form.{checkpoint_schema, no_schema}
+use Rattle.jb_durable.proofs.Clean.{clean_before}
 use Rattle.jb_durable.proofs.Over.{over_as}
 use Rattle.jb_durable.proofs.Stages.{StandAfter, begins, one_life}
 use Rattle.jb_durable.proofs.Opens.{found_run}
@@ -46,7 +46,7 @@ returns g c = record {
       let conn = c.in-Ok.conn in
       let s = file_state conn in
       let stays = g.met.D.Disk.seen_may_stay in
-      let early : HasCleanDisk s = omega (arith, clean, c.run_over_files.ensures.clean) in
+      let early = clean_before _ _ c.run_over_files.ensures.clean clean in
       let opened = c.in-Ok.ensures.opened early in
       let found = c.in-Ok.ensures.found early in
       let at = c.lives.invariant.stands found.honest begun in

@@ -1,6 +1,5 @@
 use Rattle.std.proofs.Common.{◌≡◌, Err, arith, inl, rules, sym, true≢false}
-use Rattle.sqlite.specs.Held.{state}
-use Rattle.sqlite.specs.State.{HasCleanDisk}
+use Rattle.jb_durable.proofs.Clean.{clean_before}
 use Rattle.jb_durable.proofs.Same.{same_on, same_self, stands_before, stands_now}
 use Rattle.jb_durable.proofs.run.go_on.Goals as goal
 
@@ -18,7 +17,7 @@ stretches-preserved g c = record {
   so_far = same_on _ _ _ c.stretches.invariant.so_far c.advance.ensures.so_far;
   whole = same_on _ _ _ c.stretches.invariant.whole c.advance.ensures.whole;
   stands = λ clean all at.
-      let early : HasCleanDisk (state g.S.Store c.stretches.conn) = omega (arith, c.advance.ensures.clean, clean) in
+      let early = clean_before _ _ c.advance.ensures.clean clean in
       let now = c.stretches.invariant.stands early all at in
       let next = c.in_ok-more.ensures.kept clean now.0 (stands_now _ _ _ _ _ _ c.stretches.invariant.so_far now.1) in
       let one = c.in_ok-more.ensures.counted c.if-not-more.false in
@@ -27,7 +26,7 @@ stretches-preserved g c = record {
 
 pub returns-in_err-more-clause-many : goal.returns-in_err-more-clause-many
 returns-in_err-more-clause-many g c clean all at =
-    let early : HasCleanDisk (state g.S.Store c.stretches.conn) = omega (arith, c.advance.ensures.clean, clean) in
+    let early = clean_before _ _ c.advance.ensures.clean clean in
     let now = c.stretches.invariant.stands early all at in
     let told : c.from_residual.result ≡ Err c.in_err-more.field-0.0 = search rules in
     rw told (λ many. record { all = now.0; run = now.1.run; full = (let full = c.in_err-more.ensures.many many in omega (arith, full, now.1.number)) })
@@ -40,7 +39,7 @@ returns-in_err-more-clause-whole g c = same_on _ _ _ c.stretches.invariant.whole
 
 pub returns-in_err-more-clause-crash : goal.returns-in_err-more-clause-crash
 returns-in_err-more-clause-crash g c clean all at db may =
-    let early : HasCleanDisk (state g.S.Store c.stretches.conn) = omega (arith, c.advance.ensures.clean, clean) in
+    let early = clean_before _ _ c.advance.ensures.clean clean in
     let now = c.stretches.invariant.stands early all at in
     let here = stands_now _ _ _ _ _ _ c.stretches.invariant.so_far now.1 in
     let left = c.advance.ensures.crash clean now.0 here db may in
@@ -48,7 +47,7 @@ returns-in_err-more-clause-crash g c clean all at db may =
 
 pub returns-then-not-more-clause-done : goal.returns-then-not-more-clause-done
 returns-then-not-more-clause-done g c clean all at =
-    let early : HasCleanDisk (state g.S.Store c.stretches.conn) = omega (arith, c.advance.ensures.clean, clean) in
+    let early = clean_before _ _ c.advance.ensures.clean clean in
     let now = c.stretches.invariant.stands early all at in
     let here = stands_now _ _ _ _ _ _ c.stretches.invariant.so_far now.1 in
     let next = c.in_ok-more.ensures.kept clean now.0 here in
@@ -62,7 +61,7 @@ returns-then-not-more-clause-whole g c = same_on _ _ _ c.stretches.invariant.who
 
 pub returns-then-not-more-clause-crash : goal.returns-then-not-more-clause-crash
 returns-then-not-more-clause-crash g c clean all at db may =
-    let early : HasCleanDisk (state g.S.Store c.stretches.conn) = omega (arith, c.advance.ensures.clean, clean) in
+    let early = clean_before _ _ c.advance.ensures.clean clean in
     let now = c.stretches.invariant.stands early all at in
     let here = stands_now _ _ _ _ _ _ c.stretches.invariant.so_far now.1 in
     let left = c.advance.ensures.crash clean now.0 here db may in

@@ -1,13 +1,12 @@
-use Rattle.std.proofs.Common.{◌≡◌, Err, arith, rules}
+use Rattle.std.proofs.Common.{◌≡◌, Err, rules}
 use Rattle.std.proofs.lemmas.Result.{IfErr-weaker, IfOk-weaker}
-use Rattle.sqlite.specs.Held.{state}
-use Rattle.sqlite.specs.State.{HasCleanDisk}
+use Rattle.jb_durable.proofs.Clean.{clean_before}
 use Rattle.jb_durable.proofs.Same.{same_on, stands_now}
 use Rattle.jb_durable.proofs.run.run_durably.Goals as goal
 
 pub returns-clause-done : goal.returns-clause-done
 returns-clause-done g c clean opened all shows so_far =
-    let early : HasCleanDisk (state g.S.Store c.taken_up.new.conn) = omega (arith, clean, c.go_on.ensures.clean) in
+    let early = clean_before _ _ c.go_on.ensures.clean clean in
     let at = stands_now _ _ _ _ _ _ c.taken_up.ensures.so_far (c.in_ok-count.ensures.stands early opened all shows so_far) in
     IfOk-weaker c.go_on.result _ _
     (λ is_done d. (d.0, d.1, (c.taken_up.ensures.so_far d.0).1 d.2, d.3, λ done. (c.taken_up.ensures.whole d.0).1 (d.4 done), d.5))
@@ -15,7 +14,7 @@ returns-clause-done g c clean opened all shows so_far =
 
 pub returns-clause-many : goal.returns-clause-many
 returns-clause-many g c clean opened all shows so_far =
-    let early : HasCleanDisk (state g.S.Store c.taken_up.new.conn) = omega (arith, clean, c.go_on.ensures.clean) in
+    let early = clean_before _ _ c.go_on.ensures.clean clean in
     let at = stands_now _ _ _ _ _ _ c.taken_up.ensures.so_far (c.in_ok-count.ensures.stands early opened all shows so_far) in
     IfErr-weaker c.go_on.result _ _
     (λ e each many. let full = each many in record { all = full.all; run = (c.taken_up.ensures.so_far full.all).1 full.run; full = full.full })
@@ -29,7 +28,7 @@ returns-clause-whole g c = same_on _ _ _ c.taken_up.ensures.whole c.go_on.ensure
 
 pub returns-clause-crash : goal.returns-clause-crash
 returns-clause-crash g c clean opened all shows so_far db may =
-    let early : HasCleanDisk (state g.S.Store c.taken_up.new.conn) = omega (arith, clean, c.go_on.ensures.clean) in
+    let early = clean_before _ _ c.go_on.ensures.clean clean in
     let at = stands_now _ _ _ _ _ _ c.taken_up.ensures.so_far (c.in_ok-count.ensures.stands early opened all shows so_far) in
     let left = c.go_on.ensures.crash clean all at db may in
     (left.0, left.1, (c.taken_up.ensures.so_far left.0).1 left.2)
