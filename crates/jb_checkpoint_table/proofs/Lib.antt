@@ -7,3 +7,4 @@ pub mod CausedOpen
 pub mod Read
 pub mod Named
 pub mod Opened
+pub mod Handed

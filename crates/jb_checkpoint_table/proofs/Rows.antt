@@ -1,8 +1,9 @@
 -- The rows that are read, one by one.
-use Rattle.std.proofs.Common.{◌≡◌, ◌+◌, ◌<◌, ◌++◌, ℕ, suc, pos, List, [], ◌∷◌, length, map, take, get_or, refl, sym, ap, ◌∙◌}
+use Rattle.std.proofs.Common.{◌≡◌, ◌+◌, ◌<◌, ◌++◌, ℕ, suc, pos, List, [], ◌∷◌, length, map, take, get_or, refl, sym, ap, ◌∙◌, arith}
 use Rattle.std.specs.List.{AllByRecursion}
 use Rattle.std.proofs.lemmas.List.{map-append, take_more}
-use Rattle.sqlite_value.specs.Order.{Row}
+use Rattle.sqlite.specs.declared.types.Value.{Value}
+use Rattle.sqlite_value.specs.Order.{Row, column}
 use Rattle.jb_checkpoint.specs.declared.numbered.NumberedCheckpoint.{NumberedCheckpoint}
 use Rattle.jb_checkpoint.specs.Checkpoints.{Kept, Numbered, numbered, numbered_from}
 use Rattle.jb_checkpoint.specs.declared.numbered.ListError.{ListError}
@@ -10,6 +11,14 @@ use Rattle.jb_checkpoint.specs.declared.numbered.ListError.TheVariants as list
 use Rattle.jb_checkpoint_table.specs.Checkpoints.{row_of, shown_from}
 use Rattle.jb_checkpoint_table.specs.Errors.{list_refusal}
 use Rattle.jb_checkpoint_table.specs.declared.error.StoreError.TheVariants.{Gap}
+
+-- a row of three values
+pub three_are : (row : Row) (a b c : Value) → length row ≡ 3 → column row 0 ≡ a → column row 1 ≡ b → column row 2 ≡ c → row ≡ a ∷ b ∷ c ∷ []
+three_are [] a b c three first second third = absurd (omega (arith, three))
+three_are (x ∷ []) a b c three first second third = absurd (omega (arith, three))
+three_are (x ∷ y ∷ []) a b c three first second third = absurd (omega (arith, three))
+three_are (x ∷ y ∷ z ∷ []) a b c three first second third = λ i. first i ∷ second i ∷ third i ∷ []
+three_are (x ∷ y ∷ z ∷ w ∷ more) a b c three first second third = absurd (omega (arith, three))
 
 -- the rows of a list
 pub rows_of_list : (number : ℕ) (all : List Kept) → map row_of (numbered_from number all) ≡ shown_from number all

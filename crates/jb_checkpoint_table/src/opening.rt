@@ -15,7 +15,6 @@ ghost use Rattle.sqlite_trees.specs.View.{doubt};
 use crate::error::StoreError;
 use crate::form::{is_blank, is_ours, names_checkpoint};
 use crate::listing::list;
-use crate::statements::create;
 use jb_checkpoint::Checkpoint;
 use sqlite::{Alter, Connection};
 use sqlite_schema::schema::Schema;
@@ -53,7 +52,10 @@ fn make<S: Alter>(conn: &mut Connection<S>) -> Result<(), StoreError>
         → IsTrue (state S.Store conn.new).is_open ⊎ MoreFaults (state S.Store conn.old).faults (state S.Store conn.new).faults }
 {
     if is_blank(conn.schema()) {
-        create(conn)?;
+        conn.execute(
+            "CREATE TABLE checkpoint (number INTEGER PRIMARY KEY, saved TEXT NOT NULL, results BLOB NOT NULL) STRICT",
+            &[],
+        )?;
     }
     Ok(())
 }

@@ -1,4 +1,4 @@
-//! The three statements: the table is made, a checkpoint is added, all are read.
+//! The statements on the table: a checkpoint is added, all are read.
 
 ghost use Rattle.std.specs.Prelude.{◌≡◌, ◌⊎◌, ◌++◌, ◌+◌, ◌≤◌, false, List, [], ◌∷◌, length, IfErr, IfOk, OnOk, OnErr, IsTrue};
 ghost use Rattle.std.specs.List.{AllByRecursion};
@@ -15,51 +15,6 @@ ghost use Rattle.sqlite_trees.specs.View.{doubt};
 
 use crate::error::StoreError;
 use sqlite::{Alter, Connection, Error as SqlError, Row, params};
-
-/// Makes the table in a database that has none.
-pub fn create<S: Alter>(conn: &mut Connection<S>) -> Result<usize, SqlError>
-    ensures made { HasCleanDisk (state S.Store conn.new) → (state S.Store conn.old).now.schema ≡ no_schema → (state S.Store conn.old).in_transaction ≡ false
-        → OnOk result (Keeps (state S.Store conn.new) []) }
-    ensures clean { doubt (state S.Store conn.old).is_clean ≤ doubt (state S.Store conn.new).is_clean }
-    ensures crash { HasCleanDisk (state S.Store conn.new) → (state S.Store conn.old).now.schema ≡ no_schema → (db : _) → (state S.Store conn.new).may_leave db
-        → (state S.Store conn.old).may_leave db ⊎ StandsFor db [] }
-    ensures cause { HasCleanDisk (state S.Store conn.new) → (state S.Store conn.old).now.schema ≡ no_schema
-        → IfErr result (λ e. IsStoreFault (state S.Store conn.old) (state S.Store conn.new) (refusal_named e)) }
-    ensures counts { (state S.Store conn.old).faults ≤ (state S.Store conn.new).faults }
-    ensures shut { HasCleanDisk (state S.Store conn.new) → IsTrue (state S.Store conn.old).is_open
-        → IsTrue (state S.Store conn.new).is_open ⊎ MoreFaults (state S.Store conn.old).faults (state S.Store conn.new).faults }
-{
-    conn.execute(
-        "CREATE TABLE checkpoint (number INTEGER PRIMARY KEY, saved TEXT NOT NULL, results BLOB NOT NULL) STRICT",
-        &[],
-    )
-}
-
-fn insert<S: Alter>(
-    conn: &mut Connection<S>,
-    number: u32,
-    saved: &str,
-    results: &[u8],
-) -> Result<usize, SqlError>
-    ensures added { HasCleanDisk (state S.Store conn.new) → (all : _) → Keeps (state S.Store conn.old) all → number ≡ length all + 1
-        → OnOk result (Keeps (state S.Store conn.new) (all ++ (record { saved = saved.now; results = results.now }) ∷ [])) }
-    ensures kept { HasCleanDisk (state S.Store conn.new) → (all : _) → Keeps (state S.Store conn.old) all
-        → OnErr result (IsTrue (state S.Store conn.new).is_open → Keeps (state S.Store conn.new) all) }
-    ensures cause { HasCleanDisk (state S.Store conn.new) → (all : _) → Keeps (state S.Store conn.old) all
-        → IfErr result (λ e. IsCaused (state S.Store conn.old) (state S.Store conn.new) (HasNumber all number) (IsTooLong (record { saved = saved.now; results = results.now })) (refusal_named e)) }
-    ensures shut { HasCleanDisk (state S.Store conn.new) → IsTrue (state S.Store conn.old).is_open
-        → IsTrue (state S.Store conn.new).is_open ⊎ MoreFaults (state S.Store conn.old).faults (state S.Store conn.new).faults }
-    ensures counts { (state S.Store conn.old).faults ≤ (state S.Store conn.new).faults }
-    ensures clean { doubt (state S.Store conn.old).is_clean ≤ doubt (state S.Store conn.new).is_clean }
-    ensures crash { HasCleanDisk (state S.Store conn.new) → (all : _) → Keeps (state S.Store conn.old) all → number ≡ length all + 1
-        → (db : _) → (state S.Store conn.new).may_leave db
-        → StandsFor db all ⊎ StandsFor db (all ++ (record { saved = saved.now; results = results.now }) ∷ []) }
-{
-    conn.execute(
-        "INSERT INTO checkpoint (number, saved, results) VALUES (?1, ?2, ?3)",
-        params![number, saved, results],
-    )
-}
 
 /// Adds a checkpoint behind the others: its number is theirs and one. It is one commit. Where it answers Ok a crash leaves the new
 /// list; else the old one or, if the disk failed in the commit, the new one.
@@ -83,7 +38,10 @@ pub fn append<S: Alter>(
         → (db : _) → (state S.Store conn.new).may_leave db
         → StandsFor db all ⊎ StandsFor db (all ++ (record { saved = saved.now; results = results.now }) ∷ []) }
 {
-    insert(conn, number, saved, results)?;
+    conn.execute(
+        "INSERT INTO checkpoint (number, saved, results) VALUES (?1, ?2, ?3)",
+        params![number, saved, results],
+    )?;
     Ok(())
 }
 
