@@ -15,7 +15,6 @@ ghost use Rattle.sqlite_trees.specs.View.{doubt};
 
 use crate::checkpoint::checkpoints_of;
 use crate::error::StoreError;
-use crate::statements::select;
 use jb_checkpoint::Checkpoint;
 use sqlite::{Alter, Connection};
 use std::alloc::Global;
@@ -42,6 +41,9 @@ pub fn list<S: Alter>(
     ensures shut { HasCleanDisk (state S.Store conn.new) → IsTrue (state S.Store conn.old).is_open
         → IsTrue (state S.Store conn.new).is_open ⊎ MoreFaults (state S.Store conn.old).faults (state S.Store conn.new).faults }
 {
-    let rows = select(conn)?;
+    let rows = conn.query_all(
+        "SELECT number, saved, results FROM checkpoint ORDER BY number",
+        &[],
+    )?;
     checkpoints_of(alloc, &rows)
 }

@@ -1,8 +1,18 @@
-use Rattle.std.proofs.Common.{◌≡◌, inr, length, map, sym, subst, ◌∙◌, OnOk, Result, Ok, Err}
-use Rattle.std.proofs.lemmas.Result.{IfOk-from_err, IfOk-weaker}
+use Rattle.std.proofs.Common.{◌≡◌, ◌⊎◌, inl, inr, IfErr, IfOk, List, [], length, map, sym, subst, ◌∙◌, OnOk, Result, Ok, Err}
+use Rattle.std.proofs.lemmas.Result.{IfErr-weaker, IfOk-from_err, IfOk-weaker}
 use Rattle.std.specs.List.{AllByRecursion}
 use Rattle.sqlite.specs.Held.{state}
-use Rattle.jb_checkpoint.specs.Checkpoints.{kept}
+use Rattle.sqlite.specs.State.{HasCleanDisk, Shown, State}
+use Rattle.jb_checkpoint.specs.Checkpoints.{Kept, kept}
+use Rattle.jb_checkpoint_table.specs.Checkpoints.{HoldsList, shown_from}
+use Rattle.sqlite.specs.declared.error.Error.{Error}
+use Rattle.jb_checkpoint_table.specs.declared.error.StoreError.{StoreError}
+use Rattle.jb_checkpoint_table.specs.declared.error.StoreError.TheVariants.{Gap, Memory, Sql}
+use Rattle.jb_checkpoint_table.specs.Errors.{IsListFault, IsStoreFault}
+use Rattle.jb_checkpoint_table.specs.Form.{checkpoint_schema}
+use Rattle.jb_checkpoint_table.proofs.CausedOpen.{not_read}
+use Rattle.jb_checkpoint_table.proofs.Read.{lists, lists_back, survives, unchanged, wide}
+use Rattle.jb_checkpoint_table.proofs.Texts.{select_text}
 use Rattle.jb_checkpoint_table.proofs.Handed.{handed_on}
 use Rattle.jb_checkpoint_table.proofs.Rows.{shown_once}
 use Rattle.jb_checkpoint_table.proofs.Opened.{keeps_read}
@@ -12,16 +22,14 @@ on : {T E P : Type 0} (r : Result T E) → P → OnOk r P
 on (Ok x) p = p
 on (Err e) p = tt
 
-pub returns-clause-rows : goal.returns-clause-rows
-returns-clause-rows g c clean all holds =
-    let rows = c.in_ok-rows.ensures.rows clean all holds in
-    IfOk-weaker c.checkpoints_of.result _ _ (λ found is. shown_once 1 (map kept found.items) all (sym is ∙ c.deref.ensures.value ∙ rows))
-    (c.checkpoints_of.ensures.read (subst (AllByRecursion (λ row. length row ≡ 3)) (sym c.deref.ensures.value) (c.in_ok-rows.ensures.wide clean holds.schema)))
+at_gap : {T P : Type 0} (r : Result T StoreError) → P → IfErr r (λ e. e ≡ Gap → P)
+at_gap (Ok x) p = tt
+at_gap (Err e) p = λ gap. p
 
-pub returns-clause-kept : goal.returns-clause-kept
-returns-clause-kept g c clean all keeps =
-    let ours = keeps.shows.schema in
-    on c.checkpoints_of.result (keeps_read (state g.S.Store c.args.conn.now) (state g.S.Store c.select.new.conn) all keeps (c.in_ok-rows.ensures.same clean ours) (c.select.ensures.crash clean ours))
+unlisted : (old new : State) (e : StoreError) → (e ≡ Gap) ⊎ ((e ≡ Memory) ⊎ ((why : Error) × (e ≡ Sql why))) → IsListFault old new e
+unlisted old new e (inl gap) = inl gap
+unlisted old new e (inr (inl memory)) = inr (subst (IsStoreFault old new) (sym memory) tt)
+unlisted old new e (inr (inr (why, is))) = inr (subst (IsStoreFault old new) (sym is) tt)
 
 -- where the statement failed
 
@@ -35,41 +43,74 @@ pub returns-in_err-rows-clause-kept : goal.returns-in_err-rows-clause-kept
 returns-in_err-rows-clause-kept g c clean all keeps = IfOk-from_err c.from_residual.result _ c.from_residual.ensures.0
 
 pub returns-in_err-rows-clause-clean : goal.returns-in_err-rows-clause-clean
-returns-in_err-rows-clause-clean g c = c.select.ensures.clean
+returns-in_err-rows-clause-clean g c = c.query_all.ensures.survives.clean
 
 pub returns-in_err-rows-clause-crash : goal.returns-in_err-rows-clause-crash
-returns-in_err-rows-clause-crash g c = c.select.ensures.crash
+returns-in_err-rows-clause-crash g c clean ours = survives (state g.S.Store c.args.conn.now) (state g.S.Store c.query_all.new.self) ours clean c.query_all.ensures.survives
 
 pub returns-in_err-rows-clause-cause : goal.returns-in_err-rows-clause-cause
-returns-in_err-rows-clause-cause g c clean ours = handed_on _ c.from_residual.result _ c.from_residual.ensures.1 (inr (c.in_err-rows.ensures.cause clean ours))
+returns-in_err-rows-clause-cause g c clean ours = handed_on _ c.from_residual.result _ c.from_residual.ensures.1 (inr (not_read (state g.S.Store c.args.conn.now) (state g.S.Store c.query_all.new.self) ours c.in_err-rows.field-0.0 (c.in_err-rows.ensures.err clean)))
 
 pub returns-in_err-rows-clause-counts : goal.returns-in_err-rows-clause-counts
-returns-in_err-rows-clause-counts g c = c.select.ensures.counts
+returns-in_err-rows-clause-counts g c = c.query_all.ensures.survives.counts
 
 pub returns-in_err-rows-clause-shut : goal.returns-in_err-rows-clause-shut
-returns-in_err-rows-clause-shut g c = c.select.ensures.shut
+returns-in_err-rows-clause-shut g c = c.query_all.ensures.survives.closes
 
 -- where the rows were read
 
+module _ (g : _) (c : goal.After-drop-rows g) where
+  abbrev old : State
+  old = state g.S.Store c.args.conn.now
+
+  abbrev new : State
+  new = state g.S.Store c.query_all.new.self
+
+  said : HasCleanDisk new → Shown select_text [] old new c.in_ok-rows.rows.items
+  said = c.in_ok-rows.ensures.ok
+
+  -- what the rows are is known of the list
+  module _ (clean : HasCleanDisk new) (ours : old.now.schema ≡ checkpoint_schema) where
+    taken : IfOk c.checkpoints_of.result (λ found. c.in_ok-rows.rows.items ≡ shown_from 1 (map kept found.items))
+    taken = subst (λ rows. IfOk c.checkpoints_of.result (λ found. rows ≡ shown_from 1 (map kept found.items))) c.deref.ensures.value
+        (c.checkpoints_of.ensures.read (subst (AllByRecursion (λ row. length row ≡ 3)) (sym c.deref.ensures.value) (wide old new ours c.in_ok-rows.rows.items (said clean))))
+
+  are_listed : HasCleanDisk new → (all : List Kept) → HoldsList old.now all → c.in_ok-rows.rows.items ≡ shown_from 1 all
+  are_listed clean all holds = lists old new holds.schema c.in_ok-rows.rows.items (said clean) all holds.rows
+
+pub returns-clause-rows : goal.returns-clause-rows
+returns-clause-rows g c clean all holds =
+    IfOk-weaker c.checkpoints_of.result _ _ (λ found is. shown_once 1 (map kept found.items) all (sym is ∙ are_listed g c clean all holds)) (taken g c clean holds.schema)
+
 pub returns-clause-found : goal.returns-clause-found
 returns-clause-found g c clean ours sound =
-    IfOk-weaker c.checkpoints_of.result _ _ (λ found is. c.in_ok-rows.ensures.back clean ours sound (map kept found.items) (sym c.deref.ensures.value ∙ is))
-    (c.checkpoints_of.ensures.read (subst (AllByRecursion (λ row. length row ≡ 3)) (sym c.deref.ensures.value) (c.in_ok-rows.ensures.wide clean ours)))
+    IfOk-weaker c.checkpoints_of.result _ _ (λ found is. lists_back (old g c) (new g c) ours c.in_ok-rows.rows.items (said g c clean) sound (map kept found.items) is) (taken g c clean ours)
+
+pub returns-clause-kept : goal.returns-clause-kept
+returns-clause-kept g c clean all keeps =
+    let ours = keeps.shows.schema in
+    on c.checkpoints_of.result (keeps_read (old g c) (new g c) all keeps (unchanged (old g c) (new g c) ours c.in_ok-rows.rows.items (said g c clean)) (survives (old g c) (new g c) ours clean c.query_all.ensures.survives))
 
 pub returns-clause-named : goal.returns-clause-named
 returns-clause-named g c = c.checkpoints_of.ensures.named
 
 pub returns-clause-gap : goal.returns-clause-gap
-returns-clause-gap g c clean all holds = c.checkpoints_of.ensures.gap all (c.deref.ensures.value ∙ c.in_ok-rows.ensures.rows clean all holds)
+returns-clause-gap g c clean all holds = c.checkpoints_of.ensures.gap all (c.deref.ensures.value ∙ are_listed g c clean all holds)
+
+pub returns-clause-untouched : goal.returns-clause-untouched
+returns-clause-untouched g c clean ours = at_gap c.checkpoints_of.result (unchanged (old g c) (new g c) ours c.in_ok-rows.rows.items (said g c clean)).0.now_is
+
+pub returns-clause-cause : goal.returns-clause-cause
+returns-clause-cause g c clean ours = IfErr-weaker c.checkpoints_of.result _ _ (unlisted (old g c) (new g c)) c.checkpoints_of.ensures.why
 
 pub returns-clause-clean : goal.returns-clause-clean
-returns-clause-clean g c = c.select.ensures.clean
+returns-clause-clean g c = c.query_all.ensures.survives.clean
 
 pub returns-clause-crash : goal.returns-clause-crash
-returns-clause-crash g c = c.select.ensures.crash
+returns-clause-crash g c clean ours = survives (state g.S.Store c.args.conn.now) (state g.S.Store c.query_all.new.self) ours clean c.query_all.ensures.survives
 
 pub returns-clause-counts : goal.returns-clause-counts
-returns-clause-counts g c = c.select.ensures.counts
+returns-clause-counts g c = c.query_all.ensures.survives.counts
 
 pub returns-clause-shut : goal.returns-clause-shut
-returns-clause-shut g c = c.select.ensures.shut
+returns-clause-shut g c = c.query_all.ensures.survives.closes
