@@ -21,6 +21,7 @@ use Rattle.jb_records_checkpoints.specs.Coding.{AreCodable, IsCodingOf, coded}
 use Rattle.jb_records_checkpoints.specs.Checkpoints.{AreCoded, AreStretches, IsOf, IsRunSoFar, IsWholeRun, grown_by, no_results}
 use Rattle.jb_records_checkpoints.specs.Work.{GoesOnBehind, HasBegun, IsAfter, IsBehind, IsUnderway, RunStandsAt}
 use Rattle.jb_records_checkpoints.specs.declared.place.Stage.{Stage}
+use Rattle.jb_records_checkpoints.specs.declared.place.Stage.TheVariants.{Begun, Blank, Underway}
 use Rattle.jb_records_checkpoints.proofs.Growing.{empty_shares, one_more}
 use Rattle.jb_records_checkpoints.proofs.Telling.{whole_after}
 
@@ -194,11 +195,11 @@ module _ (f : Function) (step : RecordsStep) (records : List (List ℕ)) where
         record { first = first; of = of; before = later; last = next; all_are = is; after = after },
       )
 
-  pub next_begun : (s t : RunState) (rows : List Row) (next : Kept) (all : List Kept) → GoesOnBehind s t rows next → HasBegun f step records s all
+  next_begun : (s t : RunState) (rows : List Row) (next : Kept) (all : List Kept) → GoesOnBehind s t rows next → HasBegun f step records s all
       → IsRunSoFar f step records (all ++ next ∷ []) × IsUnderway f step records t rows (all ++ next ∷ [])
   next_begun s t rows next all goes at = after_all at.first [] all next t rows at.all_are at.of (goes f records [] at.behind)
 
-  pub next_underway : (s t : RunState) (earlier rows : List Row) (next : Kept) (all : List Kept) → GoesOnBehind s t rows next → IsUnderway f step records s earlier all
+  next_underway : (s t : RunState) (earlier rows : List Row) (next : Kept) (all : List Kept) → GoesOnBehind s t rows next → IsUnderway f step records s earlier all
       → IsRunSoFar f step records (all ++ next ∷ []) × IsUnderway f step records t rows (all ++ next ∷ [])
   next_underway s t earlier rows next all goes at =
       after_all at.first (at.before ++ at.last ∷ []) all next t rows at.all_are at.of (goes f records (at.before ++ at.last ∷ []) at.after.behind)
@@ -211,6 +212,26 @@ module _ (f : Function) (step : RecordsStep) (records : List (List ℕ)) where
 
 pub stands_as : (f : Function) (step : RecordsStep) (records : List (List ℕ)) (a b : Stage) (s : RunState) (rows : List Row) (all : List Kept) → a ≡ b → RunStandsAt f step records a s rows all → RunStandsAt f step records b s rows all
 stands_as f step records a b s rows all same at = subst (λ (x : Stage). RunStandsAt f step records x s rows all) same at
+
+pub blank_apart : (first : Checkpoint) → Blank first ≡ Underway → ⊥
+blank_apart first same = cc
+
+pub begun_apart : Begun ≡ Underway → ⊥
+begun_apart same = cc
+
+pub never_none : {A : Type 0} (x : A) → Some x ≡ None → ⊥
+never_none x same = cc
+
+-- one checkpoint more, where some are kept
+pub next_kept : (f : Function) (step : RecordsStep) (records : List (List ℕ)) (stage then : Stage) (s t : RunState) (earlier rows : List Row) (next : Kept) (all : List Kept)
+    → (stage ≡ Begun) ⊎ (stage ≡ Underway) → then ≡ Underway → GoesOnBehind s t rows next → RunStandsAt f step records stage s earlier all
+    → IsRunSoFar f step records (all ++ next ∷ []) × RunStandsAt f step records then t rows (all ++ next ∷ [])
+next_kept f step records stage then s t earlier rows next all (inl begun) underway goes at =
+    let on = next_begun f step records s t rows next all goes (stands_as f step records stage Begun s earlier all begun at) in
+    (on.0, stands_as f step records Underway then t rows (all ++ next ∷ []) (sym underway) on.1)
+next_kept f step records stage then s t earlier rows next all (inr kept) underway goes at =
+    let on = next_underway f step records s t earlier rows next all goes (stands_as f step records stage Underway s earlier all kept at) in
+    (on.0, stands_as f step records Underway then t rows (all ++ next ∷ []) (sym underway) on.1)
 
 pub both_ok : {T E : Type 0} (r : Result T E) (P Q R : T → Type 0) → ((x : T) → P x → Q x → R x) → IfOk r P → IfOk r Q → IfOk r R
 both_ok (Ok x) P Q R to p q = to x p q
@@ -238,6 +259,10 @@ pub never_whole : (f : Function) (step : RecordsStep) (records : List (List ℕ)
 never_whole f step records all first is whole =
     let stretches = (subst (IsWholeRun f step records) is whole).1.0 in
     no_members stretches.before stretches.last stretches.last_is
+
+pub none_done : (done : List Checkpoint) → length done ≡ 0 → map kept done ≡ []
+none_done [] none = refl
+none_done (x ∷ done) none = let never : ⊥ = cc in absurd never
 
 -- where there is no last checkpoint there is none
 last_there : (n : ℕ) (xs : List Checkpoint) → length xs ≡ suc n → slice_get xs n ≡ None → ⊥

@@ -1,5 +1,6 @@
 -- Why a run isn't taken up.
-use Rattle.std.proofs.Common.{ℕ, ◌≡◌, ◌≢◌, ◌⊎◌, inl, inr, List, [], ◌∷◌, ◌++◌, length, Ok, None, Some, refl, sym, ap, subst, ◌∙◌}
+use Rattle.std.proofs.Common.{ℕ, ◌≡◌, ◌≢◌, ◌⊎◌, inl, inr, List, [], ◌∷◌, ◌++◌, length, Result, Ok, IfErr, None, Some, refl, sym, ap, subst, string_bytes, ◌∙◌}
+use Rattle.std.proofs.lemmas.Result.{IfErr-weaker}
 use Rattle.jb_job.specs.Reading.{tree_of}
 use Rattle.jb_base.specs.Causes.{IsCause}
 use Rattle.jb_saved.specs.Reading.{answer_of, saved_cause}
@@ -11,16 +12,23 @@ use Rattle.jb_records.specs.declared.error.RecordsStepError.TheVariants as fault
 use Rattle.jb_records.specs.declared.step.RecordsStep.{RecordsStep}
 use Rattle.jb_records.specs.Causes.{IsCauseBehind, IsCauseOf, IsStepFault}
 use Rattle.jb_records.specs.Function.{Function}
-use Rattle.jb_records.specs.Shares.{joined}
-use Rattle.jb_checkpoint.specs.Checkpoints.{Kept}
+use Rattle.jb_records.specs.Shares.{IsSoFar, joined}
+use Rattle.jb_records.specs.Stretches.{HasGoneOn, RunState}
+use Rattle.jb_rules.specs.declared.row.Row.{Row}
+use Rattle.jb_checkpoint.specs.declared.checkpoint.Checkpoint.{Checkpoint}
+use Rattle.jb_checkpoint.specs.Checkpoints.{Kept, kept}
 use Rattle.jb_records_checkpoints.specs.declared.coding.CodingError.{CodingError}
 use Rattle.jb_records_checkpoints.specs.declared.coding.CodingError.TheVariants as coding
 use Rattle.jb_records_checkpoints.specs.declared.error.CheckpointError.{CheckpointError}
 use Rattle.jb_records_checkpoints.specs.declared.error.CheckpointError.TheVariants.{Damaged, Memory, OtherJob, OtherRecords, Step, TooLong}
 use Rattle.jb_records_checkpoints.specs.Checkpoints.{AreCoded, IsOf, grown_by, no_results}
-use Rattle.jb_records_checkpoints.specs.Coding.{IsCodable}
+use Rattle.jb_records_checkpoints.specs.Coding.{AreCodable, IsCodable}
 use Rattle.jb_records_checkpoints.proofs.Behind.{ok_once}
-use Rattle.jb_records_checkpoints.specs.Refusals.{AreDamaged, IsCauseAfter, IsTakenCause, named}
+use Rattle.jb_records_checkpoints.specs.Refusals.{AreDamaged, IsCauseAfter, IsOfOwn, IsOtherJob, IsOverOthers, IsStretchCause, IsTakenCause, OtherRun, named}
+
+-- two checkpoints keep the same
+pub both_kept : (a b : Checkpoint) → string_bytes a.saved ≡ string_bytes b.saved → a.results.items ≡ b.results.items → kept a ≡ kept b
+both_kept a b saved results = ap (λ s. record { saved = s; results = a.results.items }) saved ∙ ap (λ r. record { saved = string_bytes b.saved; results = r }) results
 
 -- a coding's refusals by their names
 pub damaged_named : (e : CodingError) (P Q : Type 0) → (P → Q) → (e ≡ coding.Memory) ⊎ (e ≡ coding.Damaged) × P → (named e ≡ Memory) ⊎ (named e ≡ Damaged) × Q
@@ -106,3 +114,43 @@ module _ (f : Function) (step : RecordsStep) (records : List (List ℕ)) where
   pub first_kept : (all : List Kept) (first : Kept) (e : CheckpointError) → all ≡ first ∷ [] → (why : RecordsStepError) × (e ≡ Step why) × IsCauseOf f step records None why → IsTakenCause f step records all e
   first_kept all first e is why =
       subst (λ (l : List Kept). IsTakenCause f step records l e) (sym is) (subst (λ (x : CheckpointError). IsTakenCause f step records (first ∷ []) x) (sym why.1) (inl (refl, why.2)))
+
+  -- ---- whose checkpoints they are
+
+  pub none_other : (all : List Kept) → all ≡ [] → OtherRun step records all → ⊥
+  none_other all is other = elim (subst (OtherRun step records) is other) [ inl job ↦ job | inr over ↦ over ]
+
+  pub own_first : (first own : Kept) → first ≡ own → IsOf step records own → IsOf step records first
+  own_first first own same of = subst (IsOf step records) (sym same) of
+
+  pub not_other : (all : List Kept) (first : Kept) (later : List Kept) → all ≡ first ∷ later → IsOf step records first → OtherRun step records all → ⊥
+  not_other all first later is of other = elim (subst (OtherRun step records) is other) [ inl job ↦ job of.form | inr over ↦ over.1 of.digest ]
+
+  -- another job's, or over other records, where that is the cause
+  pub as_job : {T : Type 0} (r : Result T CheckpointError) (all : List Kept) → IfErr r (IsTakenCause f step records all) → IfErr r (λ e. e ≡ OtherJob → IsOtherJob step records all)
+  as_job r all why = IfErr-weaker r _ _ (λ e cause same. subst (IsTakenCause f step records all) same cause) why
+
+  pub as_records : {T : Type 0} (r : Result T CheckpointError) (all : List Kept) → IfErr r (IsTakenCause f step records all) → IfErr r (λ e. e ≡ OtherRecords → IsOverOthers step records all)
+  as_records r all why = IfErr-weaker r _ _ (λ e cause same. subst (IsTakenCause f step records all) same cause) why
+
+-- a refusal that isn't one of another run's
+pub own_step : (why : RecordsStepError) → IsOfOwn (Step why)
+own_step why = (λ same. cc, λ same. cc)
+
+pub own_memory : IsOfOwn Memory
+own_memory = (λ same. cc, λ same. cc)
+
+pub never_job : {T : Type 0} (r : Result T CheckpointError) (P : Type 0) → IfErr r IsOfOwn → IfErr r (λ e. e ≡ OtherJob → P)
+never_job r P own = IfErr-weaker r _ _ (λ e is same. absurd (is.0 same)) own
+
+pub never_records : {T : Type 0} (r : Result T CheckpointError) (P : Type 0) → IfErr r IsOfOwn → IfErr r (λ e. e ≡ OtherRecords → P)
+never_records r P own = IfErr-weaker r _ _ (λ e is same. absurd (is.1 same)) own
+
+-- what is new in a stretch has no coding
+pub no_coding : (f : Function) (records : List (List ℕ)) (e : CodingError) (s t : RunState) (rows : List Row) (news given : List (List (List ℕ))) → given ≡ news → HasGoneOn f records s t rows news
+    → (e ≡ coding.Memory) ⊎ (e ≡ coding.TooLong) × (AreCodable given → ⊥) → IsStretchCause f records (named e)
+no_coding f records e s t rows news given same gone (inl memory) = subst (λ (x : CodingError). IsStretchCause f records (named x)) (sym memory) tt
+no_coding f records e s t rows news given same gone (inr why) =
+    let so_far = subst (λ (x : List (List (List ℕ))). IsSoFar f records rows x) gone.shares_are gone.so_far in
+    subst (λ (x : CodingError). IsStretchCause f records (named x)) (sym why.0)
+    (record { rows = rows; shares = s.shares; news = news; so_far = so_far; long = λ codable. why.1 (subst AreCodable (sym same) codable) })

@@ -1,11 +1,11 @@
 -- Codings begin apart, and end apart.
-use Rattle.std.proofs.Common.{ℕ, ◌≡◌, ◌<◌, ◌+◌, ◌^◌, List, [], ◌∷◌, ◌++◌, length, take, drop, get_or, inl, inr, refl, sym, ap, ◌∙◌, append_assoc, arith, length-append}
+use Rattle.std.proofs.Common.{ℕ, ◌≡◌, ◌<◌, ◌≤◌, ◌+◌, ◌^◌, List, [], ◌∷◌, ◌++◌, length, take, drop, get_or, inl, inr, refl, sym, ap, subst, ◌∙◌, append_assoc, arith, length-append}
 use Rattle.std.specs.Int.{w32, from_le_bytes, to_le_bytes}
 use Rattle.std.specs.List.{AllByRecursion}
 use Rattle.std.proofs.Math.Seq.{take-append_seam, drop-append_seam}
 use Rattle.std.proofs.lemmas.Nat.{from_le_bytes-to_le_bytes_4, le_bytes_4}
 use Rattle.std.proofs.lemmas.Bool.{cases_lt}
-use Rattle.std.proofs.lemmas.List.{append-nil, get_or-take, get_or_past, length-take, take-append-drop}
+use Rattle.std.proofs.lemmas.List.{append-nil, get_or-take, get_or_past, length-take, length-take-le, take-append-drop}
 use Rattle.jb_records_checkpoints.specs.Coding.{coded_number, coded_string, coded_strings, coded_list, coded, IsShort, IsCodable, AreCodable, CodingsAreOneToOne}
 
 -- ---- lists of one length
@@ -56,6 +56,14 @@ too_few n bytes r few e =
 
 pub string_bytes : (s r : List ℕ) → coded_string s ++ r ≡ coded_number (length s) ++ (s ++ r)
 string_bytes s r = append_assoc (coded_number (length s)) s r
+
+pub string_read : (bytes rest s left : List ℕ) (n : ℕ) → bytes ≡ coded_number n ++ rest → n < 2 ^ 32 → n ≤ length rest → s ≡ take n rest → left ≡ drop n rest → (bytes ≡ coded_string s ++ left) × IsShort s
+string_read bytes rest s left n is small within front back =
+    let number : length s ≡ n = ap length front ∙ length-take-le n rest within in
+    let parts : rest ≡ s ++ left = sym (take-append-drop n rest) ∙ ap (λ a. a ++ drop n rest) (sym front) ∙ ap (λ b. s ++ b) (sym back) in (
+      is ∙ ap (λ r. coded_number n ++ r) parts ∙ ap (λ k. coded_number k ++ (s ++ left)) (sym number) ∙ sym (string_bytes s left),
+      subst (λ k. k < 2 ^ 32) (sym number) small,
+    )
 
 module _ (s t r u : List ℕ) (short : IsShort s) (small : IsShort t) (e : coded_string s ++ r ≡ coded_string t ++ u) where
   parts : coded_number (length s) ++ (s ++ r) ≡ coded_number (length t) ++ (t ++ u)

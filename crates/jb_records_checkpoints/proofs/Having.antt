@@ -19,7 +19,7 @@ use Rattle.jb_records_checkpoints.specs.declared.place.Stage.TheVariants.{Blank,
 -- ---- where it stands
 
 -- each partition has its share
-stands_over : (f : Function) (step : RecordsStep) (records : List (List ℕ)) (stage : Stage) (s : RunState) (rows : List Row) (all : List Kept) → RunStandsAt f step records stage s rows all → StandsOver f records s
+pub stands_over : (f : Function) (step : RecordsStep) (records : List (List ℕ)) (stage : Stage) (s : RunState) (rows : List Row) (all : List Kept) → RunStandsAt f step records stage s rows all → StandsOver f records s
 stands_over f step records (Blank first) s rows all at = at.2.stands
 stands_over f step records Begun s rows all at = at.behind.stands
 stands_over f step records Underway s rows all at = at.after.behind.stands

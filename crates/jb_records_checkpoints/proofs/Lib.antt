@@ -1,4 +1,5 @@
 mod Each
+mod Writing
 mod Codings
 mod Read
 mod Forms
@@ -7,4 +8,5 @@ mod Growing
 mod Telling
 mod Behind
 mod Causing
+mod Handed
 mod Having

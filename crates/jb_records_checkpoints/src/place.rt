@@ -102,6 +102,7 @@ impl<F: RecordFunction + Drop + 'static> Place<F> {
             has_failed,
             stage,
         } = self;
+        let is_done = run.is_whole();
         match stage {
             Stage::Blank(first) => {
                 let place = Place {
@@ -112,20 +113,16 @@ impl<F: RecordFunction + Drop + 'static> Place<F> {
                 };
                 Ok((place, Some(first)))
             }
-            Stage::Begun => {
-                let (place, next) = stretched(rt, alloc, run, rounds)?;
-                Ok((place, Some(next)))
+            Stage::Underway if is_done => {
+                let place = Place {
+                    run,
+                    rows,
+                    has_failed,
+                    stage: Stage::Underway,
+                };
+                Ok((place, None))
             }
-            Stage::Underway => {
-                if run.is_whole() {
-                    let place = Place {
-                        run,
-                        rows,
-                        has_failed,
-                        stage: Stage::Underway,
-                    };
-                    return Ok((place, None));
-                }
+            _ => {
                 let (place, next) = stretched(rt, alloc, run, rounds)?;
                 Ok((place, Some(next)))
             }

@@ -141,8 +141,10 @@ fn behind<F: RecordFunction + Drop>(
     ensures why { IfErr result IsOfOwn }
     ensures cause { (first : Kept) → IfErr result (IsTakenCause (F.function (arc_value function.now)) step.now records.now (first ∷ map kept later.now)) }
 {
-    let held = read_saved(alloc, last.saved.as_bytes())?;
-    let rows = Vec::from_slice(alloc, held.rows())?;
+    let rows = {
+        let held = read_saved(alloc, last.saved.as_bytes())?;
+        Vec::from_slice(alloc, held.rows())?
+    };
     let results = results_of(alloc, later, rows.len())?;
     let run = RecordsRun::begin_behind(
         alloc,
