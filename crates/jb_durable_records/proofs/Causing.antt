@@ -1,10 +1,11 @@
 -- Why a run has no end.
-use Rattle.std.proofs.Common.{ℕ, ◌≡◌, ◌⊎◌, ◌≤◌, inl, inr, IsTrue, List, length, Result, Err, IfErr, refl, sym, subst, arith}
+use Rattle.std.proofs.Common.{ℕ, ◌⊎◌, ◌≤◌, inl, inr, IsTrue, List, refl, arith}
 use Rattle.sqlite_disk.specs.Disk.{MoreFaults}
 use Rattle.sqlite.specs.State.{State}
 use Rattle.jb_records.specs.declared.step.RecordsStep.{RecordsStep}
 use Rattle.jb_records.specs.Function.{Function}
 use Rattle.jb_checkpoint.specs.Checkpoints.{Kept}
+use Rattle.jb_checkpoint_table.specs.declared.error.StoreError.{StoreError}
 use Rattle.jb_records_checkpoints.specs.declared.error.CheckpointError.{CheckpointError}
 use Rattle.jb_records_checkpoints.specs.declared.error.CheckpointError.TheVariants as refusal
 use Rattle.jb_records_checkpoints.specs.Checkpoints.{IsRunSoFar}
@@ -78,6 +79,9 @@ of_a_stretch refusal.TooLong own = (λ is. let none : ⊥ = cc in none, λ is. l
 of_a_stretch (refusal.Step why) own = (λ is. let none : ⊥ = cc in none, λ is. let none : ⊥ = cc in none, λ is. let none : ⊥ = cc in none)
 of_a_stretch refusal.Memory own = (λ is. let none : ⊥ = cc in none, λ is. let none : ⊥ = cc in none, λ is. let none : ⊥ = cc in none)
 
--- what a refusal says of the checkpoints, and what is kept
-pub told_of : {T Keeping : Type 0} (P : DurableError → Type 0) (r : Result T DurableError) (e : DurableError) → r ≡ Err e → P e → Keeping → (name : DurableError) → IfErr r (λ x. x ≡ name → P name × Keeping)
-told_of {T} {Keeping} P r e is cause keeps name = subst (λ (q : Result T DurableError). IfErr q (λ x. x ≡ name → P name × Keeping)) (sym is) (λ same. (subst P same cause, keeps))
+-- nor is that the file doesn't take a checkpoint, or has no number for it
+pub store_of_a_stretch : (e : StoreError) → IsOfAStretch (Store e)
+store_of_a_stretch e = (λ is. let none : ⊥ = cc in none, λ is. let none : ⊥ = cc in none, λ is. let none : ⊥ = cc in none)
+
+pub many_of_a_stretch : IsOfAStretch TooMany
+many_of_a_stretch = (λ is. let none : ⊥ = cc in none, λ is. let none : ⊥ = cc in none, λ is. let none : ⊥ = cc in none)

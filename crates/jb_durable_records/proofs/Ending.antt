@@ -1,5 +1,5 @@
 -- What an answer tells.
-use Rattle.std.proofs.Common.{◌≡◌, Option, None, Some, IfSome, Result, Ok, Err, IfOk, IfErr, MatchResult, OnOk, subst}
+use Rattle.std.proofs.Common.{◌≡◌, Option, None, Some, IfSome, Result, Ok, Err, IfOk, IfErr, IsErrAnd, MatchResult, OnOk, subst, sym}
 
 pub both_ok : {T E : Type 0} (r : Result T E) (P Q R : T → Type 0) → ((x : T) → P x → Q x → R x) → IfOk r P → IfOk r Q → IfOk r R
 both_ok (Ok x) P Q R to p q = to x p q
@@ -29,3 +29,16 @@ err_to (Err e) P Q to p = to e p
 pub some_weaker : {T : Type 0} (o : Option T) (P Q : T → Type 0) → ((x : T) → P x → Q x) → IfSome o P → IfSome o Q
 some_weaker None P Q to p = tt
 some_weaker (Some x) P Q to p = to x p
+
+-- ---- behind a `?`
+
+pub no_end : {T E : Type 0} (r : Result T E) (P : T → Type 0) (Q : E → Type 0) → IsErrAnd r Q → IfOk r P
+no_end (Ok x) P Q is = absurd is
+no_end (Err e) P Q is = tt
+
+pub handed_on : {T E : Type 0} (r : Result T E) (e : E) (P : E → Type 0) → IsErrAnd r (λ one. one ≡ e) → P e → IfErr r P
+handed_on (Ok x) e P is holds = tt
+handed_on (Err one) e P is holds = subst P (sym is) holds
+
+pub none_is_some : {T : Type 0} (o : Option T) (x : T) → o ≡ Some x → o ≡ None → ⊥
+none_is_some o x some none = cc

@@ -1,3 +1,4 @@
+pub mod Clean
 pub mod Ending
 pub mod Filing
 pub mod Resting

@@ -14,7 +14,7 @@ use thiserror::Error;
 #[derive(Clone, Copy, Debug, PartialEq, Eq, Error)]
 pub enum DurableError {
     /// The file. After `Foreign`, `Version` and `Gap` it is as it was.
-    #[error("{0}")]
+    #[error(transparent)]
     Store(StoreError),
     /// The checkpoints are of a step of another form, or of another number of records. Nothing was written.
     #[error("the checkpoints are another job's: its step has another form, or another number of records")]
@@ -29,7 +29,7 @@ pub enum DurableError {
     #[error("a record or a result has more than 4,294,967,295 bytes")]
     TooLong,
     /// The step over records isn't begun, or a stretch broke off.
-    #[error("{0}")]
+    #[error(transparent)]
     Step(RecordsStepError),
     /// There are 4,294,967,295 checkpoints.
     #[error("there are 4,294,967,295 checkpoints")]

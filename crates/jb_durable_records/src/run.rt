@@ -40,7 +40,7 @@ use std::sync::{Arc, Wait};
 use std::thread::Threads;
 
 /// Why the stretches ended.
-#[derive(Clone, Copy, Debug, PartialEq, Eq)]
+#[derive(Clone, Copy)]
 pub(crate) enum Pause {
     /// The run is whole.
     Whole,

@@ -1,9 +1,8 @@
-use Rattle.std.proofs.Common.{ℕ, ◌≡◌, Err, List, sym, subst, ap, ◌∙◌, arith, lit≤, rules}
+use Rattle.std.proofs.Common.{ℕ, ◌≡◌, List, sym, subst, ap, ◌∙◌, arith, le_trans, lit≤}
 use Rattle.jb_checkpoint_table.specs.Connections.{Keeps}
 use Rattle.std.specs.Arc.{arc_value}
 use Rattle.std.proofs.lemmas.Result.{IfOk-weaker}
 use Rattle.sqlite.specs.Held.{state}
-use Rattle.sqlite.specs.State.{HasCleanDisk}
 use Rattle.jb_rules.specs.declared.row.Row.{Row}
 use Rattle.jb_records.specs.Function.{all_results}
 use Rattle.jb_records.specs.Shares.{IsSoFar, joined}
@@ -12,8 +11,124 @@ use Rattle.jb_records_checkpoints.specs.Checkpoints.{IsRunSoFar, IsWholeRun}
 use Rattle.jb_durable_records.specs.declared.error.DurableError.{DurableError}
 use Rattle.jb_durable_records.specs.Refusals.{IsCauseOfNoEnd}
 use Rattle.jb_durable_records.proofs.Causing.{gone_ends, taken_ends}
-use Rattle.jb_durable_records.proofs.Ending.{both_ok, ended_so, err_to, match_ok, on_ok, told_again}
+use Rattle.jb_durable_records.proofs.Clean.{clean_before}
+use Rattle.jb_durable_records.proofs.Ending.{both_ok, ended_so, err_to, handed_on, match_ok, no_end, on_ok, told_again}
 use Rattle.jb_durable_records.proofs.run.run_records_durably.Goals as goal
+
+-- ---- the run is not taken up
+
+pub returns-in_err-place-clause-crash : goal.returns-in_err-place-clause-crash
+returns-in_err-place-clause-crash g c clean opened all shows so db may =
+    let F = g.F.RecordFunction.function in
+    let step = c.args.step.now in
+    let records = c.args.records.now in
+    let e : arc_value c.in_ok-function.function ≡ c.args.function = c.in_ok-function.ensures.ok in
+    subst (λ x. IsOfARun (IsRunSoFar (F x) step records) db) e (c.taken_from.ensures.crash clean opened all shows (subst (λ x. IsRunSoFar (F x) step records all) (sym e) so) db may)
+
+pub returns-in_err-place-clause-cause : goal.returns-in_err-place-clause-cause
+returns-in_err-place-clause-cause g c clean opened all shows so =
+    let F = g.F.RecordFunction.function in
+    let step = c.args.step.now in
+    let records = c.args.records.now in
+    let old = state g.S.Store c.args.conn.now in
+    let new = state g.S.Store c.taken_from.new.conn in
+    let e : arc_value c.in_ok-function.function ≡ c.args.function = c.in_ok-function.ensures.ok in
+    let why = c.in_err-place.field-0.0 in
+    handed_on c.from_residual-in_err-place.result why _ c.from_residual-in_err-place.ensures.1 (subst (λ x. IsCauseOfNoEnd (F x) step records old new all why) e
+    (taken_ends (F (arc_value c.in_ok-function.function)) step records c.checkpoints_have_results.ensures.own old new all (subst (λ x. IsRunSoFar (F x) step records all) (sym e) so) why (c.in_err-place.ensures.cause clean opened all shows)))
+
+pub returns-in_err-place-clause-all : goal.returns-in_err-place-clause-all
+returns-in_err-place-clause-all g c clean opened all shows so = no_end c.from_residual-in_err-place.result _ _ c.from_residual-in_err-place.ensures.1
+
+pub returns-in_err-place-clause-kept : goal.returns-in_err-place-clause-kept
+returns-in_err-place-clause-kept g c clean opened all shows so = no_end c.from_residual-in_err-place.result _ _ c.from_residual-in_err-place.ensures.1
+
+pub returns-in_err-place-clause-so_far : goal.returns-in_err-place-clause-so_far
+returns-in_err-place-clause-so_far g c clean opened all shows so = no_end c.from_residual-in_err-place.result _ _ c.from_residual-in_err-place.ensures.1
+
+pub returns-in_err-place-clause-status : goal.returns-in_err-place-clause-status
+returns-in_err-place-clause-status g c = no_end c.from_residual-in_err-place.result _ _ c.from_residual-in_err-place.ensures.1
+
+pub returns-in_err-place-clause-told : goal.returns-in_err-place-clause-told
+returns-in_err-place-clause-told g c = no_end c.from_residual-in_err-place.result _ _ c.from_residual-in_err-place.ensures.1
+
+pub returns-in_err-place-clause-again : goal.returns-in_err-place-clause-again
+returns-in_err-place-clause-again g c clean opened all shows whole = no_end c.from_residual-in_err-place.result _ _ c.from_residual-in_err-place.ensures.1
+
+pub returns-in_err-place-clause-untouched : goal.returns-in_err-place-clause-untouched
+returns-in_err-place-clause-untouched g c clean opened all shows whole db may = c.taken_from.ensures.left clean opened all shows db may
+
+pub returns-in_err-place-clause-other_job : goal.returns-in_err-place-clause-other_job
+returns-in_err-place-clause-other_job g c clean opened all shows = handed_on c.from_residual-in_err-place.result c.in_err-place.field-0.0 _ c.from_residual-in_err-place.ensures.1 (c.in_err-place.ensures.other_job clean opened all shows)
+
+pub returns-in_err-place-clause-other_records : goal.returns-in_err-place-clause-other_records
+returns-in_err-place-clause-other_records g c clean opened all shows = handed_on c.from_residual-in_err-place.result c.in_err-place.field-0.0 _ c.from_residual-in_err-place.ensures.1 (c.in_err-place.ensures.other_records clean opened all shows)
+
+pub returns-in_err-place-clause-damaged : goal.returns-in_err-place-clause-damaged
+returns-in_err-place-clause-damaged g c clean opened all shows = handed_on c.from_residual-in_err-place.result c.in_err-place.field-0.0 _ c.from_residual-in_err-place.ensures.1 (c.in_err-place.ensures.damaged clean opened all shows)
+
+pub returns-in_err-place-clause-clean : goal.returns-in_err-place-clause-clean
+returns-in_err-place-clause-clean g c = c.taken_from.ensures.clean
+
+-- ---- it breaks off
+
+pub returns-in_err-place-2-clause-crash : goal.returns-in_err-place-2-clause-crash
+returns-in_err-place-2-clause-crash g c clean opened all shows so db may =
+    let F = g.F.RecordFunction.function in
+    let step = c.args.step.now in
+    let records = c.args.records.now in
+    let e : arc_value c.in_ok-function.function ≡ c.args.function = c.in_ok-function.ensures.ok in
+    let early = clean_before _ _ c.run.ensures.clean clean in
+    let rest = c.in_ok-place.ensures.rests early opened all shows (subst (λ x. IsRunSoFar (F x) step records all) (sym e) so) in
+    subst (λ x. IsOfARun (IsRunSoFar (F x) step records) db) e (c.run.ensures.crash clean (F (arc_value c.in_ok-function.function)) step records all rest db may)
+
+pub returns-in_err-place-2-clause-cause : goal.returns-in_err-place-2-clause-cause
+returns-in_err-place-2-clause-cause g c clean opened all shows so =
+    let F = g.F.RecordFunction.function in
+    let own = arc_value c.in_ok-function.function in
+    let step = c.args.step.now in
+    let records = c.args.records.now in
+    let e : own ≡ c.args.function = c.in_ok-function.ensures.ok in
+    let early = clean_before _ _ c.run.ensures.clean clean in
+    let rest = c.in_ok-place.ensures.rests early opened all shows (subst (λ x. IsRunSoFar (F x) step records all) (sym e) so) in
+    let old = state g.S.Store c.args.conn.now in
+    let mid = state g.S.Store c.taken_from.new.conn in
+    let new = state g.S.Store c.run.new.conn in
+    let why = c.in_err-place-2.field-0.0 in
+    handed_on c.from_residual-in_err-place-2.result why _ c.from_residual-in_err-place-2.ensures.1 (subst (λ x. IsCauseOfNoEnd (F x) step records old new all why) e
+    (gone_ends (F own) step records old mid new c.taken_from.ensures.counts c.run.ensures.counts (c.taken_from.ensures.shut early) all why (c.in_err-place-2.ensures.cause clean (F own) step records all rest)))
+
+pub returns-in_err-place-2-clause-all : goal.returns-in_err-place-2-clause-all
+returns-in_err-place-2-clause-all g c clean opened all shows so = no_end c.from_residual-in_err-place-2.result _ _ c.from_residual-in_err-place-2.ensures.1
+
+pub returns-in_err-place-2-clause-kept : goal.returns-in_err-place-2-clause-kept
+returns-in_err-place-2-clause-kept g c clean opened all shows so = no_end c.from_residual-in_err-place-2.result _ _ c.from_residual-in_err-place-2.ensures.1
+
+pub returns-in_err-place-2-clause-so_far : goal.returns-in_err-place-2-clause-so_far
+returns-in_err-place-2-clause-so_far g c clean opened all shows so = no_end c.from_residual-in_err-place-2.result _ _ c.from_residual-in_err-place-2.ensures.1
+
+pub returns-in_err-place-2-clause-status : goal.returns-in_err-place-2-clause-status
+returns-in_err-place-2-clause-status g c = no_end c.from_residual-in_err-place-2.result _ _ c.from_residual-in_err-place-2.ensures.1
+
+pub returns-in_err-place-2-clause-told : goal.returns-in_err-place-2-clause-told
+returns-in_err-place-2-clause-told g c = no_end c.from_residual-in_err-place-2.result _ _ c.from_residual-in_err-place-2.ensures.1
+
+pub returns-in_err-place-2-clause-again : goal.returns-in_err-place-2-clause-again
+returns-in_err-place-2-clause-again g c clean opened all shows whole = no_end c.from_residual-in_err-place-2.result _ _ c.from_residual-in_err-place-2.ensures.1
+
+pub returns-in_err-place-2-clause-other_job : goal.returns-in_err-place-2-clause-other_job
+returns-in_err-place-2-clause-other_job g c clean opened all shows = handed_on c.from_residual-in_err-place-2.result c.in_err-place-2.field-0.0 _ c.from_residual-in_err-place-2.ensures.1 (λ is. absurd (c.in_err-place-2.ensures.own.0 is))
+
+pub returns-in_err-place-2-clause-other_records : goal.returns-in_err-place-2-clause-other_records
+returns-in_err-place-2-clause-other_records g c clean opened all shows = handed_on c.from_residual-in_err-place-2.result c.in_err-place-2.field-0.0 _ c.from_residual-in_err-place-2.ensures.1 (λ is. absurd (c.in_err-place-2.ensures.own.1 is))
+
+pub returns-in_err-place-2-clause-damaged : goal.returns-in_err-place-2-clause-damaged
+returns-in_err-place-2-clause-damaged g c clean opened all shows = handed_on c.from_residual-in_err-place-2.result c.in_err-place-2.field-0.0 _ c.from_residual-in_err-place-2.ensures.1 (λ is. absurd (c.in_err-place-2.ensures.own.2 is))
+
+pub returns-in_err-place-2-clause-clean : goal.returns-in_err-place-2-clause-clean
+returns-in_err-place-2-clause-clean g c = le_trans c.taken_from.ensures.clean c.run.ensures.clean
+
+-- ---- it ends
 
 pub returns-clause-all : goal.returns-clause-all
 returns-clause-all g c clean opened all shows so =
@@ -22,7 +137,7 @@ returns-clause-all g c clean opened all shows so =
     let step = c.args.step.now in
     let records = c.args.records.now in
     let e : own ≡ c.args.function = c.in_ok-function.ensures.ok in
-    let early : HasCleanDisk (state g.S.Store c.taken_from.new.conn) = omega (arith, clean, c.run.ensures.clean) in
+    let early = clean_before _ _ c.run.ensures.clean clean in
     let rest = c.in_ok-place.ensures.rests early opened all shows (subst (λ x. IsRunSoFar (F x) step records all) (sym e) so) in
     let after = c.in_ok-place-2.ensures.kept clean (F own) step records all rest in
     both_ok c.ended.result _ _ _
@@ -37,7 +152,7 @@ returns-clause-kept g c clean opened all shows so =
     let step = c.args.step.now in
     let records = c.args.records.now in
     let e : own ≡ c.args.function = c.in_ok-function.ensures.ok in
-    let early : HasCleanDisk (state g.S.Store c.taken_from.new.conn) = omega (arith, clean, c.run.ensures.clean) in
+    let early = clean_before _ _ c.run.ensures.clean clean in
     let rest = c.in_ok-place.ensures.rests early opened all shows (subst (λ x. IsRunSoFar (F x) step records all) (sym e) so) in
     let after = c.in_ok-place-2.ensures.kept clean (F own) step records all rest in
     IfOk-weaker c.ended.result _ _ (λ end whole completed. (after.0, after.2.keeps, subst (λ x. IsWholeRun (F x) step records after.0) e (after.3 (whole completed)))) c.ended.ensures.whole
@@ -49,7 +164,7 @@ returns-clause-so_far g c clean opened all shows so =
     let step = c.args.step.now in
     let records = c.args.records.now in
     let e : own ≡ c.args.function = c.in_ok-function.ensures.ok in
-    let early : HasCleanDisk (state g.S.Store c.taken_from.new.conn) = omega (arith, clean, c.run.ensures.clean) in
+    let early = clean_before _ _ c.run.ensures.clean clean in
     let rest = c.in_ok-place.ensures.rests early opened all shows (subst (λ x. IsRunSoFar (F x) step records all) (sym e) so) in
     let after = c.in_ok-place-2.ensures.kept clean (F own) step records all rest in
     let place = c.in_ok-place-2.place in
@@ -63,7 +178,7 @@ returns-clause-so_far g c clean opened all shows so =
 
 pub returns-clause-own : goal.returns-clause-own
 returns-clause-own g c clean opened all shows =
-    let early : HasCleanDisk (state g.S.Store c.taken_from.new.conn) = omega (arith, clean, c.run.ensures.clean) in
+    let early = clean_before _ _ c.run.ensures.clean clean in
     on_ok c.ended.result _ (c.in_ok-place.ensures.own early opened all shows)
 
 pub returns-clause-crash : goal.returns-clause-crash
@@ -72,25 +187,7 @@ returns-clause-crash g c clean opened all shows so db may =
     let step = c.args.step.now in
     let records = c.args.records.now in
     let e : arc_value c.in_ok-function.function ≡ c.args.function = c.in_ok-function.ensures.ok in
-    let early : HasCleanDisk (state g.S.Store c.taken_from.new.conn) = omega (arith, clean, c.run.ensures.clean) in
-    let rest = c.in_ok-place.ensures.rests early opened all shows (subst (λ x. IsRunSoFar (F x) step records all) (sym e) so) in
-    subst (λ x. IsOfARun (IsRunSoFar (F x) step records) db) e (c.run.ensures.crash clean (F (arc_value c.in_ok-function.function)) step records all rest db may)
-
-pub returns-in_err-place-clause-crash : goal.returns-in_err-place-clause-crash
-returns-in_err-place-clause-crash g c clean opened all shows so db may =
-    let F = g.F.RecordFunction.function in
-    let step = c.args.step.now in
-    let records = c.args.records.now in
-    let e : arc_value c.in_ok-function.function ≡ c.args.function = c.in_ok-function.ensures.ok in
-    subst (λ x. IsOfARun (IsRunSoFar (F x) step records) db) e (c.taken_from.ensures.crash clean opened all shows (subst (λ x. IsRunSoFar (F x) step records all) (sym e) so) db may)
-
-pub returns-in_err-place-2-clause-crash : goal.returns-in_err-place-2-clause-crash
-returns-in_err-place-2-clause-crash g c clean opened all shows so db may =
-    let F = g.F.RecordFunction.function in
-    let step = c.args.step.now in
-    let records = c.args.records.now in
-    let e : arc_value c.in_ok-function.function ≡ c.args.function = c.in_ok-function.ensures.ok in
-    let early : HasCleanDisk (state g.S.Store c.taken_from.new.conn) = omega (arith, clean, c.run.ensures.clean) in
+    let early = clean_before _ _ c.run.ensures.clean clean in
     let rest = c.in_ok-place.ensures.rests early opened all shows (subst (λ x. IsRunSoFar (F x) step records all) (sym e) so) in
     subst (λ x. IsOfARun (IsRunSoFar (F x) step records) db) e (c.run.ensures.crash clean (F (arc_value c.in_ok-function.function)) step records all rest db may)
 
@@ -105,7 +202,7 @@ returns-clause-again g c clean opened all shows whole =
     let step = c.args.step.now in
     let records = c.args.records.now in
     let e : own ≡ c.args.function = c.in_ok-function.ensures.ok in
-    let early : HasCleanDisk (state g.S.Store c.taken_from.new.conn) = omega (arith, clean, c.run.ensures.clean) in
+    let early = clean_before _ _ c.run.ensures.clean clean in
     let done = c.in_ok-place.ensures.done early opened all shows (subst (λ x. IsWholeRun (F x) step records all) (sym e) whole) in
     let went = c.run.ensures.again done (lit≤ tt) in
     let rest = c.in_ok-place.ensures.rests early opened all shows (subst (λ x. IsRunSoFar (F x) step records all) (sym e) (c.checkpoints_have_results.ensures.so_far (F c.args.function) step records all whole)) in
@@ -120,7 +217,7 @@ returns-clause-untouched g c clean opened all shows whole db may =
     let step = c.args.step.now in
     let records = c.args.records.now in
     let e : own ≡ c.args.function = c.in_ok-function.ensures.ok in
-    let early : HasCleanDisk (state g.S.Store c.taken_from.new.conn) = omega (arith, clean, c.run.ensures.clean) in
+    let early = clean_before _ _ c.run.ensures.clean clean in
     let done = c.in_ok-place.ensures.done early opened all shows (subst (λ x. IsWholeRun (F x) step records all) (sym e) whole) in
     let went = c.run.ensures.again done (lit≤ tt) in
     c.taken_from.ensures.left early opened all shows db (subst (λ x. (state g.S.Store x).may_leave db) went.1 may)
@@ -134,39 +231,24 @@ returns-clause-cause g c clean opened all shows so =
     let old = state g.S.Store c.args.conn.now in
     let new = state g.S.Store c.run.new.conn in
     let e : own ≡ c.args.function = c.in_ok-function.ensures.ok in
-    let early : HasCleanDisk (state g.S.Store c.taken_from.new.conn) = omega (arith, clean, c.run.ensures.clean) in
+    let early = clean_before _ _ c.run.ensures.clean clean in
     let rest = c.in_ok-place.ensures.rests early opened all shows (subst (λ x. IsRunSoFar (F x) step records all) (sym e) so) in
     let after = c.in_ok-place-2.ensures.kept clean (F own) step records all rest in
     err_to c.ended.result _ _
     (λ why many. subst (λ (x : DurableError). IsCauseOfNoEnd (F c.args.function) step records old new all x) (sym many.0)
     (record { all = after.0; so_far = subst (λ x. IsRunSoFar (F x) step records after.0) e after.2.so_far; full = omega (arith, after.2.number, after.4 many.1) })) c.ended.ensures.cause
 
-pub returns-in_err-place-clause-cause : goal.returns-in_err-place-clause-cause
-returns-in_err-place-clause-cause g c clean opened all shows so =
-    let F = g.F.RecordFunction.function in
-    let step = c.args.step.now in
-    let records = c.args.records.now in
-    let old = state g.S.Store c.args.conn.now in
-    let new = state g.S.Store c.taken_from.new.conn in
-    let e : arc_value c.in_ok-function.function ≡ c.args.function = c.in_ok-function.ensures.ok in
-    let why = c.in_err-place.field-0.0 in
-    let told : c.from_residual-in_err-place.result ≡ Err why = search rules in
-    rw told (subst (λ x. IsCauseOfNoEnd (F x) step records old new all why) e
-    (taken_ends (F (arc_value c.in_ok-function.function)) step records c.checkpoints_have_results.ensures.own old new all (subst (λ x. IsRunSoFar (F x) step records all) (sym e) so) why (c.in_err-place.ensures.cause clean opened all shows)))
+pub returns-clause-status : goal.returns-clause-status
+returns-clause-status g c = c.ended.ensures.status
 
-pub returns-in_err-place-2-clause-cause : goal.returns-in_err-place-2-clause-cause
-returns-in_err-place-2-clause-cause g c clean opened all shows so =
-    let F = g.F.RecordFunction.function in
-    let own = arc_value c.in_ok-function.function in
-    let step = c.args.step.now in
-    let records = c.args.records.now in
-    let e : own ≡ c.args.function = c.in_ok-function.ensures.ok in
-    let early : HasCleanDisk (state g.S.Store c.taken_from.new.conn) = omega (arith, clean, c.run.ensures.clean) in
-    let rest = c.in_ok-place.ensures.rests early opened all shows (subst (λ x. IsRunSoFar (F x) step records all) (sym e) so) in
-    let old = state g.S.Store c.args.conn.now in
-    let mid = state g.S.Store c.taken_from.new.conn in
-    let new = state g.S.Store c.run.new.conn in
-    let why = c.in_err-place-2.field-0.0 in
-    let told : c.from_residual-in_err-place-2.result ≡ Err why = search rules in
-    rw told (subst (λ x. IsCauseOfNoEnd (F x) step records old new all why) e
-    (gone_ends (F own) step records old mid new c.taken_from.ensures.counts c.run.ensures.counts (c.taken_from.ensures.shut early) all why (c.in_err-place-2.ensures.cause clean (F own) step records all rest)))
+pub returns-clause-other_job : goal.returns-clause-other_job
+returns-clause-other_job g c clean opened all shows = err_to c.ended.result _ _ (λ e own is. absurd (own.0 is)) c.ended.ensures.own
+
+pub returns-clause-other_records : goal.returns-clause-other_records
+returns-clause-other_records g c clean opened all shows = err_to c.ended.result _ _ (λ e own is. absurd (own.1 is)) c.ended.ensures.own
+
+pub returns-clause-damaged : goal.returns-clause-damaged
+returns-clause-damaged g c clean opened all shows = err_to c.ended.result _ _ (λ e own is. absurd (own.2 is)) c.ended.ensures.own
+
+pub returns-clause-clean : goal.returns-clause-clean
+returns-clause-clean g c = le_trans c.taken_from.ensures.clean c.run.ensures.clean

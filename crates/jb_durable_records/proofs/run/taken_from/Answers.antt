@@ -1,15 +1,19 @@
-use Rattle.std.proofs.Common.{◌≡◌, Err, List, length, map, sym, subst, ap, ◌∙◌, rules}
+use Rattle.std.proofs.Common.{◌≡◌, IfErr, List, length, map, sym, subst, ap, ◌∙◌, rules}
 use Rattle.std.specs.Arc.{arc_value}
 use Rattle.std.proofs.lemmas.List.{length-map}
 use Rattle.sqlite.specs.Held.{state}
+use Rattle.sqlite.specs.State.{HasCleanDisk}
 use Rattle.jb_checkpoint.specs.declared.checkpoint.Checkpoint.{Checkpoint}
 use Rattle.jb_checkpoint.specs.Checkpoints.{Kept, kept}
-use Rattle.jb_checkpoint_table.specs.Connections.{Keeps}
+use Rattle.jb_checkpoint_table.specs.Checkpoints.{ShowsList}
+use Rattle.jb_checkpoint_table.specs.Connections.{IsJustOpened, Keeps}
 use Rattle.jb_records_checkpoints.specs.Checkpoints.{IsRunSoFar}
 use Rattle.jb_records_checkpoints.specs.Refusals.{IsTakenCause}
 use Rattle.jb_durable_records.specs.Refusals.{IsUntaken, named}
+use Rattle.jb_durable_records.specs.declared.error.DurableError.{DurableError}
 use Rattle.jb_durable_records.specs.declared.error.DurableError.TheVariants.{Damaged, OtherJob, OtherRecords, Store}
-use Rattle.jb_durable_records.proofs.Causing.{told_of, untaken_for}
+use Rattle.jb_durable_records.proofs.Causing.{untaken_for}
+use Rattle.jb_durable_records.proofs.Ending.{handed_on, no_end}
 use Rattle.jb_durable_records.proofs.Filing.{unlisted}
 use Rattle.jb_durable_records.proofs.Resting.{rests_behind}
 use Rattle.jb_durable_records.proofs.run.taken_from.Goals as goal
@@ -32,54 +36,148 @@ returns-clause-rests g c clean opened all shows so =
 pub returns-in_err-done-clause-cause : goal.returns-in_err-done-clause-cause
 returns-in_err-done-clause-cause g c clean opened all shows =
     let e = c.in_err-done.field-0.0 in
-    let told : c.from_residual.result ≡ Err (Store e) = search rules in
-    rw told (unlisted (state g.S.Store c.args.conn.now) (state g.S.Store c.begin.new.conn) e (c.in_err-done.ensures.own clean opened all shows) (c.in_err-done.ensures.cause clean opened))
+    handed_on c.from_residual.result (Store e) _ c.from_residual.ensures.1
+    (unlisted (state g.S.Store c.args.conn.now) (state g.S.Store c.begin.new.conn) e (c.in_err-done.ensures.own clean opened all shows) (c.in_err-done.ensures.cause clean opened))
+
+-- ---- the file doesn't list them
+
+pub returns-in_err-done-clause-rests : goal.returns-in_err-done-clause-rests
+returns-in_err-done-clause-rests g c clean opened all shows so = no_end c.from_residual.result _ _ c.from_residual.ensures.1
+
+pub returns-in_err-done-clause-told : goal.returns-in_err-done-clause-told
+returns-in_err-done-clause-told g c = no_end c.from_residual.result _ _ c.from_residual.ensures.1
+
+pub returns-in_err-done-clause-done : goal.returns-in_err-done-clause-done
+returns-in_err-done-clause-done g c clean opened all shows whole = no_end c.from_residual.result _ _ c.from_residual.ensures.1
+
+pub returns-in_err-done-clause-shown : goal.returns-in_err-done-clause-shown
+returns-in_err-done-clause-shown g c = c.begin.ensures.shown
+
+pub returns-in_err-done-clause-left : goal.returns-in_err-done-clause-left
+returns-in_err-done-clause-left g c = c.begin.ensures.left
+
+pub returns-in_err-done-clause-counts : goal.returns-in_err-done-clause-counts
+returns-in_err-done-clause-counts g c = c.begin.ensures.counts
+
+pub returns-in_err-done-clause-shut : goal.returns-in_err-done-clause-shut
+returns-in_err-done-clause-shut g c = c.begin.ensures.shut
+
+pub returns-in_err-done-clause-clean : goal.returns-in_err-done-clause-clean
+returns-in_err-done-clause-clean g c = c.begin.ensures.clean
+
+pub returns-in_err-done-clause-crash : goal.returns-in_err-done-clause-crash
+returns-in_err-done-clause-crash g c clean opened all shows so db may = (all, c.begin.ensures.left clean opened all shows db may, so)
+
+-- ---- there are more than numbers for them
+
+pub returns-in_default-clause-shown : goal.returns-in_default-clause-shown
+returns-in_default-clause-shown g c = c.begin.ensures.shown
+
+pub returns-in_default-clause-left : goal.returns-in_default-clause-left
+returns-in_default-clause-left g c = c.begin.ensures.left
+
+pub returns-in_default-clause-counts : goal.returns-in_default-clause-counts
+returns-in_default-clause-counts g c = c.begin.ensures.counts
+
+pub returns-in_default-clause-shut : goal.returns-in_default-clause-shut
+returns-in_default-clause-shut g c = c.begin.ensures.shut
+
+pub returns-in_default-clause-clean : goal.returns-in_default-clause-clean
+returns-in_default-clause-clean g c = c.begin.ensures.clean
+
+pub returns-in_default-clause-crash : goal.returns-in_default-clause-crash
+returns-in_default-clause-crash g c clean opened all shows so db may = (all, c.begin.ensures.left clean opened all shows db may, so)
+
+-- ---- they are refused
+
+-- the checkpoints that were found are those that the file shows
+found : (g : _) (c : goal.After-drop-done-in_err-place g) → HasCleanDisk (state g.S.Store c.begin.new.conn) → IsJustOpened (state g.S.Store c.args.conn.now)
+    → (all : List Kept) → ShowsList (state g.S.Store c.args.conn.now).now all → map kept c.deref.result.now ≡ all
+found g c clean opened all shows = ap (map kept) c.deref.ensures.value ∙ c.in_ok-done.ensures.listed clean opened all shows
+
+-- why they aren't taken up
+refused : (g : _) (c : goal.After-drop-done-in_err-place g) → HasCleanDisk (state g.S.Store c.begin.new.conn) → IsJustOpened (state g.S.Store c.args.conn.now)
+    → (all : List Kept) → ShowsList (state g.S.Store c.args.conn.now).now all
+    → IsUntaken (g.F.RecordFunction.function (arc_value c.args.function.now)) c.args.step.now c.args.records.now (state g.S.Store c.args.conn.now) (state g.S.Store c.begin.new.conn) all (named c.in_err-place.field-0.0)
+refused g c clean opened all shows =
+    let e = c.in_err-place.field-0.0 in
+    untaken_for (g.F.RecordFunction.function (arc_value c.args.function.now)) c.args.step.now c.args.records.now (state g.S.Store c.args.conn.now) (state g.S.Store c.begin.new.conn) all e
+    (subst (λ (l : List Kept). IsTakenCause (g.F.RecordFunction.function (arc_value c.args.function.now)) c.args.step.now c.args.records.now l e) (found g c clean opened all shows) c.in_err-place.ensures.cause)
+
+-- what that says of them, and that they are kept
+kept_untaken : (g : _) (c : goal.After-drop-done-in_err-place g) → HasCleanDisk (state g.S.Store c.begin.new.conn) → IsJustOpened (state g.S.Store c.args.conn.now)
+    → (all : List Kept) → ShowsList (state g.S.Store c.args.conn.now).now all → (name : DurableError)
+    → IfErr c.from_residual-in_err-place.result (λ x. x ≡ name
+    → IsUntaken (g.F.RecordFunction.function (arc_value c.args.function.now)) c.args.step.now c.args.records.now (state g.S.Store c.args.conn.now) (state g.S.Store c.begin.new.conn) all name
+    × Keeps (state g.S.Store c.begin.new.conn) all)
+kept_untaken g c clean opened all shows name =
+    let keeps = subst (λ (l : List Kept). Keeps (state g.S.Store c.begin.new.conn) l) (c.in_ok-done.ensures.listed clean opened all shows) (c.in_ok-done.ensures.begun clean opened).0 in
+    handed_on c.from_residual-in_err-place.result (named c.in_err-place.field-0.0) _ c.from_residual-in_err-place.ensures.1
+    (λ is. (
+      subst (IsUntaken (g.F.RecordFunction.function (arc_value c.args.function.now)) c.args.step.now c.args.records.now (state g.S.Store c.args.conn.now) (state g.S.Store c.begin.new.conn) all) is
+          (refused g c clean opened all shows),
+      keeps,
+    ))
 
 pub returns-in_err-place-clause-cause : goal.returns-in_err-place-clause-cause
 returns-in_err-place-clause-cause g c clean opened all shows =
-    let f = g.F.RecordFunction.function (arc_value c.args.function.now) in
-    let step = c.args.step.now in
-    let records = c.args.records.now in
-    let is : map kept c.deref.result.now ≡ all = ap (map kept) c.deref.ensures.value ∙ c.in_ok-done.ensures.listed clean opened all shows in
-    let e = c.in_err-place.field-0.0 in
-    let told : c.from_residual-in_err-place.result ≡ Err (named e) = search rules in
-    rw told (untaken_for f step records (state g.S.Store c.args.conn.now) (state g.S.Store c.begin.new.conn) all e (subst (λ (l : List Kept). IsTakenCause f step records l e) is c.in_err-place.ensures.cause))
+    handed_on c.from_residual-in_err-place.result (named c.in_err-place.field-0.0) _ c.from_residual-in_err-place.ensures.1 (refused g c clean opened all shows)
 
 pub returns-in_err-place-clause-damaged : goal.returns-in_err-place-clause-damaged
-returns-in_err-place-clause-damaged g c clean opened all shows =
-    let f = g.F.RecordFunction.function (arc_value c.args.function.now) in
-    let step = c.args.step.now in
-    let records = c.args.records.now in
-    let old = state g.S.Store c.args.conn.now in
-    let s = state g.S.Store c.begin.new.conn in
-    let is = c.in_ok-done.ensures.listed clean opened all shows in
-    let e = c.in_err-place.field-0.0 in
-    let told : c.from_residual-in_err-place.result ≡ Err (named e) = search rules in
-    let cause = untaken_for f step records old s all e (subst (λ (l : List Kept). IsTakenCause f step records l e) (ap (map kept) c.deref.ensures.value ∙ is) c.in_err-place.ensures.cause) in
-    told_of (IsUntaken f step records old s all) c.from_residual-in_err-place.result (named e) told cause (subst (λ (l : List Kept). Keeps s l) is (c.in_ok-done.ensures.begun clean opened).0) Damaged
+returns-in_err-place-clause-damaged g c clean opened all shows = kept_untaken g c clean opened all shows Damaged
 
 pub returns-in_err-place-clause-other_job : goal.returns-in_err-place-clause-other_job
-returns-in_err-place-clause-other_job g c clean opened all shows =
-    let f = g.F.RecordFunction.function (arc_value c.args.function.now) in
-    let step = c.args.step.now in
-    let records = c.args.records.now in
-    let old = state g.S.Store c.args.conn.now in
-    let s = state g.S.Store c.begin.new.conn in
-    let is = c.in_ok-done.ensures.listed clean opened all shows in
-    let e = c.in_err-place.field-0.0 in
-    let told : c.from_residual-in_err-place.result ≡ Err (named e) = search rules in
-    let cause = untaken_for f step records old s all e (subst (λ (l : List Kept). IsTakenCause f step records l e) (ap (map kept) c.deref.ensures.value ∙ is) c.in_err-place.ensures.cause) in
-    told_of (IsUntaken f step records old s all) c.from_residual-in_err-place.result (named e) told cause (subst (λ (l : List Kept). Keeps s l) is (c.in_ok-done.ensures.begun clean opened).0) OtherJob
+returns-in_err-place-clause-other_job g c clean opened all shows = kept_untaken g c clean opened all shows OtherJob
 
 pub returns-in_err-place-clause-other_records : goal.returns-in_err-place-clause-other_records
-returns-in_err-place-clause-other_records g c clean opened all shows =
-    let f = g.F.RecordFunction.function (arc_value c.args.function.now) in
-    let step = c.args.step.now in
-    let records = c.args.records.now in
-    let old = state g.S.Store c.args.conn.now in
-    let s = state g.S.Store c.begin.new.conn in
-    let is = c.in_ok-done.ensures.listed clean opened all shows in
-    let e = c.in_err-place.field-0.0 in
-    let told : c.from_residual-in_err-place.result ≡ Err (named e) = search rules in
-    let cause = untaken_for f step records old s all e (subst (λ (l : List Kept). IsTakenCause f step records l e) (ap (map kept) c.deref.ensures.value ∙ is) c.in_err-place.ensures.cause) in
-    told_of (IsUntaken f step records old s all) c.from_residual-in_err-place.result (named e) told cause (subst (λ (l : List Kept). Keeps s l) is (c.in_ok-done.ensures.begun clean opened).0) OtherRecords
+returns-in_err-place-clause-other_records g c clean opened all shows = kept_untaken g c clean opened all shows OtherRecords
+
+pub returns-in_err-place-clause-rests : goal.returns-in_err-place-clause-rests
+returns-in_err-place-clause-rests g c clean opened all shows so = no_end c.from_residual-in_err-place.result _ _ c.from_residual-in_err-place.ensures.1
+
+pub returns-in_err-place-clause-told : goal.returns-in_err-place-clause-told
+returns-in_err-place-clause-told g c = no_end c.from_residual-in_err-place.result _ _ c.from_residual-in_err-place.ensures.1
+
+pub returns-in_err-place-clause-done : goal.returns-in_err-place-clause-done
+returns-in_err-place-clause-done g c clean opened all shows whole = no_end c.from_residual-in_err-place.result _ _ c.from_residual-in_err-place.ensures.1
+
+pub returns-in_err-place-clause-shown : goal.returns-in_err-place-clause-shown
+returns-in_err-place-clause-shown g c = c.begin.ensures.shown
+
+pub returns-in_err-place-clause-left : goal.returns-in_err-place-clause-left
+returns-in_err-place-clause-left g c = c.begin.ensures.left
+
+pub returns-in_err-place-clause-counts : goal.returns-in_err-place-clause-counts
+returns-in_err-place-clause-counts g c = c.begin.ensures.counts
+
+pub returns-in_err-place-clause-shut : goal.returns-in_err-place-clause-shut
+returns-in_err-place-clause-shut g c = c.begin.ensures.shut
+
+pub returns-in_err-place-clause-clean : goal.returns-in_err-place-clause-clean
+returns-in_err-place-clause-clean g c = c.begin.ensures.clean
+
+pub returns-in_err-place-clause-crash : goal.returns-in_err-place-clause-crash
+returns-in_err-place-clause-crash g c clean opened all shows so db may = (all, c.begin.ensures.left clean opened all shows db may, so)
+
+-- ---- they are taken up
+
+pub returns-clause-told : goal.returns-clause-told
+returns-clause-told g c = c.in_ok-place.ensures.told
+
+pub returns-clause-shown : goal.returns-clause-shown
+returns-clause-shown g c = c.begin.ensures.shown
+
+pub returns-clause-left : goal.returns-clause-left
+returns-clause-left g c = c.begin.ensures.left
+
+pub returns-clause-counts : goal.returns-clause-counts
+returns-clause-counts g c = c.begin.ensures.counts
+
+pub returns-clause-shut : goal.returns-clause-shut
+returns-clause-shut g c = c.begin.ensures.shut
+
+pub returns-clause-clean : goal.returns-clause-clean
+returns-clause-clean g c = c.begin.ensures.clean
+
+pub returns-clause-crash : goal.returns-clause-crash
+returns-clause-crash g c clean opened all shows so db may = (all, c.begin.ensures.left clean opened all shows db may, so)
