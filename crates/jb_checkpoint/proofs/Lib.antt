@@ -1,1 +1,2 @@
+pub mod Handed
 mod Numbers

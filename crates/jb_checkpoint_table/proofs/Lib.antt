@@ -7,4 +7,3 @@ pub mod CausedOpen
 pub mod Read
 pub mod Named
 pub mod Opened
-pub mod Handed

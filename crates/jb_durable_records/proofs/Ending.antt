@@ -1,13 +1,9 @@
 -- What an answer tells.
-use Rattle.std.proofs.Common.{◌≡◌, Option, None, Some, IfSome, Result, Ok, Err, IfOk, IfErr, IsErrAnd, MatchResult, OnOk, subst, sym}
+use Rattle.std.proofs.Common.{◌≡◌, Option, None, Some, IfSome, Result, Ok, Err, IfOk, IfErr, MatchResult, OnOk, subst}
 
 pub both_ok : {T E : Type 0} (r : Result T E) (P Q R : T → Type 0) → ((x : T) → P x → Q x → R x) → IfOk r P → IfOk r Q → IfOk r R
 both_ok (Ok x) P Q R to p q = to x p q
 both_ok (Err e) P Q R to p q = tt
-
-pub on_ok : {T E : Type 0} (r : Result T E) (P : Type 0) → P → OnOk r P
-on_ok (Ok x) P p = p
-on_ok (Err e) P p = tt
 
 -- what holds of the value that was answered
 pub match_ok : {T E : Type 0} (r : Result T E) (P : T → Type 0) (Q : E → Type 0) (x : T) → r ≡ Ok x → MatchResult r P Q → P x
@@ -30,15 +26,6 @@ pub some_weaker : {T : Type 0} (o : Option T) (P Q : T → Type 0) → ((x : T) 
 some_weaker None P Q to p = tt
 some_weaker (Some x) P Q to p = to x p
 
--- ---- behind a `?`
-
-pub no_end : {T E : Type 0} (r : Result T E) (P : T → Type 0) (Q : E → Type 0) → IsErrAnd r Q → IfOk r P
-no_end (Ok x) P Q is = absurd is
-no_end (Err e) P Q is = tt
-
-pub handed_on : {T E : Type 0} (r : Result T E) (e : E) (P : E → Type 0) → IsErrAnd r (λ one. one ≡ e) → P e → IfErr r P
-handed_on (Ok x) e P is holds = tt
-handed_on (Err one) e P is holds = subst P (sym is) holds
-
+-- what was found isn't none
 pub none_is_some : {T : Type 0} (o : Option T) (x : T) → o ≡ Some x → o ≡ None → ⊥
 none_is_some o x some none = cc

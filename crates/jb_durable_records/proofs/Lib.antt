@@ -1,4 +1,3 @@
-pub mod Clean
 pub mod Ending
 pub mod Filing
 pub mod Resting

@@ -8,5 +8,4 @@ mod Growing
 mod Telling
 mod Behind
 mod Causing
-mod Handed
 mod Having

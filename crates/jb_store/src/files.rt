@@ -1,10 +1,12 @@
 //! The list of two files, or of those at a path, and a connection to these.
 
-ghost use Rattle.std.specs.Prelude.{◌≡◌, map, IfOk, IsTrue};
+ghost use Rattle.std.specs.Prelude.{◌≡◌, map, IfErr, IfOk, IsTrue};
 ghost use Rattle.jb_checkpoint_table.specs.Checkpoints.{Has, ShowsList};
 ghost use Rattle.jb_checkpoint.specs.Checkpoints.{kept};
 ghost use Rattle.jb_checkpoint_table.specs.Connections.{IsJustOpened, Keeps};
+ghost use Rattle.jb_checkpoint_table.specs.Errors.{refusal_named};
 ghost use Rattle.jb_store.specs.Files.{HoldsWhole};
+ghost use Rattle.sqlite.specs.declared.error.Error.{Error as SqlError};
 ghost use Rattle.sqlite.specs.Files.{HoldsDatabase, file_state, image_of};
 ghost use Rattle.sqlite.specs.State.{HasCleanDisk};
 ghost use Rattle.sqlite_trees.specs.Tree.{Trees};
@@ -65,7 +67,7 @@ pub fn open_files<D: Disk + Drop>(
 }
 
 /// A connection to the file at a path, which is made where there is none, and to its log beside it. Its list isn't taken yet, and no
-/// table is made. A second process gets `Busy`.
+/// table is made; so it is refused by no name of a list's. A second process gets `Busy`.
 pub fn connect<S: Start>(
     rt: &HostRuntime,
     path: &str,
@@ -73,6 +75,7 @@ pub fn connect<S: Start>(
 ) -> Result<Connection<FileStore<FileFrom<S>>>, StoreError>
     ensures opened { IfOk result (λ conn. HasCleanDisk (file_state conn) → IsJustOpened (file_state conn)) }
     ensures found { IfOk result (λ conn. HasCleanDisk (file_state conn) → (db : _) (all : _) → HoldsDatabase (image_at S.Start) db → Has db all → ShowsList (file_state conn).now all) }
+    ensures named { IfErr result (λ e. (why : SqlError) × (e ≡ refusal_named why)) }
 {
     match Connection::open_from(rt, path, false, start) {
         Ok(conn) => Ok(conn),

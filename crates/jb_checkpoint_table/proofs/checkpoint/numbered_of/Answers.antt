@@ -5,7 +5,7 @@ use Rattle.sqlite.specs.declared.error.Error.TheVariants.{InvalidColumnIndex, In
 use Rattle.sqlite.specs.declared.error.ErrorCode.TheVariants.{OutOfMemory}
 use Rattle.jb_checkpoint_table.specs.declared.error.StoreError.TheVariants.{Memory, Sql}
 use Rattle.jb_checkpoint_table.specs.Errors.{refusal_named}
-use Rattle.jb_checkpoint_table.proofs.Handed.{handed_on}
+use Rattle.jb_checkpoint.proofs.Handed.{handed_on}
 use Rattle.jb_checkpoint_table.proofs.Rows.{three_are}
 use Rattle.jb_checkpoint_table.proofs.checkpoint.numbered_of.Goals as goal
 
@@ -22,19 +22,19 @@ pub returns-in_err-number-clause-read : goal.returns-in_err-number-clause-read
 returns-in_err-number-clause-read c three = IfOk-from_err c.from_residual.result _ c.from_residual.ensures.0
 
 pub returns-in_err-number-clause-why : goal.returns-in_err-number-clause-why
-returns-in_err-number-clause-why c = handed_on _ c.from_residual.result _ c.from_residual.ensures.1 (unread _ _ _ c.in_err-number.ensures.named)
+returns-in_err-number-clause-why c = handed_on c.from_residual.result _ _ c.from_residual.ensures.1 (unread _ _ _ c.in_err-number.ensures.named)
 
 pub returns-in_err-saved-clause-read : goal.returns-in_err-saved-clause-read
 returns-in_err-saved-clause-read c three = IfOk-from_err c.from_residual-in_err-saved.result _ c.from_residual-in_err-saved.ensures.0
 
 pub returns-in_err-saved-clause-why : goal.returns-in_err-saved-clause-why
-returns-in_err-saved-clause-why c = handed_on _ c.from_residual-in_err-saved.result _ c.from_residual-in_err-saved.ensures.1 (unread _ _ _ c.in_err-saved.ensures.named)
+returns-in_err-saved-clause-why c = handed_on c.from_residual-in_err-saved.result _ _ c.from_residual-in_err-saved.ensures.1 (unread _ _ _ c.in_err-saved.ensures.named)
 
 pub returns-in_err-results-clause-read : goal.returns-in_err-results-clause-read
 returns-in_err-results-clause-read c three = IfOk-from_err c.from_residual-in_err-results.result _ c.from_residual-in_err-results.ensures.0
 
 pub returns-in_err-results-clause-why : goal.returns-in_err-results-clause-why
-returns-in_err-results-clause-why c = handed_on _ c.from_residual-in_err-results.result _ c.from_residual-in_err-results.ensures.1 (unread _ _ _ c.in_err-results.ensures.named)
+returns-in_err-results-clause-why c = handed_on c.from_residual-in_err-results.result _ _ c.from_residual-in_err-results.ensures.1 (unread _ _ _ c.in_err-results.ensures.named)
 
 pub returns-clause-read : goal.returns-clause-read
 returns-clause-read c three =

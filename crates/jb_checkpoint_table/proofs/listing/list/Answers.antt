@@ -13,7 +13,7 @@ use Rattle.jb_checkpoint_table.specs.Form.{checkpoint_schema}
 use Rattle.jb_checkpoint_table.proofs.CausedOpen.{not_read}
 use Rattle.jb_checkpoint_table.proofs.Read.{lists, lists_back, survives, unchanged, wide}
 use Rattle.jb_checkpoint_table.proofs.Texts.{select_text}
-use Rattle.jb_checkpoint_table.proofs.Handed.{handed_on}
+use Rattle.jb_checkpoint.proofs.Handed.{handed_on}
 use Rattle.jb_checkpoint_table.proofs.Rows.{shown_once}
 use Rattle.jb_checkpoint_table.proofs.Opened.{keeps_read}
 use Rattle.jb_checkpoint_table.proofs.listing.list.Goals as goal
@@ -49,7 +49,7 @@ pub returns-in_err-rows-clause-crash : goal.returns-in_err-rows-clause-crash
 returns-in_err-rows-clause-crash g c clean ours = survives (state g.S.Store c.args.conn.now) (state g.S.Store c.query_all.new.self) ours clean c.query_all.ensures.survives
 
 pub returns-in_err-rows-clause-cause : goal.returns-in_err-rows-clause-cause
-returns-in_err-rows-clause-cause g c clean ours = handed_on _ c.from_residual.result _ c.from_residual.ensures.1 (inr (not_read (state g.S.Store c.args.conn.now) (state g.S.Store c.query_all.new.self) ours c.in_err-rows.field-0.0 (c.in_err-rows.ensures.err clean)))
+returns-in_err-rows-clause-cause g c clean ours = handed_on c.from_residual.result _ _ c.from_residual.ensures.1 (inr (not_read (state g.S.Store c.args.conn.now) (state g.S.Store c.query_all.new.self) ours c.in_err-rows.field-0.0 (c.in_err-rows.ensures.err clean)))
 
 pub returns-in_err-rows-clause-counts : goal.returns-in_err-rows-clause-counts
 returns-in_err-rows-clause-counts g c = c.query_all.ensures.survives.counts

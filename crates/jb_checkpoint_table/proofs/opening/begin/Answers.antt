@@ -15,7 +15,7 @@ use Rattle.jb_checkpoint_table.specs.Checkpoints.{AreIn, HoldsList}
 use Rattle.jb_checkpoint_table.specs.Connections.{Keeps, IsJustOpened}
 use Rattle.jb_checkpoint_table.proofs.Opened.{is_left, is_sound, keeps_found, apart, shows_now, has_left}
 use Rattle.jb_checkpoint_table.proofs.CausedOpen.{later_fault}
-use Rattle.jb_checkpoint_table.proofs.Handed.{handed_is, handed_on}
+use Rattle.jb_checkpoint.proofs.Handed.{handed_is, handed_on}
 use Rattle.jb_checkpoint_table.proofs.opening.begin.Goals as goal
 
 -- what holds of an answer that was given
@@ -285,7 +285,7 @@ returns-in-Some-clause-left g c clean opened all shows db may = has_left (found 
 
 module _ (g : _) (c : goal.After-from_residual g) where
   named_on : (P : StoreError → Type 0) → P c.in_err-make.field-0.0 → IfErr c.from_residual.result P
-  named_on P holds = handed_on P c.from_residual.result _ c.from_residual.ensures.1 holds
+  named_on P holds = handed_on c.from_residual.result _ P c.from_residual.ensures.1 holds
 
   -- the error is of no list
   other : (e : StoreError) → IsOfTheList e → c.from_residual.result ≡ Err e → ⊥

@@ -4,7 +4,7 @@ use Rattle.sqlite.specs.Held.{state}
 use Rattle.jb_checkpoint_table.specs.Form.{no_schema}
 use Rattle.jb_checkpoint_table.proofs.Written.{made, made_survives}
 use Rattle.jb_checkpoint_table.proofs.CausedOpen.{not_made}
-use Rattle.jb_checkpoint_table.proofs.Handed.{handed_on}
+use Rattle.jb_checkpoint.proofs.Handed.{handed_on}
 use Rattle.jb_checkpoint_table.proofs.opening.make.Goals as goal
 
 -- ---- the statement failed
@@ -26,7 +26,7 @@ pub returns-in_err-execute-clause-crash : goal.returns-in_err-execute-clause-cra
 returns-in_err-execute-clause-crash g c clean has = made_survives (state g.S.Store c.args.conn.now) (state g.S.Store c.execute.new.self) has clean c.execute.ensures.survives
 
 pub returns-in_err-execute-clause-cause : goal.returns-in_err-execute-clause-cause
-returns-in_err-execute-clause-cause g c clean = handed_on _ c.from_residual.result _ c.from_residual.ensures.1 (not_made (state g.S.Store c.args.conn.now) (state g.S.Store c.execute.new.self) (blank g c) (Err c.in_err-execute.field-0.0) (c.in_err-execute.ensures.runs clean))
+returns-in_err-execute-clause-cause g c clean = handed_on c.from_residual.result _ _ c.from_residual.ensures.1 (not_made (state g.S.Store c.args.conn.now) (state g.S.Store c.execute.new.self) (blank g c) (Err c.in_err-execute.field-0.0) (c.in_err-execute.ensures.runs clean))
 
 pub returns-in_err-execute-clause-counts : goal.returns-in_err-execute-clause-counts
 returns-in_err-execute-clause-counts g c = c.execute.ensures.survives.counts

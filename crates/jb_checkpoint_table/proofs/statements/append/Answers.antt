@@ -4,7 +4,7 @@ use Rattle.sqlite.specs.Held.{state}
 use Rattle.jb_checkpoint.specs.Checkpoints.{Kept}
 use Rattle.jb_checkpoint_table.proofs.Written.{appended, failed, survived}
 use Rattle.jb_checkpoint_table.proofs.Caused.{causes}
-use Rattle.jb_checkpoint_table.proofs.Handed.{at_err, handed_on}
+use Rattle.jb_checkpoint.proofs.Handed.{handed_on, on_err}
 use Rattle.jb_checkpoint_table.proofs.statements.append.Goals as goal
 
 -- ---- the statement failed
@@ -15,13 +15,13 @@ returns-in_err-execute-clause-added g c clean all keeps at = IfOk-from_err c.fro
 pub returns-in_err-execute-clause-kept : goal.returns-in_err-execute-clause-kept
 returns-in_err-execute-clause-kept g c clean all keeps =
     let it : Kept = record { saved = c.args.saved.now; results = c.args.results.now } in
-    at_err c.from_residual.result (failed (state g.S.Store c.args.conn.now) (state g.S.Store c.execute.new.self) (g.met.S.Store.settled c.execute.new.self.store) all it c.args.number (Err c.in_err-execute.field-0.0) keeps
+    on_err c.from_residual.result _ (failed (state g.S.Store c.args.conn.now) (state g.S.Store c.execute.new.self) (g.met.S.Store.settled c.execute.new.self.store) all it c.args.number (Err c.in_err-execute.field-0.0) keeps
     (g.met.S.Store.stays c.args.conn.now.store) (rw (c.params-to_sql.ensures, c.params-to_sql-2.ensures, c.params-to_sql-3.ensures) at (c.in_err-execute.ensures.runs clean)))
 
 pub returns-in_err-execute-clause-cause : goal.returns-in_err-execute-clause-cause
 returns-in_err-execute-clause-cause g c clean all keeps =
     let it : Kept = record { saved = c.args.saved.now; results = c.args.results.now } in
-    handed_on _ c.from_residual.result _ c.from_residual.ensures.1 (causes (state g.S.Store c.args.conn.now) (state g.S.Store c.execute.new.self) all keeps.shows it c.args.number (Err c.in_err-execute.field-0.0)
+    handed_on c.from_residual.result _ _ c.from_residual.ensures.1 (causes (state g.S.Store c.args.conn.now) (state g.S.Store c.execute.new.self) all keeps.shows it c.args.number (Err c.in_err-execute.field-0.0)
     (rw (c.params-to_sql.ensures, c.params-to_sql-2.ensures, c.params-to_sql-3.ensures) at (c.in_err-execute.ensures.runs clean)))
 
 pub returns-in_err-execute-clause-shut : goal.returns-in_err-execute-clause-shut

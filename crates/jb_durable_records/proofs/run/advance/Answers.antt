@@ -1,10 +1,12 @@
 use Rattle.std.proofs.Common.{◌++◌, inl, inr, [], ◌∷◌, ap, arith, le_refl, refl, sym, true≢false, ◌+◌}
+use Rattle.std.proofs.lemmas.Result.{IfOk-from_err}
 use Rattle.sqlite.specs.Held.{state}
 use Rattle.jb_checkpoint.specs.Checkpoints.{kept}
 use Rattle.jb_durable_records.specs.Refusals.{named}
 use Rattle.jb_durable_records.specs.declared.error.DurableError.TheVariants.{Store}
 use Rattle.jb_durable_records.proofs.Causing.{many_of_a_stretch, of_a_stretch, store_of_a_stretch, stretch_gone}
-use Rattle.jb_durable_records.proofs.Ending.{handed_on, no_end, none_is_some}
+use Rattle.jb_durable_records.proofs.Ending.{none_is_some}
+use Rattle.jb_checkpoint.proofs.Handed.{handed_on}
 use Rattle.jb_durable_records.proofs.Filing.{untaken}
 use Rattle.jb_durable_records.proofs.Resting.{rests_on, rests_safe}
 use Rattle.jb_durable_records.proofs.run.advance.Goals as goal
@@ -12,7 +14,7 @@ use Rattle.jb_durable_records.proofs.run.advance.Goals as goal
 -- ---- the stretch broke off
 
 pub returns-in_err-place-clause-kept : goal.returns-in_err-place-clause-kept
-returns-in_err-place-clause-kept g c clean f step records all at = no_end c.from_residual.result _ _ c.from_residual.ensures.1
+returns-in_err-place-clause-kept g c clean f step records all at = IfOk-from_err c.from_residual.result _ c.from_residual.ensures.0
 
 pub returns-in_err-place-clause-own : goal.returns-in_err-place-clause-own
 returns-in_err-place-clause-own g c =
@@ -26,10 +28,10 @@ returns-in_err-place-clause-cause g c clean f step records all at =
     (stretch_gone f step records (state g.S.Store c.args.conn.now) (state g.S.Store c.args.conn.now) e (c.in_err-place.ensures.why f step records all at.place))
 
 pub returns-in_err-place-clause-counted : goal.returns-in_err-place-clause-counted
-returns-in_err-place-clause-counted g c = no_end c.from_residual.result _ _ c.from_residual.ensures.1
+returns-in_err-place-clause-counted g c = IfOk-from_err c.from_residual.result _ c.from_residual.ensures.0
 
 pub returns-in_err-place-clause-settled : goal.returns-in_err-place-clause-settled
-returns-in_err-place-clause-settled g c = no_end c.from_residual.result _ _ c.from_residual.ensures.1
+returns-in_err-place-clause-settled g c = IfOk-from_err c.from_residual.result _ c.from_residual.ensures.0
 
 pub returns-in_err-place-clause-counts : goal.returns-in_err-place-clause-counts
 returns-in_err-place-clause-counts g c = le_refl _
@@ -38,10 +40,10 @@ pub returns-in_err-place-clause-shut : goal.returns-in_err-place-clause-shut
 returns-in_err-place-clause-shut g c clean was = inl was
 
 pub returns-in_err-place-clause-whole : goal.returns-in_err-place-clause-whole
-returns-in_err-place-clause-whole g c = no_end c.from_residual.result _ _ c.from_residual.ensures.1
+returns-in_err-place-clause-whole g c = IfOk-from_err c.from_residual.result _ c.from_residual.ensures.0
 
 pub returns-in_err-place-clause-told : goal.returns-in_err-place-clause-told
-returns-in_err-place-clause-told g c told = no_end c.from_residual.result _ _ c.from_residual.ensures.1
+returns-in_err-place-clause-told g c told = IfOk-from_err c.from_residual.result _ c.from_residual.ensures.0
 
 pub returns-in_err-place-clause-again : goal.returns-in_err-place-clause-again
 returns-in_err-place-clause-again g c done = absurd (c.in_err-place.ensures.again done)
@@ -113,7 +115,7 @@ returns-then-count-eq4294967295-clause-crash g c clean f step records all at = r
 -- ---- the database doesn't take it
 
 pub returns-in_err-append-clause-kept : goal.returns-in_err-append-clause-kept
-returns-in_err-append-clause-kept g c clean f step records all at = no_end c.from_residual-in_err-append.result _ _ c.from_residual-in_err-append.ensures.1
+returns-in_err-append-clause-kept g c clean f step records all at = IfOk-from_err c.from_residual-in_err-append.result _ c.from_residual-in_err-append.ensures.0
 
 pub returns-in_err-append-clause-own : goal.returns-in_err-append-clause-own
 returns-in_err-append-clause-own g c =
@@ -129,10 +131,10 @@ returns-in_err-append-clause-cause g c clean f step records all at =
     (untaken f step records (state g.S.Store c.args.conn.now) (state g.S.Store c.append.new.conn) all (kept c.in-Some.next) _ (ap (λ n. n + 1) at.number) on.0 e cause)
 
 pub returns-in_err-append-clause-counted : goal.returns-in_err-append-clause-counted
-returns-in_err-append-clause-counted g c = no_end c.from_residual-in_err-append.result _ _ c.from_residual-in_err-append.ensures.1
+returns-in_err-append-clause-counted g c = IfOk-from_err c.from_residual-in_err-append.result _ c.from_residual-in_err-append.ensures.0
 
 pub returns-in_err-append-clause-settled : goal.returns-in_err-append-clause-settled
-returns-in_err-append-clause-settled g c = no_end c.from_residual-in_err-append.result _ _ c.from_residual-in_err-append.ensures.1
+returns-in_err-append-clause-settled g c = IfOk-from_err c.from_residual-in_err-append.result _ c.from_residual-in_err-append.ensures.0
 
 pub returns-in_err-append-clause-counts : goal.returns-in_err-append-clause-counts
 returns-in_err-append-clause-counts g c = c.append.ensures.counts
@@ -141,10 +143,10 @@ pub returns-in_err-append-clause-shut : goal.returns-in_err-append-clause-shut
 returns-in_err-append-clause-shut g c = c.append.ensures.shut
 
 pub returns-in_err-append-clause-whole : goal.returns-in_err-append-clause-whole
-returns-in_err-append-clause-whole g c = no_end c.from_residual-in_err-append.result _ _ c.from_residual-in_err-append.ensures.1
+returns-in_err-append-clause-whole g c = IfOk-from_err c.from_residual-in_err-append.result _ c.from_residual-in_err-append.ensures.0
 
 pub returns-in_err-append-clause-told : goal.returns-in_err-append-clause-told
-returns-in_err-append-clause-told g c told = no_end c.from_residual-in_err-append.result _ _ c.from_residual-in_err-append.ensures.1
+returns-in_err-append-clause-told g c told = IfOk-from_err c.from_residual-in_err-append.result _ c.from_residual-in_err-append.ensures.0
 
 pub returns-in_err-append-clause-again : goal.returns-in_err-append-clause-again
 returns-in_err-append-clause-again g c done = absurd (none_is_some _ c.in-Some.next c.in-Some.is (c.in_ok-place.ensures.again done))

@@ -1,7 +1,9 @@
 use Rattle.std.proofs.Common.{◌∙◌, arith, inl, le_trans, sym, true≢false}
+use Rattle.std.proofs.lemmas.Result.{IfOk-from_err}
 use Rattle.sqlite.specs.Held.{state}
-use Rattle.jb_durable_records.proofs.Clean.{clean_before}
-use Rattle.jb_durable_records.proofs.Ending.{handed_on, match_ok, no_end}
+use Rattle.jb_durable.proofs.Clean.{clean_before}
+use Rattle.jb_durable_records.proofs.Ending.{match_ok}
+use Rattle.jb_checkpoint.proofs.Handed.{handed_on}
 use Rattle.jb_durable_records.proofs.Causing.{gone_since}
 use Rattle.jb_durable_records.proofs.Filing.{open_since}
 use Rattle.jb_durable_records.proofs.run.run.Goals as goal
@@ -67,7 +69,7 @@ returns-in_err-next-clause-cause g c clean f step over all at =
     c.stretches.invariant.counts c.advance.ensures.counts (c.stretches.invariant.shut early) e (c.in_err-next.ensures.cause clean f step over now.0 now.1))
 
 pub returns-in_err-next-clause-kept : goal.returns-in_err-next-clause-kept
-returns-in_err-next-clause-kept g c clean f step over all at = no_end c.from_residual.result _ _ c.from_residual.ensures.1
+returns-in_err-next-clause-kept g c clean f step over all at = IfOk-from_err c.from_residual.result _ c.from_residual.ensures.0
 
 pub returns-in_err-next-clause-own : goal.returns-in_err-next-clause-own
 returns-in_err-next-clause-own g c = handed_on c.from_residual.result c.in_err-next.field-0.0 _ c.from_residual.ensures.1 c.in_err-next.ensures.own
@@ -76,16 +78,16 @@ pub returns-in_err-next-clause-counts : goal.returns-in_err-next-clause-counts
 returns-in_err-next-clause-counts g c = le_trans c.stretches.invariant.counts c.advance.ensures.counts
 
 pub returns-in_err-next-clause-settled : goal.returns-in_err-next-clause-settled
-returns-in_err-next-clause-settled g c = no_end c.from_residual.result _ _ c.from_residual.ensures.1
+returns-in_err-next-clause-settled g c = IfOk-from_err c.from_residual.result _ c.from_residual.ensures.0
 
 pub returns-in_err-next-clause-whole : goal.returns-in_err-next-clause-whole
-returns-in_err-next-clause-whole g c = no_end c.from_residual.result _ _ c.from_residual.ensures.1
+returns-in_err-next-clause-whole g c = IfOk-from_err c.from_residual.result _ c.from_residual.ensures.0
 
 pub returns-in_err-next-clause-told : goal.returns-in_err-next-clause-told
-returns-in_err-next-clause-told g c told = no_end c.from_residual.result _ _ c.from_residual.ensures.1
+returns-in_err-next-clause-told g c told = IfOk-from_err c.from_residual.result _ c.from_residual.ensures.0
 
 pub returns-in_err-next-clause-failed : goal.returns-in_err-next-clause-failed
-returns-in_err-next-clause-failed g c = no_end c.from_residual.result _ _ c.from_residual.ensures.1
+returns-in_err-next-clause-failed g c = IfOk-from_err c.from_residual.result _ c.from_residual.ensures.0
 
 pub returns-in_err-next-clause-again : goal.returns-in_err-next-clause-again
 returns-in_err-next-clause-again g c done some = absurd ((c.in_err-next.ensures.again (c.stretches.invariant.again done).1).0)

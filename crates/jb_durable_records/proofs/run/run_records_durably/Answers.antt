@@ -1,7 +1,7 @@
 use Rattle.std.proofs.Common.{ℕ, ◌≡◌, List, sym, subst, ap, ◌∙◌, arith, le_trans, lit≤}
 use Rattle.jb_checkpoint_table.specs.Connections.{Keeps}
 use Rattle.std.specs.Arc.{arc_value}
-use Rattle.std.proofs.lemmas.Result.{IfOk-weaker}
+use Rattle.std.proofs.lemmas.Result.{IfOk-from_err, IfOk-weaker}
 use Rattle.sqlite.specs.Held.{state}
 use Rattle.jb_rules.specs.declared.row.Row.{Row}
 use Rattle.jb_records.specs.Function.{all_results}
@@ -11,8 +11,9 @@ use Rattle.jb_records_checkpoints.specs.Checkpoints.{IsRunSoFar, IsWholeRun}
 use Rattle.jb_durable_records.specs.declared.error.DurableError.{DurableError}
 use Rattle.jb_durable_records.specs.Refusals.{IsCauseOfNoEnd}
 use Rattle.jb_durable_records.proofs.Causing.{gone_ends, taken_ends}
-use Rattle.jb_durable_records.proofs.Clean.{clean_before}
-use Rattle.jb_durable_records.proofs.Ending.{both_ok, ended_so, err_to, handed_on, match_ok, no_end, on_ok, told_again}
+use Rattle.jb_durable.proofs.Clean.{clean_before}
+use Rattle.jb_durable_records.proofs.Ending.{both_ok, ended_so, err_to, match_ok, told_again}
+use Rattle.jb_checkpoint.proofs.Handed.{handed_on, on_ok}
 use Rattle.jb_durable_records.proofs.run.run_records_durably.Goals as goal
 
 -- ---- the run is not taken up
@@ -38,22 +39,22 @@ returns-in_err-place-clause-cause g c clean opened all shows so =
     (taken_ends (F (arc_value c.in_ok-function.function)) step records c.checkpoints_have_results.ensures.own old new all (subst (λ x. IsRunSoFar (F x) step records all) (sym e) so) why (c.in_err-place.ensures.cause clean opened all shows)))
 
 pub returns-in_err-place-clause-all : goal.returns-in_err-place-clause-all
-returns-in_err-place-clause-all g c clean opened all shows so = no_end c.from_residual-in_err-place.result _ _ c.from_residual-in_err-place.ensures.1
+returns-in_err-place-clause-all g c clean opened all shows so = IfOk-from_err c.from_residual-in_err-place.result _ c.from_residual-in_err-place.ensures.0
 
 pub returns-in_err-place-clause-kept : goal.returns-in_err-place-clause-kept
-returns-in_err-place-clause-kept g c clean opened all shows so = no_end c.from_residual-in_err-place.result _ _ c.from_residual-in_err-place.ensures.1
+returns-in_err-place-clause-kept g c clean opened all shows so = IfOk-from_err c.from_residual-in_err-place.result _ c.from_residual-in_err-place.ensures.0
 
 pub returns-in_err-place-clause-so_far : goal.returns-in_err-place-clause-so_far
-returns-in_err-place-clause-so_far g c clean opened all shows so = no_end c.from_residual-in_err-place.result _ _ c.from_residual-in_err-place.ensures.1
+returns-in_err-place-clause-so_far g c clean opened all shows so = IfOk-from_err c.from_residual-in_err-place.result _ c.from_residual-in_err-place.ensures.0
 
 pub returns-in_err-place-clause-status : goal.returns-in_err-place-clause-status
-returns-in_err-place-clause-status g c = no_end c.from_residual-in_err-place.result _ _ c.from_residual-in_err-place.ensures.1
+returns-in_err-place-clause-status g c = IfOk-from_err c.from_residual-in_err-place.result _ c.from_residual-in_err-place.ensures.0
 
 pub returns-in_err-place-clause-told : goal.returns-in_err-place-clause-told
-returns-in_err-place-clause-told g c = no_end c.from_residual-in_err-place.result _ _ c.from_residual-in_err-place.ensures.1
+returns-in_err-place-clause-told g c = IfOk-from_err c.from_residual-in_err-place.result _ c.from_residual-in_err-place.ensures.0
 
 pub returns-in_err-place-clause-again : goal.returns-in_err-place-clause-again
-returns-in_err-place-clause-again g c clean opened all shows whole = no_end c.from_residual-in_err-place.result _ _ c.from_residual-in_err-place.ensures.1
+returns-in_err-place-clause-again g c clean opened all shows whole = IfOk-from_err c.from_residual-in_err-place.result _ c.from_residual-in_err-place.ensures.0
 
 pub returns-in_err-place-clause-untouched : goal.returns-in_err-place-clause-untouched
 returns-in_err-place-clause-untouched g c clean opened all shows whole db may = c.taken_from.ensures.left clean opened all shows db may
@@ -99,22 +100,22 @@ returns-in_err-place-2-clause-cause g c clean opened all shows so =
     (gone_ends (F own) step records old mid new c.taken_from.ensures.counts c.run.ensures.counts (c.taken_from.ensures.shut early) all why (c.in_err-place-2.ensures.cause clean (F own) step records all rest)))
 
 pub returns-in_err-place-2-clause-all : goal.returns-in_err-place-2-clause-all
-returns-in_err-place-2-clause-all g c clean opened all shows so = no_end c.from_residual-in_err-place-2.result _ _ c.from_residual-in_err-place-2.ensures.1
+returns-in_err-place-2-clause-all g c clean opened all shows so = IfOk-from_err c.from_residual-in_err-place-2.result _ c.from_residual-in_err-place-2.ensures.0
 
 pub returns-in_err-place-2-clause-kept : goal.returns-in_err-place-2-clause-kept
-returns-in_err-place-2-clause-kept g c clean opened all shows so = no_end c.from_residual-in_err-place-2.result _ _ c.from_residual-in_err-place-2.ensures.1
+returns-in_err-place-2-clause-kept g c clean opened all shows so = IfOk-from_err c.from_residual-in_err-place-2.result _ c.from_residual-in_err-place-2.ensures.0
 
 pub returns-in_err-place-2-clause-so_far : goal.returns-in_err-place-2-clause-so_far
-returns-in_err-place-2-clause-so_far g c clean opened all shows so = no_end c.from_residual-in_err-place-2.result _ _ c.from_residual-in_err-place-2.ensures.1
+returns-in_err-place-2-clause-so_far g c clean opened all shows so = IfOk-from_err c.from_residual-in_err-place-2.result _ c.from_residual-in_err-place-2.ensures.0
 
 pub returns-in_err-place-2-clause-status : goal.returns-in_err-place-2-clause-status
-returns-in_err-place-2-clause-status g c = no_end c.from_residual-in_err-place-2.result _ _ c.from_residual-in_err-place-2.ensures.1
+returns-in_err-place-2-clause-status g c = IfOk-from_err c.from_residual-in_err-place-2.result _ c.from_residual-in_err-place-2.ensures.0
 
 pub returns-in_err-place-2-clause-told : goal.returns-in_err-place-2-clause-told
-returns-in_err-place-2-clause-told g c = no_end c.from_residual-in_err-place-2.result _ _ c.from_residual-in_err-place-2.ensures.1
+returns-in_err-place-2-clause-told g c = IfOk-from_err c.from_residual-in_err-place-2.result _ c.from_residual-in_err-place-2.ensures.0
 
 pub returns-in_err-place-2-clause-again : goal.returns-in_err-place-2-clause-again
-returns-in_err-place-2-clause-again g c clean opened all shows whole = no_end c.from_residual-in_err-place-2.result _ _ c.from_residual-in_err-place-2.ensures.1
+returns-in_err-place-2-clause-again g c clean opened all shows whole = IfOk-from_err c.from_residual-in_err-place-2.result _ c.from_residual-in_err-place-2.ensures.0
 
 pub returns-in_err-place-2-clause-other_job : goal.returns-in_err-place-2-clause-other_job
 returns-in_err-place-2-clause-other_job g c clean opened all shows = handed_on c.from_residual-in_err-place-2.result c.in_err-place-2.field-0.0 _ c.from_residual-in_err-place-2.ensures.1 (λ is. absurd (c.in_err-place-2.ensures.own.0 is))

@@ -1,4 +1,5 @@
 use Rattle.std.proofs.Common.{◌≡◌, IfErr, List, length, map, sym, subst, ap, ◌∙◌, rules}
+use Rattle.std.proofs.lemmas.Result.{IfOk-from_err}
 use Rattle.std.specs.Arc.{arc_value}
 use Rattle.std.proofs.lemmas.List.{length-map}
 use Rattle.sqlite.specs.Held.{state}
@@ -13,7 +14,7 @@ use Rattle.jb_durable_records.specs.Refusals.{IsUntaken, named}
 use Rattle.jb_durable_records.specs.declared.error.DurableError.{DurableError}
 use Rattle.jb_durable_records.specs.declared.error.DurableError.TheVariants.{Damaged, OtherJob, OtherRecords, Store}
 use Rattle.jb_durable_records.proofs.Causing.{untaken_for}
-use Rattle.jb_durable_records.proofs.Ending.{handed_on, no_end}
+use Rattle.jb_checkpoint.proofs.Handed.{handed_on}
 use Rattle.jb_durable_records.proofs.Filing.{unlisted}
 use Rattle.jb_durable_records.proofs.Resting.{rests_behind}
 use Rattle.jb_durable_records.proofs.run.taken_from.Goals as goal
@@ -42,13 +43,13 @@ returns-in_err-done-clause-cause g c clean opened all shows =
 -- ---- the file doesn't list them
 
 pub returns-in_err-done-clause-rests : goal.returns-in_err-done-clause-rests
-returns-in_err-done-clause-rests g c clean opened all shows so = no_end c.from_residual.result _ _ c.from_residual.ensures.1
+returns-in_err-done-clause-rests g c clean opened all shows so = IfOk-from_err c.from_residual.result _ c.from_residual.ensures.0
 
 pub returns-in_err-done-clause-told : goal.returns-in_err-done-clause-told
-returns-in_err-done-clause-told g c = no_end c.from_residual.result _ _ c.from_residual.ensures.1
+returns-in_err-done-clause-told g c = IfOk-from_err c.from_residual.result _ c.from_residual.ensures.0
 
 pub returns-in_err-done-clause-done : goal.returns-in_err-done-clause-done
-returns-in_err-done-clause-done g c clean opened all shows whole = no_end c.from_residual.result _ _ c.from_residual.ensures.1
+returns-in_err-done-clause-done g c clean opened all shows whole = IfOk-from_err c.from_residual.result _ c.from_residual.ensures.0
 
 pub returns-in_err-done-clause-shown : goal.returns-in_err-done-clause-shown
 returns-in_err-done-clause-shown g c = c.begin.ensures.shown
@@ -133,13 +134,13 @@ pub returns-in_err-place-clause-other_records : goal.returns-in_err-place-clause
 returns-in_err-place-clause-other_records g c clean opened all shows = kept_untaken g c clean opened all shows OtherRecords
 
 pub returns-in_err-place-clause-rests : goal.returns-in_err-place-clause-rests
-returns-in_err-place-clause-rests g c clean opened all shows so = no_end c.from_residual-in_err-place.result _ _ c.from_residual-in_err-place.ensures.1
+returns-in_err-place-clause-rests g c clean opened all shows so = IfOk-from_err c.from_residual-in_err-place.result _ c.from_residual-in_err-place.ensures.0
 
 pub returns-in_err-place-clause-told : goal.returns-in_err-place-clause-told
-returns-in_err-place-clause-told g c = no_end c.from_residual-in_err-place.result _ _ c.from_residual-in_err-place.ensures.1
+returns-in_err-place-clause-told g c = IfOk-from_err c.from_residual-in_err-place.result _ c.from_residual-in_err-place.ensures.0
 
 pub returns-in_err-place-clause-done : goal.returns-in_err-place-clause-done
-returns-in_err-place-clause-done g c clean opened all shows whole = no_end c.from_residual-in_err-place.result _ _ c.from_residual-in_err-place.ensures.1
+returns-in_err-place-clause-done g c clean opened all shows whole = IfOk-from_err c.from_residual-in_err-place.result _ c.from_residual-in_err-place.ensures.0
 
 pub returns-in_err-place-clause-shown : goal.returns-in_err-place-clause-shown
 returns-in_err-place-clause-shown g c = c.begin.ensures.shown

@@ -1,7 +1,7 @@
 use Rattle.std.proofs.Common.{[], subst, ap, ◌∙◌, take_all}
 use Rattle.std.proofs.lemmas.Result.{IfOk-from_err}
 use Rattle.jb_records_checkpoints.specs.Coding.{AreCodable, IsCodable, coded, coded_list}
-use Rattle.jb_records_checkpoints.proofs.Handed.{handed}
+use Rattle.jb_checkpoint.proofs.Handed.{handed_on}
 use Rattle.jb_records_checkpoints.proofs.Writing.{all_more, long_why, one_of, written}
 use Rattle.jb_records_checkpoints.proofs.coding.coding_of.Goals as goal
 
@@ -27,7 +27,7 @@ returns-in_err-write_list-clause-fits c = IfOk-from_err c.from_residual.result _
 pub returns-in_err-write_list-clause-why : goal.returns-in_err-write_list-clause-why
 returns-in_err-write_list-clause-why c =
     let list = c.list-item.result in
-    handed c.from_residual.result c.in_err-write_list.field-0.0 _ c.from_residual.ensures.1
+    handed_on c.from_residual.result c.in_err-write_list.field-0.0 _ c.from_residual.ensures.1
     (long_why c.in_err-write_list.field-0.0 _ _ (λ long all. long (one_of c.args.lists.now c.loop-list.list-index list list c.loop-list-test.true c.list-item.is (λ l. IsCodable l) all)) c.in_err-write_list.ensures.why)
 
 pub returns-clause-coded : goal.returns-clause-coded

@@ -3,7 +3,7 @@ use Rattle.std.specs.List.{AllByRecursion}
 use Rattle.std.proofs.lemmas.List.{append-nil}
 use Rattle.std.proofs.lemmas.Result.{IfOk-from_err}
 use Rattle.jb_records_checkpoints.specs.Coding.{coded_string, coded_strings, IsShort}
-use Rattle.jb_records_checkpoints.proofs.Handed.{handed}
+use Rattle.jb_checkpoint.proofs.Handed.{handed_on}
 use Rattle.jb_records_checkpoints.proofs.Writing.{all_more, long_why, not_short, one_of, written}
 use Rattle.jb_records_checkpoints.proofs.coding.write_strings.Goals as goal
 
@@ -31,7 +31,7 @@ pub returns-in_err-write_string-clause-why : goal.returns-in_err-write_string-cl
 returns-in_err-write_string-clause-why c =
     let s = c.at.result.now in
     let within = subst (λ n. c.loop-index.index < n) c.len-index-end.ensures c.loop-index-test.true in
-    handed c.from_residual.result c.in_err-write_string.field-0.0 _ c.from_residual.ensures.1
+    handed_on c.from_residual.result c.in_err-write_string.field-0.0 _ c.from_residual.ensures.1
     (long_why c.in_err-write_string.field-0.0 _ _ (λ long short. not_short s long (one_of c.args.list.now c.loop-index.index [] s within c.at.ensures (λ t. IsShort t) short)) c.in_err-write_string.ensures.why)
 
 pub returns-clause-coded : goal.returns-clause-coded

@@ -6,7 +6,7 @@ use Rattle.sha2.specs.Sha256.{sha256}
 use Rattle.jb_records_checkpoints.specs.Coding.{coded_number, coded_strings, IsShort}
 use Rattle.jb_records_checkpoints.specs.declared.coding.CodingError.TheVariants.{Memory}
 use Rattle.jb_records_checkpoints.proofs.Feeding.{fed_more}
-use Rattle.jb_records_checkpoints.proofs.Handed.{handed}
+use Rattle.jb_checkpoint.proofs.Handed.{handed_on}
 use Rattle.jb_records_checkpoints.proofs.Writing.{all_more, long_why, not_short, one_of}
 use Rattle.jb_records_checkpoints.proofs.digest.digest_of.Goals as goal
 
@@ -22,13 +22,13 @@ loop-index-preserved c =
     let s = c.at.result.now in
     let within : i < length list = subst (λ (n : ℕ). i < n) c.len-index-end.ensures c.loop-index-test.true in
     let so = c.loop-index.invariant.fed in
-    let handed = c.hand_on.ensures so.0 so.1 in
+    let handed_on = c.hand_on.ensures so.0 so.1 in
     record {
       fed = (
-        handed.0,
-        handed.1,
-        fed_more list i s (coded_number (length list)) so.0 c.loop-index.piece.items c.write_string.new.out.items handed.0 c.hand_on.new.piece.items within c.at.ensures so.2
-            c.in_ok-write_string.ensures.coded handed.2,
+        handed_on.0,
+        handed_on.1,
+        fed_more list i s (coded_number (length list)) so.0 c.loop-index.piece.items c.write_string.new.out.items handed_on.0 c.hand_on.new.piece.items within c.at.ensures so.2
+            c.in_ok-write_string.ensures.coded handed_on.2,
       );
       fits = all_more list i [] s within c.at.ensures (λ t. IsShort t) c.loop-index.invariant.fits c.in_ok-write_string.ensures.fits;
     }
@@ -70,16 +70,16 @@ pub returns-in_err-write_string-clause-fits : goal.returns-in_err-write_string-c
 returns-in_err-write_string-clause-fits c = IfOk-from_err c.from_residual-in_err-write_string.result _ c.from_residual-in_err-write_string.ensures.0
 
 pub returns-in_err-piece-clause-why : goal.returns-in_err-piece-clause-why
-returns-in_err-piece-clause-why c = handed c.from_residual.result Memory _ c.from_residual.ensures.1 (inl refl)
+returns-in_err-piece-clause-why c = handed_on c.from_residual.result Memory _ c.from_residual.ensures.1 (inl refl)
 
 pub returns-in_err-write_number-clause-why : goal.returns-in_err-write_number-clause-why
 returns-in_err-write_number-clause-why c =
-    handed c.from_residual-in_err-write_number.result c.in_err-write_number.field-0.0 _ c.from_residual-in_err-write_number.ensures.1
+    handed_on c.from_residual-in_err-write_number.result c.in_err-write_number.field-0.0 _ c.from_residual-in_err-write_number.ensures.1
     (long_why c.in_err-write_number.field-0.0 _ _ (λ long codable. not_short c.args.records.now (subst (λ n. 2 ^ 32 ≤ n) c.len.ensures long) codable.few) c.in_err-write_number.ensures.why)
 
 pub returns-in_err-write_string-clause-why : goal.returns-in_err-write_string-clause-why
 returns-in_err-write_string-clause-why c =
     let s = c.at.result.now in
     let within = subst (λ n. c.loop-index.index < n) c.len-index-end.ensures c.loop-index-test.true in
-    handed c.from_residual-in_err-write_string.result c.in_err-write_string.field-0.0 _ c.from_residual-in_err-write_string.ensures.1
+    handed_on c.from_residual-in_err-write_string.result c.in_err-write_string.field-0.0 _ c.from_residual-in_err-write_string.ensures.1
     (long_why c.in_err-write_string.field-0.0 _ _ (λ long codable. not_short s long (one_of c.args.records.now c.loop-index.index [] s within c.at.ensures (λ t. IsShort t) codable.short)) c.in_err-write_string.ensures.why)

@@ -5,7 +5,7 @@ use Rattle.jb_records_checkpoints.specs.Refusals.{IsStretchCause, named}
 use Rattle.jb_records_checkpoints.specs.declared.error.CheckpointError.TheVariants.{Step}
 use Rattle.jb_records_checkpoints.proofs.Behind.{one_stretch, whole_before}
 use Rattle.jb_records_checkpoints.proofs.Causing.{no_coding}
-use Rattle.jb_records_checkpoints.proofs.Handed.{handed}
+use Rattle.jb_checkpoint.proofs.Handed.{handed_on}
 use Rattle.jb_records_checkpoints.proofs.place.stretched.Goals as goal
 
 pub returns-clause-behind : goal.returns-clause-behind
@@ -24,10 +24,10 @@ returns-clause-told g c = record {
 
 pub returns-in_err-run-clause-why : goal.returns-in_err-run-clause-why
 returns-in_err-run-clause-why g c f records over =
-    handed c.from_residual.result (Step c.in_err-run.field-0.0) (IsStretchCause f records) c.from_residual.ensures.1 (c.in_err-run.ensures.why f records over)
+    handed_on c.from_residual.result (Step c.in_err-run.field-0.0) (IsStretchCause f records) c.from_residual.ensures.1 (c.in_err-run.ensures.why f records over)
 
 pub returns-in_err-results-clause-why : goal.returns-in_err-results-clause-why
 returns-in_err-results-clause-why g c f records over =
     let e = c.in_err-results.field-0.0 in
-    handed c.from_residual-in_err-results.result (named e) (IsStretchCause f records) c.from_residual-in_err-results.ensures.1
+    handed_on c.from_residual-in_err-results.result (named e) (IsStretchCause f records) c.from_residual-in_err-results.ensures.1
     (no_coding f records e _ _ c.in_ok-run.stretch.snapshot.rows.items c.in_ok-run.stretch.results.items _ c.deref.ensures.value (c.in_ok-run.ensures.goes_on f records over) c.in_err-results.ensures.why)

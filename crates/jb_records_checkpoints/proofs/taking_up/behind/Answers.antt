@@ -12,7 +12,7 @@ use Rattle.jb_records_checkpoints.specs.declared.error.CheckpointError.TheVarian
 use Rattle.jb_records_checkpoints.specs.Refusals.{IsOfOwn, IsTakenCause}
 use Rattle.jb_records_checkpoints.proofs.Causing.{after_of, given_of, no_rows, own_memory, own_step, unbegun, unread}
 use Rattle.jb_records_checkpoints.proofs.Growing.{split_last}
-use Rattle.jb_records_checkpoints.proofs.Handed.{handed}
+use Rattle.jb_checkpoint.proofs.Handed.{handed_on}
 use Rattle.jb_records_checkpoints.proofs.taking_up.behind.Goals as goal
 
 pub returns-clause-underway : goal.returns-clause-underway
@@ -86,7 +86,7 @@ returns-in_err-held-clause-cause g c first =
     let last = c.args.last.now in
     let e = c.in_err-held.field-0.0 in
     let why = subst (λ (b : List ℕ). IsCause (saved_cause e) (answer_of (tree_of b))) c.as_bytes.ensures.value c.in_err-held.ensures in
-    handed c.from_residual.result (Step (fault.Step e)) (IsTakenCause f step records (first ∷ map kept xs)) c.from_residual.ensures.1
+    handed_on c.from_residual.result (Step (fault.Step e)) (IsTakenCause f step records (first ∷ map kept xs)) c.from_residual.ensures.1
     (unbegun f step records first (map kept (take (length xs - 1) xs)) (kept last) (map kept xs) (split_last xs last c.requires) (fault.Step e)
     (unread step (length records) (string_bytes last.saved) e why))
 
@@ -101,7 +101,7 @@ returns-in_err-results-clause-cause g c first =
     let read : answer_of (tree_of (string_bytes last.saved)) ≡ Ok held = ap (λ (b : List ℕ). answer_of (tree_of b)) (sym c.as_bytes.ensures.value) ∙ c.in_ok-held.ensures in
     let rows : c.in_ok-rows.rows.items ≡ held.rows = c.in_ok-rows.ensures.items ∙ c.rows.ensures.rows in
     let count : c.len.result ≡ length c.in_ok-rows.rows.items = search rules in
-    handed c.from_residual-in_err-results.result e (IsTakenCause f c.args.step.now c.args.records.now (first ∷ later)) c.from_residual-in_err-results.ensures.1
+    handed_on c.from_residual-in_err-results.result e (IsTakenCause f c.args.step.now c.args.records.now (first ∷ later)) c.from_residual-in_err-results.ensures.1
     (no_rows f c.args.step.now c.args.records.now first later e _
     (λ none. record {
       before = map kept (take (length xs - 1) xs);
@@ -130,24 +130,24 @@ returns-in_err-run-clause-cause g c first =
     let count : c.len.result ≡ length c.in_ok-rows.rows.items = search rules in
     let why = subst (λ (b : List ℕ). IsCauseBehind f step records b results e) text c.in_err-run.ensures.why in
     let given = given_of later results c.len.result (string_bytes last.saved) held read (count ∙ ap length rows) c.in_ok-results.ensures.given in
-    handed c.from_residual-in_err-run.result (Step e) (IsTakenCause f step records (first ∷ later)) c.from_residual-in_err-run.ensures.1
+    handed_on c.from_residual-in_err-run.result (Step e) (IsTakenCause f step records (first ∷ later)) c.from_residual-in_err-run.ensures.1
     (unbegun f step records first (map kept (take (length xs - 1) xs)) (kept last) later (split_last xs last c.requires) e (after_of f step records later (string_bytes last.saved) results given e why))
 
 pub returns-in_err-rows-clause-cause : goal.returns-in_err-rows-clause-cause
 returns-in_err-rows-clause-cause g c first =
     let f = g.F.RecordFunction.function (arc_value c.args.function.now) in
-    handed c.from_residual-in_err-rows.result Memory (IsTakenCause f c.args.step.now c.args.records.now (first ∷ map kept c.args.later.now)) c.from_residual-in_err-rows.ensures.1 tt
+    handed_on c.from_residual-in_err-rows.result Memory (IsTakenCause f c.args.step.now c.args.records.now (first ∷ map kept c.args.later.now)) c.from_residual-in_err-rows.ensures.1 tt
 
 -- ---- none of these is a refusal of another run's
 
 pub returns-in_err-held-clause-why : goal.returns-in_err-held-clause-why
-returns-in_err-held-clause-why g c = handed c.from_residual.result (Step (fault.Step c.in_err-held.field-0.0)) IsOfOwn c.from_residual.ensures.1 (own_step (fault.Step c.in_err-held.field-0.0))
+returns-in_err-held-clause-why g c = handed_on c.from_residual.result (Step (fault.Step c.in_err-held.field-0.0)) IsOfOwn c.from_residual.ensures.1 (own_step (fault.Step c.in_err-held.field-0.0))
 
 pub returns-in_err-rows-clause-why : goal.returns-in_err-rows-clause-why
-returns-in_err-rows-clause-why g c = handed c.from_residual-in_err-rows.result Memory IsOfOwn c.from_residual-in_err-rows.ensures.1 own_memory
+returns-in_err-rows-clause-why g c = handed_on c.from_residual-in_err-rows.result Memory IsOfOwn c.from_residual-in_err-rows.ensures.1 own_memory
 
 pub returns-in_err-results-clause-why : goal.returns-in_err-results-clause-why
-returns-in_err-results-clause-why g c = handed c.from_residual-in_err-results.result c.in_err-results.field-0.0 IsOfOwn c.from_residual-in_err-results.ensures.1 c.in_err-results.ensures.why
+returns-in_err-results-clause-why g c = handed_on c.from_residual-in_err-results.result c.in_err-results.field-0.0 IsOfOwn c.from_residual-in_err-results.ensures.1 c.in_err-results.ensures.why
 
 pub returns-in_err-run-clause-why : goal.returns-in_err-run-clause-why
-returns-in_err-run-clause-why g c = handed c.from_residual-in_err-run.result (Step c.in_err-run.field-0.0) IsOfOwn c.from_residual-in_err-run.ensures.1 (own_step c.in_err-run.field-0.0)
+returns-in_err-run-clause-why g c = handed_on c.from_residual-in_err-run.result (Step c.in_err-run.field-0.0) IsOfOwn c.from_residual-in_err-run.ensures.1 (own_step c.in_err-run.field-0.0)

@@ -7,7 +7,7 @@ use Rattle.jb_records_checkpoints.specs.declared.place.Stage.TheVariants.{Begun,
 use Rattle.jb_records_checkpoints.specs.Checkpoints.{IsWholeRun}
 use Rattle.jb_records_checkpoints.proofs.Behind.{both_ok, never_whole, no_last, none_done, stands_as, stretches_in, underway_of}
 use Rattle.jb_records_checkpoints.proofs.Causing.{as_job, as_records, first_kept, never_job, never_records, none_kept, none_other, not_other, others_cause, own_cause, own_first}
-use Rattle.jb_records_checkpoints.proofs.Handed.{handed, on_ok}
+use Rattle.jb_checkpoint.proofs.Handed.{handed_on, on_ok}
 use Rattle.jb_records_checkpoints.proofs.taking_up.taken_up.Goals as goal
 
 -- ---- there is no checkpoint of our own
@@ -29,13 +29,13 @@ returns-in_err-own-clause-cause g c =
     let f = g.F.RecordFunction.function (arc_value c.args.function.now) in
     let all = map kept c.args.done.now in
     let e = c.in_err-own.field-0.0 in
-    handed c.from_residual.result e (IsTakenCause f c.args.step.now c.args.records.now all) c.from_residual.ensures.1 (own_cause f c.args.step.now c.args.records.now all e c.in_err-own.ensures.cause)
+    handed_on c.from_residual.result e (IsTakenCause f c.args.step.now c.args.records.now all) c.from_residual.ensures.1 (own_cause f c.args.step.now c.args.records.now all e c.in_err-own.ensures.cause)
 
 pub returns-in_err-own-clause-other_job : goal.returns-in_err-own-clause-other_job
-returns-in_err-own-clause-other_job g c = handed c.from_residual.result c.in_err-own.field-0.0 _ c.from_residual.ensures.1 (λ same. absurd (c.in_err-own.ensures.why.0 same))
+returns-in_err-own-clause-other_job g c = handed_on c.from_residual.result c.in_err-own.field-0.0 _ c.from_residual.ensures.1 (λ same. absurd (c.in_err-own.ensures.why.0 same))
 
 pub returns-in_err-own-clause-other_records : goal.returns-in_err-own-clause-other_records
-returns-in_err-own-clause-other_records g c = handed c.from_residual.result c.in_err-own.field-0.0 _ c.from_residual.ensures.1 (λ same. absurd (c.in_err-own.ensures.why.1 same))
+returns-in_err-own-clause-other_records g c = handed_on c.from_residual.result c.in_err-own.field-0.0 _ c.from_residual.ensures.1 (λ same. absurd (c.in_err-own.ensures.why.1 same))
 
 -- ---- none is kept
 
@@ -90,7 +90,7 @@ returns-in_err-refuse_others-clause-cause g c =
     let f = g.F.RecordFunction.function (arc_value c.args.function.now) in
     let all = map kept c.args.done.now in
     let e = c.in_err-refuse_others.field-0.0 in
-    handed c.from_residual-in_err-refuse_others.result e (IsTakenCause f c.args.step.now c.args.records.now all) c.from_residual-in_err-refuse_others.ensures.1
+    handed_on c.from_residual-in_err-refuse_others.result e (IsTakenCause f c.args.step.now c.args.records.now all) c.from_residual-in_err-refuse_others.ensures.1
     (others_cause f c.args.step.now c.args.records.now all (kept c.in-Some.first.now) (kept c.in_ok-own.own) _ e (ap (map kept) c.in-Some.ensures.cases.0) c.in_ok-own.ensures.of c.in_err-refuse_others.ensures.why)
 
 pub returns-in_err-refuse_others-clause-other_job : goal.returns-in_err-refuse_others-clause-other_job

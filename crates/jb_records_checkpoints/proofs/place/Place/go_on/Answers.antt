@@ -3,7 +3,7 @@ use Rattle.std.proofs.lemmas.Result.{IfOk-from_err}
 use Rattle.jb_checkpoint.specs.Checkpoints.{kept}
 use Rattle.jb_records_checkpoints.specs.declared.place.Stage.TheVariants.{Begun, Blank, Underway}
 use Rattle.jb_records_checkpoints.proofs.Behind.{begun_apart, blank_apart, first_kept, never_none, next_kept, stands_as, whole_underway}
-use Rattle.jb_records_checkpoints.proofs.Handed.{handed}
+use Rattle.jb_checkpoint.proofs.Handed.{handed_on}
 use Rattle.jb_records_checkpoints.proofs.Having.{stands_over}
 use Rattle.jb_records_checkpoints.proofs.place.Place.go_on.Goals as goal
 use Rattle.jb_records_checkpoints.proofs.place.Place.go_on.Goals.{in_default-via-in-Underway+else-is_done, in_default-via-in_default}
@@ -97,11 +97,11 @@ pub returns-in_err-place-in_default-clause-on : goal.returns-in_err-place-in_def
 returns-in_err-place-in_default-clause-on g c f step records all at = IfOk-from_err c.from_residual.result _ c.from_residual.ensures.0
 
 pub returns-in_err-place-in_default-clause-own : goal.returns-in_err-place-in_default-clause-own
-returns-in_err-place-in_default-clause-own g c = handed c.from_residual.result c.in_err-place-in_default.field-0.0 _ c.from_residual.ensures.1 c.in_err-place-in_default.ensures.own
+returns-in_err-place-in_default-clause-own g c = handed_on c.from_residual.result c.in_err-place-in_default.field-0.0 _ c.from_residual.ensures.1 c.in_err-place-in_default.ensures.own
 
 pub returns-in_err-place-in_default-clause-why : goal.returns-in_err-place-in_default-clause-why
 returns-in_err-place-in_default-clause-why g c f step records all at =
-    handed c.from_residual.result c.in_err-place-in_default.field-0.0 _ c.from_residual.ensures.1
+    handed_on c.from_residual.result c.in_err-place-in_default.field-0.0 _ c.from_residual.ensures.1
     (c.in_err-place-in_default.ensures.why f records (stands_over f step records c.args.self.stage _ c.args.self.rows.items all at))
 
 pub returns-in_err-place-in_default-clause-whole : goal.returns-in_err-place-in_default-clause-whole
