@@ -25,7 +25,7 @@ use Rattle.jb_chunk.specs.declared.outcome.Outcome.TheVariants.{Committed, Rolle
 use Rattle.jb_chunk.proofs.SettlingRecord.{numbers-split}
 use Rattle.jb_step.specs.Alone.{AreOnTheWay}
 use Rattle.jb_step.specs.Answers.{IsRunOfStep, StepRun, tasks_after, tasks_before}
-use Rattle.jb_step.specs.rounds.PlanLaws.{AreTasksOf, BeginsWithRows, BeginsWithTable}
+use Rattle.jb_step.specs.rounds.PlanLaws.{AreTasksOf, BeginsWithRows, BeginsWithTasks}
 use Rattle.jb_step.specs.preparing.Prepare.{DoFit}
 use Rattle.jb_step.specs.preparing.Setup.{IsSetup, Setup, first_tasks, fresh_rows, row_now, rows_now, unfinished}
 use Rattle.jb_records.specs.Function.{Function}
@@ -184,7 +184,7 @@ rows-stay : (f : Function) (records : List (List ℕ)) (ts now : List TaskState)
 rows-stay f records ts now k [] stay are = tt
 rows-stay f records ts now k (row ∷ rows) stay are = (stay k row are.0, rows-stay f records ts now (k + 1) rows stay are.1)
 
-pub skips-counted : TasksStandAtCheckpoints → WaysJoin → RepeatsAreRetries → ResultsGoOn → PartsStay → BeginsWithTable → BeginsWithRows → SkipsAreCounted
+pub skips-counted : TasksStandAtCheckpoints → WaysJoin → RepeatsAreRetries → ResultsGoOn → PartsStay → BeginsWithTasks → BeginsWithRows → SkipsAreCounted
 skips-counted stand join law goes parts begins same f records shares s artifacts ends is fit are ways so-far counted =
     let ready = (begins s artifacts is fit).tasks in
     let ts = first_tasks s artifacts in

@@ -21,7 +21,7 @@ use Rattle.jb_collect.specs.Taken.{Taken, since, well}
 use Rattle.jb_step.specs.callbacks.Callbacks.{has_fault}
 use Rattle.jb_step.specs.Answers.{IsRunOfStep, IsStatus, StepRun, artifacts_of, tasks_after, tasks_before}
 use Rattle.jb_step.specs.Statuses.{status_of}
-use Rattle.jb_step.specs.rounds.PlanLaws.{AreTasksOf, BeginsWithRows, BeginsWithTable}
+use Rattle.jb_step.specs.rounds.PlanLaws.{AreTasksOf, BeginsWithRows, BeginsWithTasks}
 use Rattle.jb_step.specs.preparing.Prepare.{DoFit}
 use Rattle.jb_step.specs.preparing.Setup.{IsSetup, Setup, first_tasks, fresh_rows, row_now, rows_now, unfinished}
 use Rattle.jb_step.specs.Alone.{AreOnTheWay}
@@ -153,7 +153,7 @@ order-kept law ts now k from to (row ∷ rows) ways order =
 
 -- ---- A WHOLE RUN
 
-pub shares-kept : ResultsGoOn → PartsStay → BeginsWithTable → BeginsWithRows → StepsKeepResults
+pub shares-kept : ResultsGoOn → PartsStay → BeginsWithTasks → BeginsWithRows → StepsKeepResults
 shares-kept law parts begins same f records shares s artifacts ends is fit are ways so-far =
     let ready = (begins s artifacts is fit).tasks in
     let ts = first_tasks s artifacts in

@@ -13,7 +13,7 @@ use Rattle.jb_saved.specs.Answers.{first_running}
 use Rattle.jb_saved.specs.GoingOn.{ends_past, restarted, rows_restarted}
 use Rattle.jb_saved.specs.SavedRows.{SavedRows}
 use Rattle.jb_step.specs.Answers.{artifacts_of, tasks_left}
-use Rattle.jb_step.specs.rounds.PlanLaws.{AreTasksOf, BeginsWithRows, BeginsWithTable}
+use Rattle.jb_step.specs.rounds.PlanLaws.{AreTasksOf, BeginsWithRows, BeginsWithTasks}
 use Rattle.jb_step.specs.preparing.Setup.{Setup, first_tasks, needs, rows_now, unfinished}
 use Rattle.jb_records.specs.Function.{Function}
 use Rattle.jb_records.specs.Runs.{PartsStay, ResultsGoOn}
@@ -79,7 +79,7 @@ none-past from to (row ∷ rows) order =
 
 -- ---- A STRETCH
 
-module _ (going : ResultsGoOn) (parts : PartsStay) (begins : BeginsWithTable) (same : BeginsWithRows) (kept : StepsKeepResults) (ahead : GoAhead) where
+module _ (going : ResultsGoOn) (parts : PartsStay) (begins : BeginsWithTasks) (same : BeginsWithRows) (kept : StepsKeepResults) (ahead : GoAhead) where
   module _ (f : Function) (records : List (List ℕ)) (before : RunState) (rounds : Option ℕ) (snapshot : Snapshot) (left : List (ℕ × ArtifactsMeaning))
       (stands : StandsOver f records before) (ran : IsRanOver before.setup (artifacts_in before.artifacts) rounds snapshot left) where
     abbrev first : List TaskState

@@ -17,15 +17,16 @@ use Rattle.jb_cert.specs.Plans.{sets_of as slots_sets}
 use Rattle.jb_cert.specs.WrapAround.{wrapped_rounds}
 use Rattle.jb_chunk.specs.Attempt.{end_of, asks_repeat, repeated_up_to, all_repeated, artifacts_used}
 use Rattle.jb_chunk.specs.Block.{entry, results, count_of, settles, settling, used_between}
-use Rattle.jb_chunk.specs.Standing.{TaskState}
 use Rattle.jb_chunk.specs.Worked.{class_e}
 use Rattle.jb_collect.specs.declared.calls.ReducerCall.{ReducerCall}
 use Rattle.jb_collect.specs.declared.calls.ReducerCall.TheVariants.{Begin, Before, Rollback, After}
 use Rattle.jb_collect.specs.declared.calls.PartitionStatus.TheVariants as end
 use Rattle.jb_collect.specs.ReducerCalls.{rolled_back}
 use Rattle.jb_collect.specs.Taken.{Taken, well, faulted, calls_of}
+use Rattle.std.specs.Prelude.{is_some}
+use Rattle.jb_step.specs.Tables.{Table, held_at}
 use Rattle.jb_step.specs.callbacks.Callbacks.{AreSome, has_fault}
-use Rattle.jb_step.specs.rounds.Rounds.{AreRun, CanRun, after_round, breaks, has_task, tasks_in}
+use Rattle.jb_step.specs.rounds.Rounds.{AreRun, CanRun, after_round, breaks, tasks_in}
 use Rattle.jb_step.specs.rounds.Runs.{PlanRun, ArePlanRuns, IsPlanRun, rounds_run}
 use Rattle.jb_step.specs.preparing.Prepare.{IsBegunThen}
 use Rattle.jb_step.specs.preparing.Setup.{Setup, counts_now}
@@ -36,18 +37,18 @@ use Rattle.jb_step.proofs.plans.Steady.{row_waits}
 
 -- A PLAN
 
-abbrev can_run : List Pair → List TaskState → Bool
-can_run set ts = list_all (λ (pair : Pair). has_task ts pair.0) set && list_all row_waits (tasks_in set ts)
+abbrev can_run : List Pair → Table → Bool
+can_run set ts = list_all (λ (pair : Pair). is_some (held_at ts pair.0)) set && list_all row_waits (tasks_in set ts)
 
-abbrev are_run : List (List Pair) → List TaskState → Bool
+abbrev are_run : List (List Pair) → Table → Bool
 are_run [] ts = true
 are_run (set ∷ []) ts = can_run set ts
 are_run (set ∷ (next ∷ later)) ts = can_run set ts && (not (breaks set ts) && are_run (next ∷ later) (after_round set ts))
 
-can : (set : List Pair) (ts : List TaskState) → can_run set ts ≡ true → CanRun set ts
-can set ts e = let both = and_parts (list_all (λ (pair : Pair). has_task ts pair.0) set) _ e in record { tasks = both.0; waiting = both.1 }
+can : (set : List Pair) (ts : Table) → can_run set ts ≡ true → CanRun set ts
+can set ts e = let both = and_parts (list_all (λ (pair : Pair). is_some (held_at ts pair.0)) set) _ e in record { tasks = both.0; waiting = both.1 }
 
-run-all : (rounds : List (List Pair)) (ts : List TaskState) → are_run rounds ts ≡ true → AreRun rounds ts
+run-all : (rounds : List (List Pair)) (ts : Table) → are_run rounds ts ≡ true → AreRun rounds ts
 run-all [] ts e = tt
 run-all (set ∷ []) ts e = (can set ts e, inl refl, tt)
 run-all (set ∷ (next ∷ later)) ts e =
@@ -60,14 +61,14 @@ run-all (set ∷ (next ∷ later)) ts e =
 abbrev Found : Type 0
 Found = List (List Pair) × ℕ × Certificate × Bool × Bool × Bool × Bool
 
-abbrev found : List TaskState → (threads : ℕ) → PlanRun → Found
+abbrev found : Table → (threads : ℕ) → PlanRun → Found
 found before threads plan = (plan.rounds, length plan.rounds, plan.certificate, leb 1 threads, leb 1 plan.ran, leb plan.ran (length plan.rounds), are_run (rounds_run plan) before)
 
 -- as in the wrap-around's plan for what is left
 abbrev wrapped : List ℕ → (threads : ℕ) → Found
 wrapped counts threads = (slots_sets (wrapped_rounds counts threads), mcnaughton counts threads, bound_certificate counts threads, true, true, true, true)
 
-planned : LawsBelow → {s : Setup} {before : List TaskState} {plan : PlanRun} → found before s.threads plan ≡ wrapped (counts_now s before) s.threads → IsPlanRun s before plan
+planned : LawsBelow → {s : Setup} {before : Table} {plan : PlanRun} → found before s.threads plan ≡ wrapped (counts_now s before) s.threads → IsPlanRun s before plan
 planned law {s = s} {before = before} {plan = plan} e =
     let counts = counts_now s before in
     let some = leb-true 1 s.threads (ap (λ (x : Found). x.3) e) in
@@ -79,26 +80,26 @@ planned law {s = s} {before = before} {plan = plan} e =
       run = run-all (rounds_run plan) before (ap (λ (x : Found). x.6) e);
     }
 
-single : LawsBelow → {s : Setup} {before : List TaskState} {plan : PlanRun} → found before s.threads plan ≡ wrapped (counts_now s before) s.threads → ArePlanRuns s before (plan ∷ [])
+single : LawsBelow → {s : Setup} {before : Table} {plan : PlanRun} → found before s.threads plan ≡ wrapped (counts_now s before) s.threads → ArePlanRuns s before (plan ∷ [])
 single law e = (planned law e, inl refl, tt)
 
 -- WHAT IS NO RUN
 
-seven_counts : counts_now whole_seven.step whole_seven.tasks ≡ 2 ∷ 1 ∷ 1 ∷ []
+seven_counts : counts_now whole_seven.step whole_seven.start ≡ 2 ∷ 1 ∷ 1 ∷ []
 unfolding blocks
 seven_counts = refl
 
-too_slow : WrapAroundIsLeast → (plan : PlanRun) → length plan.rounds ≡ 4 → IsPlanRun whole_seven.step whole_seven.tasks plan → ⊥
+too_slow : WrapAroundIsLeast → (plan : PlanRun) → length plan.rounds ≡ 4 → IsPlanRun whole_seven.step whole_seven.start plan → ⊥
 too_slow law plan four run =
     let least = subst (λ counts. IsLeast counts 2 plan.rounds) seven_counts run.least in
     let few : length plan.rounds ≤ 2 = least.least (slots_sets (wrapped_rounds (2 ∷ 1 ∷ 1 ∷ []) 2)) (least-wrapped law (2 ∷ 1 ∷ 1 ∷ []) 2 (lit≤ tt)).lawful in
     absurd (omega (arith, four, few))
 
-goes_on : IsPlanRun skipped_run.step skipped_run.tasks (plan_run (Longest 0) (chunks (0 ∷ 1 ∷ [])) 2) → ⊥
+goes_on : IsPlanRun skipped_run.step skipped_run.start (plan_run (Longest 0) (chunks (0 ∷ 1 ∷ [])) 2) → ⊥
 unfolding end_of asks_repeat repeated_up_to all_repeated settling settles entry results count_of artifacts_used used_between used_at digits blocks
 goes_on run = elim run.run.1 [ inl none ↦ cc | inr quiet ↦ cc ]
 
-left_open : ArePlanRuns stopped_seven.step stopped_seven.tasks (stopped_seven.plans ++ plan_run FullLoad [] 0 ∷ []) → ⊥
+left_open : ArePlanRuns stopped_seven.step stopped_seven.start (stopped_seven.plans ++ plan_run FullLoad [] 0 ∷ []) → ⊥
 unfolding end_of asks_repeat repeated_up_to all_repeated settling settles entry results count_of artifacts_used used_between used_at digits blocks
 left_open runs = elim runs.1 [ inl none ↦ cc | inr (inl whole) ↦ cc | inr (inr broken) ↦ cc ]
 

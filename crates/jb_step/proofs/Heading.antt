@@ -7,8 +7,9 @@ use Rattle.jb_cert.specs.Lawful.{Pair, IsLawful}
 use Rattle.jb_chunk.specs.Laws.{OneEnd}
 use Rattle.jb_chunk.specs.Standing.{TaskState}
 use Rattle.jb_step.specs.Alone.{AreAlone}
-use Rattle.jb_step.specs.Answers.{IsRunOfStep, StepRun, artifacts_of, tasks_after, tasks_before}
+use Rattle.jb_step.specs.Answers.{IsRunOfStep, StepRun, artifacts_of, table_before, tasks_after, tasks_before, tasks_by}
 use Rattle.jb_step.specs.Headline.{ArePlansOf, Headline, HeadlineHolds, IsNextBlock, IsPlanOf, NoneIsLeft, RunInOrder, UnstoppedRunsAgree}
+use Rattle.jb_step.specs.Tables.{Table, held_in}
 use Rattle.jb_step.specs.rounds.PlanLaws.{IsTaskTable}
 use Rattle.jb_step.specs.rounds.Rounds.{AreRun, GoQuietly, after_round, after_rounds, attempts_in, attempts_of, breaks_in}
 use Rattle.jb_step.specs.rounds.Runs.{AreOver, ArePlanRuns, IsOver, IsPlanRun, PlanRun, rounds_of, rounds_run, table_after}
@@ -26,13 +27,13 @@ use Rattle.jb_step.proofs.run.SoFar.{ready-of}
 -- ONE PLAN
 
 -- of rounds that were run, all but the last one went quietly
-no-further : (rounds : List (List Pair)) (n : ℕ) (ts : List TaskState) → n < length rounds → AreRun (take (suc n) rounds) ts → GoQuietly (take n rounds) ts
+no-further : (rounds : List (List Pair)) (n : ℕ) (ts : Table) → n < length rounds → AreRun (take (suc n) rounds) ts → GoQuietly (take n rounds) ts
 no-further rounds zero ts lt run = refl
 no-further [] (suc n) ts lt run = refl
 no-further (set ∷ []) (suc n) ts lt run = absurd (omega (arith, lt))
 no-further (set ∷ (next ∷ later)) (suc n) ts lt run = quiet-both set (take n (next ∷ later)) ts (not-last run.1) (no-further (next ∷ later) n (after_round set ts) (omega (arith, lt)) run.2)
 
-module _ (law : ChunkLaws) (s : Setup) (before : List TaskState) (table : IsSteadyTable s before) where
+module _ (law : ChunkLaws) (s : Setup) (before : Table) (table : IsSteadyTable s before) where
   next-block : (done : List (List Pair)) (set : List Pair) (left : List (List Pair)) → IsLawful (counts_now s before) s.threads (done ++ set ∷ left) → AreRun done before → GoQuietly done before → (p j : ℕ) → Contains set (p, j)
       → IsNextBlock before (after_rounds done before) p j
   next-block done set left lawful run quiet p j chunk =
@@ -64,7 +65,7 @@ quietly b P (inr broke) quiet = let both : false ≡ true = sym quiet ∙ broke 
 -- THE RUN
 
 module _ (below : LawsBelow) (r : StepRun) where
-  plan-of : (before : List TaskState) (plan : PlanRun) (later : List PlanRun) → IsSteadyTable r.setup before → IsPlanRun r.setup before plan → (later ≡ []) ⊎ IsOver before plan → (r.snapshot.stopping ≡ false → IsOver before plan)
+  plan-of : (before : Table) (plan : PlanRun) (later : List PlanRun) → IsSteadyTable r.setup before → IsPlanRun r.setup before plan → (later ≡ []) ⊎ IsOver before plan → (r.snapshot.stopping ≡ false → IsOver before plan)
       → IsPlanOf r before plan later
   plan-of before plan later table one next last = record {
     exactly = one.least.lawful;
@@ -85,29 +86,30 @@ module _ (below : LawsBelow) (r : StepRun) where
         (ran, none-left below.chunks r.setup before table plan one ran unended.quiet);
   }
 
-  plans-of : (before : List TaskState) (plans : List PlanRun) → IsSteadyTable r.setup before → ArePlanRuns r.setup before plans → (r.snapshot.stopping ≡ false → AreOver before plans) → tasks_after r ≡ table_after plans before
+  plans-of : (before : Table) (plans : List PlanRun) → IsSteadyTable r.setup before → ArePlanRuns r.setup before plans → (r.snapshot.stopping ≡ false → AreOver before plans) → tasks_after r ≡ held_in (table_after plans before)
       → ArePlansOf r before plans
   plans-of before [] table runs over is = is
   plans-of before (plan ∷ later) table runs over is = (
     plan-of before plan later table runs.0 runs.1 (λ going. (over going).0),
     plans-of (after_rounds (rounds_run plan) before) later (steady-rounds below.chunks r.setup (rounds_run plan) before table (wait-in (rounds_run plan) before runs.0.run)) runs.2 (λ going. (over going).1)
-        (is ∙ after-append (rounds_run plan) (rounds_of later) before),
+        (is ∙ ap held_in (after-append (rounds_run plan) (rounds_of later) before)),
   )
 
-  pub headline-of : IsTaskTable r.setup (tasks_before r) → IsRunOfStep r → Headline r
-  headline-of first run = record {
+  pub headline-of : IsTaskTable r.setup (table_before r) → held_in (table_before r) ≡ tasks_before r → IsRunOfStep r → Headline r
+  headline-of first begun_with run = record {
     plans = run.plans;
-    each = plans-of (tasks_before r) run.plans (steady-table r.setup (tasks_before r) first) run.run (λ going. (run.unstopped going).over) run.tasks;
+    each = plans-of (table_before r) run.plans (steady-table r.setup (table_before r) first) run.run (λ going. (run.unstopped going).over) run.tasks;
     noted = run.notes_are;
     alone = λ going.
         subst (λ (ts : List TaskState). AreAlone (tasks_before r) ts) (sym run.tasks)
-        (steps_end_alone below.ends r.setup (tasks_before r) run.plans (ready-of r.setup (tasks_before r) first.tasks) run.run (run.unstopped going).ended);
+        (subst (λ (ts : List TaskState). AreAlone ts (tasks_by r run.plans)) begun_with
+        (steps_end_alone below.ends r.setup (table_before r) run.plans (ready-of r.setup (held_in (table_before r)) first.tasks) run.run (run.unstopped going).ended));
     rows = run.rows ∙ ap (rows_now r.setup.rows) (sym run.tasks);
     came_back = run.came_back ∙ ap artifacts_of (sym run.tasks);
   }
 
 pub headline_holds : LawsBelow → HeadlineHolds
-headline_holds below r setup a = headline-of below r (begins_with_table r.setup r.artifacts setup a.fit) a.run
+headline_holds below r setup a = let first = begins_with_table r.setup r.artifacts setup a.fit in headline-of below r first.0 first.1 a.run
 
 pub unstopped_runs_agree : OneEnd → UnstoppedRunsAgree
 unstopped_runs_agree law r other one two rows tasks going other_going =

@@ -1,6 +1,10 @@
 pub mod Apart
 pub mod Filters
+pub mod Held
+pub mod Keeping
 pub mod Leftover
-pub mod Lookup
+pub mod Looking
 pub mod Numbers
 pub mod Placing
+pub mod Putting
+pub mod Rows

@@ -16,9 +16,10 @@ use Rattle.jb_collect.specs.Taken.{Taken, calls_of, well}
 use Rattle.jb_step.specs.callbacks.Heard.{heard, HasHeard}
 use Rattle.jb_step.specs.callbacks.Callbacks.{AreSome, has_fault}
 use Rattle.jb_step.specs.rounds.Runs.{PlanRun, AreOver, ArePlanRuns, note_of, rounds_of, table_after, events_of}
-use Rattle.jb_step.specs.preparing.Setup.{Setup, first_tasks, rows_now}
+use Rattle.jb_step.specs.preparing.Setup.{Setup, first_table, first_tasks, rows_now}
 use Rattle.jb_step.specs.Statuses.{status_of}
 use Rattle.jb_step.specs.Alone.{AreOnTheWay, have_ended}
+use Rattle.jb_step.specs.Tables.{Table, held_in}
 
 -- the artifacts that came back, each with its partition
 abbrev pub given_back : {A : Type 0} → (A → ArtifactsMeaning) → List (ℕ × A) → List (ℕ × ArtifactsMeaning)
@@ -46,8 +47,8 @@ abbrev pub AreLeftOnTheWay : List TaskState → List Row → List (ℕ × Artifa
 AreLeftOnTheWay ts rows left = AreOnTheWay ts (tasks_left ts rows left)
 
 -- what holds where nothing stopped the run: all partitions ended, and all plans are over; and the history's numbers
-pub record IsUnstopped (start : List TaskState) (plans : List PlanRun) (snapshot : Snapshot) : Type 0 where
-  pub ended : have_ended (table_after plans start) ≡ true
+pub record IsUnstopped (start : Table) (plans : List PlanRun) (snapshot : Snapshot) : Type 0 where
+  pub ended : have_ended (held_in (table_after plans start)) ≡ true
   pub over : AreOver start plans
   pub plans_number : snapshot.plans ≡ length plans
   pub events_number : snapshot.events ≡ events_of plans start
@@ -71,18 +72,26 @@ tasks_before r = first_tasks r.setup r.artifacts
 abbrev pub tasks_after : StepRun → List TaskState
 tasks_after r = tasks_left (tasks_before r) r.snapshot.rows.items r.left
 
+-- the table that it began with
+abbrev pub table_before : StepRun → Table
+table_before r = first_table r.setup r.artifacts
+
+-- the tasks in the table that these plans left
+abbrev pub tasks_by : StepRun → List PlanRun → List TaskState
+tasks_by r plans = held_in (table_after plans (table_before r))
+
 -- Run of a step: some plans were run, one after another, each a least one for what was left; these are its notes, its
 -- rows, its artifacts, and what the analyzer was told
 pub record IsRunOfStep (r : StepRun) : Type 0 where
   pub plans : List PlanRun
-  pub run : ArePlanRuns r.setup (tasks_before r) plans
+  pub run : ArePlanRuns r.setup (table_before r) plans
   pub notes_are : r.notes ≡ map note_of plans
   pub few : MatchOption r.round_limit (Unit {0}) (λ limit. length (rounds_of plans) ≤ limit)
-  pub rows : r.snapshot.rows.items ≡ rows_now r.setup.rows (table_after plans (tasks_before r))
-  pub tasks : tasks_after r ≡ table_after plans (tasks_before r)
-  pub came_back : r.left ≡ artifacts_of (table_after plans (tasks_before r))
-  pub heard_is : HasHeard r.heard_before (heard r.setup (tasks_before r) plans) r.heard_after
-  pub unstopped : r.snapshot.stopping ≡ false → IsUnstopped (tasks_before r) plans r.snapshot
+  pub rows : r.snapshot.rows.items ≡ rows_now r.setup.rows (tasks_by r plans)
+  pub tasks : tasks_after r ≡ tasks_by r plans
+  pub came_back : r.left ≡ artifacts_of (tasks_by r plans)
+  pub heard_is : HasHeard r.heard_before (heard r.setup (table_before r) plans) r.heard_after
+  pub unstopped : r.snapshot.stopping ≡ false → IsUnstopped (table_before r) plans r.snapshot
 
 -- the status, by the rows and by whether a callback answered a fault
 abbrev pub IsStatus : Snapshot → List (Taken AnalyzerCall) → List (Taken ReducerCall) → Status → Type 0

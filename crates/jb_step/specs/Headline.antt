@@ -7,29 +7,25 @@ use Rattle.jb_cert.specs.Lawful.{Pair, IsLawful, NoneIsShorter}
 use Rattle.jb_chunk.specs.Attempt.{block_of}
 use Rattle.jb_chunk.specs.Standing.{TaskState}
 use Rattle.jb_step.specs.Alone.{AreAlone}
-use Rattle.jb_step.specs.Answers.{StepRun, artifacts_of, tasks_before, tasks_after}
-use Rattle.jb_step.specs.OnePartition.{tasks_at}
+use Rattle.jb_step.specs.Answers.{StepRun, artifacts_of, table_before, tasks_before, tasks_after}
 use Rattle.jb_step.specs.rounds.Rounds.{GoQuietly, after_round, after_rounds}
 use Rattle.jb_step.specs.rounds.Runs.{PlanRun, note_of, rounds_run}
 use Rattle.jb_step.specs.preparing.Setup.{IsSetup, Setup, counts_now, rows_now}
 use Rattle.jb_step.specs.restarts.StepRuns.{IsAnswered}
+use Rattle.jb_step.specs.Tables.{Table, held_in, held_at}
 
 -- ---- rounds, run one after another
 
--- in the table the partition has this task, and no other
-abbrev pub HasTask : (p : ℕ) → List TaskState → TaskState → Type 0
-HasTask p table task = tasks_at p table ≡ task ∷ []
-
 -- chunk j of the partition is block j of those that it had left before, and the next one that it has left now
-pub record IsNextBlock (before now : List TaskState) (p j : ℕ) : Type 0 where
+pub record IsNextBlock (before now : Table) (p j : ℕ) : Type 0 where
   pub was : TaskState
   pub is : TaskState
-  pub stood : HasTask p before was
-  pub stands : HasTask p now is
+  pub stood : held_at before p ≡ Some was
+  pub stands : held_at now p ≡ Some is
   pub next : slice_get (blocks was.row.at was.row.redo was.row.hi was.item_count) j ≡ Some (block_of is)
 
 -- each of their chunks is its partition's next block when its round begins; `before` is the table that they were planned for
-abbrev pub RunInOrder : (before now : List TaskState) → List (List Pair) → Type 0
+abbrev pub RunInOrder : (before now : Table) → List (List Pair) → Type 0
 RunInOrder before now [] = Unit {0}
 RunInOrder before now (set ∷ later) =
     ((p j : ℕ) → Contains set (p, j) → IsNextBlock before now p j) × RunInOrder before (after_round set now) later
@@ -37,16 +33,16 @@ RunInOrder before now (set ∷ later) =
 -- ---- a plan
 
 -- no partition has a chunk that isn't committed yet, but for those that failed
-abbrev pub NoneIsLeft : Setup → List TaskState → Type 0
+abbrev pub NoneIsLeft : Setup → Table → Type 0
 NoneIsLeft s now = (p : ℕ) → p < length s.rows → slice_index (counts_now s now) p ≡ 0
 
 -- nothing ended the plan: no rollback, no failure, and no stop, which can end a step's last plan only
-pub record IsUnended (r : StepRun) (before : List TaskState) (plan : PlanRun) (later : List PlanRun) : Type 0 where
+pub record IsUnended (r : StepRun) (before : Table) (plan : PlanRun) (later : List PlanRun) : Type 0 where
   pub quiet : GoQuietly (rounds_run plan) before
   pub unstopped : later ≡ [] → r.snapshot.stopping ≡ false
 
--- a plan that the step made for the tasks as they stood before it, and those that it made later
-pub record IsPlanOf (r : StepRun) (before : List TaskState) (plan : PlanRun) (later : List PlanRun) : Type 0 where
+-- a plan that the step made for the table as it stood before it, and those that it made later
+pub record IsPlanOf (r : StepRun) (before : Table) (plan : PlanRun) (later : List PlanRun) : Type 0 where
   -- it has exactly the chunks not yet committed, each of them once, each partition's in order,
   pub exactly : IsLawful (counts_now r.setup before) r.setup.threads plan.rounds
   -- in the fewest rounds of all lawful plans,
@@ -62,8 +58,8 @@ pub record IsPlanOf (r : StepRun) (before : List TaskState) (plan : PlanRun) (la
   pub whole : IsUnended r before plan later → (plan.ran ≡ length plan.rounds) × NoneIsLeft r.setup (after_rounds (rounds_run plan) before)
 
 -- the plans, each made for what the one before it left; the last one leaves the tasks as the step left them
-abbrev pub ArePlansOf : StepRun → (before : List TaskState) → List PlanRun → Type 0
-ArePlansOf r before [] = tasks_after r ≡ before
+abbrev pub ArePlansOf : StepRun → (before : Table) → List PlanRun → Type 0
+ArePlansOf r before [] = tasks_after r ≡ held_in before
 ArePlansOf r before (plan ∷ later) = IsPlanOf r before plan later × ArePlansOf r (after_rounds (rounds_run plan) before) later
 
 -- ---- the headline
@@ -72,7 +68,7 @@ pub record Headline (r : StepRun) : Type 0 where
   -- each plan has exactly the chunks not yet committed, each partition's in order, in the fewest rounds of all lawful plans, with
   -- a certificate of it; and these are its notes,
   pub plans : List PlanRun
-  pub each : ArePlansOf r (tasks_before r) plans
+  pub each : ArePlansOf r (table_before r) plans
   pub noted : r.notes ≡ map note_of plans
   -- a step that returns unstopped has, for every thread number and order of commits, the artifacts (the outputs) and the rows (the
   -- checkpoints and the counts) of its partitions run alone,

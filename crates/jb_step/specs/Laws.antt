@@ -6,17 +6,18 @@ use Rattle.jb_chunk.specs.Standing.{TaskState}
 use Rattle.jb_step.specs.rounds.Runs.{PlanRun, ArePlanRuns, table_after}
 use Rattle.jb_step.specs.preparing.Setup.{Setup}
 use Rattle.jb_step.specs.Alone.{AreOnTheWay, AreAlone, ArePlain, AreCalm, AreReady, have_ended}
+use Rattle.jb_step.specs.Tables.{Table, held_in}
 
 -- at each moment each partition stands after some of its attempts alone
 abbrev pub StepsAreOnTheWay : Type 0
 StepsAreOnTheWay =
-    (s : Setup) (start : List TaskState) (plans : List PlanRun) → ArePlanRuns s start plans → AreOnTheWay start (table_after plans start)
+    (s : Setup) (start : Table) (plans : List PlanRun) → ArePlanRuns s start plans → AreOnTheWay (held_in start) (held_in (table_after plans start))
 
 -- where no partition is left unfinished, each stands where its attempts alone end
 abbrev pub StepsEndAlone : Type 0
 StepsEndAlone =
-    (s : Setup) (start : List TaskState) (plans : List PlanRun) → AreReady start → ArePlanRuns s start plans
-    → have_ended (table_after plans start) ≡ true → AreAlone start (table_after plans start)
+    (s : Setup) (start : Table) (plans : List PlanRun) → AreReady (held_in start) → ArePlanRuns s start plans
+    → have_ended (held_in (table_after plans start)) ≡ true → AreAlone (held_in start) (held_in (table_after plans start))
 
 -- that is one place, whatever the threads and the rounds
 abbrev pub AloneIsOnePlace : Type 0

@@ -1,4 +1,5 @@
 pub mod Statuses
+pub mod Tables
 pub mod Alone
 pub mod OnePartition
 pub mod Answers

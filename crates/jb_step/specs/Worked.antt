@@ -28,8 +28,9 @@ use Rattle.jb_step.specs.Answers.{AreCallsInPart, artifacts_of, tasks_left}
 use Rattle.jb_step.specs.callbacks.Heard.{heard}
 use Rattle.jb_step.specs.preparing.Prepare.{AreCallsAtRefusal, AreCallsBefore}
 use Rattle.jb_step.specs.rounds.Runs.{PlanRun, AreOver, ArePlanRuns, IsPlanRun, note_of, table_after, events_of}
-use Rattle.jb_step.specs.preparing.Setup.{Setup, discards, needs, first_tasks, fresh_rows, gone_on, opening_rows, rows_now}
+use Rattle.jb_step.specs.preparing.Setup.{Setup, discards, needs, first_table, fresh_rows, gone_on, opening_rows, rows_now}
 use Rattle.jb_step.specs.Statuses.{status_of}
+use Rattle.jb_step.specs.Tables.{Table, held_in}
 use Rattle.jb_step.specs.restarts.StepRuns.{artifacts_restarted}
 
 -- THE STEPS
@@ -50,15 +51,15 @@ step rules item_count threads ranges = record {
 -- a run of a step: what it begins with, and its plans
 pub record WorkedRun : Type 0 where
   pub step : Setup
-  pub tasks : List TaskState
+  pub start : Table
   pub plans : List PlanRun
 
 abbrev pub run_of : Setup → List ArtifactsMeaning → List PlanRun → WorkedRun
-run_of step artifacts plans = record { step = step; tasks = first_tasks step artifacts; plans = plans }
+run_of step artifacts plans = record { step = step; start = first_table step artifacts; plans = plans }
 
 -- its tasks and all rows at its end, and the artifacts as it hands them back
 abbrev pub tasks_at_end : WorkedRun → List TaskState
-tasks_at_end r = table_after r.plans r.tasks
+tasks_at_end r = held_in (table_after r.plans r.start)
 
 abbrev pub rows_at_last : WorkedRun → List Row
 rows_at_last r = rows_now r.step.rows (tasks_at_end r)
@@ -70,11 +71,11 @@ abbrev pub saved_of : WorkedRun → SavedRows
 saved_of r = record { step = codes "s"; rows = rows_at_last r }
 
 -- the step is taken up again where a run left it, with these artifacts, or with those that were handed back
-abbrev pub taken_up : WorkedRun → List ArtifactsMeaning → List PlanRun → WorkedRun
-taken_up r artifacts plans = run_of (record r.step { rows = opening_rows [] (Some (saved_of r)); begun_anew = false }) artifacts plans
+abbrev pub resumed_run : WorkedRun → List ArtifactsMeaning → List PlanRun → WorkedRun
+resumed_run r artifacts plans = run_of (record r.step { rows = opening_rows [] (Some (saved_of r)); begun_anew = false }) artifacts plans
 
-abbrev pub taken_up_again : WorkedRun → List PlanRun → WorkedRun
-taken_up_again r plans = taken_up r (artifacts_restarted (tasks_at_end r)) plans
+abbrev pub resumed_as_left : WorkedRun → List PlanRun → WorkedRun
+resumed_as_left r plans = resumed_run r (artifacts_restarted (tasks_at_end r)) plans
 
 -- the tasks of a run, as one that took them up again left them
 abbrev pub left_by_both : WorkedRun → WorkedRun → List TaskState
@@ -91,8 +92,8 @@ abbrev pub clean : ℕ → ArtifactsMeaning
 clean lo = artifacts_with lo sound []
 
 -- seven records in three partitions, item count 2
-abbrev pub seven : (threads : ℕ) → Setup
-seven threads = step strict 2 threads (range 0 3 ∷ range 3 5 ∷ range 5 7 ∷ [])
+abbrev pub seven_in_three : (threads : ℕ) → Setup
+seven_in_three threads = step strict 2 threads (range 0 3 ∷ range 3 5 ∷ range 5 7 ∷ [])
 
 -- THEIR RUNS
 
@@ -107,7 +108,7 @@ abbrev pub chunks : (numbers : List ℕ) → List (List Pair)
 chunks numbers = map (λ n. (0, n) ∷ []) numbers
 
 abbrev pub run_of_seven : (threads : ℕ) → List PlanRun → WorkedRun
-run_of_seven threads plans = run_of (seven threads) (clean 0 ∷ clean 3 ∷ clean 5 ∷ []) plans
+run_of_seven threads plans = run_of (seven_in_three threads) (clean 0 ∷ clean 3 ∷ clean 5 ∷ []) plans
 
 -- on two threads, and on one
 abbrev pub two_rounds : List (List Pair)
@@ -130,20 +131,20 @@ abbrev pub rest_plans : List PlanRun
 rest_plans = plan_run (Longest 0) (((0, 0) ∷ (2, 0) ∷ []) ∷ []) 1 ∷ []
 
 abbrev pub rest_of_seven : WorkedRun
-rest_of_seven = taken_up stopped_seven (artifacts_with 0 sound (codes "xa" ∷ codes "xb" ∷ []) ∷ clean 5 ∷ []) rest_plans
+rest_of_seven = resumed_run stopped_seven (artifacts_with 0 sound (codes "xa" ∷ codes "xb" ∷ []) ∷ clean 5 ∷ []) rest_plans
 
 -- on one thread, stopped after each round and taken up again
 abbrev pub first_run : WorkedRun
 first_run = run_of_seven 1 (plan_run FullLoad four_rounds 1 ∷ [])
 
 abbrev pub second_run : WorkedRun
-second_run = taken_up_again first_run (plan_run FullLoad (first_chunks (0 ∷ 1 ∷ 2 ∷ [])) 1 ∷ [])
+second_run = resumed_as_left first_run (plan_run FullLoad (first_chunks (0 ∷ 1 ∷ 2 ∷ [])) 1 ∷ [])
 
 abbrev pub third_run : WorkedRun
-third_run = taken_up_again second_run (plan_run FullLoad (first_chunks (1 ∷ 2 ∷ [])) 1 ∷ [])
+third_run = resumed_as_left second_run (plan_run FullLoad (first_chunks (1 ∷ 2 ∷ [])) 1 ∷ [])
 
 abbrev pub fourth_run : WorkedRun
-fourth_run = taken_up_again third_run (plan_run (Longest 2) (first_chunks (2 ∷ [])) 1 ∷ [])
+fourth_run = resumed_as_left third_run (plan_run (Longest 2) (first_chunks (2 ∷ [])) 1 ∷ [])
 
 -- Six records in two partitions; records 0 and 3 always fail, and one may be skipped: the partition that fails, and its
 -- restart with no faults
@@ -153,7 +154,7 @@ failed_six =
     (plan_run (Longest 0) (((0, 0) ∷ (1, 0) ∷ []) ∷ ((0, 1) ∷ []) ∷ []) 2 ∷ [])
 
 abbrev pub rest_of_six : WorkedRun
-rest_of_six = taken_up failed_six (artifacts_with 0 sound (codes "xb" ∷ []) ∷ []) (plan_run (Longest 0) (chunks (0 ∷ [])) 1 ∷ [])
+rest_of_six = resumed_run failed_six (artifacts_with 0 sound (codes "xb" ∷ []) ∷ []) (plan_run (Longest 0) (chunks (0 ∷ [])) 1 ∷ [])
 
 -- one partition without a record
 abbrev pub empty_run : WorkedRun
@@ -177,19 +178,19 @@ abbrev pub note : Certificate → ℕ → ℕ → PlanNote
 note certificate planned ran = record { certificate = certificate; planned = planned; ran = ran }
 
 -- at, redo, retries, written, READ, WRITE, COMMIT, ROLLBACK, PROCESS_SKIP, in rows without other counts
-abbrev pub row : ℕ → ℕ → ℕ → ℕ → ℕ → ℕ → ℕ → ℕ → ℕ → List ℕ
-row at redo retries written read write commit rollback process_skip =
+abbrev pub row_numbers : ℕ → ℕ → ℕ → ℕ → ℕ → ℕ → ℕ → ℕ → ℕ → List ℕ
+row_numbers at redo retries written read write commit rollback process_skip =
     at ∷ redo ∷ retries ∷ written ∷ read ∷ write ∷ commit ∷ rollback ∷ 0 ∷ process_skip ∷ 0 ∷ 0 ∷ 0 ∷ []
 
-abbrev pub text : ℕ → List ℕ → AnalyzerCall
-text p t = call.Collected p t
+abbrev pub text_told : ℕ → List ℕ → AnalyzerCall
+text_told p t = call.Collected p t
 
-abbrev pub ended : ℕ → Status → AnalyzerCall
-ended p s = call.Status p s
+abbrev pub status_told : ℕ → Status → AnalyzerCall
+status_told p s = call.Status p s
 
 -- the partition's last chunk was committed: its text, the one at its end, and its status
 abbrev pub completed : ℕ → List ℕ → List AnalyzerCall
-completed p t = text p t ∷ text p (t ++ codes ":end") ∷ ended p status.Completed ∷ []
+completed p t = text_told p t ∷ text_told p (t ++ codes ":end") ∷ status_told p status.Completed ∷ []
 
 -- what a run of a step gives: its notes, its rows, the analyzer's calls, the status, and the reducer's calls where no
 -- callback fails
@@ -204,14 +205,14 @@ abbrev pub given_by : WorkedRun → Given
 given_by r = record {
   notes = map note_of r.plans;
   rows = map numbers (rows_at_last r);
-  calls = heard r.step r.tasks r.plans;
+  calls = heard r.step r.start r.plans;
   status = status_of (rows_at_last r) false;
   reduced = reducer_calls true false (status_of (rows_at_last r) false) false;
 }
 
 abbrev pub GivesRun : WorkedRun → List PlanNote → (rows : List (List ℕ)) → List AnalyzerCall → Status → List ReducerCall → Type 0
 GivesRun r notes rows calls status reduced =
-    ArePlanRuns r.step r.tasks r.plans × (given_by r ≡ record { notes = notes; rows = rows; calls = calls; status = status; reduced = reduced })
+    ArePlanRuns r.step r.start r.plans × (given_by r ≡ record { notes = notes; rows = rows; calls = calls; status = status; reduced = reduced })
 
 abbrev pub committed : List ReducerCall
 committed = Begin ∷ Before ∷ After end.Commit ∷ []
@@ -220,32 +221,32 @@ abbrev pub undone : List ReducerCall
 undone = Begin ∷ Rollback ∷ After end.Rollback ∷ []
 
 abbrev pub seven_rows : List (List ℕ)
-seven_rows = row 3 0 0 3 3 3 2 0 0 ∷ row 5 3 0 2 2 2 1 0 0 ∷ row 7 5 0 2 2 2 1 0 0 ∷ []
+seven_rows = row_numbers 3 0 0 3 3 3 2 0 0 ∷ row_numbers 5 3 0 2 2 2 1 0 0 ∷ row_numbers 7 5 0 2 2 2 1 0 0 ∷ []
 
 -- seven records in three partitions, on two threads
 pub record SevenRecords : Type 0 where
   pub gives :
       GivesRun whole_seven (note (Longest 0) 2 2 ∷ []) seven_rows
-      (text 0 (codes "0:2:2") ∷ completed 1 (codes "1:5:2") ++ completed 0 (codes "0:3:3") ++ completed 2 (codes "2:7:2"))
+      (text_told 0 (codes "0:2:2") ∷ completed 1 (codes "1:5:2") ++ completed 0 (codes "0:3:3") ++ completed 2 (codes "2:7:2"))
       status.Completed committed
-  pub over : AreOver whole_seven.tasks whole_seven.plans
-  pub events : events_of whole_seven.plans whole_seven.tasks ≡ 11
+  pub over : AreOver whole_seven.start whole_seven.plans
+  pub events : events_of whole_seven.plans whole_seven.start ≡ 11
 
 -- the same on one thread
 pub record SevenOnOneThread : Type 0 where
   pub gives :
       GivesRun single_seven (note FullLoad 4 4 ∷ []) seven_rows
-      (text 0 (codes "0:2:2") ∷ completed 0 (codes "0:3:3") ++ completed 1 (codes "1:5:2") ++ completed 2 (codes "2:7:2"))
+      (text_told 0 (codes "0:2:2") ∷ completed 0 (codes "0:3:3") ++ completed 1 (codes "1:5:2") ++ completed 2 (codes "2:7:2"))
       status.Completed committed
-  pub over : AreOver single_seven.tasks single_seven.plans
-  pub events : events_of single_seven.plans single_seven.tasks ≡ 13
+  pub over : AreOver single_seven.start single_seven.plans
+  pub events : events_of single_seven.plans single_seven.start ≡ 13
 
 -- the same, stopped after one round, and restarted
 pub record StoppedAndRestarted : Type 0 where
   pub stopped :
       GivesRun stopped_seven (note (Longest 0) 2 1 ∷ [])
-      (row 2 0 0 2 2 2 1 0 0 ∷ row 5 3 0 2 2 2 1 0 0 ∷ row 5 5 0 0 0 0 0 0 0 ∷ [])
-      (text 0 (codes "0:2:2") ∷ completed 1 (codes "1:5:2") ++ ended 0 status.Stopped ∷ ended 2 status.Stopped ∷ [])
+      (row_numbers 2 0 0 2 2 2 1 0 0 ∷ row_numbers 5 3 0 2 2 2 1 0 0 ∷ row_numbers 5 5 0 0 0 0 0 0 0 ∷ [])
+      (text_told 0 (codes "0:2:2") ∷ completed 1 (codes "1:5:2") ++ status_told 0 status.Stopped ∷ status_told 2 status.Stopped ∷ [])
       status.Stopped undone
   pub needed : needs rest_of_seven.step.rows ≡ 0 ∷ 2 ∷ []
   pub restarted :
@@ -255,25 +256,25 @@ pub record StoppedAndRestarted : Type 0 where
   -- the rows are those of the run that nothing stopped, and so are the outputs
   pub rows : rows_at_last rest_of_seven ≡ rows_at_last whole_seven
   pub outputs :
-      outputs_left (artifacts_of (left_by_both stopped_seven (taken_up_again stopped_seven rest_plans)))
+      outputs_left (artifacts_of (left_by_both stopped_seven (resumed_as_left stopped_seven rest_plans)))
       ≡ (0, codes "xa" ∷ codes "xb" ∷ codes "xc" ∷ []) ∷ (1, codes "xd" ∷ codes "xe" ∷ []) ∷ (2, codes "xf" ∷ codes "xg" ∷ []) ∷ []
 
 -- on one thread, with a limit of one round, in four runs
 pub record OneRoundEach : Type 0 where
   pub first :
       GivesRun first_run (note FullLoad 4 1 ∷ [])
-      (row 2 0 0 2 2 2 1 0 0 ∷ row 3 3 0 0 0 0 0 0 0 ∷ row 5 5 0 0 0 0 0 0 0 ∷ [])
-      (text 0 (codes "0:2:2") ∷ ended 0 status.Stopped ∷ ended 1 status.Stopped ∷ ended 2 status.Stopped ∷ [])
+      (row_numbers 2 0 0 2 2 2 1 0 0 ∷ row_numbers 3 3 0 0 0 0 0 0 0 ∷ row_numbers 5 5 0 0 0 0 0 0 0 ∷ [])
+      (text_told 0 (codes "0:2:2") ∷ status_told 0 status.Stopped ∷ status_told 1 status.Stopped ∷ status_told 2 status.Stopped ∷ [])
       status.Stopped undone
   pub second :
       GivesRun second_run (note FullLoad 3 1 ∷ [])
-      (row 3 0 0 3 3 3 2 0 0 ∷ row 3 3 0 0 0 0 0 0 0 ∷ row 5 5 0 0 0 0 0 0 0 ∷ [])
-      (completed 0 (codes "0:3:3") ++ ended 1 status.Stopped ∷ ended 2 status.Stopped ∷ [])
+      (row_numbers 3 0 0 3 3 3 2 0 0 ∷ row_numbers 3 3 0 0 0 0 0 0 0 ∷ row_numbers 5 5 0 0 0 0 0 0 0 ∷ [])
+      (completed 0 (codes "0:3:3") ++ status_told 1 status.Stopped ∷ status_told 2 status.Stopped ∷ [])
       status.Stopped undone
   pub third :
       GivesRun third_run (note FullLoad 2 1 ∷ [])
-      (row 3 0 0 3 3 3 2 0 0 ∷ row 5 3 0 2 2 2 1 0 0 ∷ row 5 5 0 0 0 0 0 0 0 ∷ [])
-      (completed 1 (codes "1:5:2") ++ ended 2 status.Stopped ∷ [])
+      (row_numbers 3 0 0 3 3 3 2 0 0 ∷ row_numbers 5 3 0 2 2 2 1 0 0 ∷ row_numbers 5 5 0 0 0 0 0 0 0 ∷ [])
+      (completed 1 (codes "1:5:2") ++ status_told 2 status.Stopped ∷ [])
       status.Stopped undone
   pub fourth : GivesRun fourth_run (note (Longest 2) 1 1 ∷ []) seven_rows (completed 2 (codes "2:7:2")) status.Completed committed
 
@@ -281,44 +282,44 @@ pub record OneRoundEach : Type 0 where
 pub record OneFailed : Type 0 where
   pub failed :
       GivesRun failed_six (note (Longest 0) 2 2 ∷ [])
-      (row 2 0 0 1 2 1 1 1 1 ∷ row 6 4 0 2 2 2 1 0 0 ∷ [])
-      (text 0 (codes "0:2:1") ∷ completed 1 (codes "1:6:2") ++ ended 0 status.Failed ∷ [])
+      (row_numbers 2 0 0 1 2 1 1 1 1 ∷ row_numbers 6 4 0 2 2 2 1 0 0 ∷ [])
+      (text_told 0 (codes "0:2:1") ∷ completed 1 (codes "1:6:2") ++ status_told 0 status.Failed ∷ [])
       status.Failed undone
   pub needed : needs rest_of_six.step.rows ≡ 0 ∷ []
   pub restarted :
       GivesRun rest_of_six (note (Longest 0) 1 1 ∷ [])
-      (row 4 0 0 3 4 3 2 1 1 ∷ row 6 4 0 2 2 2 1 0 0 ∷ [])
+      (row_numbers 4 0 0 3 4 3 2 1 1 ∷ row_numbers 6 4 0 2 2 2 1 0 0 ∷ [])
       (completed 0 (codes "0:4:3"))
       status.Completed committed
 
 -- no record at all
 abbrev pub NoRecord : Type 0
-NoRecord = GivesRun empty_run [] (row 0 0 0 0 0 0 0 0 0 ∷ []) (ended 0 status.Completed ∷ []) status.Completed committed
+NoRecord = GivesRun empty_run [] (row_numbers 0 0 0 0 0 0 0 0 0 ∷ []) (status_told 0 status.Completed ∷ []) status.Completed committed
 
 -- a retry rolls back to single records
 pub record Retried : Type 0 where
   pub gives :
-      GivesRun retried_run (note (Longest 0) 1 1 ∷ note (Longest 0) 4 4 ∷ []) (row 4 4 1 4 4 4 4 1 0 ∷ [])
-      (text 0 (codes "0:1:1") ∷ text 0 (codes "0:2:2") ∷ text 0 (codes "0:3:3") ∷ completed 0 (codes "0:4:4"))
+      GivesRun retried_run (note (Longest 0) 1 1 ∷ note (Longest 0) 4 4 ∷ []) (row_numbers 4 4 1 4 4 4 4 1 0 ∷ [])
+      (text_told 0 (codes "0:1:1") ∷ text_told 0 (codes "0:2:2") ∷ text_told 0 (codes "0:3:3") ∷ completed 0 (codes "0:4:4"))
       status.Completed committed
-  pub events : events_of retried_run.plans retried_run.tasks ≡ 17
+  pub events : events_of retried_run.plans retried_run.start ≡ 17
 
 -- a skip in the single-record redo: the first plan ends with its first round
 abbrev pub Skipped : Type 0
 Skipped =
-    GivesRun skipped_run (note (Longest 0) 2 1 ∷ note (Longest 0) 3 3 ∷ []) (row 4 2 1 3 4 3 3 1 1 ∷ [])
-    (text 0 (codes "0:1:1") ∷ text 0 (codes "0:2:1") ∷ completed 0 (codes "0:4:3"))
+    GivesRun skipped_run (note (Longest 0) 2 1 ∷ note (Longest 0) 3 3 ∷ []) (row_numbers 4 2 1 3 4 3 3 1 1 ∷ [])
+    (text_told 0 (codes "0:1:1") ∷ text_told 0 (codes "0:2:1") ∷ completed 0 (codes "0:4:3"))
     status.Completed committed
 
 -- WHAT IS NO RUN OF A STEP
 
 pub record Refused : Type 0 where
   -- four rounds where two are enough: one chunk in each
-  pub slow : (plan : PlanRun) → length plan.rounds ≡ 4 → IsPlanRun whole_seven.step whole_seven.tasks plan → ⊥
+  pub slow : (plan : PlanRun) → length plan.rounds ≡ 4 → IsPlanRun whole_seven.step whole_seven.start plan → ⊥
   -- a plan that goes on after a rollback
-  pub kept : IsPlanRun skipped_run.step skipped_run.tasks (plan_run (Longest 0) (chunks (0 ∷ 1 ∷ [])) 2) → ⊥
+  pub kept : IsPlanRun skipped_run.step skipped_run.start (plan_run (Longest 0) (chunks (0 ∷ 1 ∷ [])) 2) → ⊥
   -- a plan that was left with a round to run, and another after it
-  pub dropped : ArePlanRuns stopped_seven.step stopped_seven.tasks (stopped_seven.plans ++ plan_run FullLoad [] 0 ∷ []) → ⊥
+  pub dropped : ArePlanRuns stopped_seven.step stopped_seven.start (stopped_seven.plans ++ plan_run FullLoad [] 0 ∷ []) → ⊥
 
 -- THE REDUCER'S CALLS WHERE THERE IS NO ANSWER
 

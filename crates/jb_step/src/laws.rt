@@ -1,6 +1,6 @@
 //! What holds of every run of a step. Nothing is done here: the clauses are the laws.
 
-ghost use Rattle.jb_step.specs.rounds.PlanLaws.{BeginsWithRows, BeginsWithTable, ChunksAreBlocks, EndsWhole, NextCanRun, PartitionsStay, RunsAll, RunsInOrder};
+ghost use Rattle.jb_step.specs.rounds.PlanLaws.{BeginsWithRows, BeginsWithTable, BeginsWithTasks, ChunksAreBlocks, EndsWhole, NextCanRun, PartitionsStay, RunsAll, RunsInOrder};
 ghost use Rattle.jb_step.specs.Headline.{HeadlineHolds, UnstoppedRunsAgree};
 ghost use Rattle.jb_step.specs.Laws.{StepsAreOnTheWay, StepsEndAlone, AloneIsOnePlace, CalmStepsArePlain};
 ghost use Rattle.jb_step.specs.inside.Below.{LawsBelow};
@@ -54,6 +54,7 @@ pub fn plans_can_be_run()
     ensures blocks { ChunksAreBlocks }
     ensures all { RunsAll }
     ensures whole { EndsWhole }
+    ensures tasks { BeginsWithTasks }
     ensures begins { BeginsWithTable }
     ensures rows { BeginsWithRows }
     ensures stay { PartitionsStay }

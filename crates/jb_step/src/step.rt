@@ -1,7 +1,8 @@
 //! A step, from its artifacts to its end.
 
 ghost use Rattle.std.specs.Prelude.{◌≡◌, ◌⊎◌, ◌+◌, ◌*◌, ◌++◌, ◌∷◌, [], true, false, IfOk, IfErr, OnOk, length, map};
-ghost use Rattle.jb_step.specs.inside.table.Places.{held_in};
+ghost use Rattle.jb_step.specs.inside.table.Places.{table_in};
+ghost use Rattle.jb_step.specs.Tables.{held_in};
 ghost use Rattle.jb_step.specs.Answers.{artifacts_of, given_back, AreCallsAfter, AreCallsUndone, AreLeftOnTheWay, IsRunError, IsRunOfStep, IsStatus};
 ghost use Rattle.jb_step.specs.preparing.Prepare.{DoFit};
 ghost use Rattle.jb_collect.specs.Taken.{Grew, since};
@@ -49,7 +50,7 @@ fn give_back<T: PartitionTask>(
     alloc: Global,
     held: Vec<Option<T>>,
 ) -> Result<Vec<(u32, T::Artifacts)>, RunError>
-    ensures { IfOk result (λ left. given_back T.Artifacts.meaning left.items ≡ artifacts_of (map T.standing (held_in held.items))) }
+    ensures { IfOk result (λ left. given_back T.Artifacts.meaning left.items ≡ artifacts_of (held_in (table_in T.standing held.items))) }
 {
     let mut left = Vec::new(alloc);
     for place in held {
@@ -63,7 +64,7 @@ fn give_one<T: PartitionTask>(
     left: &mut Vec<(u32, T::Artifacts)>,
     place: Option<T>,
 ) -> Result<(), RunError>
-    ensures { OnOk result (given_back T.Artifacts.meaning left.new.items ≡ given_back T.Artifacts.meaning left.old.items ++ artifacts_of (map T.standing (held_in (place ∷ [])))) }
+    ensures { OnOk result (given_back T.Artifacts.meaning left.new.items ≡ given_back T.Artifacts.meaning left.old.items ++ artifacts_of (held_in (table_in T.standing (place ∷ [])))) }
 {
     if let Some(task) = place {
         let partition = task.partition();

@@ -1,6 +1,6 @@
 -- What is told row after row, or place after place.
-use Rattle.std.proofs.Common.{◌≡◌, ℕ, ◌+◌, ◌<◌, Bool, true, false, cond, List, [], ◌∷◌, ◌++◌, length, get_or, drop, map, Option, Some, None, refl, ap, sym, ◌∙◌, subst}
-use Rattle.std.proofs.lemmas.List.{drop_more}
+use Rattle.std.proofs.Common.{◌≡◌, ℕ, ◌+◌, ◌<◌, ◌≤◌, Bool, true, false, cond, List, [], ◌∷◌, ◌++◌, length, get_or, drop, map, Option, Some, None, refl, ap, sym, ◌∙◌, subst}
+use Rattle.std.proofs.lemmas.List.{at_drop_all, drop_more}
 use Rattle.std.specs.Prelude.{◌==◌, filter, is_some}
 use Rattle.std.specs.List.{enumerate_from}
 use Rattle.jb_base.specs.declared.class.ClassId.{ClassId}
@@ -11,7 +11,9 @@ use Rattle.jb_collect.specs.declared.calls.AnalyzerCall.{AnalyzerCall}
 use Rattle.jb_collect.specs.Heard.{heard_last}
 use Rattle.jb_collect.specs.Laws.{TakenOneAfterAnother, NoneAfterAFault}
 use Rattle.jb_collect.specs.Taken.{Taken, HasTaken}
-use Rattle.jb_step.specs.inside.table.Places.{held_in}
+use Rattle.jb_collect.proofs.Taking.{none_taken}
+use Rattle.jb_step.specs.Tables.{held_in}
+use Rattle.jb_step.specs.inside.table.Places.{table_in}
 use Rattle.jb_step.specs.inside.callbacks.Telling.{empties}
 
 by-test : {X Y : Type 0} (b : Bool) (f : X → Y) (x : X) (xs : List X) → map f (cond b (x ∷ xs) xs) ≡ map f (cond b (x ∷ []) []) ++ map f xs
@@ -24,27 +26,32 @@ empties-one k row rows = by-test (row.lo == row.hi) _ (k, row) (filter (λ (n : 
 
 -- what is told of the first place, and then of the others
 pub last-one : {T : Type 0} (standing : T → TaskState) (place : Option T) (places : List (Option T))
-    → heard_last (map standing (held_in (place ∷ places))) ≡ heard_last (map standing (held_in (place ∷ []))) ++ heard_last (map standing (held_in places))
+    → heard_last (held_in (table_in standing (place ∷ places))) ≡ heard_last (held_in (table_in standing (place ∷ []))) ++ heard_last (held_in (table_in standing places))
 last-one standing None places = refl
-last-one standing (Some t) places = by-test (is_waiting (standing t).row.state) _ (standing t) (filter (λ (u : TaskState). is_waiting u.row.state) (map standing (held_in places)))
+last-one standing (Some t) places = by-test (is_waiting (standing t).row.state) _ (standing t) (filter (λ (u : TaskState). is_waiting u.row.state) (held_in (table_in standing places)))
 
 -- the calls of one place, where the places from the i-th on are told of
 at-place : {T : Type 0} (standing : T → TaskState) (places : List (Option T)) (i : ℕ) (place : Option T) → i < length places → place ≡ get_or places i place
-    → heard_last (map standing (held_in (drop i places))) ≡ heard_last (map standing (held_in (place ∷ []))) ++ heard_last (map standing (held_in (drop (i + 1) places)))
+    → heard_last (held_in (table_in standing (drop i places))) ≡ heard_last (held_in (table_in standing (place ∷ []))) ++ heard_last (held_in (table_in standing (drop (i + 1) places)))
 at-place standing places i place lt is =
-    ap (λ (os : List (Option _)). heard_last (map standing (held_in os))) (drop_more places i place lt ∙ ap (λ (o : Option _). o ∷ drop (i + 1) places) (sym is))
+    ap (λ (os : List (Option _)). heard_last (held_in (table_in standing os))) (drop_more places i place lt ∙ ap (λ (o : Option _). o ∷ drop (i + 1) places) (sym is))
     ∙ last-one standing place (drop (i + 1) places)
 
 pub place-told : {T : Type 0} → TakenOneAfterAnother → (standing : T → TaskState) (places : List (Option T)) (i : ℕ) (place : Option T) (now next later : List (Taken AnalyzerCall)) (found fault : Option ClassId)
-    → i < length places → place ≡ get_or places i place → is_some found ≡ false → HasTaken now (heard_last (map standing (held_in (place ∷ [])))) found next
-    → HasTaken next (heard_last (map standing (held_in (drop (i + 1) places)))) fault later → HasTaken now (heard_last (map standing (held_in (drop i places)))) fault later
+    → i < length places → place ≡ get_or places i place → is_some found ≡ false → HasTaken now (heard_last (held_in (table_in standing (place ∷ [])))) found next
+    → HasTaken next (heard_last (held_in (table_in standing (drop (i + 1) places)))) fault later → HasTaken now (heard_last (held_in (table_in standing (drop i places)))) fault later
 place-told law standing places i place now next later None fault lt is none told rest =
     subst (λ (calls : List AnalyzerCall). HasTaken now calls fault later) (sym (at-place standing places i place lt is)) (law now next later _ _ fault told rest)
 place-told law standing places i place now next later (Some class) fault lt is none told rest = let never : ⊥ = cc in absurd never
 
 pub place-faulted : {T : Type 0} → NoneAfterAFault → (standing : T → TaskState) (places : List (Option T)) (i : ℕ) (place : Option T) (now next : List (Taken AnalyzerCall)) (fault : Option ClassId)
-    → i < length places → place ≡ get_or places i place → is_some fault ≡ true → HasTaken now (heard_last (map standing (held_in (place ∷ [])))) fault next
-    → HasTaken now (heard_last (map standing (held_in (drop i places)))) fault next
+    → i < length places → place ≡ get_or places i place → is_some fault ≡ true → HasTaken now (heard_last (held_in (table_in standing (place ∷ [])))) fault next
+    → HasTaken now (heard_last (held_in (table_in standing (drop i places)))) fault next
 place-faulted law standing places i place now next None lt is some told = let never : ⊥ = cc in absurd never
 place-faulted law standing places i place now next (Some class) lt is some told =
     subst (λ (calls : List AnalyzerCall). HasTaken now calls (Some class) next) (sym (at-place standing places i place lt is)) (law now next _ _ class told)
+
+-- past the last place nothing is told
+pub places-over : {T : Type 0} (standing : T → TaskState) (places : List (Option T)) (i : ℕ) (now : List (Taken AnalyzerCall)) → length places ≤ i → HasTaken now (heard_last (held_in (table_in standing (drop i places)))) None now
+places-over standing places i now le =
+    subst (λ (calls : List AnalyzerCall). HasTaken now calls None now) (sym (at_drop_all (λ (os : List (Option _)). heard_last (held_in (table_in standing os))) places i le)) (none_taken now)

@@ -1,12 +1,14 @@
 -- Quiet rounds of a plan: which chunks were run, and that the next round can be run.
-use Rattle.std.proofs.Common.{◌≡◌, ℕ, suc, zero, ◌+◌, ◌-◌, ◌≤◌, ◌<◌, Bool, true, false, not, cond, List, [], ◌∷◌, ◌++◌, append-nil, length, drop, get_or, map, Some, refl, ap, sym, ◌∙◌, subst, arith, inl, inr, length-append, length-drop, eqb-true}
-use Rattle.std.specs.Prelude.{nat_eq, ◌||◌, slice_get, slice_index, slice_index_or, Contains}
+use Rattle.std.proofs.Common.{◌≡◌, ℕ, suc, zero, ◌+◌, ◌-◌, ◌≤◌, ◌<◌, Bool, true, false, not, cond, List, [], ◌∷◌, ◌++◌, append-nil, length, drop, get_or, map, Option, Some, None, refl, ap, sym, ◌∙◌, subst, arith, inl, inr, length-append, length-drop}
+use Rattle.std.specs.Prelude.{is_some, option_map, slice_get, slice_index, slice_index_or, Contains}
+use Rattle.std.specs.Option.{option_map_or}
 use Rattle.std.specs.List.{list_all, enumerate_from, AllByRecursion}
 use Rattle.std.proofs.Math.Seq.{drop-nil}
-use Rattle.std.proofs.lemmas.Bool.{cases_lt, or_parts, and_from, and_parts, not-false}
+use Rattle.std.proofs.lemmas.Bool.{cases_lt, or_parts, and_parts, not-false}
 use Rattle.std.proofs.lemmas.List.{get_or_at, drop-drop}
 use Rattle.std.proofs.lemmas.List.Elements.{All-contains_itself}
 use Rattle.std.proofs.lemmas.List.Sums.{list_all-from_AllPass}
+use Rattle.jb_base.specs.Pairwise.{Pairwise}
 use Rattle.jb_base.specs.declared.range.Range.{Range}
 use Rattle.jb_rules.specs.declared.row.Row.{Row}
 use Rattle.jb_rules.specs.declared.row.RowState.{RowState}
@@ -19,101 +21,68 @@ use Rattle.jb_chunk.specs.Standing.{TaskState}
 use Rattle.jb_repo.specs.Rows.{remaining}
 use Rattle.jb_step.specs.Alone.{have_ended}
 use Rattle.jb_step.specs.rounds.PlanLaws.{ChunksAreBlocks, NextCanRun, RunsInOrder, RunsAll}
-use Rattle.jb_step.specs.OnePartition.{tasks_at}
-use Rattle.jb_step.specs.rounds.Rounds.{AreRun, CanRun, GoQuietly, after_round, after_rounds, breaks_in, has_partition, has_task, is_commit, tasks_in}
+use Rattle.jb_step.specs.Tables.{Table, held_in, held_at}
+use Rattle.jb_step.specs.rounds.Rounds.{AreRun, CanRun, GoQuietly, after_in, after_round, after_rounds, breaks_in, has_partition, is_commit, tasks_in}
 use Rattle.jb_step.specs.preparing.Setup.{Setup, row_now, counts_now}
 use Rattle.jb_step.specs.inside.Below.{ChunkLaws}
 use Rattle.jb_step.proofs.run.Adding.{quiet-parts}
-use Rattle.jb_step.proofs.table.Apart.{IsWaiting, all-waiting, stays, wait-in}
+use Rattle.jb_step.proofs.table.Apart.{IsWaiting, wait-in}
+use Rattle.jb_step.proofs.table.Filters.{all-so, all-true, kept-so, so-kept, true-all}
+use Rattle.jb_step.proofs.table.Held.{HasItsTask, at-round, member, named, rest-of, some-is}
+use Rattle.jb_step.proofs.table.Leftover.{IsIn, are-in}
+use Rattle.jb_step.proofs.table.Rows.{rows-are, rows_in}
 use Rattle.jb_step.proofs.plans.ChunkNumbers.{chunk-in, first-is, has-left, one_if, runs_of}
-use Rattle.jb_step.proofs.plans.Holding.{apart-of, rest-of}
-use Rattle.jb_step.proofs.run.Leading.{first-so, others-so}
-use Rattle.jb_step.proofs.table.Lookup.{first-now, first_of, look-one, none-now}
-use Rattle.jb_step.proofs.table.Filters.{each-passes, filter-all}
 use Rattle.jb_step.proofs.plans.Staying.{steady-held, steady-rounds}
 use Rattle.jb_step.proofs.plans.Steady.{IsSteady, IsSteadyIn, IsSteadyTable, due, due-next, due-number, due-waiting, due-waits, listing, next-list, waits, row_waits}
-use Rattle.jb_step.proofs.table.Numbers.{itself}
 
--- ONE PARTITION OF A TABLE
+-- THE CHUNKS OF ONE PARTITION
 
--- what holds of each task holds of a partition's
-pub member : (P : TaskState → Type 0) (ts : List TaskState) (p : ℕ) (t : TaskState) (us : List TaskState) → AllByRecursion P ts → tasks_at p ts ≡ t ∷ us → P t
-member P ts p t us all e = (subst (λ vs. AllByRecursion P vs) e (filter-all P (λ v. nat_eq v.partition p) ts all)).0
-
-pub named : (ts : List TaskState) (p : ℕ) (t : TaskState) (us : List TaskState) → tasks_at p ts ≡ t ∷ us → t.partition ≡ p
-named ts p t us e = eqb-true t.partition p (subst (λ vs. AllByRecursion (λ v. nat_eq v.partition p ≡ true) vs) e (each-passes (λ v. nat_eq v.partition p) ts)).0
-
-tasked : (ts : List TaskState) (p : ℕ) (t : TaskState) (vs : List TaskState) → tasks_at p ts ≡ t ∷ vs → has_task ts p ≡ true
-tasked [] p t vs e = let never : ⊥ = cc in absurd never
-tasked (u ∷ ts) p t vs e =
-    elim (nat_eq u.partition p) as (λ b. cond b (u ∷ tasks_at p ts) (tasks_at p ts) ≡ t ∷ vs → (b || has_task ts p) ≡ true) [
-      | true ↦ λ here. refl
-      | false ↦ tasked ts p t vs
-    ] e
-
--- the chunks that it has left
-abbrev due_in : ℕ → List TaskState → List Range
-due_in p [] = []
-due_in p (t ∷ ts) = cond (nat_eq t.partition p) (due t) (due_in p ts)
-
-due-is : (ts : List TaskState) (p : ℕ) → due_in p ts ≡ first_of due (tasks_at p ts) []
-due-is [] p = refl
-due-is (t ∷ ts) p = look-one due (nat_eq t.partition p) t (tasks_at p ts) (due_in p ts) [] (due-is ts p)
-
--- THEIR NUMBER
-
-count-at : (c : ℕ) (ts : List TaskState) (rows : List Row) (k i p : ℕ) → k + i ≡ p → i < length rows
-    → (row : Row) × (slice_get rows i ≡ Some row) × (slice_index (remaining c (map (λ n. row_now ts n.0 n.1) (enumerate_from k rows))) i ≡ remaining_of c (row_now ts p row) (row_now ts p row).state)
-count-at c ts [] k i p e lt = absurd (omega arith)
-count-at c ts (row ∷ rows) k zero p e lt = (row, refl, ap (λ m. remaining_of c (row_now ts m row) (row_now ts m row).state) (let same : k ≡ p = omega (arith, e) in same))
-count-at c ts (row ∷ rows) k (suc i) p e lt = count-at c ts rows (k + 1) i p (omega (arith, e)) (omega arith)
+-- those that it has left
+abbrev due_in : ℕ → Table → List Range
+due_in p table = option_map_or due (held_at table p) []
 
 length-counts : (c : ℕ) (ts : List TaskState) (rows : List Row) (k : ℕ) → length (remaining c (map (λ n. row_now ts n.0 n.1) (enumerate_from k rows))) ≡ length rows
 length-counts c ts [] k = refl
 length-counts c ts (row ∷ rows) k = ap suc (length-counts c ts rows (k + 1))
 
-pub number-of-counts : (s : Setup) (ts : List TaskState) → length (counts_now s ts) ≡ length s.rows
-number-of-counts s ts = length-counts s.item_count ts s.rows 0
+pub number-of-counts : (s : Setup) (table : Table) → length (counts_now s table) ≡ length s.rows
+number-of-counts s table = length-counts s.item_count (held_in table) s.rows 0
 
+-- their number
 none-of : (c : ℕ) (row : Row) (st : RowState) → is_waiting st ≡ false → remaining_of c row st ≡ 0
 none-of c row state.Waiting e = absurd (cc e)
 none-of c row (state.Running lane) e = refl
 none-of c row state.Finished e = refl
 none-of c row state.Failed e = refl
 
-counted : (s : Setup) (ts : List TaskState) → IsSteadyTable s ts → (p : ℕ) → p < length s.rows → slice_index (counts_now s ts) p ≡ length (due_in p ts)
-counted s ts table p lt =
-    let row = count-at s.item_count ts s.rows 0 p p (omega arith) lt in
-    row.2 ∙ by row.0 row.1 (tasks_at p ts) refl ∙ sym (ap length (due-is ts p))
-  where
-    by : (row : Row) → slice_get s.rows p ≡ Some row → (us : List TaskState) → tasks_at p ts ≡ us → remaining_of s.item_count (row_now ts p row) (row_now ts p row).state ≡ length (first_of due us [])
-    by row get [] e = ap (λ (r : Row). remaining_of s.item_count r r.state) (none-now ts p row e) ∙ none-of s.item_count row row.state (rest-of s.rows ts table.partitions p row get e)
-    by row get (t ∷ us) e =
-        ap (λ (r : Row). remaining_of s.item_count r r.state) (first-now ts p row t us e)
-        ∙ ap (λ c. remaining_of c t.row t.row.state) (sym (member (IsSteadyIn s) ts p t us table.tasks e).1)
-        ∙ sym (due-number t)
+count-in : (s : Setup) (rows : List Row) (table : Table) → Pairwise HasItsTask rows table → AllByRecursion (IsSteadyIn s) (held_in table) → (p : ℕ) → p < length rows → slice_index (remaining s.item_count (rows_in rows table)) p ≡ length (due_in p table)
+count-in s [] table h steady p lt = absurd (omega (arith, lt))
+count-in s (row ∷ rows) [] h steady p lt = absurd h
+count-in s (row ∷ rows) (None ∷ table) h steady zero lt = none-of s.item_count row row.state (rest-of (row ∷ rows) (None ∷ table) h zero row refl refl)
+count-in s (row ∷ rows) (Some t ∷ table) h steady zero lt = ap (λ c. remaining_of c t.row t.row.state) (sym steady.0.1) ∙ sym (due-number t)
+count-in s (row ∷ rows) (None ∷ table) h steady (suc p) lt = count-in s rows table h.1 steady p (omega (arith, lt))
+count-in s (row ∷ rows) (Some t ∷ table) h steady (suc p) lt = count-in s rows table h.1 steady.1 p (omega (arith, lt))
 
--- a partition that has chunks left has one task, and it waits
-pub record IsDue (ts : List TaskState) (p : ℕ) : Type 0 where
+counted : (s : Setup) (table : Table) → IsSteadyTable s table → (p : ℕ) → p < length s.rows → slice_index (counts_now s table) p ≡ length (due_in p table)
+counted s table h p lt = ap (λ rows. slice_index (remaining s.item_count rows) p) (rows-are s.rows table h.placed) ∙ count-in s s.rows table h.unfinished h.tasks p lt
+
+-- a partition that has chunks left has a task, and it waits
+pub record IsDue (table : Table) (p : ℕ) : Type 0 where
   pub t : TaskState
-  pub stands : tasks_at p ts ≡ t ∷ []
+  pub stands : held_at table p ≡ Some t
   pub steady : IsSteady t
   pub waiting : IsWaiting t
-  pub chunks : due_in p ts ≡ listing t
+  pub chunks : due_in p table ≡ listing t
 
-is-due : (s : Setup) (ts : List TaskState) → IsSteadyTable s ts → (p : ℕ) → 1 ≤ length (due_in p ts) → IsDue ts p
-is-due s ts table p some = by (tasks_at p ts) refl
+is-due : (s : Setup) (table : Table) → IsSteadyTable s table → (p : ℕ) → 1 ≤ length (due_in p table) → IsDue table p
+is-due s table h p some = by (held_at table p) refl
   where
-    by : (us : List TaskState) → tasks_at p ts ≡ us → IsDue ts p
-    by [] e = let none = ap length (due-is ts p ∙ ap (λ us. first_of due us []) e) in absurd (omega (arith, some, none))
-    by (t ∷ []) e =
-        let is : due_in p ts ≡ due t = due-is ts p ∙ ap (λ us. first_of due us []) e in
+    by : (o : Option TaskState) → held_at table p ≡ o → IsDue table p
+    by None e = let none = ap (λ (o : Option TaskState). length (option_map_or due o [])) e in absurd (omega (arith, some, none))
+    by (Some t) e =
+        let is : due_in p table ≡ due t = ap (λ (o : Option TaskState). option_map_or due o []) e in
         let waiting = due-waits t (subst (λ (xs : List Range). 1 ≤ length xs) is some) in
-        record { t = t; stands = e; steady = (member (IsSteadyIn s) ts p t [] table.tasks e).0; waiting = waiting; chunks = is ∙ due-waiting t waiting }
-    by (t ∷ (v ∷ vs)) e =
-        let one = apart-of s.rows ts table.partitions p in
-        let two = ap length e in
-        absurd (omega (arith, one, two))
+        record { t = t; stands = e; steady = (member (IsSteadyIn s) table p t h.tasks e).0; waiting = waiting; chunks = is ∙ due-waiting t waiting }
 
 -- QUIET ROUNDS
 
@@ -133,29 +102,26 @@ due-after law true t st on = due-next law t st (on refl).0 (on refl).1 ∙ ap (d
 due-after law false t st on = refl
 
 -- each round that has the partition leaves it with one chunk less
-due-round : ChunkLaws → (s : Setup) (p : ℕ) (set : List Pair) (ts : List TaskState) → AllByRecursion (IsSteadyIn s) ts → AllByRecursion GoesOn (tasks_in set ts)
-    → due_in p (after_round set ts) ≡ drop (one_if (has_partition set p)) (due_in p ts)
-due-round law s p set [] steady on = sym (drop-nil (one_if (has_partition set p)))
-due-round law s p set (t ∷ ts) steady on =
-    ap (λ q. cond (nat_eq q p) (due now) (due_in p (after_round set ts))) (stays has t)
-    ∙ (elim (nat_eq t.partition p) as (λ b. nat_eq t.partition p ≡ b → cond b (due now) (due_in p (after_round set ts)) ≡ drop (one_if (has_partition set p)) (cond b (due t) (due_in p ts))) [
-      | true ↦ λ e. due-after law has t steady.0.0 (first-so GoesOn has t (tasks_in set ts) on) ∙ ap (λ q. drop (one_if (has_partition set q)) (due t)) (eqb-true t.partition p e)
-      | false ↦ λ e. due-round law s p set ts steady.1 (others-so GoesOn has t (tasks_in set ts) on)
-    ] refl)
+due-round : ChunkLaws → (s : Setup) (p : ℕ) (set : List Pair) (table : Table) → IsSteadyTable s table → AllByRecursion GoesOn (tasks_in set table)
+    → due_in p (after_round set table) ≡ drop (one_if (has_partition set p)) (due_in p table)
+due-round law s p set table h on = ap (λ (o : Option TaskState). option_map_or due o []) (at-round set table p) ∙ by (held_at table p) refl
   where
-    has : Bool
-    has = has_partition set t.partition
+    has : TaskState → Bool
+    has t = has_partition set t.partition
 
-    now : TaskState
-    now = cond has (attempt_of t).task t
+    by : (o : Option TaskState) → held_at table p ≡ o → option_map_or due (option_map (after_in set) o) [] ≡ drop (one_if (has_partition set p)) (option_map_or due o [])
+    by None e = sym (drop-nil (one_if (has_partition set p)))
+    by (Some t) e =
+        due-after law (has t) t (member (IsSteadyIn s) table p t h.tasks e).0 (member (λ (u : TaskState). has u ≡ true → GoesOn u) table p t (kept-so GoesOn has (held_in table) on) e)
+        ∙ ap (λ q. drop (one_if (has_partition set q)) (due t)) (named table p t h.placed e)
 
-due-rounds : ChunkLaws → (s : Setup) (p : ℕ) (rounds : List (List Pair)) (ts : List TaskState) → IsSteadyTable s ts → AreRun rounds ts → GoQuietly rounds ts → due_in p (after_rounds rounds ts) ≡ drop (runs_of p rounds) (due_in p ts)
-due-rounds law s p [] ts table run quiet = refl
-due-rounds law s p (set ∷ later) ts table run quiet =
-    let parts = quiet-parts set later ts quiet in
-    due-rounds law s p later (after_round set ts) (steady-rounds law s (set ∷ []) ts table (all-waiting (tasks_in set ts) run.0.waiting, tt)) run.2 parts.1
-    ∙ ap (drop (runs_of p later)) (due-round law s p set ts table.tasks (goes-on (tasks_in set ts) run.0.waiting parts.0))
-    ∙ drop-drop (runs_of p later) (one_if (has_partition set p)) (due_in p ts)
+due-rounds : ChunkLaws → (s : Setup) (p : ℕ) (rounds : List (List Pair)) (table : Table) → IsSteadyTable s table → AreRun rounds table → GoQuietly rounds table → due_in p (after_rounds rounds table) ≡ drop (runs_of p rounds) (due_in p table)
+due-rounds law s p [] table h run quiet = refl
+due-rounds law s p (set ∷ later) table h run quiet =
+    let parts = quiet-parts set later table quiet in
+    due-rounds law s p later (after_round set table) (steady-rounds law s (set ∷ []) table h ((wait-in (set ∷ later) table run).0, tt)) run.2 parts.1
+    ∙ ap (drop (runs_of p later)) (due-round law s p set table h (goes-on (tasks_in set table) run.0.waiting parts.0))
+    ∙ drop-drop (runs_of p later) (one_if (has_partition set p)) (due_in p table)
 
 -- THE NEXT ROUND
 
@@ -165,42 +131,41 @@ get-dropped [] (suc j) = refl
 get-dropped (x ∷ xs) zero = refl
 get-dropped (x ∷ xs) (suc j) = get-dropped xs j
 
-ended-due : (p : ℕ) (ts : List TaskState) → have_ended ts ≡ true → due_in p ts ≡ []
-ended-due p [] e = refl
-ended-due p (t ∷ ts) e =
-    let both = and_parts (has_ended t.row.state) (have_ended ts) e in
-    elim (nat_eq t.partition p) as (λ b. cond b (due t) (due_in p ts) ≡ []) [ true ↦ none t.row.state both.0 | false ↦ ended-due p ts both.1 ]
+ended-due : (p : ℕ) (table : Table) → have_ended (held_in table) ≡ true → due_in p table ≡ []
+ended-due p table e = by (held_at table p) refl
   where
-    none : (st : RowState) → has_ended st ≡ true → cond (is_waiting st) (listing t) [] ≡ []
-    none state.Waiting e = absurd (cc e)
-    none (state.Running lane) e = refl
-    none state.Finished e = refl
-    none state.Failed e = refl
+    none : (t : TaskState) (st : RowState) → has_ended st ≡ true → cond (is_waiting st) (listing t) [] ≡ []
+    none t state.Waiting e = absurd (cc e)
+    none t (state.Running lane) e = refl
+    none t state.Finished e = refl
+    none t state.Failed e = refl
 
-members-wait : (set : List Pair) (ts : List TaskState) → ((p : ℕ) → has_partition set p ≡ true → AllByRecursion IsWaiting (tasks_at p ts)) → list_all row_waits (tasks_in set ts) ≡ true
-members-wait set [] h = refl
-members-wait set (u ∷ ts) h =
-    let rest = members-wait set ts (λ p has. others-so IsWaiting (nat_eq u.partition p) u (tasks_at p ts) (h p has)) in
-    elim (has_partition set u.partition) as (λ b. has_partition set u.partition ≡ b → list_all row_waits (cond b (u ∷ tasks_in set ts) (tasks_in set ts)) ≡ true) [
-      | true ↦ λ has. and_from (row_waits u) (list_all row_waits (tasks_in set ts)) (ap is_waiting (first-so IsWaiting (nat_eq u.partition u.partition) u (tasks_at u.partition ts) (h u.partition has) (itself u.partition))) rest
-      | false ↦ λ has. rest
-    ] refl
+    by : (o : Option TaskState) → held_at table p ≡ o → option_map_or due o [] ≡ []
+    by None is = refl
+    by (Some t) is = none t t.row.state (member (λ (u : TaskState). has_ended u.row.state ≡ true) table p t (all-true (λ (u : TaskState). has_ended u.row.state) (held_in table) e) is)
+
+-- where the task of each partition of the set waits, all of the set's tasks do
+members-wait : (s : Setup) (set : List Pair) (table : Table) → IsSteadyTable s table → ((p : ℕ) (t : TaskState) → has_partition set p ≡ true → held_at table p ≡ Some t → IsWaiting t) → list_all row_waits (tasks_in set table) ≡ true
+members-wait s set table h each =
+    true-all row_waits (tasks_in set table)
+    (so-kept (λ (t : TaskState). row_waits t ≡ true) (λ (t : TaskState). has_partition set t.partition) (held_in table)
+    (all-so (IsIn s.rows table) (λ (t : TaskState). has_partition set t.partition ≡ true → row_waits t ≡ true) (λ t is has. ap is_waiting (each t.partition t has is.stands)) (held_in table) (are-in s.rows table h.placed h.unfinished)))
 
 -- the partition's task before the rounds, and now
-pub record IsLeftTo (before after : List TaskState) (p : ℕ) : Type 0 where
+pub record IsLeftTo (before after : Table) (p : ℕ) : Type 0 where
   pub t : TaskState
   pub u : TaskState
-  pub stood : tasks_at p before ≡ t ∷ []
-  pub stands : tasks_at p after ≡ u ∷ []
+  pub stood : held_at before p ≡ Some t
+  pub stands : held_at after p ≡ Some u
 
 -- the chunk of the next round is the first one that the partition has left
-pub record IsNextChunk (before after : List TaskState) (p j : ℕ) : Type 0 where
+pub record IsNextChunk (before after : Table) (p j : ℕ) : Type 0 where
   pub has : IsLeftTo before after p
   pub waiting : IsWaiting has.u
   pub block : slice_get (listing has.t) j ≡ Some (block_of has.u)
 
-module _ (law : ChunkLaws) (s : Setup) (before : List TaskState) (rounds : List (List Pair)) (table : IsSteadyTable s before) (run : AreRun rounds before) (quiet : GoQuietly rounds before) where
-  abbrev after : List TaskState
+module _ (law : ChunkLaws) (s : Setup) (before : Table) (rounds : List (List Pair)) (table : IsSteadyTable s before) (run : AreRun rounds before) (quiet : GoQuietly rounds before) where
+  abbrev after : Table
   after = after_rounds rounds before
 
   fallen : (p : ℕ) → due_in p after ≡ drop (runs_of p rounds) (due_in p before)
@@ -258,14 +223,11 @@ module _ (law : ChunkLaws) (s : Setup) (before : List TaskState) (rounds : List 
 
     pub next-can-run : CanRun set after
     next-can-run = record {
-      tasks = list_all-from_AllPass (λ (x : Pair). has_task after x.0) set (λ k d lt.
-          let x = slice_index_or set k d in
-          let has = (next-chunk x.0 x.1 (All-contains_itself set k d lt)).has in
-          tasked after x.0 has.u [] has.stands);
-      waiting = members-wait set after (λ p has.
+      tasks = list_all-from_AllPass (λ (x : Pair). is_some (held_at after x.0)) set (λ k d lt. let x = slice_index_or set k d in ap is_some (next-chunk x.0 x.1 (All-contains_itself set k d lt)).has.stands);
+      waiting = members-wait s set after table-now (λ p t has is.
           let chunk = chunk-in set p has in
           let next = next-chunk p chunk.0 chunk.1 in
-          subst (λ ts. AllByRecursion IsWaiting ts) (sym next.has.stands) (next.waiting, tt));
+          subst IsWaiting (some-is next.has.u t (sym next.has.stands ∙ is)) next.waiting);
     }
 
   pub all-chunks : IsLawful (counts_now s before) s.threads rounds → (p : ℕ) → p < length s.rows → slice_index (counts_now s after) p ≡ 0
@@ -279,7 +241,7 @@ module _ (law : ChunkLaws) (s : Setup) (before : List TaskState) (rounds : List 
       ]
 
   -- where no partition waits, each was in as many rounds as it had chunks
-  pub runs-from-ended : have_ended after ≡ true → (p : ℕ) → p < length s.rows → slice_index (counts_now s before) p ≤ runs_of p rounds
+  pub runs-from-ended : have_ended (held_in after) ≡ true → (p : ℕ) → p < length s.rows → slice_index (counts_now s before) p ≤ runs_of p rounds
   runs-from-ended ended p lt =
       let none = counted s after table-now p lt ∙ ap length (ended-due p after ended) in
       let now = counts p lt in
@@ -296,12 +258,9 @@ runs_in_order law s before rounds set left h = in-order law s before rounds (ste
 pub chunks_are_blocks : ChunkLaws → ChunksAreBlocks
 chunks_are_blocks law s before rounds set left h p j chunk t u here there =
     let next = next-chunk law s before rounds (steady-held law s before h.held) h.run h.quiet set left h.lawful p j chunk in
-    let was : next.has.t ≡ t = head-is (sym next.has.stood ∙ here) in
-    let is : next.has.u ≡ u = head-is (sym next.has.stands ∙ there) in
+    let was = some-is next.has.t t (sym next.has.stood ∙ here) in
+    let is = some-is next.has.u u (sym next.has.stands ∙ there) in
     ap (λ v. slice_get (listing v) j) (sym was) ∙ next.block ∙ ap (λ v. Some (block_of v)) is
-  where
-    head-is : {v w : TaskState} → v ∷ [] ≡ w ∷ [] → v ≡ w
-    head-is e = cc
 
 pub runs_all : ChunkLaws → RunsAll
 runs_all law s before rounds h =

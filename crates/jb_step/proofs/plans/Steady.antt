@@ -1,7 +1,8 @@
 -- One task and its attempts: what is left of its chunks after each.
 use Rattle.std.proofs.Common.{◌≡◌, ℕ, ◌≤◌, ◌<◌, Bool, true, false, cond, List, [], ◌∷◌, length, drop, refl, ap, sym, subst, ◌∙◌, arith, eqb-true}
-use Rattle.std.specs.Prelude.{◌==◌, map}
+use Rattle.std.specs.Prelude.{◌==◌}
 use Rattle.std.specs.List.{AllByRecursion}
+use Rattle.jb_base.specs.Pairwise.{Pairwise}
 use Rattle.jb_base.specs.declared.range.Range.{Range}
 use Rattle.jb_plan.specs.Blocks.{blocks}
 use Rattle.jb_rules.specs.declared.row.Row.{Row}
@@ -17,8 +18,10 @@ use Rattle.jb_rules.specs.Rows.{remaining_of}
 use Rattle.jb_chunk.proofs.RunsAlone.{below-at, left-waiting}
 use Rattle.jb_step.specs.rounds.PlanLaws.{AreTasksOf, IsTaskTable}
 use Rattle.jb_step.specs.rounds.Rounds.{is_commit}
-use Rattle.jb_step.specs.preparing.Setup.{Setup, needs}
+use Rattle.jb_step.specs.preparing.Setup.{Setup}
+use Rattle.jb_step.specs.Tables.{ArePlaced, Table, held_in}
 use Rattle.jb_step.specs.inside.Below.{ChunkLaws}
+use Rattle.jb_step.proofs.table.Held.{HasItsTask}
 
 abbrev pub row_waits : TaskState → Bool
 row_waits t = is_waiting t.row.state
@@ -29,12 +32,9 @@ waits (state.Running lane) e = cc
 waits state.Finished e = cc
 waits state.Failed e = cc
 
--- an attempt leaves the partition's number, the item count and the rules as they are
+-- an attempt leaves the partition's number and the item count as they are
 pub same-partition : (t : TaskState) → (attempt_of t).task.partition ≡ t.partition
 same-partition t = refl
-
-pub same-rules : (t : TaskState) → (attempt_of t).task.rules ≡ t.rules
-same-rules t = refl
 
 pub same-count : (t : TaskState) → (attempt_of t).task.item_count ≡ t.item_count
 same-count t = refl
@@ -58,16 +58,17 @@ steady t ready = record {
 abbrev pub IsSteadyIn : Setup → TaskState → Type 0
 IsSteadyIn s t = IsSteady t × (t.item_count ≡ s.item_count)
 
-pub record IsSteadyTable (s : Setup) (ts : List TaskState) : Type 0 where
-  pub tasks : AllByRecursion (IsSteadyIn s) ts
-  pub partitions : map (λ (t : TaskState). t.partition) ts ≡ needs s.rows
+pub record IsSteadyTable (s : Setup) (table : Table) : Type 0 where
+  pub tasks : AllByRecursion (IsSteadyIn s) (held_in table)
+  pub placed : ArePlaced 0 table
+  pub unfinished : Pairwise HasItsTask s.rows table
 
 steady-tasks : (s : Setup) (ts : List TaskState) → AreTasksOf s ts → AllByRecursion (IsSteadyIn s) ts
 steady-tasks s [] tasks = tt
 steady-tasks s (t ∷ ts) tasks = ((steady t tasks.0.0, tasks.0.1), steady-tasks s ts tasks.1)
 
-pub steady-table : (s : Setup) (ts : List TaskState) → IsTaskTable s ts → IsSteadyTable s ts
-steady-table s ts table = record { tasks = steady-tasks s ts table.tasks; partitions = table.partitions }
+pub steady-table : (s : Setup) (table : Table) → IsTaskTable s table → IsSteadyTable s table
+steady-table s table h = record { tasks = steady-tasks s (held_in table) h.tasks; placed = h.placed; unfinished = h.unfinished }
 
 next-by : ChunkLaws → (t : TaskState) (again : ℕ) (e : Outcome) → IsSteady t → t.row.state ≡ state.Waiting → IsSteady (ending_by t again e).task
 next-by law t again (Committed delta) st w =

@@ -1,9 +1,11 @@
 -- Runs of a step, each begun from what the one before it left.
-use Rattle.std.proofs.Common.{◌≡◌, ◌≢◌, ℕ, suc, zero, ◌+◌, ◌≤◌, Bool, true, false, not, cond, List, [], ◌∷◌, length, map, Option, Some, Result, Ok, refl, ap, ap₂, sym, ◌∙◌, subst, ◌<◌, arith}
-use Rattle.std.specs.Prelude.{◌&&◌, filter, nat_eq, slice_get, slice_index_or}
+use Rattle.std.proofs.Common.{◌≡◌, ◌≢◌, ℕ, suc, zero, ◌+◌, Bool, true, false, not, cond, List, [], ◌∷◌, length, map, Option, Some, None, Result, Ok, refl, ap, ap₂, sym, ◌∙◌, subst, ◌<◌, arith}
+use Rattle.std.specs.Prelude.{◌&&◌, filter, option_map, slice_index_or}
+use Rattle.std.specs.Option.{option_map_or}
 use Rattle.std.specs.List.{enumerate_from, zip, AllByRecursion}
 use Rattle.std.proofs.lemmas.Simd.{map-map}
 use Rattle.jb_base.proofs.Pairwise.{pairwise-join}
+use Rattle.jb_base.specs.Pairwise.{Pairwise}
 use Rattle.jb_base.specs.Rules.{RulesRecord}
 use Rattle.jb_job.specs.Records.{StepRecord}
 use Rattle.jb_rules.specs.declared.row.Row.{Row}
@@ -22,22 +24,22 @@ use Rattle.jb_saved.specs.Laws.{TreeIsRead}
 use Rattle.jb_saved.specs.Reading.{answer_of}
 use Rattle.jb_saved.specs.SavedRows.{SavedRows}
 use Rattle.jb_saved.specs.declared.place.SavedPlace.{SavedPlace}
-use Rattle.jb_step.specs.Answers.{StepRun, artifacts_of, newer, task_left, tasks_after, tasks_before, tasks_left}
-use Rattle.jb_step.specs.OnePartition.{tasks_at}
+use Rattle.jb_step.specs.Answers.{StepRun, artifacts_of, newer, table_before, task_left, tasks_after, tasks_before, tasks_by, tasks_left}
+use Rattle.jb_step.specs.Tables.{ArePlaced, Table, held_in, in_places, keep_if, held_at}
 use Rattle.jb_step.specs.preparing.Prepare.{FitRows}
 use Rattle.jb_step.specs.restarts.Restarts.{IsChain, IsPreparedFor, IsRestart, AreRestarts, RestartsFit, RestartsAreOnTheWay, RestartsEndAlone, RestartsEndAsUnstopped}
-use Rattle.jb_step.specs.preparing.Setup.{Setup, IsSetup, first_tasks, gone_on, needs, opening_rows, row_now, rows_now, unfinished}
+use Rattle.jb_step.specs.preparing.Setup.{Setup, IsSetup, first_tasks, gone_on, needs, opening_rows, rows_now, unfinished}
 use Rattle.jb_step.specs.restarts.StepRuns.{IsAnswered, last_run, tasks_at_last, tasks_through, tasks_unfinished, artifacts_restarted}
 use Rattle.jb_step.specs.Alone.{AreAlone, AreOnTheWay, AreReady, have_ended}
 use Rattle.jb_step.specs.inside.rounds.Round.{partitions_of}
-use Rattle.jb_step.proofs.table.Apart.{pick}
-use Rattle.jb_step.proofs.table.Filters.{all-back, all-so, filter-again, filter-all, filter-map, map-stays}
-use Rattle.jb_step.proofs.plans.Holding.{all-unfinished, apart-of, begins_with_table, first_from, is_open, none-of}
+use Rattle.jb_step.proofs.table.Filters.{all-back, all-so, filter-again, filter-all, map-stays}
+use Rattle.jb_step.proofs.table.Held.{HasItsTask, at-map, held-map, placed-map}
+use Rattle.jb_step.proofs.table.Keeping.{at-kept, held-kept, placed-kept}
+use Rattle.jb_step.proofs.table.Putting.{ArePut, are-put, is_open}
+use Rattle.jb_step.proofs.table.Leftover.{IsIn, are-in, kept}
+use Rattle.jb_step.proofs.table.Rows.{artifacts-at, in-at, length-in, row_of, rows-are, rows_in}
+use Rattle.jb_step.proofs.plans.Holding.{all-unfinished, begins_with_table, begins_with_tasks, first_from}
 use Rattle.jb_step.proofs.run.Leading.{steps_are_on_the_way, alone-all, alone_is_one_place}
-use Rattle.jb_step.proofs.table.Leftover.{kept}
-use Rattle.jb_step.proofs.table.Lookup.{IsIn, are-in, first-now, first_of, length-now, none-now, own-row, row-at, row-is, artifacts-is}
-use Rattle.jb_step.proofs.table.Numbers.{head-of, tail-of}
-use Rattle.jb_step.proofs.beginning.Starting.{IsRowAt, listed}
 use Rattle.jb_step.proofs.run.SoFar.{ready-of}
 
 -- WHAT ONE RUN GIVES
@@ -52,13 +54,14 @@ pub record GivesTable (r : StepRun) : Type 0 where
 
 gives-table : (r : StepRun) → IsSetup r.setup → IsAnswered r → GivesTable r
 gives-table r setup a =
-    let table = begins_with_table r.setup r.artifacts setup a.fit in
+    let first = begins_with_tasks r.setup r.artifacts setup a.fit in
     let run = a.run in
     let is = sym run.tasks in
+    let held : held_in (table_before r) ≡ tasks_before r = (begins_with_table r.setup r.artifacts setup a.fit).1 in
     record {
-      ready = ready-of r.setup (tasks_before r) table.tasks;
-      names = table.partitions;
-      way = subst (λ (ts : List TaskState). AreOnTheWay (tasks_before r) ts) is (steps_are_on_the_way r.setup (tasks_before r) run.plans run.run);
+      ready = ready-of r.setup (tasks_before r) first.tasks;
+      names = first.partitions;
+      way = subst (λ (ts : List TaskState). AreOnTheWay (tasks_before r) ts) is (subst (λ (ts : List TaskState). AreOnTheWay ts (tasks_by r run.plans)) held (steps_are_on_the_way r.setup (table_before r) run.plans run.run));
       rows = run.rows ∙ ap (rows_now r.setup.rows) is;
       came_back = run.came_back ∙ ap artifacts_of is;
       ended = λ going. subst (λ (ts : List TaskState). have_ended ts ≡ true) is (run.unstopped going).ended;
@@ -75,32 +78,25 @@ is_unfinished t = not (is_finished t.row.state)
 abbrev numbered : TaskState → ℕ × Row
 numbered t = (t.partition, t.row)
 
-abbrev row_by : List TaskState → ℕ × Row → ℕ × Row
-row_by ts n = (n.0, row_now ts n.0 n.1)
-
-renumbered : (ts : List TaskState) (k : ℕ) (rows : List Row) → enumerate_from k (map (λ (n : ℕ × Row). row_now ts n.0 n.1) (enumerate_from k rows)) ≡ map (row_by ts) (enumerate_from k rows)
-renumbered ts k [] = refl
-renumbered ts k (row ∷ rows) = ap (λ (ns : List (ℕ × Row)). (k, row_now ts k row) ∷ ns) (renumbered ts (k + 1) rows)
-
-each-numbered : (rows : List Row) (ts : List TaskState) (ns : List (ℕ × Row)) (us : List TaskState) → partitions_of us ≡ map (λ (n : ℕ × Row). n.0) ns → AllByRecursion (IsIn rows ts) us → map (row_by ts) ns ≡ map numbered us
-each-numbered rows ts [] [] e all = refl
-each-numbered rows ts [] (u ∷ us) e all = let never : ⊥ = cc in absurd never
-each-numbered rows ts (n ∷ ns) [] e all = let never : ⊥ = cc in absurd never
-each-numbered rows ts (n ∷ ns) (u ∷ us) e all =
-    let name = sym (head-of u.partition n.0 (partitions_of us) (map (λ (n : ℕ × Row). n.0) ns) e) in
-    let row = first-now ts u.partition n.1 u [] all.0.only in
-    ap₂ ◌∷◌ ((λ i. (name i, row_now ts (name i) n.1)) ∙ (λ i. (u.partition, row i))) (each-numbered rows ts ns us (tail-of u.partition n.0 (partitions_of us) (map (λ (n : ℕ × Row). n.0) ns) e) all.1)
+open-from : (k : ℕ) (rows : List Row) (table : Table) → ArePlaced k table → Pairwise HasItsTask rows table → filter is_open (enumerate_from k (rows_in rows table)) ≡ map numbered (tasks_unfinished (held_in table))
+open-from k [] [] h its = refl
+open-from k [] (place ∷ table) h its = absurd its
+open-from k (row ∷ rows) [] h its = absurd its
+open-from k (row ∷ rows) (None ∷ table) h its = ap₂ (λ (b : Bool) (ns : List (ℕ × Row)). cond b ((k, row) ∷ ns) ns) (sym its.0) (open-from (k + 1) rows table h.1 its.1)
+open-from k (row ∷ rows) (Some t ∷ table) h its =
+    let ts = tasks_unfinished (held_in table) in
+    ap₂ (λ (q : ℕ) (ns : List (ℕ × Row)). cond (is_unfinished t) ((q, t.row) ∷ ns) ns) (sym h.0) (open-from (k + 1) rows table h.1 its.1)
+    ∙ (elim (is_unfinished t) as (λ b. cond b (numbered t ∷ map numbered ts) (map numbered ts) ≡ map numbered (cond b (t ∷ ts) ts)) [ true ↦ refl | false ↦ refl ])
 
 -- the rows that are unfinished now are those of the unfinished tasks
 unfinished-now : (rows : List Row) (ts : List TaskState) → partitions_of ts ≡ needs rows → unfinished (rows_now rows ts) ≡ map numbered (tasks_unfinished ts)
 unfinished-now rows ts names =
-    ap (filter is_open) (renumbered ts 0 rows)
-    ∙ filter-again is_open (row_by ts) (enumerate_from 0 rows) (all-so (IsRowAt rows) (λ n. is_open n ≡ false → row_by ts n ≡ n) closed (enumerate_from 0 rows) (listed rows 0 rows (λ i row get. let e : i ≡ 0 + i = omega arith in subst (λ m. slice_get rows m ≡ Some row) e get)))
-    ∙ ap (filter is_open) (each-numbered rows ts (unfinished rows) ts names (are-in rows ts names))
-    ∙ filter-map is_open is_unfinished numbered (λ t. refl) ts
-  where
-    closed : (n : ℕ × Row) → IsRowAt rows n → is_open n ≡ false → row_by ts n ≡ n
-    closed n get e = λ i. (n.0, none-now ts n.0 n.1 (none-of rows ts names n.0 n.1 get e) i)
+    let put = are-put rows ts names in
+    let table = in_places rows ts in
+    ap (λ us. unfinished (rows_now rows us)) (sym put.held)
+    ∙ ap unfinished (rows-are rows table put.placed)
+    ∙ open-from 0 rows table put.placed put.unfinished
+    ∙ ap (λ us. map numbered (tasks_unfinished us)) put.held
 
 -- HOW THE NEXT RUN BEGINS
 
@@ -158,12 +154,6 @@ record TakesUp (first r n : StepRun) : Type 0 where
   pub tasks : tasks_before n ≡ first_tasks n.setup (artifacts_restarted (tasks_after r))
   pub said : said_by first.setup ≡ said_by n.setup
 
--- rows of two runs, one after another
-rows-twice : (ts us all : List TaskState) → ((p : ℕ) (row : Row) → row_now us p (row_now ts p row) ≡ row_now all p row) → (k : ℕ) (rows : List Row)
-    → map (λ (n : ℕ × Row). row_now us n.0 n.1) (enumerate_from k (map (λ (n : ℕ × Row). row_now ts n.0 n.1) (enumerate_from k rows))) ≡ map (λ (n : ℕ × Row). row_now all n.0 n.1) (enumerate_from k rows)
-rows-twice ts us all now k [] = refl
-rows-twice ts us all now k (row ∷ rows) = ap₂ (λ (r : Row) (rs : List Row). r ∷ rs) (now k row) (rows-twice ts us all now (k + 1) rows)
-
 module _ (f : TaskState → TaskState) where
   -- a task that had ended stays as it is
   abbrev Stays : TaskState → Type 0
@@ -177,12 +167,19 @@ module _ (f : TaskState → TaskState) where
       by true e rest way = (way.0, rest way.1)
       by false e rest way = (record { attempts = []; run = stay.0 e }, rest way)
 
-  -- of one partition, which has no task or one
-  row-on : (us : List TaskState) (row : Row) → length us ≤ 1 → AllByRecursion Stays us → first_of (λ t. t.row) (map f (tasks_unfinished us)) (first_of (λ t. t.row) us row) ≡ first_of (λ t. t.row) (map f us) row
-  row-on [] row few stay = refl
-  row-on (t ∷ []) row few stay =
-      elim (is_unfinished t) as (λ b. is_unfinished t ≡ b → first_of (λ t. t.row) (map f (cond b (t ∷ []) [])) t.row ≡ (f t).row) [ true ↦ λ e. refl | false ↦ λ e. ap (λ (u : TaskState). u.row) (sym (stay.0 e)) ] refl
-  row-on (t ∷ (u ∷ us)) row few stay = absurd (omega (arith, few))
+  -- rows of two runs, one after another: in the second there are the tasks that were left unfinished
+  abbrev left_open : Table → Table
+  left_open table = map (option_map f) (map (keep_if is_unfinished) table)
+
+  rows-twice : (rows : List Row) (table : Table) → AllByRecursion Stays (held_in table) → rows_in (rows_in rows table) (left_open table) ≡ rows_in rows (map (option_map f) table)
+  rows-twice [] table stay = refl
+  rows-twice (row ∷ rows) [] stay = refl
+  rows-twice (row ∷ rows) (None ∷ table) stay = ap (λ (rs : List Row). row ∷ rs) (rows-twice rows table stay)
+  rows-twice (row ∷ rows) (Some t ∷ table) stay = ap₂ ◌∷◌ (one (is_unfinished t) stay.0) (rows-twice rows table stay.1)
+    where
+      one : (b : Bool) → (b ≡ false → f t ≡ t) → option_map_or row_of (option_map f (cond b (Some t) None)) t.row ≡ (f t).row
+      one true stay = refl
+      one false stay = ap row_of (sym (stay refl))
 
 -- ONE RUN MORE
 
@@ -201,42 +198,67 @@ module _ (place : SamePlace) (join : WaysJoin) (first r n : StepRun) (table : Li
   after : tasks_after n ≡ map leave (tasks_unfinished table)
   after = ap (map leave) begins
 
-  after-at : (p : ℕ) → tasks_at p (tasks_after n) ≡ map leave (tasks_unfinished (tasks_at p table))
-  after-at p = ap (tasks_at p) after ∙ pick (λ (u : TaskState). nat_eq u.partition p) is_unfinished (λ (u : TaskState). nat_eq u.partition p) leave (λ u. refl) table
+  -- the table that the runs left before, and the one that this run left
+  abbrev places : Table
+  places = in_places first.setup.rows table
 
-  stays : (t : TaskState) → IsIn first.setup.rows table t → is_unfinished t ≡ false → leave t ≡ t
+  put : ArePut first.setup.rows table
+  put = are-put first.setup.rows table l.names
+
+  abbrev left : Table
+  left = left_open leave places
+
+  held-left : held_in left ≡ tasks_after n
+  held-left = held-map leave (map (keep_if is_unfinished) places) ∙ ap (map leave) (held-kept is_unfinished places ∙ ap tasks_unfinished put.held) ∙ sym after
+
+  placed-left : ArePlaced 0 left
+  placed-left = placed-map leave (λ t. refl) 0 (map (keep_if is_unfinished) places) (placed-kept is_unfinished 0 places put.placed)
+
+  were : n.setup.rows ≡ rows_in first.setup.rows places
+  were = up.rows ∙ l.rows ∙ ap (rows_now first.setup.rows) (sym put.held) ∙ rows-are first.setup.rows places put.placed
+
+  are : n.snapshot.rows.items ≡ rows_in n.setup.rows left
+  are = h.rows ∙ ap (rows_now n.setup.rows) (sym held-left) ∙ rows-are n.setup.rows left placed-left
+
+  stays : (t : TaskState) → IsIn first.setup.rows places t → is_unfinished t ≡ false → leave t ≡ t
   stays t is closed =
       let p = t.partition in
-      let none : tasks_at p (tasks_after n) ≡ [] = after-at p ∙ ap (λ ts. map leave (tasks_unfinished ts)) is.only ∙ ap (λ b. map leave (cond b (t ∷ []) [])) closed in
-      let were : n.setup.rows ≡ rows_now first.setup.rows table = up.rows ∙ l.rows in
-      let there : p < length n.setup.rows = omega (arith, is.there, ap length were, length-now table 0 first.setup.rows) in
+      let none : held_at left p ≡ None =
+      at-map leave (map (keep_if is_unfinished) places) p ∙ ap (option_map leave) (at-kept is_unfinished places p ∙ ap (keep_if is_unfinished) is.stands ∙ ap (λ (b : Bool). cond b (Some t) None) closed) in
+      let there : p < length n.setup.rows = omega (arith, is.there, ap length were, length-in first.setup.rows places) in
       let row : slice_index_or n.snapshot.rows.items p t.row ≡ t.row =
-      ap (λ rs. slice_index_or rs p t.row) h.rows
-      ∙ row-at (tasks_after n) n.setup.rows p t.row there
-      ∙ none-now (tasks_after n) p (slice_index_or n.setup.rows p t.row) none
+      ap (λ rs. slice_index_or rs p t.row) are
+      ∙ in-at n.setup.rows left p t.row there
+      ∙ ap (λ (o : Option TaskState). option_map_or row_of o (slice_index_or n.setup.rows p t.row)) none
       ∙ ap (λ rs. slice_index_or rs p t.row) were
-      ∙ own-row first.setup.rows table t t.row is in
-      let artifacts : newer n.left p t.artifacts ≡ t.artifacts = ap (λ left. newer left p t.artifacts) h.came_back ∙ artifacts-is (tasks_after n) p t.artifacts ∙ ap (λ ts. first_of (λ t. t.artifacts) ts t.artifacts) none in
+      ∙ in-at first.setup.rows places p t.row is.there
+      ∙ ap (λ (o : Option TaskState). option_map_or row_of o (slice_index_or first.setup.rows p t.row)) is.stands in
+      let artifacts : newer n.left p t.artifacts ≡ t.artifacts =
+      ap (λ left. newer left p t.artifacts) (h.came_back ∙ ap artifacts_of (sym held-left)) ∙ artifacts-at left p t.artifacts placed-left ∙ ap (λ (o : Option TaskState). option_map_or (λ t. t.artifacts) o t.artifacts) none in
       λ i. record t { row = row i; artifacts = artifacts i }
 
-  all-stay : AllByRecursion (Stays leave) table
-  all-stay = all-so (IsIn first.setup.rows table) (Stays leave) stays table (are-in first.setup.rows table l.names)
+  all-stay : AllByRecursion (Stays leave) (held_in places)
+  all-stay = all-so (IsIn first.setup.rows places) (Stays leave) stays (held_in places) (are-in first.setup.rows places put.placed put.unfinished)
 
-  now : (p : ℕ) (row : Row) → row_now (tasks_after n) p (row_now table p row) ≡ row_now (map leave table) p row
-  now p row =
-      let at-p = λ (u : TaskState). nat_eq u.partition p in
-      row-is (tasks_after n) p (row_now table p row)
-      ∙ ap₂ (first_of (λ t. t.row)) (after-at p) (row-is table p row)
-      ∙ row-on leave (tasks_at p table) row (apart-of first.setup.rows table l.names p) (filter-all (Stays leave) at-p table all-stay)
-      ∙ sym (row-is (map leave table) p row ∙ ap (λ us. first_of (λ t. t.row) us row) (filter-map at-p at-p leave (λ u. refl) table))
+  tasks-stay : AllByRecursion (Stays leave) table
+  tasks-stay = subst (AllByRecursion (Stays leave)) put.held all-stay
+
+  rows-more : n.snapshot.rows.items ≡ rows_now first.setup.rows (map leave table)
+  rows-more =
+      let later = map (option_map leave) places in
+      are
+      ∙ ap (λ rs. rows_in rs left) were
+      ∙ rows-twice leave first.setup.rows places all-stay
+      ∙ sym (rows-are first.setup.rows later (placed-map leave (λ t. refl) 0 places put.placed))
+      ∙ ap (rows_now first.setup.rows) (held-map leave places ∙ ap (map leave) put.held)
 
   left-by-more : IsLeftBy first n (map leave table)
   left-by-more = record {
     gives = h;
-    way = pairwise-join IsOnTheWay IsOnTheWay IsOnTheWay join (tasks_before first) table (map leave table) l.way (way-on leave table all-stay (subst (λ (ts : List TaskState). AreOnTheWay ts (map leave ts)) begins h.way));
+    way = pairwise-join IsOnTheWay IsOnTheWay IsOnTheWay join (tasks_before first) table (map leave table) l.way (way-on leave table tasks-stay (subst (λ (ts : List TaskState). AreOnTheWay ts (map leave ts)) begins h.way));
     names = names-stay n.snapshot.rows.items n.left table ∙ l.names;
-    rows = h.rows ∙ ap (λ (rs : List Row). rows_now rs (tasks_after n)) (up.rows ∙ l.rows) ∙ rows-twice table (tasks_after n) (map leave table) now 0 first.setup.rows;
-    open_ = filter-again is_unfinished leave table all-stay ∙ ap tasks_unfinished (sym after);
+    rows = rows-more;
+    open_ = filter-again is_unfinished leave table tasks-stay ∙ ap tasks_unfinished (sym after);
   }
 
 -- THE CALLS OF A RESTART

@@ -7,16 +7,18 @@ use Rattle.jb_chunk.specs.Standing.{TaskState}
 use Rattle.jb_chunk.specs.declared.outcome.Done.{Done}
 use Rattle.jb_collect.specs.Heard.{endings_of, heard_in}
 use Rattle.jb_step.specs.Alone.{AreReady}
+use Rattle.jb_step.specs.Tables.{held_in}
 use Rattle.jb_step.specs.rounds.Rounds.{breaks_in}
 use Rattle.jb_step.specs.inside.rounds.Round.{IsRound}
 use Rattle.jb_step.specs.inside.callbacks.Telling.{HearsMore, Moment}
-use Rattle.jb_step.proofs.table.Placing.{IsPutBack, table}
+use Rattle.jb_step.specs.inside.table.Places.{table_in}
+use Rattle.jb_step.proofs.table.Placing.{IsPutBack}
 
 -- the Dones of the set's tasks were put back, counted, judged and told
 pub round-is : {T : Type 0} (standing : T → TaskState) (set : List Pair) (before after : List (Option T)) (ds : List (Done T)) → IsPutBack standing set before ds after
-    → (m n : Moment) (rounds more tried again : ℕ) (notes : List PlanNote) (broke : Bool) → AreReady (table standing before) → broke ≡ breaks_in (endings_of standing ds)
+    → (m n : Moment) (rounds more tried again : ℕ) (notes : List PlanNote) (broke : Bool) → AreReady (held_in (table_in standing before)) → broke ≡ breaks_in (endings_of standing ds)
     → HearsMore m (heard_in (endings_of standing ds)) n → more ≡ rounds + 1 → again ≡ tried + length ds
-    → IsRound set broke (record { moment = m; table = table standing before; rounds = rounds; attempts = tried; notes = notes }) (record { moment = n; table = table standing after; rounds = more; attempts = again; notes = notes })
+    → IsRound set broke (record { moment = m; table = table_in standing before; rounds = rounds; attempts = tried; notes = notes }) (record { moment = n; table = table_in standing after; rounds = more; attempts = again; notes = notes })
 round-is standing set before after ds back m n rounds more tried again notes broke ready broke_is heard one all = record {
   left = record {
     table_is = back.table_is;

@@ -10,48 +10,50 @@ use Rattle.jb_cert.specs.Load.{Load, mcnaughton}
 use Rattle.jb_cert.specs.Plans.{sets_of, slot_pair}
 use Rattle.jb_cert.specs.WrapAround.{slots_of_round, wrapped_rounds}
 use Rattle.jb_cert.specs.declared.notes.PlanNote.{PlanNote}
-use Rattle.jb_cert.specs.Rising.{RiseFrom}
+use Rattle.jb_base.specs.Pairwise.{Pairwise}
 use Rattle.jb_chunk.specs.Attempt.{attempt_of}
 use Rattle.jb_chunk.specs.Standing.{TaskState}
 use Rattle.jb_collect.specs.declared.calls.AnalyzerCall.{AnalyzerCall}
 use Rattle.jb_collect.specs.Heard.{heard_in, heard_of}
 use Rattle.jb_step.specs.rounds.PlanLaws.{AreTasksOf, IsTaskTable}
-use Rattle.jb_step.specs.rounds.Rounds.{AreRun, CanRun, after_round, after_rounds, attempts_of, breaks_in, has_partition}
+use Rattle.jb_step.specs.Tables.{ArePlaced, held_in}
+use Rattle.jb_step.specs.rounds.Rounds.{AreRun, CanRun, after_in, after_rounds, attempts_of, breaks_in, has_partition}
 use Rattle.jb_step.specs.rounds.Runs.{AreOver, ArePlanRuns, note_of, rounds_run}
 use Rattle.jb_step.specs.preparing.Setup.{Setup, counts_now}
 use Rattle.jb_step.specs.Alone.{AreReady}
 use Rattle.jb_step.specs.inside.Below.{LawsBelow}
-use Rattle.jb_step.specs.inside.rounds.Round.{AreLeft, IsRound, Progress, partitions_of}
+use Rattle.jb_step.specs.inside.rounds.Round.{AreLeft, IsRound, Progress}
 use Rattle.jb_step.specs.inside.rounds.SoFar.{AreWithin, IsOpen, IsPlanFor, IsRunOfStepSoFar, plan_run_of, set_of_round}
 use Rattle.jb_step.specs.inside.callbacks.Telling.{HearsMore}
 use Rattle.jb_step.proofs.run.Adding.{after-append, attempts-append, breaks-more, over-more, plans-more, run-more}
 use Rattle.jb_step.proofs.plans.ChunksInOrder.{next_can_run}
 use Rattle.jb_step.proofs.calls.Hearing.{hears-more, hears-none}
-use Rattle.jb_step.proofs.plans.Holding.{partitions_stay, rise-needs}
+use Rattle.jb_step.proofs.table.Held.{HasItsTask, held-round, placed-round, tasks-stay}
 use Rattle.jb_step.proofs.plans.Steady.{same-count}
 
 -- TABLES
 
-items-one : (b : Bool) (t : TaskState) → (cond b (attempt_of t).task t).item_count ≡ t.item_count
-items-one true t = same-count t
-items-one false t = refl
+items-one : (set : List Pair) (t : TaskState) → (after_in set t).item_count ≡ t.item_count
+items-one set t = elim (has_partition set t.partition) as (λ b. (cond b (attempt_of t).task t).item_count ≡ t.item_count) [ true ↦ same-count t | false ↦ refl ]
 
-table-tasks : (s : Setup) (set : List Pair) (ts : List TaskState) → AreTasksOf s ts → AreReady (after_round set ts) → AreTasksOf s (after_round set ts)
-table-tasks s set [] h r = tt
-table-tasks s set (t ∷ ts) h r = ((r.0, items-one (has_partition set t.partition) t ∙ h.0.1), table-tasks s set ts h.1 r.1)
+tasks-after : (s : Setup) (set : List Pair) (ts : List TaskState) → AreTasksOf s ts → AreReady (map (after_in set) ts) → AreTasksOf s (map (after_in set) ts)
+tasks-after s set [] h r = tt
+tasks-after s set (t ∷ ts) h r = ((r.0, items-one set t ∙ h.0.1), tasks-after s set ts h.1 r.1)
 
 -- a round leaves a table of the step
 pub table-round : (s : Setup) (set : List Pair) (broke : Bool) (now later : Progress) → IsTaskTable s now.table → IsRound set broke now later → IsTaskTable s later.table
 table-round s set broke now later table round =
     let is = round.left.table_is in
-    subst (λ ts. IsTaskTable s ts) (sym is) (record { tasks = table-tasks s set now.table table.tasks (subst AreReady is round.ready); partitions = partitions_stay set now.table ∙ table.partitions })
+    let held : held_in later.table ≡ map (after_in set) (held_in now.table) = ap held_in is ∙ held-round set now.table in
+    record {
+      tasks = subst (AreTasksOf s) (sym held) (tasks-after s set (held_in now.table) table.tasks (subst AreReady held round.ready));
+      placed = subst (ArePlaced 0) (sym is) (placed-round set now.table table.placed);
+      unfinished = subst (Pairwise HasItsTask s.rows) (sym is) (tasks-stay (after_in set) s.rows now.table table.unfinished);
+    }
 
 pub ready-of : (s : Setup) (ts : List TaskState) → AreTasksOf s ts → AreReady ts
 ready-of s [] h = tt
 ready-of s (t ∷ ts) h = (h.0.0, ready-of s ts h.1)
-
-pub rises-of : (s : Setup) (ts : List TaskState) → IsTaskTable s ts → RiseFrom 0 (partitions_of ts)
-rises-of s ts table = subst (λ (ns : List ℕ). RiseFrom 0 ns) (sym table.partitions) (rise-needs 0 s.rows)
 
 -- ROUNDS
 

@@ -12,9 +12,11 @@ use Rattle.jb_workers.specs.Round.{AreDones}
 use Rattle.jb_workers.specs.Works.{CanBegin, AllCanBegin, RiseByPartition}
 use Rattle.jb_workers.specs.declared.worker.lane_work.Work.{Work}
 use Rattle.jb_step.specs.Alone.{AreReady}
+use Rattle.jb_step.specs.Tables.{ArePlaced, Table, held_in}
 use Rattle.jb_step.specs.rounds.Rounds.{CanRun, has_partition, tasks_in}
 use Rattle.jb_step.specs.inside.rounds.Round.{tasks_of, partitions_of, AreDonesOf}
 use Rattle.jb_step.proofs.table.Filters.{filter-all, rise-filter}
+use Rattle.jb_step.proofs.table.Held.{rises as rise-held}
 use Rattle.jb_step.proofs.plans.Steady.{row_waits, waits}
 
 module _ {T : Type 0} (standing : T → TaskState) where
@@ -46,12 +48,12 @@ module _ {T : Type 0} (standing : T → TaskState) where
   done-by (w ∷ ws) (d ∷ ds) h = (h.0.attempted, done-by ws ds h.1)
 
 -- the works that were taken can be begun
-pub taken-can : {T : Type 0} (standing : T → TaskState) (set : List Pair) (ts : List TaskState) (ws : List (Work T)) → map standing (tasks_of ws) ≡ tasks_in set ts → AreReady ts → CanRun set ts → AllCanBegin standing ws
-taken-can standing set ts ws e ready can =
+pub taken-can : {T : Type 0} (standing : T → TaskState) (set : List Pair) (table : Table) (ws : List (Work T)) → map standing (tasks_of ws) ≡ tasks_in set table → AreReady (held_in table) → CanRun set table → AllCanBegin standing ws
+taken-can standing set table ws e ready can =
     All-from_recursion (λ (w : Work _). CanBegin (standing w.task)) ws
-    (all-can standing ws (subst AreReady (sym e) (filter-all _ (λ (t : TaskState). has_partition set t.partition) ts ready)) (subst (λ (us : List TaskState). list_all row_waits us ≡ true) (sym e) can.waiting))
+    (all-can standing ws (subst AreReady (sym e) (filter-all _ (λ (t : TaskState). has_partition set t.partition) (held_in table) ready)) (subst (λ (us : List TaskState). list_all row_waits us ≡ true) (sym e) can.waiting))
 
 -- and come by rising partition
-pub taken-rise : {T : Type 0} (standing : T → TaskState) (set : List Pair) (ts : List TaskState) (ws : List (Work T)) → map standing (tasks_of ws) ≡ tasks_in set ts → RiseFrom 0 (partitions_of ts) → RiseByPartition standing ws
-taken-rise standing set ts ws e h =
-    rises standing 0 ws (subst (λ (us : List TaskState). RiseFrom 0 (partitions_of us)) (sym e) (rise-filter (λ (t : TaskState). has_partition set t.partition) 0 ts h))
+pub taken-rise : {T : Type 0} (standing : T → TaskState) (set : List Pair) (table : Table) (ws : List (Work T)) → map standing (tasks_of ws) ≡ tasks_in set table → ArePlaced 0 table → RiseByPartition standing ws
+taken-rise standing set table ws e placed =
+    rises standing 0 ws (subst (λ (us : List TaskState). RiseFrom 0 (partitions_of us)) (sym e) (rise-filter (λ (t : TaskState). has_partition set t.partition) 0 (held_in table) (rise-held 0 table placed)))

@@ -10,7 +10,8 @@ use Rattle.jb_collect.specs.declared.calls.Status.TheVariants.{Failed}
 use Rattle.jb_collect.specs.declared.calls.AnalyzerCall.{AnalyzerCall}
 use Rattle.jb_collect.specs.Taken.{Taken, AreTaken, HasTaken, since}
 use Rattle.jb_collect.specs.Heard.{heard_first, heard_in, heard_last}
-use Rattle.jb_step.specs.Answers.{IsRunOfStep, IsUnstopped, StepRun, artifacts_of, tasks_after, tasks_before}
+use Rattle.jb_step.specs.Answers.{IsRunOfStep, IsUnstopped, StepRun, artifacts_of, table_before, tasks_after, tasks_before}
+use Rattle.jb_step.specs.Tables.{Table, held_in}
 use Rattle.jb_step.specs.callbacks.Heard.{heard}
 use Rattle.jb_step.specs.callbacks.Callbacks.{has_fault}
 use Rattle.jb_step.specs.rounds.Runs.{PlanRun, all_attempts, note_of, rounds_of, table_after}
@@ -19,7 +20,7 @@ use Rattle.jb_step.specs.Statuses.{status_of}
 use Rattle.jb_step.specs.Alone.{AreOnTheWay, have_ended}
 use Rattle.jb_step.specs.rounds.PlanLaws.{IsTaskTable}
 use Rattle.jb_step.specs.inside.Below.{LawsBelow}
-use Rattle.jb_step.specs.inside.rounds.Round.{AreLeft, Progress, partitions_of}
+use Rattle.jb_step.specs.inside.rounds.Round.{AreLeft, Progress}
 use Rattle.jb_step.specs.inside.rounds.SoFar.{AreWithin, IsRunOfStepSoFar, at_first}
 use Rattle.jb_step.specs.inside.callbacks.Telling.{HearsMore, Moment, moment}
 use Rattle.jb_step.proofs.calls.Hearing.{hears-more}
@@ -56,46 +57,50 @@ pub record IsLeft (r : StepRun) (fault : Option ClassId) : Type 0 where
   pub now : Progress
   pub stopped : Bool
   pub begun : HasTaken r.heard_before (heard_first r.setup.begun_anew r.setup.rows) first.fault first.calls
-  pub run : IsRunOfStepSoFar r.setup r.round_limit stopped (at_first first (tasks_before r)) now
-  pub ended : stopped ≡ false → have_ended now.table ≡ true
+  pub run : IsRunOfStepSoFar r.setup r.round_limit stopped (at_first first (table_before r)) now
+  pub ended : stopped ≡ false → have_ended (held_in now.table) ≡ true
   pub table : IsTaskTable r.setup now.table
-  pub told : HearsMore now.moment (heard_last now.table) (moment r.heard_after fault)
+  pub begun_with : held_in (table_before r) ≡ tasks_before r
+  pub told : HearsMore now.moment (heard_last (held_in now.table)) (moment r.heard_after fault)
   pub notes_are : r.notes ≡ now.notes
-  pub rows : r.snapshot.rows.items ≡ rows_now r.setup.rows now.table
-  pub left_is : r.left ≡ artifacts_of now.table
+  pub rows : r.snapshot.rows.items ≡ rows_now r.setup.rows (held_in now.table)
+  pub left_is : r.left ≡ artifacts_of (held_in now.table)
   pub agree : r.snapshot.stopping ≡ false → (stopped ≡ false) × (r.snapshot.plans ≡ length r.notes) × (r.snapshot.events ≡ length r.notes + now.rounds + 2 * now.attempts)
 
 module _ (below : LawsBelow) (r : StepRun) (fault : Option ClassId) (h : IsLeft r fault) where
-  abbrev start : List TaskState
-  start = tasks_before r
+  abbrev start : Table
+  start = table_before r
 
   abbrev plans : List PlanRun
   plans = h.run.plans
 
-  abbrev ends : List TaskState
+  abbrev ends : Table
   ends = table_after plans start
+
+  abbrev tasks : List TaskState
+  tasks = held_in ends
 
   abbrev left : AreLeft (rounds_of plans) (at_first h.first start) h.now
   left = h.run.left
 
-  are : r.snapshot.rows.items ≡ rows_now r.setup.rows ends
-  are = h.rows ∙ ap (rows_now r.setup.rows) left.table_is
+  are : r.snapshot.rows.items ≡ rows_now r.setup.rows tasks
+  are = h.rows ∙ ap (λ table. rows_now r.setup.rows (held_in table)) left.table_is
 
-  came-back : r.left ≡ artifacts_of ends
-  came-back = h.left_is ∙ ap artifacts_of left.table_is
+  came-back : r.left ≡ artifacts_of tasks
+  came-back = h.left_is ∙ ap (λ table. artifacts_of (held_in table)) left.table_is
 
-  on-the-way : AreOnTheWay start ends
-  on-the-way = steps_are_on_the_way r.setup start plans h.run.run
+  on-the-way : AreOnTheWay (tasks_before r) tasks
+  on-the-way = subst (λ ts. AreOnTheWay ts tasks) h.begun_with (steps_are_on_the_way r.setup start plans h.run.run)
 
-  again : tasks_after r ≡ ends
-  again = left-again r.setup.rows r.snapshot.rows.items r.left start ends on-the-way (ap partitions_of (sym left.table_is) ∙ h.table.partitions) are came-back
+  again : tasks_after r ≡ tasks
+  again = left-again r.setup r.snapshot.rows.items r.left (tasks_before r) ends on-the-way (subst (IsTaskTable r.setup) left.table_is h.table) are came-back
 
   heard-all : HasTaken r.heard_before (heard r.setup start plans) fault r.heard_after
   heard-all =
       let first = heard_first r.setup.begun_anew r.setup.rows in
       let told = heard_in (all_attempts plans start) in
-      subst (λ ts. HasTaken r.heard_before ((first ++ told) ++ heard_last ts) fault r.heard_after) left.table_is
-      (hears-more below.more below.no_more None r.heard_before (first ++ told) (heard_last h.now.table) h.now.moment (moment r.heard_after fault)
+      subst (λ table. HasTaken r.heard_before ((first ++ told) ++ heard_last (held_in table)) fault r.heard_after) left.table_is
+      (hears-more below.more below.no_more None r.heard_before (first ++ told) (heard_last (held_in h.now.table)) h.now.moment (moment r.heard_after fault)
       (hears-more below.more below.no_more None r.heard_before first told h.first h.now.moment h.begun left.heard_is) h.told)
 
   unstopped : r.snapshot.stopping ≡ false → IsUnstopped start plans r.snapshot
@@ -106,7 +111,7 @@ module _ (below : LawsBelow) (r : StepRun) (fault : Option ClassId) (h : IsLeft 
       let tried = left.attempts_are in
       let events = agree.2 in
       record {
-        ended = subst (λ (ts : List TaskState). have_ended ts ≡ true) left.table_is (h.ended agree.0);
+        ended = subst (λ (table : Table). have_ended (held_in table) ≡ true) left.table_is (h.ended agree.0);
         over = h.run.over agree.0;
         plans_number = agree.1 ∙ number;
         events_number = omega (arith, events, number, ran, tried);
@@ -125,8 +130,8 @@ module _ (below : LawsBelow) (r : StepRun) (fault : Option ClassId) (h : IsLeft 
     unstopped = unstopped;
   }
 
-  pub way-is : AreOnTheWay start (tasks_after r)
-  way-is = subst (λ (ts : List TaskState). AreOnTheWay start ts) (sym again) on-the-way
+  pub way-is : AreOnTheWay (tasks_before r) (tasks_after r)
+  way-is = subst (λ (ts : List TaskState). AreOnTheWay (tasks_before r) ts) (sym again) on-the-way
 
   pub heard-fault : is_some fault ≡ has_fault (since r.heard_before r.heard_after)
   heard-fault = fault-since r.heard_before r.heard_after (heard r.setup start plans) fault heard-all

@@ -1,7 +1,8 @@
 -- What a filter keeps.
 use Rattle.std.proofs.Common.{◌≡◌, ℕ, ◌+◌, ◌≤◌, Bool, true, false, cond, List, [], ◌∷◌, map, refl, ap, ap₂, sym, ◌∙◌, arith}
+use Rattle.std.proofs.lemmas.Bool.{and_from, and_parts}
 use Rattle.std.specs.Prelude.{filter}
-use Rattle.std.specs.List.{AllByRecursion}
+use Rattle.std.specs.List.{AllByRecursion, list_all}
 use Rattle.jb_cert.specs.Rising.{RiseFrom}
 use Rattle.jb_chunk.specs.Standing.{TaskState}
 use Rattle.jb_step.specs.inside.rounds.Round.{partitions_of}
@@ -21,16 +22,41 @@ pub all-back : {X Y : Type 0} (P : Y → Type 0) (f : X → Y) (xs : List X) →
 all-back P f [] h = tt
 all-back P f (x ∷ xs) h = (h.0, all-back P f xs h.1)
 
+-- what a test says of all
+pub all-true : {X : Type 0} (test : X → Bool) (xs : List X) → list_all test xs ≡ true → AllByRecursion (λ (x : X). test x ≡ true) xs
+all-true test [] e = tt
+all-true test (x ∷ xs) e = let both = and_parts (test x) (list_all test xs) e in (both.0, all-true test xs both.1)
+
+pub true-all : {X : Type 0} (test : X → Bool) (xs : List X) → AllByRecursion (λ (x : X). test x ≡ true) xs → list_all test xs ≡ true
+true-all test [] h = refl
+true-all test (x ∷ xs) h = and_from (test x) (list_all test xs) h.0 (true-all test xs h.1)
+
+-- what is so of those that are kept, of each if it is kept
+pub kept-so : {X : Type 0} (P : X → Type 0) (keep : X → Bool) (xs : List X) → AllByRecursion P (filter keep xs) → AllByRecursion (λ (x : X). keep x ≡ true → P x) xs
+kept-so P keep [] h = tt
+kept-so P keep (x ∷ xs) h = by (keep x) h (kept-so P keep xs)
+  where
+    by : (b : Bool) → AllByRecursion P (cond b (x ∷ filter keep xs) (filter keep xs)) → (AllByRecursion P (filter keep xs) → AllByRecursion (λ y. keep y ≡ true → P y) xs) → (b ≡ true → P x) × AllByRecursion (λ y. keep y ≡ true → P y) xs
+    by true h others = (λ e. h.0, others h.1)
+    by false h others = (λ e. let never : ⊥ = cc in absurd never, others h)
+
+pub so-kept : {X : Type 0} (P : X → Type 0) (keep : X → Bool) (xs : List X) → AllByRecursion (λ (x : X). keep x ≡ true → P x) xs → AllByRecursion P (filter keep xs)
+so-kept P keep [] h = tt
+so-kept P keep (x ∷ xs) h = by (keep x) h.0 (so-kept P keep xs h.1)
+  where
+    by : (b : Bool) → (b ≡ true → P x) → AllByRecursion P (filter keep xs) → AllByRecursion P (cond b (x ∷ filter keep xs) (filter keep xs))
+    by true here others = (here refl, others)
+    by false here others = others
+
+-- what follows for each from two facts
+pub all-both : {X : Type 0} (P Q R : X → Type 0) → ((x : X) → P x → Q x → R x) → (xs : List X) → AllByRecursion P xs → AllByRecursion Q xs → AllByRecursion R xs
+all-both P Q R law [] g h = tt
+all-both P Q R law (x ∷ xs) g h = (law x g.0 h.0, all-both P Q R law xs g.1 h.1)
+
 -- what follows for each
 pub all-so : {X : Type 0} (P Q : X → Type 0) → ((x : X) → P x → Q x) → (xs : List X) → AllByRecursion P xs → AllByRecursion Q xs
 all-so P Q law [] h = tt
 all-so P Q law (x ∷ xs) h = (law x h.0, all-so P Q law xs h.1)
-
--- each that is kept passes
-pub each-passes : {X : Type 0} (keep : X → Bool) (xs : List X) → AllByRecursion (λ (x : X). keep x ≡ true) (filter keep xs)
-each-passes keep [] = tt
-each-passes keep (x ∷ xs) =
-    elim (keep x) as (λ b. keep x ≡ b → AllByRecursion (λ y. keep y ≡ true) (cond b (x ∷ filter keep xs) (filter keep xs))) [ true ↦ λ e. (e, each-passes keep xs) | false ↦ λ e. each-passes keep xs ] refl
 
 -- what leaves each element as it is leaves the list
 pub map-stays : {X : Type 0} (f : X → X) (xs : List X) → AllByRecursion (λ (x : X). f x ≡ x) xs → map f xs ≡ xs

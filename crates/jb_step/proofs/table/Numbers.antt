@@ -1,5 +1,5 @@
 -- Numbers of partitions, compared.
-use Rattle.std.proofs.Common.{◌≡◌, ℕ, suc, ◌+◌, ◌≤◌, ◌<◌, true, false, List, ◌∷◌, refl, arith, eq-eqb}
+use Rattle.std.proofs.Common.{◌≡◌, ℕ, ◌+◌, ◌≤◌, ◌<◌, true, false, List, ◌∷◌, refl, arith, eq-eqb}
 use Rattle.std.specs.Prelude.{nat_eq}
 use Rattle.std.proofs.lemmas.Bool.Decides.{nat_tests}
 
@@ -15,14 +15,8 @@ differ-back m n lt = grind (arith, nat_tests)
 pub below-of : (m n : ℕ) → nat_eq m n ≡ false → m ≤ n → m + 1 ≤ n
 below-of m n e le = grind (arith, nat_tests)
 
-pub add-next : (k i : ℕ) → (k + 1) + i ≡ k + suc i
-add-next k i = omega arith
-
 pub head-of : (m n : ℕ) (ms ns : List ℕ) → m ∷ ms ≡ n ∷ ns → m ≡ n
 head-of m n ms ns e = cc
 
 pub tail-of : (m n : ℕ) (ms ns : List ℕ) → m ∷ ms ≡ n ∷ ns → ms ≡ ns
 tail-of m n ms ns e = cc
-
-pub same-number : (m n : ℕ) → nat_eq m n ≡ nat_eq n m
-same-number m n = grind (arith, nat_tests)

@@ -2,16 +2,16 @@
 -- place of the calls are this project's choice).
 use Rattle.std.specs.Prelude.{List, Option}
 use Rattle.jb_base.specs.declared.class.ClassId.{ClassId}
-use Rattle.jb_chunk.specs.Standing.{TaskState}
 use Rattle.jb_collect.specs.declared.calls.AnalyzerCall.{AnalyzerCall}
 use Rattle.jb_collect.specs.Heard.{heard_by}
 use Rattle.jb_collect.specs.Taken.{Taken, HasTaken}
 use Rattle.jb_step.specs.preparing.Setup.{Setup}
 use Rattle.jb_step.specs.rounds.Runs.{PlanRun, all_attempts, table_after}
+use Rattle.jb_step.specs.Tables.{Table, held_in}
 
 -- at first the empty ranges; then of each round its attempts, by rising partition; at last the partitions left unfinished
-abbrev pub heard : Setup → List TaskState → List PlanRun → List AnalyzerCall
-heard s start plans = heard_by s.begun_anew s.rows (all_attempts plans start) (table_after plans start)
+abbrev pub heard : Setup → Table → List PlanRun → List AnalyzerCall
+heard s start plans = heard_by s.begun_anew s.rows (all_attempts plans start) (held_in (table_after plans start))
 
 -- the analyzer took these calls, one after another, all of them or up to its first fault
 abbrev pub HasHeard : (before : List (Taken AnalyzerCall)) → List AnalyzerCall → (after : List (Taken AnalyzerCall)) → Type 0

@@ -16,6 +16,7 @@ use Rattle.jb_rules.specs.States.{is_finished}
 use Rattle.jb_saved.specs.GoingOn.{other_step, rows_restarted, step_faults}
 use Rattle.jb_saved.specs.SavedRows.{SavedRows}
 use Rattle.jb_saved.specs.declared.place.SavedPlace.{SavedPlace}
+use Rattle.jb_step.specs.Tables.{Table, held_in, in_places}
 
 -- the prepared rows, one for each partition, what the step says of chunks, and the number of threads
 pub record Setup : Type 0 where
@@ -68,6 +69,10 @@ needs rows = map (λ n. n.0) (unfinished rows)
 abbrev pub first_tasks : Setup → List ArtifactsMeaning → List TaskState
 first_tasks s artifacts = map (λ n. started n.0.0 n.0.1 s.rules s.item_count n.1) (zip (unfinished s.rows) artifacts)
 
+-- the table that a step begins with
+abbrev pub first_table : Setup → List ArtifactsMeaning → Table
+first_table s artifacts = in_places s.rows (first_tasks s artifacts)
+
 -- the row of a partition now: its task's, or the prepared one where it has no task
 abbrev pub row_now : List TaskState → ℕ → Row → Row
 row_now [] p row = row
@@ -78,5 +83,5 @@ abbrev pub rows_now : List Row → List TaskState → List Row
 rows_now rows ts = map (λ n. row_now ts n.0 n.1) (enumerate_from 0 rows)
 
 -- how many chunks each partition has left
-abbrev pub counts_now : Setup → List TaskState → List ℕ
-counts_now s ts = remaining s.item_count (rows_now s.rows ts)
+abbrev pub counts_now : Setup → Table → List ℕ
+counts_now s table = remaining s.item_count (rows_now s.rows (held_in table))

@@ -1,9 +1,10 @@
 //! The rows at the end of a step's rounds, compared with the repository's.
 
-ghost use Rattle.std.specs.Prelude.{◌≡◌, ◌≤◌, None, IfOk, map, length};
+ghost use Rattle.std.specs.Prelude.{◌≡◌, ◌≤◌, None, IfOk, length};
 ghost use Rattle.jb_base.specs.Limits.{max_partitions};
 ghost use Rattle.jb_step.specs.preparing.Setup.{rows_now};
-ghost use Rattle.jb_step.specs.inside.table.Places.{ArePlaced, held_in};
+ghost use Rattle.jb_step.specs.inside.table.Places.{table_in};
+ghost use Rattle.jb_step.specs.Tables.{ArePlaced, held_in};
 
 use crate::error::RunError;
 use crate::preparing::prepared::Prepared;
@@ -15,9 +16,9 @@ use jb_rules::Row;
 
 // The first partition whose row now isn't the one that is shown.
 fn first_other<T: PartitionTask>(rows: &[Row], held: &[Option<T>], shown: &[Row]) -> Option<u32>
-    requires placed { ArePlaced T.standing 0 held.now }
+    requires placed { ArePlaced 0 (table_in T.standing held.now) }
     requires few { length rows.now ≤ max_partitions }
-    ensures { result ≡ None → shown.now ≡ rows_now rows.now (map T.standing (held_in held.now)) }
+    ensures { result ≡ None → shown.now ≡ rows_now rows.now (held_in (table_in T.standing held.now)) }
 {
     for (index, row) in rows.iter().enumerate() {
         let partition = index as u32;
@@ -41,8 +42,8 @@ impl<L: StepLedger, G: StepGate, R: StepThreads> RoundRunner<'_, L, G, R> {
         prepared: &Prepared,
         held: &[Option<T>],
     ) -> Result<Snapshot, RunError>
-        requires { ArePlaced T.standing 0 held.now }
-        ensures { IfOk result (λ snapshot. snapshot.rows.items ≡ rows_now prepared.now.rows (map T.standing (held_in held.now))) }
+        requires { ArePlaced 0 (table_in T.standing held.now) }
+        ensures { IfOk result (λ snapshot. snapshot.rows.items ≡ rows_now prepared.now.rows (held_in (table_in T.standing held.now))) }
     {
         let snapshot = self.snapshot()?;
         let rows = prepared.begun_rows();

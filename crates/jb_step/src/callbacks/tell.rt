@@ -1,11 +1,12 @@
 //! What the analyzer is told, and the fault that it answers.
 
-ghost use Rattle.std.specs.Prelude.{◌≤◌, ◌++◌, IfOk, [], ◌∷◌, length, map};
+ghost use Rattle.std.specs.Prelude.{◌≤◌, ◌++◌, IfOk, [], ◌∷◌, length};
 ghost use Rattle.jb_base.specs.Limits.{max_partitions};
 ghost use Rattle.jb_collect.specs.declared.calls.AnalyzerCall.TheVariants as call;
 ghost use Rattle.jb_collect.specs.Heard.{collected_calls, ended_calls, endings_of, heard_first, heard_in, heard_last};
 ghost use Rattle.jb_collect.specs.Taken.{Grew, HasTaken};
-ghost use Rattle.jb_step.specs.inside.table.Places.{held_in};
+ghost use Rattle.jb_step.specs.inside.table.Places.{table_in};
+ghost use Rattle.jb_step.specs.Tables.{held_in};
 ghost use Rattle.jb_step.specs.inside.callbacks.Telling.{IsCallbackAnswer, IsHearing, empties, moment};
 
 use crate::error::RunError;
@@ -126,7 +127,7 @@ pub(crate) fn tell_last<T: PartitionTask>(
     fault: Option<ClassId>,
     analyzer: &mut dyn Analyzer,
 ) -> Result<Option<ClassId>, RunError>
-    ensures heard { IfOk result (λ now. IsHearing fault (analyzed analyzer.old) (heard_last (map T.standing (held_in held.now))) (moment (analyzed analyzer.new) now)) }
+    ensures heard { IfOk result (λ now. IsHearing fault (analyzed analyzer.old) (heard_last (held_in (table_in T.standing held.now))) (moment (analyzed analyzer.new) now)) }
     ensures grew { Grew (analyzed analyzer.old) (analyzed analyzer.new) }
 {
     if fault.is_some() {
@@ -140,7 +141,7 @@ fn tell_stopped<T: PartitionTask>(
     held: &[Option<T>],
     analyzer: &mut dyn Analyzer,
 ) -> Result<Option<ClassId>, RunError>
-    ensures heard { IfOk result (λ fault. HasTaken (analyzed analyzer.old) (heard_last (map T.standing (held_in held.now))) fault (analyzed analyzer.new)) }
+    ensures heard { IfOk result (λ fault. HasTaken (analyzed analyzer.old) (heard_last (held_in (table_in T.standing held.now))) fault (analyzed analyzer.new)) }
     ensures grew { Grew (analyzed analyzer.old) (analyzed analyzer.new) }
 {
     calls_end_at_a_fault();
@@ -158,7 +159,7 @@ fn tell_unfinished<T: PartitionTask>(
     place: &Option<T>,
     analyzer: &mut dyn Analyzer,
 ) -> Result<Option<ClassId>, RunError>
-    ensures heard { IfOk result (λ fault. HasTaken (analyzed analyzer.old) (heard_last (map T.standing (held_in (place.now ∷ [])))) fault (analyzed analyzer.new)) }
+    ensures heard { IfOk result (λ fault. HasTaken (analyzed analyzer.old) (heard_last (held_in (table_in T.standing (place.now ∷ [])))) fault (analyzed analyzer.new)) }
     ensures grew { Grew (analyzed analyzer.old) (analyzed analyzer.new) }
 {
     let Some(task) = place else {

@@ -4,10 +4,11 @@ ghost use Rattle.std.specs.Prelude.{◌≡◌, ◌↔◌, ◌+◌, ◌<◌, ◌+
 ghost use Rattle.std.specs.Vec.Iter.{into_iter_items};
 ghost use Rattle.jb_base.specs.Limits.{max_partitions};
 ghost use Rattle.jb_rules.specs.declared.row.Row.{Row};
-ghost use Rattle.jb_step.specs.rounds.PlanLaws.{IsTaskTable};
 ghost use Rattle.jb_step.specs.preparing.Prepare.{DoFit, FitRows};
-ghost use Rattle.jb_step.specs.preparing.Setup.{first_tasks, unfinished};
-ghost use Rattle.jb_step.specs.inside.table.Places.{ArePlaced, held_in};
+ghost use Rattle.jb_step.specs.preparing.Setup.{first_table, first_tasks, unfinished};
+ghost use Rattle.jb_step.specs.rounds.PlanLaws.{IsTaskTable};
+ghost use Rattle.jb_step.specs.inside.table.Places.{table_in};
+ghost use Rattle.jb_step.specs.Tables.{ArePlaced, held_in};
 ghost use Rattle.jb_step.specs.inside.preparing.Starting.{IsRowBegun, tasks_from, unfinished_from};
 
 use crate::error::RunError;
@@ -54,9 +55,9 @@ pub(crate) fn start_all<T: PartitionTask>(
     artifacts: Vec<T::Artifacts>,
 ) -> Result<Vec<Option<T>>, RunError>
     requires { DoFit prepared.now (map T.Artifacts.meaning artifacts.items) }
-    ensures tasks { IfOk result (λ tasks. map T.standing (held_in tasks.items) ≡ first_tasks prepared.now (map T.Artifacts.meaning artifacts.items)) }
-    ensures placed { IfOk result (λ tasks. ArePlaced T.standing 0 tasks.items) }
-    ensures table { IfOk result (λ tasks. IsTaskTable prepared.now (map T.standing (held_in tasks.items))) }
+    ensures tasks { IfOk result (λ tasks. table_in T.standing tasks.items ≡ first_table prepared.now (map T.Artifacts.meaning artifacts.items)) }
+    ensures held { IfOk result (λ tasks. held_in (table_in T.standing tasks.items) ≡ first_tasks prepared.now (map T.Artifacts.meaning artifacts.items)) }
+    ensures table { IfOk result (λ tasks. IsTaskTable prepared.now (table_in T.standing tasks.items)) }
 {
     let mut tasks = Vec::new(alloc);
     let mut artifacts = artifacts.into_iter();
@@ -77,11 +78,11 @@ fn start_row<T: PartitionTask>(
     requires fit { (rest : List Row) × FitRows (unfinished_from (length tasks.old.items) (row.now ∷ rest)) (map T.Artifacts.meaning (into_iter_items artifacts.old)) }
     requires begun { IsRowBegun row.now }
     requires few { length tasks.old.items < max_partitions }
-    requires placed { ArePlaced T.standing 0 tasks.old.items }
-    ensures placed { OnOk result (ArePlaced T.standing 0 tasks.new.items) }
+    requires placed { ArePlaced 0 (table_in T.standing tasks.old.items) }
+    ensures placed { OnOk result (ArePlaced 0 (table_in T.standing tasks.new.items)) }
     ensures length { OnOk result (length tasks.new.items ≡ length tasks.old.items + 1) }
     ensures fit { (rest : List Row) → FitRows (unfinished_from (length tasks.old.items) (row.now ∷ rest)) (map T.Artifacts.meaning (into_iter_items artifacts.old)) → OnOk result (FitRows (unfinished_from (length tasks.old.items + 1) rest) (map T.Artifacts.meaning (into_iter_items artifacts.new))) }
-    ensures tasks { (rest : List Row) → FitRows (unfinished_from (length tasks.old.items) (row.now ∷ rest)) (map T.Artifacts.meaning (into_iter_items artifacts.old)) → OnOk result (map T.standing (held_in tasks.new.items) ++ tasks_from prepared.now (length tasks.old.items + 1) rest (map T.Artifacts.meaning (into_iter_items artifacts.new)) ≡ map T.standing (held_in tasks.old.items) ++ tasks_from prepared.now (length tasks.old.items) (row.now ∷ rest) (map T.Artifacts.meaning (into_iter_items artifacts.old))) }
+    ensures tasks { (rest : List Row) → FitRows (unfinished_from (length tasks.old.items) (row.now ∷ rest)) (map T.Artifacts.meaning (into_iter_items artifacts.old)) → OnOk result (held_in (table_in T.standing tasks.new.items) ++ tasks_from prepared.now (length tasks.old.items + 1) rest (map T.Artifacts.meaning (into_iter_items artifacts.new)) ≡ held_in (table_in T.standing tasks.old.items) ++ tasks_from prepared.now (length tasks.old.items) (row.now ∷ rest) (map T.Artifacts.meaning (into_iter_items artifacts.old))) }
 {
     let partition = tasks.len() as u32;
     if row.state.is_finished() {
@@ -107,9 +108,9 @@ fn add_place<T: PartitionTask>(
     places: &mut Vec<Option<T>>,
     place: Option<T>,
 ) -> Result<(), RunError>
-    ensures items { OnOk result (held_in places.new.items ≡ held_in places.old.items ++ held_in (place ∷ [])) }
+    ensures items { OnOk result (held_in (table_in T.standing places.new.items) ≡ held_in (table_in T.standing places.old.items) ++ held_in (table_in T.standing (place ∷ []))) }
     ensures length { OnOk result (length places.new.items ≡ length places.old.items + 1) }
-    ensures placed { ArePlaced T.standing 0 places.old.items → ArePlaced T.standing (length places.old.items) (place ∷ []) → OnOk result (ArePlaced T.standing 0 places.new.items) }
+    ensures placed { ArePlaced 0 (table_in T.standing places.old.items) → ArePlaced (length places.old.items) (table_in T.standing (place ∷ [])) → OnOk result (ArePlaced 0 (table_in T.standing places.new.items)) }
 {
     places.push(place)?;
     Ok(())

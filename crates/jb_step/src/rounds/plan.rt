@@ -1,13 +1,14 @@
 //! A plan for what is left, and its rounds.
 
-ghost use Rattle.std.specs.Prelude.{◌≡◌, ◌+◌, ◌++◌, ◌∷◌, [], false, IfOk, OnOk, map};
+ghost use Rattle.std.specs.Prelude.{◌≡◌, ◌+◌, ◌++◌, ◌∷◌, [], false, IfOk, OnOk};
 ghost use Rattle.jb_collect.specs.Taken.{Grew};
 ghost use Rattle.jb_step.specs.rounds.PlanLaws.{IsTaskTable};
 ghost use Rattle.jb_step.specs.rounds.Runs.{note_of};
 ghost use Rattle.jb_step.specs.preparing.Setup.{row_now, counts_now};
 ghost use Rattle.jb_step.specs.inside.rounds.SoFar.{AreWithin, IsPlanFor, IsRunOfStepSoFar, plan_run_of};
 ghost use Rattle.jb_step.specs.inside.rounds.Round.{progress, table_of};
-ghost use Rattle.jb_step.specs.inside.table.Places.{ArePlaced, held_in};
+ghost use Rattle.jb_step.specs.inside.table.Places.{table_in};
+ghost use Rattle.jb_step.specs.Tables.{ArePlaced, held_in};
 
 use crate::error::RunError;
 use crate::laws::laws_below;
@@ -28,8 +29,8 @@ pub(crate) fn row_of<'a, T: PartitionTask>(
     partition: u32,
     row: &'a Row,
 ) -> &'a Row
-    requires { ArePlaced T.standing 0 held.now }
-    ensures { result.now ≡ row_now (map T.standing (held_in held.now)) partition row.now }
+    requires { ArePlaced 0 (table_in T.standing held.now) }
+    ensures { result.now ≡ row_now (held_in (table_in T.standing held.now)) partition row.now }
 {
     match held.get(partition as usize) {
         Some(place) => match place {
@@ -46,9 +47,8 @@ fn counts_of<T: PartitionTask>(
     prepared: &Prepared,
     held: &[Option<T>],
 ) -> Result<Vec<u64>, RunError>
-    requires table { IsTaskTable prepared.now (map T.standing (held_in held.now)) }
-    requires placed { ArePlaced T.standing 0 held.now }
-    ensures { IfOk result (λ counts. counts.items ≡ counts_now prepared.now (map T.standing (held_in held.now))) }
+    requires { IsTaskTable prepared.now (table_in T.standing held.now) }
+    ensures { IfOk result (λ counts. counts.items ≡ counts_now prepared.now (table_in T.standing held.now)) }
 {
     let rows = prepared.begun_rows();
     let mut counts = Vec::with_capacity(alloc, rows.len())?;
@@ -81,9 +81,8 @@ impl<L: StepLedger, G: StepGate, R: StepThreads> RoundRunner<'_, L, G, R> {
         prepared: &Prepared,
         held: &[Option<T>],
     ) -> Result<RoundCursor, RunError>
-        requires table { IsTaskTable prepared.now (map T.standing (held_in held.now)) }
-        requires placed { ArePlaced T.standing 0 held.now }
-        ensures { IfOk result (λ cursor. IsPlanFor prepared.now (map T.standing (held_in held.now)) (plan_run_of cursor 0)) }
+        requires { IsTaskTable prepared.now (table_in T.standing held.now) }
+        ensures { IfOk result (λ cursor. IsPlanFor prepared.now (table_in T.standing held.now) (plan_run_of cursor 0)) }
     {
         let counts = counts_of(alloc, prepared, held)?;
         let threads = prepared.threads();
@@ -124,11 +123,9 @@ impl<L: StepLedger, G: StepGate, R: StepThreads> RoundRunner<'_, L, G, R> {
         round_limit: Option<u64>,
     ) -> Result<bool, RunError>
         requires table { IsTaskTable prepared.now (table_of T.standing ran.old) }
-        requires placed { ArePlaced T.standing 0 ran.old.held.items }
         requires few { AreWithin round_limit ran.old.rounds }
         ensures run { IfOk result (λ stopped. IsRunOfStepSoFar prepared.now round_limit stopped (progress T.standing (analyzed analyzer.old) ran.old) (progress T.standing (analyzed analyzer.new) ran.new)) }
         ensures table { OnOk result (IsTaskTable prepared.now (table_of T.standing ran.new)) }
-        ensures placed { OnOk result (ArePlaced T.standing 0 ran.new.held.items) }
         ensures grew { Grew (analyzed analyzer.old) (analyzed analyzer.new) }
     {
         laws_below();

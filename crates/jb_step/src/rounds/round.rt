@@ -9,8 +9,9 @@ ghost use Rattle.jb_step.specs.rounds.Rounds.{CanRun, breaks_in, is_commit};
 ghost use Rattle.jb_collect.specs.Heard.{endings_of};
 ghost use Rattle.jb_collect.specs.Taken.{Grew};
 ghost use Rattle.jb_step.specs.inside.rounds.SoFar.{set_of_round};
-ghost use Rattle.jb_step.specs.inside.table.Places.{ArePlaced, emptied, filled, held_in, picked};
-ghost use Rattle.jb_step.specs.inside.rounds.Round.{IsRound, partitions_of, progress, table_of, tasks_of};
+ghost use Rattle.jb_step.specs.inside.table.Places.{emptied, filled, picked, table_in};
+ghost use Rattle.jb_step.specs.inside.rounds.Round.{IsRound, progress, table_of, tasks_of};
+ghost use Rattle.jb_step.specs.Tables.{ArePlaced, held_in};
 ghost use Rattle.jb_step.specs.Alone.{AreReady};
 ghost use Rattle.jb_workers.specs.Works.{AllCanBegin, RiseByPartition as AreInOrder};
 
@@ -128,11 +129,10 @@ fn chosen<T: PartitionTask>(
     places: &mut Vec<Option<T>>,
     slots: &[Slot],
 ) -> Result<Vec<Work<T>>, RunError>
-    requires placed { ArePlaced T.standing 0 places.old.items }
+    requires placed { ArePlaced 0 (table_in T.standing places.old.items) }
     requires in_turn { Rise (map (λ slot. slot.partition) slots.now) }
-    requires rise { Rise (partitions_of (map T.standing (held_in places.old.items))) }
-    requires ready { AreReady (map T.standing (held_in places.old.items)) }
-    requires can_run { CanRun (map slot_pair slots.now) (map T.standing (held_in places.old.items)) }
+    requires ready { AreReady (held_in (table_in T.standing places.old.items)) }
+    requires can_run { CanRun (map slot_pair slots.now) (table_in T.standing places.old.items) }
     ensures works { IfOk result (λ works. tasks_of works.items ≡ picked (map slot_pair slots.now) places.old.items) }
     ensures places { OnOk result (places.new.items ≡ emptied (map slot_pair slots.now) places.old.items) }
     ensures can { IfOk result (λ works. AllCanBegin T.standing works.items) }
@@ -161,13 +161,11 @@ impl<L: StepLedger, G: StepGate, R: StepThreads> RoundRunner<'_, L, G, R> {
         slots: &[Slot],
         analyzer: &mut dyn Analyzer,
     ) -> Result<bool, RunError>
-        requires placed { ArePlaced T.standing 0 ran.old.held.items }
+        requires placed { ArePlaced 0 (table_of T.standing ran.old) }
         requires in_turn { Rise (map (λ slot. slot.partition) slots.now) }
-        requires rise { Rise (partitions_of (table_of T.standing ran.old)) }
-        requires ready { AreReady (table_of T.standing ran.old) }
+        requires ready { AreReady (held_in (table_of T.standing ran.old)) }
         requires can_run { CanRun (map slot_pair slots.now) (table_of T.standing ran.old) }
         ensures round { IfOk result (λ broke. IsRound (map slot_pair slots.now) broke (progress T.standing (analyzed analyzer.old) ran.old) (progress T.standing (analyzed analyzer.new) ran.new)) }
-        ensures placed { OnOk result (ArePlaced T.standing 0 ran.new.held.items) }
         ensures grew { Grew (analyzed analyzer.old) (analyzed analyzer.new) }
     {
         let works = chosen(alloc, &mut ran.held, slots)?;
@@ -190,12 +188,10 @@ impl<L: StepLedger, G: StepGate, R: StepThreads> RoundRunner<'_, L, G, R> {
         round: u64,
         analyzer: &mut dyn Analyzer,
     ) -> Result<bool, RunError>
-        requires placed { ArePlaced T.standing 0 ran.old.held.items }
-        requires rise { Rise (partitions_of (table_of T.standing ran.old)) }
-        requires ready { AreReady (table_of T.standing ran.old) }
+        requires placed { ArePlaced 0 (table_of T.standing ran.old) }
+        requires ready { AreReady (held_in (table_of T.standing ran.old)) }
         requires can_run { CanRun (set_of_round cursor.now round) (table_of T.standing ran.old) }
         ensures round { IfOk result (λ broke. IsRound (set_of_round cursor.now round) broke (progress T.standing (analyzed analyzer.old) ran.old) (progress T.standing (analyzed analyzer.new) ran.new)) }
-        ensures placed { OnOk result (ArePlaced T.standing 0 ran.new.held.items) }
         ensures grew { Grew (analyzed analyzer.old) (analyzed analyzer.new) }
     {
         if let Some(slot) = cursor.only_slot(round, ran.near) {

@@ -1,13 +1,14 @@
 //! All rounds of a step.
 
-ghost use Rattle.std.specs.Prelude.{◌≡◌, true, false, IfOk, [], ◌∷◌, map};
+ghost use Rattle.std.specs.Prelude.{◌≡◌, true, false, IfOk, [], ◌∷◌};
 ghost use Rattle.jb_step.specs.rounds.PlanLaws.{IsTaskTable};
 ghost use Rattle.jb_collect.specs.Taken.{Grew};
 ghost use Rattle.jb_step.specs.Alone.{have_ended};
 ghost use Rattle.jb_step.specs.inside.rounds.SoFar.{IsRunOfStepSoFar, at_first};
 ghost use Rattle.jb_step.specs.inside.rounds.Round.{progress, table_of};
 ghost use Rattle.jb_step.specs.inside.callbacks.Telling.{moment};
-ghost use Rattle.jb_step.specs.inside.table.Places.{ArePlaced, held_in};
+ghost use Rattle.jb_step.specs.inside.table.Places.{table_in};
+ghost use Rattle.jb_step.specs.Tables.{held_in};
 
 use crate::error::RunError;
 use crate::laws::laws_below;
@@ -22,7 +23,7 @@ use std::alloc::Global;
 
 // True where each task has ended.
 fn all_ended<T: PartitionTask>(held: &[Option<T>]) -> bool
-    ensures { result ≡ have_ended (map T.standing (held_in held.now)) }
+    ensures { result ≡ have_ended (held_in (table_in T.standing held.now)) }
 {
     for place in held {
         if !has_ended(place) {
@@ -33,7 +34,7 @@ fn all_ended<T: PartitionTask>(held: &[Option<T>]) -> bool
 }
 
 fn has_ended<T: PartitionTask>(place: &Option<T>) -> bool
-    ensures { result ≡ have_ended (map T.standing (held_in (place.now ∷ []))) }
+    ensures { result ≡ have_ended (held_in (table_in T.standing (place.now ∷ []))) }
 {
     match place {
         Some(task) => task.row().state.has_ended(),
@@ -54,12 +55,10 @@ impl<L: StepLedger, G: StepGate, R: StepThreads> RoundRunner<'_, L, G, R> {
         analyzer: &mut dyn Analyzer,
         round_limit: Option<u64>,
     ) -> Result<Ran<T>, RunError>
-        requires table { IsTaskTable prepared.now (map T.standing (held_in tasks.items)) }
-        requires placed { ArePlaced T.standing 0 tasks.items }
-        ensures run { IfOk result (λ ran. IsRunOfStepSoFar prepared.now round_limit ran.stopped (at_first (moment (analyzed analyzer.old) fault) (map T.standing (held_in tasks.items))) (progress T.standing (analyzed analyzer.new) ran)) }
-        ensures ended { IfOk result (λ ran. ran.stopped ≡ false → have_ended (table_of T.standing ran) ≡ true) }
+        requires { IsTaskTable prepared.now (table_in T.standing tasks.items) }
+        ensures run { IfOk result (λ ran. IsRunOfStepSoFar prepared.now round_limit ran.stopped (at_first (moment (analyzed analyzer.old) fault) (table_in T.standing tasks.items)) (progress T.standing (analyzed analyzer.new) ran)) }
+        ensures ended { IfOk result (λ ran. ran.stopped ≡ false → have_ended (held_in (table_of T.standing ran)) ≡ true) }
         ensures table { IfOk result (λ ran. IsTaskTable prepared.now (table_of T.standing ran)) }
-        ensures placed { IfOk result (λ ran. ArePlaced T.standing 0 ran.held.items) }
         ensures grew { Grew (analyzed analyzer.old) (analyzed analyzer.new) }
     {
         laws_below();

@@ -5,7 +5,7 @@ use Rattle.jb_records.proofs.laws.steps_keep_results.Goals as goal
 
 pub returns : goal.returns
 returns c = record {
-  kept = shares-kept c.results_go_on.ensures.results c.results_go_on.ensures.part c.plans_can_be_run.ensures.begins c.plans_can_be_run.ensures.rows;
+  kept = shares-kept c.results_go_on.ensures.results c.results_go_on.ensures.part c.plans_can_be_run.ensures.tasks c.plans_can_be_run.ensures.rows;
   begun = steps-begin;
   joined = shares-are-joined;
   left_out = others-left-out;

@@ -8,6 +8,6 @@ returns c =
     let going = c.results_go_on.ensures in
     let plans = c.plans_can_be_run.ensures in record {
       fit = artifacts-do-fit;
-      saved = rows-are-saved going.results going.part plans.begins plans.rows c.steps_keep_results.ensures.kept ahead;
-      on = stretches-on going.results going.part plans.begins plans.rows c.steps_keep_results.ensures.kept ahead;
+      saved = rows-are-saved going.results going.part plans.tasks plans.rows c.steps_keep_results.ensures.kept ahead;
+      on = stretches-on going.results going.part plans.tasks plans.rows c.steps_keep_results.ensures.kept ahead;
     }

@@ -1,5 +1,5 @@
 use Rattle.jb_step.proofs.plans.ChunksInOrder.{chunks_are_blocks, next_can_run, runs_in_order, runs_all}
-use Rattle.jb_step.proofs.plans.Holding.{begins_with_table, partitions_stay}
+use Rattle.jb_step.proofs.plans.Holding.{begins_with_table, begins_with_tasks, partitions_stay}
 use Rattle.jb_step.proofs.plans.Whole.{ends_whole}
 use Rattle.jb_step.proofs.beginning.Starting.{begins_with_rows}
 use Rattle.jb_step.proofs.laws.plans_can_be_run.Goals as goal
@@ -12,6 +12,9 @@ returns-clause-order c = runs_in_order c.laws_below.ensures.chunks
 
 pub returns-clause-all : goal.returns-clause-all
 returns-clause-all c = runs_all c.laws_below.ensures.chunks
+
+pub returns-clause-tasks : goal.returns-clause-tasks
+returns-clause-tasks c = begins_with_tasks
 
 pub returns-clause-begins : goal.returns-clause-begins
 returns-clause-begins c = begins_with_table

@@ -14,7 +14,8 @@ use Rattle.jb_cert.specs.declared.notes.PlanNote.{PlanNote}
 use Rattle.jb_step.specs.Alone.{AreReady}
 use Rattle.jb_step.specs.rounds.Rounds.{after_rounds, attempts_of, breaks_in}
 use Rattle.jb_step.specs.declared.rounds.ran.Ran.{Ran}
-use Rattle.jb_step.specs.inside.table.Places.{held_in}
+use Rattle.jb_step.specs.Tables.{Table, held_in}
+use Rattle.jb_step.specs.inside.table.Places.{table_in}
 use Rattle.jb_step.specs.inside.callbacks.Telling.{HearsMore, Moment, moment}
 use Rattle.jb_workers.specs.declared.worker.lane_work.Work.{Work}
 use Rattle.jb_workers.specs.Works.{IsAttemptOf}
@@ -23,7 +24,7 @@ use Rattle.jb_workers.specs.Works.{IsAttemptOf}
 abbrev pub tasks_of : {T : Type 0} → List (Work T) → List T
 tasks_of works = map (λ w. w.task) works
 
--- the partitions of a table
+-- the partitions of tasks
 abbrev pub partitions_of : List TaskState → List ℕ
 partitions_of ts = map (λ t. t.partition) ts
 
@@ -38,22 +39,22 @@ had_memory _ = true
 abbrev pub AreWhole : {T : Type 0} → List (Done T) → Type 0
 AreWhole = AllByRecursion (λ d. had_memory d.outcome ≡ true)
 
--- how far a step is: what the analyzer took, its tasks, how many rounds and attempts were made, and its notes
+-- how far a step is: what the analyzer took, its table, how many rounds and attempts were made, and its notes
 pub record Progress : Type 0 where
   pub moment : Moment
-  pub table : List TaskState
+  pub table : Table
   pub rounds : ℕ
   pub attempts : ℕ
   pub notes : List PlanNote
 
--- the tasks that are held, in a table
-abbrev pub table_of : {T : Type 0} → (T → TaskState) → Ran T → List TaskState
-table_of standing ran = map standing (held_in ran.held.items)
+-- the places of the tasks, as a table
+abbrev pub table_of : {T : Type 0} → (T → TaskState) → Ran T → Table
+table_of standing ran = table_in standing ran.held.items
 
 abbrev pub progress : {T : Type 0} → (T → TaskState) → List (Taken AnalyzerCall) → Ran T → Progress
 progress standing calls ran = record { moment = moment calls ran.fault; table = table_of standing ran; rounds = ran.rounds; attempts = ran.attempts; notes = ran.notes.items }
 
--- what rounds left, that were run one after another: the tasks, the numbers of rounds and attempts, and what the analyzer was
+-- what rounds left, that were run one after another: the table, the numbers of rounds and attempts, and what the analyzer was
 -- told of each attempt, unless it had answered a fault before
 pub record AreLeft (rounds : List (List Pair)) (now later : Progress) : Type 0 where
   pub table_is : later.table ≡ after_rounds rounds now.table
@@ -65,6 +66,6 @@ pub record AreLeft (rounds : List (List Pair)) (now later : Progress) : Type 0 w
 -- partition was rolled back or failed, or none; and no plan was noted
 pub record IsRound (set : List Pair) (broke : Bool) (now later : Progress) : Type 0 where
   pub left : AreLeft (set ∷ []) now later
-  pub ready : AreReady later.table
+  pub ready : AreReady (held_in later.table)
   pub broke_is : broke ≡ breaks_in (attempts_of (set ∷ []) now.table)
   pub notes_are : later.notes ≡ now.notes

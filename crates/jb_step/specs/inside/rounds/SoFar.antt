@@ -5,13 +5,13 @@ use Rattle.jb_cert.specs.Lawful.{Pair, IsLeast}
 use Rattle.jb_cert.specs.Load.{Load}
 use Rattle.jb_cert.specs.Plans.{sets_of, slot_pair}
 use Rattle.jb_cert.specs.WrapAround.{slots_of_round, wrapped_rounds}
-use Rattle.jb_chunk.specs.Standing.{TaskState}
 use Rattle.jb_step.specs.rounds.PlanLaws.{IsTaskTable}
 use Rattle.jb_step.specs.rounds.Rounds.{AreRun, GoQuietly}
 use Rattle.jb_step.specs.rounds.Runs.{PlanRun, AreOver, ArePlanRuns, note_of, rounds_of, rounds_run}
 use Rattle.jb_step.specs.preparing.Setup.{Setup, counts_now}
 use Rattle.jb_step.specs.inside.rounds.Round.{AreLeft, Progress}
 use Rattle.jb_step.specs.inside.callbacks.Telling.{Moment}
+use Rattle.jb_step.specs.Tables.{Table}
 
 -- the chunks of a round of the load's plan
 abbrev pub set_of_round : Load → ℕ → List Pair
@@ -30,7 +30,7 @@ abbrev pub AreWithin : Option ℕ → ℕ → Type 0
 AreWithin limit rounds = MatchOption limit (Unit {0}) (λ l. rounds ≤ l)
 
 -- before its first round, where the analyzer heard what it is told at first
-abbrev pub at_first : Moment → List TaskState → Progress
+abbrev pub at_first : Moment → Table → Progress
 at_first moment start = record { moment = moment; table = start; rounds = 0; attempts = 0; notes = [] }
 
 -- Run of a step so far, from where it stood at first: some plans were run, one after another, each a least one for what was
@@ -46,7 +46,7 @@ pub record IsRunOfStepSoFar (s : Setup) (limit : Option ℕ) (stopped : Bool) (f
 -- THE OPEN PLAN
 
 -- the plan is a least one for what the tasks have left, with a certificate of it
-pub record IsPlanFor (s : Setup) (before : List TaskState) (plan : PlanRun) : Type 0 where
+pub record IsPlanFor (s : Setup) (before : Table) (plan : PlanRun) : Type 0 where
   pub least : IsLeast (counts_now s before) s.threads plan.rounds
   pub certified : Holds (counts_now s before) s.threads (length plan.rounds) plan.certificate
   pub some : 1 ≤ length plan.rounds

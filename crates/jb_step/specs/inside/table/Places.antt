@@ -1,24 +1,13 @@
--- The tasks that a step holds, each in the place of its partition: a place for each partition, and none in it where the
--- partition was finished at first, or while a round has its task.
-use Rattle.std.specs.Prelude.{ℕ, ◌+◌, ◌≡◌, Option, Some, None, List, [], ◌∷◌, slice_index_or, slice_set}
-use Rattle.std.specs.List.{cons_option, filter_map}
-use Rattle.std.specs.Option.{IfSome}
+-- The places in which a step holds its tasks, as its table, and the tasks of a round, which are taken out of their places and put back.
+use Rattle.std.specs.Prelude.{Option, Some, None, List, [], ◌∷◌, map, option_map, slice_index_or, slice_set}
+use Rattle.std.specs.List.{cons_option}
 use Rattle.jb_cert.specs.Lawful.{Pair}
 use Rattle.jb_chunk.specs.Standing.{TaskState}
 use Rattle.jb_chunk.specs.declared.outcome.Done.{Done}
+use Rattle.jb_step.specs.Tables.{Table}
 
--- the tasks that stand in places, in their order
-abbrev pub held_in : {T : Type 0} → List (Option T) → List T
-held_in places = filter_map (λ o. o) places
-
--- what is so of each task that stands in a place, by the number of its partition; the first place is that of partition `k`
-abbrev pub AreAtPlaces : {T : Type 0} → (ℕ → T → Type 0) → ℕ → List (Option T) → Type 0
-AreAtPlaces P k [] = Unit {0}
-AreAtPlaces P k (o ∷ places) = IfSome o (P k) × AreAtPlaces P (k + 1) places
-
--- each task stands in the place of its partition
-abbrev pub ArePlaced : {T : Type 0} → (T → TaskState) → ℕ → List (Option T) → Type 0
-ArePlaced standing = AreAtPlaces (λ p t. (standing t).partition ≡ p)
+abbrev pub table_in : {T : Type 0} → (T → TaskState) → List (Option T) → Table
+table_in standing places = map (option_map standing) places
 
 -- the tasks of the set's partitions are taken out, one after another: these, and the places that they leave
 abbrev pub picked : {T : Type 0} → List Pair → List (Option T) → List T

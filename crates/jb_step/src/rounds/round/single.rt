@@ -1,11 +1,11 @@
 //! A round of one slot.
 
-ghost use Rattle.std.specs.Prelude.{◌∷◌, [], IfOk, OnOk};
+ghost use Rattle.std.specs.Prelude.{◌∷◌, [], IfOk};
 ghost use Rattle.jb_cert.specs.Plans.{slot_pair};
 ghost use Rattle.jb_collect.specs.Taken.{Grew};
 ghost use Rattle.jb_step.specs.rounds.Rounds.{CanRun};
 ghost use Rattle.jb_step.specs.inside.rounds.Round.{IsRound, progress, table_of};
-ghost use Rattle.jb_step.specs.inside.table.Places.{ArePlaced};
+ghost use Rattle.jb_step.specs.Tables.{ArePlaced, held_in};
 ghost use Rattle.jb_step.specs.Alone.{AreReady};
 
 use crate::callbacks::tell::tell_one;
@@ -28,11 +28,10 @@ impl<L: StepLedger, G: StepGate, R: StepThreads> RoundRunner<'_, L, G, R> {
         slot: Slot,
         analyzer: &mut dyn Analyzer,
     ) -> Result<bool, RunError>
-        requires placed { ArePlaced T.standing 0 ran.old.held.items }
-        requires ready { AreReady (table_of T.standing ran.old) }
+        requires placed { ArePlaced 0 (table_of T.standing ran.old) }
+        requires ready { AreReady (held_in (table_of T.standing ran.old)) }
         requires can_run { CanRun (slot_pair slot ∷ []) (table_of T.standing ran.old) }
         ensures round { IfOk result (λ broke. IsRound (slot_pair slot ∷ []) broke (progress T.standing (analyzed analyzer.old) ran.old) (progress T.standing (analyzed analyzer.new) ran.new)) }
-        ensures placed { OnOk result (ArePlaced T.standing 0 ran.new.held.items) }
         ensures grew { Grew (analyzed analyzer.old) (analyzed analyzer.new) }
     {
         let Some(task) = take_task(&mut ran.held, &slot) else {

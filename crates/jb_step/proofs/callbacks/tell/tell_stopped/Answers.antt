@@ -1,6 +1,6 @@
-use Rattle.std.proofs.Common.{rules}
+use Rattle.std.proofs.Common.{arith, rules}
 use Rattle.jb_step.proofs.calls.Growing.{grew-more}
-use Rattle.jb_step.proofs.calls.Telling.{place-told, place-faulted}
+use Rattle.jb_step.proofs.calls.Telling.{place-told, place-faulted, places-over}
 use Rattle.jb_step.proofs.callbacks.tell.tell_stopped.Goals as goal
 
 pub returns-then-is_some-clause-heard : goal.returns-then-is_some-clause-heard
@@ -8,6 +8,9 @@ returns-then-is_some-clause-heard g c =
     c.loop-place.invariant.0 _ _
     (place-faulted c.calls_end_at_a_fault.ensures.none_after g.T.PartitionTask.standing c.args.held.now c.loop-place.place-index c.place-item.result _ _ _
     c.loop-place-test.true c.place-item.is (search rules) c.in_ok-fault.ensures.heard)
+
+pub returns-clause-heard : goal.returns-clause-heard
+returns-clause-heard g c = c.loop-place.invariant.0 _ _ (places-over g.T.PartitionTask.standing c.args.held.now c.loop-place.place-index _ (omega arith))
 
 pub loop-place-preserved : goal.loop-place-preserved
 loop-place-preserved g c = (

@@ -1,9 +1,10 @@
-use Rattle.std.proofs.Common.{List, Option, map, drop}
+use Rattle.std.proofs.Common.{List, Option, drop}
 use Rattle.jb_base.specs.declared.class.ClassId.{ClassId}
 use Rattle.jb_collect.specs.declared.calls.AnalyzerCall.{AnalyzerCall}
 use Rattle.jb_collect.specs.Heard.{heard_last}
 use Rattle.jb_collect.specs.Taken.{Taken, Grew, HasTaken}
-use Rattle.jb_step.specs.inside.table.Places.{held_in}
+use Rattle.jb_step.specs.Tables.{held_in}
+use Rattle.jb_step.specs.inside.table.Places.{table_in}
 use Rattle.jb_step.proofs.callbacks.tell.tell_stopped.Given as goal
 
 -- what is told of the other places is told of all
@@ -12,6 +13,6 @@ invariant-loop-place g l =
     let base = (goal.Analyzer-dyn g l.fn.analyzer.now).analyzed l.fn.analyzer.now.1 in
     let now = (goal.Analyzer-dyn g l.analyzer.now).analyzed l.analyzer.now.1 in
     ((fault : Option ClassId) (later : List (Taken AnalyzerCall)) →
-    HasTaken now (heard_last (map g.T.PartitionTask.standing (held_in (drop l.place-index l.held)))) fault later
-    → HasTaken base (heard_last (map g.T.PartitionTask.standing (held_in l.held))) fault later)
+    HasTaken now (heard_last (held_in (table_in g.T.PartitionTask.standing (drop l.place-index l.held)))) fault later
+    → HasTaken base (heard_last (held_in (table_in g.T.PartitionTask.standing l.held))) fault later)
     × Grew base now

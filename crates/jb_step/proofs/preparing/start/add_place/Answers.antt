@@ -1,16 +1,20 @@
-use Rattle.std.proofs.Common.{rules, ◌≡◌, ◌++◌, ◌∷◌, [], length, List, Option, ap, sym, ◌∙◌, subst, zero-add}
+use Rattle.std.proofs.Common.{rules, ◌≡◌, ◌++◌, ◌∷◌, [], ap, sym, ◌∙◌, subst, zero-add}
+use Rattle.std.specs.Prelude.{option_map}
+use Rattle.std.proofs.lemmas.List.{map-append}
 use Rattle.std.proofs.lemmas.List.Elements.{filter_map-append}
-use Rattle.jb_step.specs.inside.table.Places.{ArePlaced, held_in}
-use Rattle.jb_step.proofs.table.Placing.{at-more}
+use Rattle.jb_step.specs.Tables.{ArePlaced, held_in}
+use Rattle.jb_step.specs.inside.table.Places.{table_in}
+use Rattle.jb_step.proofs.table.Held.{placed-more}
 use Rattle.jb_step.proofs.preparing.start.add_place.Goals as goal
 
-pub returns-clause-items : goal.returns-clause-items
-returns-clause-items g c =
+more : (g : _) (c : goal.In_ok-push g) → table_in g.T.PartitionTask.standing c.push.new.self.items ≡ table_in g.T.PartitionTask.standing c.args.places.now.items ++ table_in g.T.PartitionTask.standing (c.args.place ∷ [])
+more g c =
     let all : c.push.new.self.items ≡ c.args.places.now.items ++ c.args.place ∷ [] = search rules in
-    ap held_in all ∙ filter_map-append _ c.args.places.now.items (c.args.place ∷ [])
+    ap (table_in g.T.PartitionTask.standing) all ∙ map-append (option_map g.T.PartitionTask.standing) c.args.places.now.items (c.args.place ∷ [])
+
+pub returns-clause-items : goal.returns-clause-items
+returns-clause-items g c = ap held_in (more g c) ∙ filter_map-append _ (table_in g.T.PartitionTask.standing c.args.places.now.items) (table_in g.T.PartitionTask.standing (c.args.place ∷ []))
 
 pub returns-clause-placed : goal.returns-clause-placed
 returns-clause-placed g c before here =
-    let all : c.push.new.self.items ≡ c.args.places.now.items ++ c.args.place ∷ [] = search rules in
-    subst (λ (os : List (Option _)). ArePlaced g.T.PartitionTask.standing 0 os) (sym all)
-    (at-more _ 0 (length c.args.places.now.items) c.args.places.now.items c.args.place (zero-add _) before here.0)
+    subst (ArePlaced 0) (sym (more g c)) (placed-more g.T.PartitionTask.standing 0 c.args.places.now.items c.args.place before (subst (λ n. ArePlaced n (table_in g.T.PartitionTask.standing (c.args.place ∷ []))) (sym (zero-add _)) here))

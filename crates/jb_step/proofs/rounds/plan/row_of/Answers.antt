@@ -1,18 +1,32 @@
-use Rattle.std.proofs.Common.{◌≡◌, None, Option, slice_index_or, arith, ap, sym, ◌∙◌, zero-add}
-use Rattle.jb_step.proofs.table.Placing.{row-at, row_in}
+use Rattle.std.proofs.Common.{◌≡◌, None, Option, List, slice_index_or, arith, ap, sym, ◌∙◌}
+use Rattle.std.specs.Prelude.{option_map}
+use Rattle.std.specs.Option.{option_map_or}
+use Rattle.jb_rules.specs.declared.row.Row.{Row}
+use Rattle.jb_chunk.specs.Standing.{TaskState}
+use Rattle.jb_step.specs.Tables.{ArePlaced, held_in}
+use Rattle.jb_step.specs.preparing.Setup.{row_now}
+use Rattle.jb_step.specs.inside.table.Places.{table_in}
+use Rattle.jb_step.proofs.table.Held.{at-map}
+use Rattle.jb_step.proofs.table.Rows.{row-at, row_of}
 use Rattle.jb_step.proofs.rounds.plan.row_of.Goals as goal
+
+-- the row of a partition, by what stands in its place
+by-place : {T : Type 0} (standing : T → TaskState) (held : List (Option T)) (p : _) (row : Row) (o : Option T) → ArePlaced 0 (table_in standing held) → o ≡ slice_index_or held p None
+    → option_map_or row_of (option_map standing o) row ≡ row_now (held_in (table_in standing held)) p row
+by-place standing held p row o placed is =
+    ap (λ (o : Option _). option_map_or row_of (option_map standing o) row) is ∙ ap (λ (o : Option TaskState). option_map_or row_of o row) (sym (at-map standing held p)) ∙ sym (row-at (table_in standing held) p row placed)
 
 pub returns-in-Some-place : goal.returns-in-Some-place
 returns-in-Some-place g c =
     let here : c.in-Some.place.now ≡ slice_index_or c.args.held.now c.args.partition None = c.in-Some.ensures.lookup.4 (omega arith) None in
-    c.row.ensures ∙ sym (row-at g.T.PartitionTask.standing c.args.row.now c.args.partition 0 c.args.partition c.args.held.now (zero-add _) c.requires ∙ ap (λ (o : Option _). row_in g.T.PartitionTask.standing o c.args.row.now) (sym here ∙ c.in-Some-place.is))
+    c.row.ensures ∙ by-place g.T.PartitionTask.standing c.args.held.now c.args.partition c.args.row.now _ c.requires (sym c.in-Some-place.is ∙ here)
 
 pub returns-in-None-place : goal.returns-in-None-place
 returns-in-None-place g c =
     let here : c.in-Some.place.now ≡ slice_index_or c.args.held.now c.args.partition None = c.in-Some.ensures.lookup.4 (omega arith) None in
-    sym (row-at g.T.PartitionTask.standing c.args.row.now c.args.partition 0 c.args.partition c.args.held.now (zero-add _) c.requires ∙ ap (λ (o : Option _). row_in g.T.PartitionTask.standing o c.args.row.now) (sym here ∙ c.in-None-place.is))
+    by-place g.T.PartitionTask.standing c.args.held.now c.args.partition c.args.row.now _ c.requires (sym c.in-None-place.is ∙ here)
 
 pub returns-in-None : goal.returns-in-None
 returns-in-None g c =
     let here : None ≡ slice_index_or c.args.held.now c.args.partition None = c.in-None.ensures.lookup.4 (omega arith) None in
-    sym (row-at g.T.PartitionTask.standing c.args.row.now c.args.partition 0 c.args.partition c.args.held.now (zero-add _) c.requires ∙ ap (λ (o : Option _). row_in g.T.PartitionTask.standing o c.args.row.now) (sym here))
+    by-place g.T.PartitionTask.standing c.args.held.now c.args.partition c.args.row.now None c.requires here

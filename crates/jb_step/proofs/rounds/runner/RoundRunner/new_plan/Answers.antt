@@ -1,9 +1,9 @@
-use Rattle.std.proofs.Common.{◌≡◌, ℕ, ◌≤◌, List, length, sym, ◌∙◌, subst, arith}
+use Rattle.std.proofs.Common.{◌≡◌, ℕ, ◌≤◌, length, sym, ◌∙◌, subst, arith}
 use Rattle.jb_cert.specs.Certificates.{Holds, bound_certificate}
 use Rattle.jb_cert.specs.Load.{Load, mcnaughton}
 use Rattle.jb_cert.specs.Plans.{StandsForLeast}
 use Rattle.jb_cert.specs.WrapAround.{wrapped_rounds}
-use Rattle.jb_chunk.specs.Standing.{TaskState}
+use Rattle.jb_step.specs.Tables.{Table}
 use Rattle.jb_step.specs.preparing.Setup.{Setup, counts_now}
 use Rattle.jb_step.specs.inside.rounds.SoFar.{IsPlanFor, plan_run_of}
 use Rattle.jb_step.proofs.plans.Planning.{least-sets}
@@ -11,7 +11,7 @@ use Rattle.jb_step.proofs.run.SoFar.{long-plan}
 use Rattle.jb_step.proofs.rounds.runner.RoundRunner.new_plan.Goals as goal
 
 -- the wrap-around is a least plan, as sets of chunks
-planned : (s : Setup) (before : List TaskState) (load : Load) → load.counts ≡ counts_now s before → load.threads ≡ s.threads → StandsForLeast load.counts load.threads (wrapped_rounds load.counts load.threads)
+planned : (s : Setup) (before : Table) (load : Load) → load.counts ≡ counts_now s before → load.threads ≡ s.threads → StandsForLeast load.counts load.threads (wrapped_rounds load.counts load.threads)
     → Holds load.counts load.threads (mcnaughton load.counts load.threads) (bound_certificate load.counts load.threads) → length (wrapped_rounds load.counts load.threads) ≡ mcnaughton load.counts load.threads
     → 1 ≤ mcnaughton load.counts load.threads → IsPlanFor s before (plan_run_of load 0)
 planned s before load counts threads stands holds long some =

@@ -19,6 +19,3 @@ pub returns-clause-round : goal.returns-clause-round
 returns-clause-round g c =
     round-is _ _ _ _ _ (back g c) _ _ _ _ _ _ _ _ c.requires.ready (rw c.as_slice-3.ensures.value at c.some_breaks-broke.ensures) (rw (← c.as_slice.ensures.value) c.in_ok-ran.ensures.heard) c.in_ok-ran-2.ensures
     (rw (ap length c.as_slice-2.ensures.value) at c.in_ok-ran-3.ensures)
-
-pub returns-clause-placed : goal.returns-clause-placed
-returns-clause-placed g c = (back g c).placed

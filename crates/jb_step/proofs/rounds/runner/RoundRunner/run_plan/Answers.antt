@@ -1,21 +1,21 @@
-use Rattle.std.proofs.Common.{◌≡◌, ℕ, ◌+◌, ◌<◌, ◌⊎◌, inl, inr, true, false, List, Option, length, map, sym, ◌∙◌, subst, arith, eqb-true}
+use Rattle.std.proofs.Common.{◌≡◌, ℕ, ◌+◌, ◌<◌, ◌⊎◌, inl, inr, true, false, List, Option, length, sym, ◌∙◌, subst, arith, eqb-true}
 use Rattle.jb_cert.specs.Load.{Load}
 use Rattle.jb_cert.specs.Plans.{sets_of}
 use Rattle.jb_cert.specs.WrapAround.{wrapped_rounds}
 use Rattle.jb_chunk.specs.Standing.{TaskState}
 use Rattle.jb_step.specs.preparing.Setup.{Setup}
-use Rattle.jb_step.specs.inside.table.Places.{held_in}
+use Rattle.jb_step.specs.inside.table.Places.{table_in}
 use Rattle.jb_step.specs.inside.rounds.Round.{Progress, progress}
 use Rattle.jb_step.specs.inside.rounds.SoFar.{AreWithin, IsPlanFor, plan_run_of}
 use Rattle.jb_step.proofs.calls.Growing.{grew-more, grew-none}
 use Rattle.jb_step.proofs.table.Numbers.{below-of}
-use Rattle.jb_step.proofs.run.SoFar.{ends, goes-on, long-plan, none-run, open-can-run, opens, ready-of, rises-of, table-round}
+use Rattle.jb_step.proofs.run.SoFar.{ends, goes-on, long-plan, none-run, open-can-run, opens, ready-of, table-round}
 use Rattle.jb_step.proofs.rounds.runner.RoundRunner.run_plan.Goals as goal
 use Rattle.jb_step.proofs.rounds.runner.RoundRunner.run_plan.Goals.{then-broke, else-broke}
 
 -- the plan was made for the tasks that were held
-made-for : {T : Type 0} (standing : T → TaskState) (s : Setup) (load : Load) (held places : List (Option T)) → held ≡ places → IsPlanFor s (map standing (held_in held)) (plan_run_of load 0) → IsPlanFor s (map standing (held_in places)) (plan_run_of load 0)
-made-for standing s load held places is made = subst (λ (os : List (Option _)). IsPlanFor s (map standing (held_in os)) (plan_run_of load 0)) is made
+made-for : {T : Type 0} (standing : T → TaskState) (s : Setup) (load : Load) (held places : List (Option T)) → held ≡ places → IsPlanFor s (table_in standing held) (plan_run_of load 0) → IsPlanFor s (table_in standing places) (plan_run_of load 0)
+made-for standing s load held places is made = subst (λ (os : List (Option _)). IsPlanFor s (table_in standing os) (plan_run_of load 0)) is made
 
 in-plan : (load : Load) (rounds round : ℕ) → length (wrapped_rounds load.counts load.threads) ≡ rounds → round < rounds → round < length (sets_of (wrapped_rounds load.counts load.threads))
 in-plan load rounds round long lt = omega (arith, lt, long, long-plan load)
@@ -30,15 +30,11 @@ loop-round-init g c =
       opens _ _ _ c.requires.table,
       omega (arith, some, long-plan c.in_ok-plan.plan, c.rounds-rounds.ensures.length),
       c.is_cut.ensures c.if-is_cut.false,
-      c.requires.placed,
       grew-none _,
     )
 
 pub next_round-requires-clause-placed : goal.next_round-requires-clause-placed
-next_round-requires-clause-placed g c κs within = c.loop-round.invariant.3
-
-pub next_round-requires-clause-rise : goal.next_round-requires-clause-rise
-next_round-requires-clause-rise g c κs within = rises-of c.args.prepared.now _ c.loop-round.invariant.0.table
+next_round-requires-clause-placed g c κs within = c.loop-round.invariant.0.table.placed
 
 pub next_round-requires-clause-ready : goal.next_round-requires-clause-ready
 next_round-requires-clause-ready g c κs within = ready-of c.args.prepared.now _ c.loop-round.invariant.0.table.tasks
@@ -52,10 +48,10 @@ next_round-requires-clause-can_run g c κs within =
     open-can-run c.laws_below.ensures c.args.prepared.now load first made c.requires.table c.loop-round.round here _ c.loop-round.invariant.0
 
 pub returns-in_err-broke-clause-grew : goal.returns-in_err-broke-clause-grew
-returns-in_err-broke-clause-grew g c = grew-more _ _ _ c.loop-round.invariant.4 c.next_round.ensures.grew
+returns-in_err-broke-clause-grew g c = grew-more _ _ _ c.loop-round.invariant.3 c.next_round.ensures.grew
 
 pub returns-in_err-take_note-clause-grew : goal.returns-in_err-take_note-clause-grew
-returns-in_err-take_note-clause-grew g c = grew-more _ _ _ c.loop-round.invariant.4 c.next_round.ensures.grew
+returns-in_err-take_note-clause-grew g c = grew-more _ _ _ c.loop-round.invariant.3 c.next_round.ensures.grew
 
 pub returns-then-over-clause-run : goal.returns-then-over-clause-run
 returns-then-over-clause-run g c =
@@ -79,7 +75,7 @@ pub returns-then-over-clause-table : goal.returns-then-over-clause-table
 returns-then-over-clause-table g c = table-round _ _ _ _ _ c.loop-round.invariant.0.table c.in_ok-broke.ensures.round
 
 pub returns-then-over-clause-grew : goal.returns-then-over-clause-grew
-returns-then-over-clause-grew g c = grew-more _ _ _ c.loop-round.invariant.4 c.next_round.ensures.grew
+returns-then-over-clause-grew g c = grew-more _ _ _ c.loop-round.invariant.3 c.next_round.ensures.grew
 
 pub loop-round-preserved : goal.loop-round-preserved
 loop-round-preserved g c =
@@ -98,8 +94,7 @@ loop-round-preserved g c =
       goes-on c.laws_below.ensures c.args.prepared.now load first made c.requires.table round here _ c.loop-round.invariant.0 _ c.in_ok-broke.broke c.in_ok-broke.ensures.round quiet.0,
       quiet.1,
       c.is_cut-else-over.ensures c.if-is_cut-2.false,
-      c.in_ok-broke.ensures.placed,
-      grew-more _ _ _ c.loop-round.invariant.4 c.in_ok-broke.ensures.grew,
+      grew-more _ _ _ c.loop-round.invariant.3 c.in_ok-broke.ensures.grew,
     )
 
 pub unreachable-requires : goal.unreachable-requires

@@ -1,6 +1,5 @@
 use Rattle.std.proofs.Common.{◌+◌, ◌<◌}
 use Rattle.jb_collect.specs.Taken.{Grew}
-use Rattle.jb_step.specs.inside.table.Places.{ArePlaced}
 use Rattle.jb_step.specs.inside.rounds.Round.{progress}
 use Rattle.jb_step.specs.inside.rounds.SoFar.{AreWithin, IsOpen}
 use Rattle.jb_step.proofs.rounds.runner.RoundRunner.run_plan.Given as goal
@@ -12,5 +11,4 @@ invariant-loop-round g l =
     IsOpen l.prepared l.cursor l.round (progress g.T.PartitionTask.standing calls l.fn.ran) (progress g.T.PartitionTask.standing later l.ran)
     × (l.round < l.rounds)
     × AreWithin l.round_limit (l.ran.rounds + 1)
-    × ArePlaced g.T.PartitionTask.standing 0 l.ran.held.items
     × Grew calls later

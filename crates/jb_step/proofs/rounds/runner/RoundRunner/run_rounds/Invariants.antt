@@ -1,7 +1,7 @@
-use Rattle.std.proofs.Common.{◌≡◌, false, map}
+use Rattle.std.proofs.Common.{◌≡◌, false}
 use Rattle.jb_collect.specs.Taken.{Grew}
 use Rattle.jb_step.specs.rounds.PlanLaws.{IsTaskTable}
-use Rattle.jb_step.specs.inside.table.Places.{ArePlaced, held_in}
+use Rattle.jb_step.specs.inside.table.Places.{table_in}
 use Rattle.jb_step.specs.inside.rounds.Round.{progress, table_of}
 use Rattle.jb_step.specs.inside.rounds.SoFar.{IsRunOfStepSoFar, at_first}
 use Rattle.jb_step.specs.inside.callbacks.Telling.{moment}
@@ -12,8 +12,7 @@ invariant-loop g l =
     let standing = g.T.PartitionTask.standing in
     let calls = (goal.Analyzer-dyn g l.fn.analyzer.now).analyzed l.fn.analyzer.now.1 in
     let later = (goal.Analyzer-dyn g l.analyzer.now).analyzed l.analyzer.now.1 in
-    IsRunOfStepSoFar l.prepared l.round_limit false (at_first (moment calls l.fn.fault) (map standing (held_in l.fn.tasks.items))) (progress standing later l.ran)
+    IsRunOfStepSoFar l.prepared l.round_limit false (at_first (moment calls l.fn.fault) (table_in standing l.fn.tasks.items)) (progress standing later l.ran)
     × IsTaskTable l.prepared (table_of standing l.ran)
-    × ArePlaced standing 0 l.ran.held.items
     × Grew calls later
     × (l.ran.stopped ≡ false)

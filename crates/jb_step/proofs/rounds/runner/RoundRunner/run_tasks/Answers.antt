@@ -1,7 +1,7 @@
-use Rattle.std.proofs.Common.{rules, refl, ◌≡◌, true, map, ap₂, ◌∙◌, subst, List, Option}
+use Rattle.std.proofs.Common.{rules, refl, ◌≡◌, true, map, ap, ap₂, sym, ◌∙◌, subst, Option}
 use Rattle.jb_base.specs.declared.class.ClassId.{ClassId}
-use Rattle.jb_chunk.specs.Standing.{TaskState}
-use Rattle.jb_step.specs.Answers.{StepRun, given_back}
+use Rattle.jb_step.specs.Answers.{StepRun, given_back, table_before, tasks_before}
+use Rattle.jb_step.specs.Tables.{Table, held_in}
 use Rattle.jb_step.specs.Statuses.{status_of}
 use Rattle.jb_step.specs.inside.rounds.Round.{progress}
 use Rattle.jb_step.specs.inside.rounds.SoFar.{IsRunOfStepSoFar, at_first}
@@ -28,6 +28,10 @@ run-of g c = record {
 abbrev fault : (g : _) → goal.In_ok-artifacts g → Option ClassId
 fault g c = c.in_ok-ran-2.field-0
 
+-- the table that it begins with
+first-is : (g : _) (c : goal.In_ok-artifacts g) → IsTaskTable (run-of g c).setup (table_before (run-of g c)) × (held_in (table_before (run-of g c)) ≡ tasks_before (run-of g c))
+first-is g c = (subst (IsTaskTable c.args.prepared.now) c.in_ok-tasks.ensures.tasks c.in_ok-tasks.ensures.table, ap held_in (sym c.in_ok-tasks.ensures.tasks) ∙ c.in_ok-tasks.ensures.held)
+
 left : (g : _) (c : goal.In_ok-artifacts g) → IsLeft (run-of g c) (fault g c)
 left g c =
     let r = run-of g c in
@@ -41,9 +45,10 @@ left g c =
       now = now;
       stopped = ran.stopped;
       begun = c.in_ok-fault.ensures.heard;
-      run = subst (λ (ts : List TaskState). IsRunOfStepSoFar r.setup r.round_limit ran.stopped (at_first first ts) now) c.in_ok-tasks.ensures.tasks c.in_ok-ran.ensures.run;
+      run = subst (λ (table : Table). IsRunOfStepSoFar r.setup r.round_limit ran.stopped (at_first first table) now) c.in_ok-tasks.ensures.tasks c.in_ok-ran.ensures.run;
       ended = c.in_ok-ran.ensures.ended;
       table = c.in_ok-ran.ensures.table;
+      begun_with = (first-is g c).1;
       told = rw c.as_slice.ensures.value at c.in_ok-ran-2.ensures.heard;
       notes_are = refl;
       rows = rw c.as_slice-2.ensures.value at c.in_ok-snapshot.ensures;
@@ -57,8 +62,8 @@ returns-clause-run g c = run-is c.laws_below.ensures (run-of g c) (fault g c) (l
 pub returns-clause-headline : goal.returns-clause-headline
 returns-clause-headline g c =
     let r = run-of g c in
-    let first = subst (λ (ts : List TaskState). IsTaskTable r.setup ts) c.in_ok-tasks.ensures.tasks c.in_ok-tasks.ensures.table in
-    headline-of c.laws_below.ensures r first (run-is c.laws_below.ensures r (fault g c) (left g c))
+    let first = first-is g c in
+    headline-of c.laws_below.ensures r first.0 first.1 (run-is c.laws_below.ensures r (fault g c) (left g c))
 
 pub returns-clause-on_the_way : goal.returns-clause-on_the_way
 returns-clause-on_the_way g c = way-is c.laws_below.ensures (run-of g c) (fault g c) (left g c)
