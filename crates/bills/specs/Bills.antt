@@ -20,21 +20,21 @@ cost_by tariff (Some name) (Some units) = option_map (λ cents. (name, cents)) (
 abbrev pub named_cost : Tariff → (fields : List (List ℕ)) → Option (List ℕ × ℕ)
 named_cost tariff fields = cost_by tariff (field_at fields 0) (field_at fields 1)
 
-abbrev pub line_of : List ℕ × ℕ → List ℕ
-line_of named = csv_row (named.0 ∷ decimal named.1 ∷ [])
+abbrev pub bill_line : List ℕ × ℕ → List ℕ
+bill_line named = csv_row (named.0 ∷ decimal named.1 ∷ [])
 
 abbrev pub bill_by : Tariff → (fields : Option (List (List ℕ))) → Option (List ℕ)
 bill_by tariff None = None
-bill_by tariff (Some fields) = option_map line_of (named_cost tariff fields)
+bill_by tariff (Some fields) = option_map bill_line (named_cost tariff fields)
 
 -- THE BILL FOR A LINE OF USAGE, if it has one
 unfoldable pub bill_of : Tariff → (line : List ℕ) → Option (List ℕ)
 bill_of tariff line = bill_by tariff (first_fields line)
 
 -- a line that has no bill can't be read: its fault has class 0
-abbrev pub refusal_by : (bill : Option (List ℕ)) → Option ClassId
-refusal_by None = Some (class_of 0)
-refusal_by (Some bill) = None
+abbrev pub unless_billed : (bill : Option (List ℕ)) → Option ClassId
+unless_billed None = Some (class_of 0)
+unless_billed (Some bill) = None
 
 abbrev pub refusal_of : Tariff → (line : List ℕ) → Option ClassId
-refusal_of tariff line = refusal_by (bill_of tariff line)
+refusal_of tariff line = unless_billed (bill_of tariff line)

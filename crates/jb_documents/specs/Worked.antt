@@ -3,7 +3,6 @@ use Rattle.std.specs.Prelude.{◌≡◌, ℕ, List, [], ◌∷◌, ◌++◌, cod
 use Rattle.serde_json.specs.Written.{compact_text}
 use Rattle.jb_job.specs.JobTree.{job_tree}
 use Rattle.jb_job.specs.Worked.{classes_job}
-use Rattle.jb_cert.specs.Load.{Load}
 use Rattle.jb_cert.specs.declared.plans.Slot.{Slot}
 use Rattle.jb_cert.specs.declared.certificates.Certificate.TheVariants.{FullLoad}
 use Rattle.jb_saved.specs.SavedRows.{SavedRows}
@@ -19,9 +18,6 @@ use Rattle.jb_documents.specs.DocumentTrees.{load_tree, claim_tree, document_tre
 use Rattle.jb_documents.specs.ResumeFields.{WrittenTexts}
 
 -- full load: three equal partitions on two threads
-abbrev pub three_equal : Load
-three_equal = record { counts = 3 ∷ 3 ∷ 3 ∷ []; threads = 2 }
-
 abbrev pub three_equal_document : List ℕ
 three_equal_document = codes "{\"counts\":[3,3,3],\"threads\":2}"
 
@@ -75,7 +71,7 @@ pub record DocumentRows : Type 0 where
   pub run :
       compact_text (document_tree run_document)
       ≡ codes "{\"data\":[{\"drop\":\"x\",\"faults\":{\"process\":[[0,\"shaky\",[\"E\",\"G\"]],[2,\"bad\",\"F\"]],\"read\":[[0,\"bad\",\"E\"]],\"write\":[]},\"prefix\":\"p\",\"records\":[\"a\",\"b\",\"c\"]}],\"job\":" ++ (compact_text (job_tree classes_job) ++ codes "}")
-  pub plan : compact_text (load_tree three_equal) ≡ three_equal_document
+  pub plan : compact_text (load_tree (record { counts = 3 ∷ 3 ∷ 3 ∷ []; threads = 2 })) ≡ three_equal_document
   pub check :
       compact_text (claim_tree two_rounds_claim)
       ≡ codes "{\"certificate\":\"FullLoad\",\"counts\":[2,1],\"rounds\":[[[0,0,0],[1,1,0]],[[0,0,1]]],\"threads\":2}"

@@ -2,10 +2,10 @@
 use Rattle.std.proofs.Common.{◌≡◌, ℕ, ◌+◌, List, [], ◌∷◌, Option, Some, None, refl}
 use Rattle.std.specs.List.{cons_option, enumerate_from, filter_map}
 use Rattle.jb_records.specs.Function.{all_results, result_by, result_of}
-use Rattle.payroll.specs.Payroll.{all_slips, payroll, refusal_by}
+use Rattle.payroll.specs.Payroll.{all_slips, payroll, unless_paid}
 use Rattle.payroll.specs.Sheets.{slip_of}
 
-own-slip : (slip : Option (List ℕ)) → result_by (refusal_by slip) slip ≡ slip
+own-slip : (slip : Option (List ℕ)) → result_by (unless_paid slip) slip ≡ slip
 own-slip None = refl
 own-slip (Some slip) = refl
 

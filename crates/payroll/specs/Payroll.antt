@@ -14,9 +14,9 @@ use Rattle.payroll.specs.Sheets.{is_shaky, slip_of}
 abbrev pub broken_class : ClassId
 broken_class = class_of 0
 
-abbrev pub refusal_by : (slip : Option (List ℕ)) → Option ClassId
-refusal_by None = Some broken_class
-refusal_by (Some slip) = None
+abbrev pub unless_paid : (slip : Option (List ℕ)) → Option ClassId
+unless_paid None = Some broken_class
+unless_paid (Some slip) = None
 
 -- the first try at a shaky one fails
 abbrev pub unsteady_class : ClassId
@@ -28,7 +28,7 @@ tries_by shaky = if shaky then unsteady_class ∷ [] else []
 -- and its answer is its pay slip
 abbrev pub payroll : Function
 payroll = record {
-  refusal = λ line. refusal_by (slip_of line);
+  refusal = λ line. unless_paid (slip_of line);
   answer = λ number line. slip_of line;
   tries = λ number line. tries_by (is_shaky line);
 }

@@ -20,12 +20,12 @@ price_of (Some name) (Some grams) = option_map (λ cents. (name, cents)) (option
 abbrev pub named_price : (fields : List (List ℕ)) → Option (List ℕ × ℕ)
 named_price fields = price_of (field_at fields 0) (field_at fields 1)
 
-abbrev pub line_of : List ℕ × ℕ → List ℕ
-line_of named = csv_row (named.0 ∷ decimal named.1 ∷ [])
+abbrev pub priced_line : List ℕ × ℕ → List ℕ
+priced_line named = csv_row (named.0 ∷ decimal named.1 ∷ [])
 
 abbrev pub priced_by : (fields : Option (List (List ℕ))) → Option (List ℕ)
 priced_by None = None
-priced_by (Some fields) = option_map line_of (named_price fields)
+priced_by (Some fields) = option_map priced_line (named_price fields)
 
 -- THE LINE WITH THE POSTAGE OF A PARCEL, if it has one
 unfoldable pub priced : (line : List ℕ) → Option (List ℕ)
@@ -37,10 +37,10 @@ priced line = priced_by (first_fields line)
 abbrev pub unpriced_class : ClassId
 unpriced_class = class_of 0
 
-abbrev pub refusal_by : (result : Option (List ℕ)) → Option ClassId
-refusal_by None = Some unpriced_class
-refusal_by (Some result) = None
+abbrev pub unless_priced : (result : Option (List ℕ)) → Option ClassId
+unless_priced None = Some unpriced_class
+unless_priced (Some result) = None
 
 -- and no try fails
 abbrev pub pricing : Function
-pricing = record { refusal = λ line. refusal_by (priced line); answer = λ number line. priced line; tries = λ number line. [] }
+pricing = record { refusal = λ line. unless_priced (priced line); answer = λ number line. priced line; tries = λ number line. [] }
