@@ -2,55 +2,69 @@
 
 ghost use Rattle.std.specs.Prelude.{◌≡◌};
 ghost use Rattle.jb_checkpoint_table.specs.Errors.{list_refusal, refusal_named};
+ghost use Rattle.jb_checkpoint_table.specs.Texts.{error_text};
 ghost use Rattle.jb_checkpoint_table.specs.declared.error.StoreError.TheVariants.{Memory};
 
 use jb_checkpoint::ListError;
 use sqlite::{Constraint, Error as SqlError, ErrorCode};
 use std::alloc::{AllocError, AllocFailed};
+use std::fmt;
 use thiserror::Error;
 
 /// Why a call on the checkpoints has no answer. After `Foreign`, `Version` and `Gap` the file is as it was.
 #[derive(Clone, Copy, Debug, PartialEq, Eq, Error)]
 pub enum StoreError {
     /// The database has tables, and none of them is one of checkpoints.
-    #[error("the database is another program's: it has no table of checkpoints")]
     Foreign,
     /// It has a table `checkpoint`, but isn't defined as here: by another version, or by another program.
-    #[error("the database has a table of checkpoints in another form: another version's")]
     Version,
     /// The numbers of the checkpoints aren't 1, 2, 3 and so on.
-    #[error("a checkpoint is missing: their numbers have a gap")]
     Gap,
     /// The file is no database, or a damaged one.
-    #[error("the file is no database, or a damaged one")]
     Damaged,
     /// Another process has the file open.
-    #[error("another process has the file open")]
     Busy,
     /// There is no such folder, or no leave to read and to write the file, or the path is no file's.
-    #[error("the file can't be opened to be read and written")]
     CannotOpen,
     /// The disk or the file is full.
-    #[error("the disk is full")]
     Full,
     /// The disk failed to read or to write.
-    #[error("the disk failed")]
     Disk,
     /// An earlier failure of the disk has shut the connection: open the file again.
-    #[error("an earlier failure of the disk has shut the file")]
     Shut,
     /// The saved text with the results is longer than a row may be.
-    #[error("the checkpoint is longer than a row may be")]
     TooLong,
     /// There is a checkpoint with this number already.
-    #[error("there is a checkpoint with this number already")]
     Taken,
     /// There was no memory.
-    #[error("out of memory")]
     Memory,
     /// SQLite refused a statement for another reason.
-    #[error("SQLite refused a statement: {0}")]
     Sql(SqlError),
+}
+
+/// What is wrong, in a few words; of a statement that SQLite refused also its own.
+impl fmt::Display for StoreError {
+    ghost output = { error_text };
+
+    fn fmt<W: fmt::Write>(&self, f: &mut fmt::Formatter<W>) -> fmt::Result {
+        f.write_str(match self {
+            StoreError::Foreign =>
+                "the database is another program's: it has no table of checkpoints",
+            StoreError::Version =>
+                "the database has a table of checkpoints in another form: another version's",
+            StoreError::Gap => "a checkpoint is missing: their numbers have a gap",
+            StoreError::Damaged => "the file is no database, or a damaged one",
+            StoreError::Busy => "another process has the file open",
+            StoreError::CannotOpen => "the file can't be opened to be read and written",
+            StoreError::Full => "the disk is full",
+            StoreError::Disk => "the disk failed",
+            StoreError::Shut => "an earlier failure of the disk has shut the file",
+            StoreError::TooLong => "the checkpoint is longer than a row may be",
+            StoreError::Taken => "there is a checkpoint with this number already",
+            StoreError::Memory => "out of memory",
+            StoreError::Sql(error) => return write!(f, "SQLite refused a statement: {error}"),
+        })
+    }
 }
 
 impl From<SqlError> for StoreError {

@@ -2,41 +2,54 @@
 
 ghost use Rattle.std.specs.Prelude.{◌≡◌};
 ghost use Rattle.jb_durable_records.specs.Refusals.{named};
+ghost use Rattle.jb_durable_records.specs.Texts.{error_text};
 ghost use Rattle.jb_durable_records.specs.declared.error.DurableError.TheVariants.{Memory, Store};
 
 use jb_records::RecordsStepError;
 use jb_records_checkpoints::CheckpointError;
 use jb_store::StoreError;
 use std::alloc::{AllocError, AllocFailed};
+use std::fmt;
 use thiserror::Error;
 
 /// Why a step over records has no end in its file. What is kept stays: a next life goes on from it.
 #[derive(Clone, Copy, Debug, PartialEq, Eq, Error)]
 pub enum DurableError {
     /// The file. After `Foreign`, `Version` and `Gap` it is as it was.
-    #[error(transparent)]
     Store(StoreError),
     /// The checkpoints are of a step of another form, or of another number of records. Nothing was written.
-    #[error("the checkpoints are another job's: its step has another form, or another number of records")]
     OtherJob,
     /// The checkpoints are of such a step, over other records. Nothing was written.
-    #[error("the checkpoints are of a run over other records")]
     OtherRecords,
     /// The results of a checkpoint aren't a coding of as many lists as the last saved rows.
-    #[error("the results of a checkpoint are damaged")]
     Damaged,
     /// A record or a result has more than 4,294,967,295 bytes.
-    #[error("a record or a result has more than 4,294,967,295 bytes")]
     TooLong,
     /// The step over records isn't begun, or a stretch broke off.
-    #[error(transparent)]
     Step(RecordsStepError),
     /// There are 4,294,967,295 checkpoints.
-    #[error("there are 4,294,967,295 checkpoints")]
     TooMany,
     /// There was no memory.
-    #[error("out of memory")]
     Memory,
+}
+
+/// What is wrong, in a few words: those of the file's fault and of the step's where it is one of these.
+impl fmt::Display for DurableError {
+    ghost output = { error_text };
+
+    fn fmt<W: fmt::Write>(&self, f: &mut fmt::Formatter<W>) -> fmt::Result {
+        f.write_str(match self {
+            DurableError::Store(error) => return write!(f, "{error}"),
+            DurableError::OtherJob =>
+                "the checkpoints are another job's: its step has another form, or another number of records",
+            DurableError::OtherRecords => "the checkpoints are of a run over other records",
+            DurableError::Damaged => "the results of a checkpoint are damaged",
+            DurableError::TooLong => "a record or a result has more than 4,294,967,295 bytes",
+            DurableError::Step(error) => return write!(f, "{error}"),
+            DurableError::TooMany => "there are 4,294,967,295 checkpoints",
+            DurableError::Memory => "out of memory",
+        })
+    }
 }
 
 impl From<AllocError> for DurableError {

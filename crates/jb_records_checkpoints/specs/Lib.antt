@@ -4,3 +4,4 @@ pub mod Checkpoints
 pub mod Work
 pub mod Refusals
 pub mod Pacing
+pub mod Texts

@@ -3,35 +3,48 @@
 ghost use Rattle.std.specs.Prelude.{◌≡◌};
 ghost use Rattle.jb_records.specs.declared.error.RecordsStepError.TheVariants.{Step as StepFault};
 ghost use Rattle.jb_records_checkpoints.specs.Refusals.{named};
+ghost use Rattle.jb_records_checkpoints.specs.Texts.{error_text};
 ghost use Rattle.jb_records_checkpoints.specs.declared.error.CheckpointError.TheVariants.{Memory, Step};
 
 use crate::coding::CodingError;
 use jb_records::RecordsStepError;
 use jb_step::StepError;
 use std::alloc::{AllocError, AllocFailed};
+use std::fmt;
 use thiserror::Error;
 
 /// Why a run isn't taken up behind its checkpoints, or a stretch has none.
 #[derive(Clone, Copy, Debug, PartialEq, Eq, Error)]
 pub enum CheckpointError {
     /// The checkpoints are of a step of another form, or of another number of records.
-    #[error("the checkpoints are another job's: its step has another form, or another number of records")]
     OtherJob,
     /// The checkpoints are of such a step, over other records.
-    #[error("the checkpoints are of a run over other records")]
     OtherRecords,
     /// The results of a checkpoint aren't a coding of as many lists as the last saved rows.
-    #[error("the results of a checkpoint are damaged")]
     Damaged,
     /// A record or a result has more than 4,294,967,295 bytes.
-    #[error("a record or a result has more than 4,294,967,295 bytes")]
     TooLong,
     /// The step over records isn't begun, or a stretch broke off.
-    #[error("{0}")]
     Step(RecordsStepError),
     /// There was no memory.
-    #[error("out of memory")]
     Memory,
+}
+
+/// What is wrong, in a few words; of a step that isn't begun or breaks off those of its own fault.
+impl fmt::Display for CheckpointError {
+    ghost output = { error_text };
+
+    fn fmt<W: fmt::Write>(&self, f: &mut fmt::Formatter<W>) -> fmt::Result {
+        f.write_str(match self {
+            CheckpointError::OtherJob =>
+                "the checkpoints are another job's: its step has another form, or another number of records",
+            CheckpointError::OtherRecords => "the checkpoints are of a run over other records",
+            CheckpointError::Damaged => "the results of a checkpoint are damaged",
+            CheckpointError::TooLong => "a record or a result has more than 4,294,967,295 bytes",
+            CheckpointError::Step(error) => return write!(f, "{error}"),
+            CheckpointError::Memory => "out of memory",
+        })
+    }
 }
 
 impl From<AllocError> for CheckpointError {
