@@ -240,7 +240,7 @@ fn ended<F: RecordFunction + Drop>(
         Pause::Failed => Status::Failed,
         Pause::Stretches => return Err(DurableError::TooMany),
     };
-    let Place { run, rows, .. } = place;
+    let (run, rows) = place.into_parts();
     Ok(DurableEnd {
         status,
         rows,

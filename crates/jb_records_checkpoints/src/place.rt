@@ -16,8 +16,7 @@ use crate::coding::coding_of;
 use crate::error::CheckpointError;
 use jb_checkpoint::Checkpoint;
 use jb_collect::Status;
-use jb_records::{RecordFunction, RecordsRun, Standing, Stretch};
-use jb_repo::Snapshot;
+use jb_records::{RecordFunction, RecordsRun, Standing};
 use jb_rules::Row;
 use std::alloc::Global;
 use std::sync::Wait;
@@ -35,7 +34,6 @@ pub enum Stage {
 }
 
 /// A run in memory, behind its checkpoints.
-#[derive(Drop)]
 pub struct Place<F> {
     pub run: RecordsRun<F>,
     /// The rows of the last stretch that is kept.
@@ -43,6 +41,34 @@ pub struct Place<F> {
     /// A partition failed in it.
     pub has_failed: bool,
     pub stage: Stage,
+}
+
+// It is written out, so that a caller doesn't prove again how each part of a run is dropped.
+impl<F: Drop> Drop for Place<F> {
+    fn drop(self) {
+        let Place {
+            run: _,
+            rows: _,
+            has_failed: _,
+            stage: _,
+        } = self;
+    }
+}
+
+impl<F: Drop> Place<F> {
+    /// The run, and the rows of the last stretch that is kept.
+    pub fn into_parts(self) -> (RecordsRun<F>, Vec<Row>)
+        ensures run { result.0 ≡ self.run }
+        ensures rows { result.1 ≡ self.rows }
+    {
+        let Place {
+            run,
+            rows,
+            has_failed: _,
+            stage: _,
+        } = self;
+        (run, rows)
+    }
 }
 
 /// One stretch more of the run, and its checkpoint.
@@ -59,20 +85,14 @@ fn stretched<F: RecordFunction + Drop + 'static, R: Threads + Wait + Sync>(
     ensures why { (f : Function) (records : List (List ℕ)) → StandsOver f records (⟦<RecordsRun<F> as Standing>⟧.standing run) → IfErr result (IsStretchCause f records) }
 {
     let (run, stretch) = run.go_on(rt, alloc, Some(rounds))?;
-    let results = coding_of(alloc, &stretch.results)?;
-    let Stretch {
-        status,
-        snapshot,
-        saved,
-        ..
-    } = stretch;
-    let Snapshot { rows, .. } = snapshot;
     let place = Place {
         run,
-        rows,
-        has_failed: matches!(status, Status::Failed),
+        rows: stretch.snapshot.rows,
+        has_failed: matches!(stretch.status, Status::Failed),
         stage: Stage::Underway,
     };
+    let results = coding_of(alloc, &stretch.results)?;
+    let saved = stretch.saved;
     Ok((place, Checkpoint { saved, results }))
 }
 
