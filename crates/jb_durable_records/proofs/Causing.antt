@@ -79,9 +79,12 @@ of_a_stretch refusal.TooLong own = (λ is. let none : ⊥ = cc in none, λ is. l
 of_a_stretch (refusal.Step why) own = (λ is. let none : ⊥ = cc in none, λ is. let none : ⊥ = cc in none, λ is. let none : ⊥ = cc in none)
 of_a_stretch refusal.Memory own = (λ is. let none : ⊥ = cc in none, λ is. let none : ⊥ = cc in none, λ is. let none : ⊥ = cc in none)
 
--- nor is that the file doesn't take a checkpoint, or has no number for it
+-- nor is that the file doesn't take a checkpoint, or has no number for it, or that there was no memory
 pub store_of_a_stretch : (e : StoreError) → IsOfAStretch (Store e)
 store_of_a_stretch e = (λ is. let none : ⊥ = cc in none, λ is. let none : ⊥ = cc in none, λ is. let none : ⊥ = cc in none)
 
 pub many_of_a_stretch : IsOfAStretch TooMany
 many_of_a_stretch = (λ is. let none : ⊥ = cc in none, λ is. let none : ⊥ = cc in none, λ is. let none : ⊥ = cc in none)
+
+pub memory_of_a_stretch : IsOfAStretch Memory
+memory_of_a_stretch = (λ is. let none : ⊥ = cc in none, λ is. let none : ⊥ = cc in none, λ is. let none : ⊥ = cc in none)

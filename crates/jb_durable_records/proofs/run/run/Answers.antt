@@ -1,4 +1,4 @@
-use Rattle.std.proofs.Common.{◌∙◌, arith, inl, le_trans, sym, true≢false}
+use Rattle.std.proofs.Common.{◌≡◌, ◌∙◌, arith, inl, le_trans, refl, sym, true≢false}
 use Rattle.std.proofs.lemmas.Result.{IfOk-from_err}
 use Rattle.sqlite.specs.Held.{state}
 use Rattle.jb_durable.proofs.Clean.{clean_before}
@@ -6,7 +6,18 @@ use Rattle.jb_durable_records.proofs.Ending.{match_ok}
 use Rattle.jb_checkpoint.proofs.Handed.{handed_on}
 use Rattle.jb_durable_records.proofs.Causing.{gone_since}
 use Rattle.jb_durable_records.proofs.Filing.{open_since}
+use Rattle.jb_durable_records.specs.declared.run.Pause.TheVariants.{Failed, Stretches, Whole}
 use Rattle.jb_durable_records.proofs.run.run.Goals as goal
+
+-- two ends of the stretches are never one
+failed_or_whole : Failed ≡ Whole → ⊥
+failed_or_whole is = cc
+
+failed_or_stretches : Failed ≡ Stretches → ⊥
+failed_or_stretches is = cc
+
+whole_or_stretches : Whole ≡ Stretches → ⊥
+whole_or_stretches is = cc
 
 pub stretches-preserved : goal.stretches-preserved
 stretches-preserved g c = record {
@@ -38,7 +49,7 @@ returns-then-place-clause-crash g c clean f step over all at db may =
 pub returns-then-place-clause-kept : goal.returns-then-place-clause-kept
 returns-then-place-clause-kept g c clean f step over all at =
     let now = c.stretches.invariant.rests clean f step over all at in
-    (now.0, _, now.1, λ is. let none : ⊥ = cc in absurd none, λ is. let none : ⊥ = cc in absurd none)
+    (now.0, _, now.1, λ is. absurd (failed_or_whole is), λ is. absurd (failed_or_stretches is))
 
 pub returns-then-place-clause-counts : goal.returns-then-place-clause-counts
 returns-then-place-clause-counts g c = c.stretches.invariant.counts
@@ -51,6 +62,15 @@ returns-then-place-clause-clean g c = c.stretches.invariant.clean
 
 pub returns-then-place-clause-failed : goal.returns-then-place-clause-failed
 returns-then-place-clause-failed g c _ = c.if-place.true
+
+pub returns-then-place-clause-settled : goal.returns-then-place-clause-settled
+returns-then-place-clause-settled g c = λ is. absurd (failed_or_whole is)
+
+pub returns-then-place-clause-whole : goal.returns-then-place-clause-whole
+returns-then-place-clause-whole g c = λ is. absurd (failed_or_whole is)
+
+pub returns-then-place-clause-again : goal.returns-then-place-clause-again
+returns-then-place-clause-again g c done some = absurd (true≢false (sym c.if-place.true ∙ (c.stretches.invariant.again done).1.well))
 
 -- ---- the stretch has no checkpoint
 
@@ -118,6 +138,21 @@ returns-then-not-more-clause-told g c told = c.in_ok-next.ensures.told (c.stretc
 pub returns-then-not-more-clause-clean : goal.returns-then-not-more-clause-clean
 returns-then-not-more-clause-clean g c = le_trans c.stretches.invariant.clean c.advance.ensures.clean
 
+pub returns-then-not-more-clause-kept : goal.returns-then-not-more-clause-kept
+returns-then-not-more-clause-kept g c clean f step over all at =
+    let early = clean_before _ _ c.advance.ensures.clean clean in
+    let now = c.stretches.invariant.rests early f step over all at in
+    let next = c.in_ok-next.ensures.kept clean f step over now.0 now.1 in
+    (next.0, _, next.1, λ _. next.2 c.if-not-more.true, λ is. absurd (whole_or_stretches is))
+
+pub returns-then-not-more-clause-failed : goal.returns-then-not-more-clause-failed
+returns-then-not-more-clause-failed g c = λ is. absurd (failed_or_whole (sym is))
+
+pub returns-then-not-more-clause-again : goal.returns-then-not-more-clause-again
+returns-then-not-more-clause-again g c done some =
+    let before = c.stretches.invariant.again done in
+    (refl, (c.advance.ensures.again before.1).1 ∙ before.2)
+
 -- ---- so many stretches are done
 
 pub returns-clause-crash : goal.returns-clause-crash
@@ -133,3 +168,22 @@ returns-clause-told g c = c.stretches.invariant.told
 
 pub returns-clause-clean : goal.returns-clause-clean
 returns-clause-clean g c = c.stretches.invariant.clean
+
+pub returns-clause-kept : goal.returns-clause-kept
+returns-clause-kept g c clean f step over all at =
+    let now = c.stretches.invariant.rests clean f step over all at in
+    (now.0, _, now.1, λ is. absurd (whole_or_stretches (sym is)), λ _. omega (arith, c.stretches.invariant.number, c.stretches-test.false, c.stretches.auto.counter-end))
+
+pub returns-clause-settled : goal.returns-clause-settled
+returns-clause-settled g c = λ is. absurd (whole_or_stretches (sym is))
+
+pub returns-clause-whole : goal.returns-clause-whole
+returns-clause-whole g c = λ is. absurd (whole_or_stretches (sym is))
+
+pub returns-clause-failed : goal.returns-clause-failed
+returns-clause-failed g c = λ is. absurd (failed_or_stretches (sym is))
+
+pub returns-clause-again : goal.returns-clause-again
+returns-clause-again g c done some =
+    let none : ⊥ = omega (arith, some, (c.stretches.invariant.again done).0, c.stretches-test.false, c.stretches.auto.counter-end) in
+    absurd none

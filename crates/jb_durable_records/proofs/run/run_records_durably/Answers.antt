@@ -9,12 +9,24 @@ use Rattle.jb_records.specs.Shares.{IsSoFar, joined}
 use Rattle.jb_durable.specs.Files.{IsOfARun}
 use Rattle.jb_records_checkpoints.specs.Checkpoints.{IsRunSoFar, IsWholeRun}
 use Rattle.jb_durable_records.specs.declared.error.DurableError.{DurableError}
+use Rattle.jb_durable_records.specs.declared.error.DurableError.TheVariants.{Memory}
 use Rattle.jb_durable_records.specs.Refusals.{IsCauseOfNoEnd}
-use Rattle.jb_durable_records.proofs.Causing.{gone_ends, taken_ends}
+use Rattle.jb_durable_records.proofs.Causing.{gone_ends, memory_of_a_stretch, taken_ends}
 use Rattle.jb_durable.proofs.Clean.{clean_before}
 use Rattle.jb_durable_records.proofs.Ending.{both_ok, ended_so, err_to, match_ok, told_again}
 use Rattle.jb_checkpoint.proofs.Handed.{handed_on, on_ok}
 use Rattle.jb_durable_records.proofs.run.run_records_durably.Goals as goal
+
+-- ---- the function can't be shared
+
+pub returns-in_err-function-clause-other_job : goal.returns-in_err-function-clause-other_job
+returns-in_err-function-clause-other_job g c clean opened all shows = handed_on c.from_residual.result Memory _ c.from_residual.ensures.1 (λ is. absurd (memory_of_a_stretch.0 is))
+
+pub returns-in_err-function-clause-other_records : goal.returns-in_err-function-clause-other_records
+returns-in_err-function-clause-other_records g c clean opened all shows = handed_on c.from_residual.result Memory _ c.from_residual.ensures.1 (λ is. absurd (memory_of_a_stretch.1 is))
+
+pub returns-in_err-function-clause-damaged : goal.returns-in_err-function-clause-damaged
+returns-in_err-function-clause-damaged g c clean opened all shows = handed_on c.from_residual.result Memory _ c.from_residual.ensures.1 (λ is. absurd (memory_of_a_stretch.2 is))
 
 -- ---- the run is not taken up
 

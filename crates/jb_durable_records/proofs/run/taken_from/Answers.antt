@@ -13,7 +13,7 @@ use Rattle.jb_records_checkpoints.specs.Refusals.{IsTakenCause}
 use Rattle.jb_durable_records.specs.Refusals.{IsUntaken, named}
 use Rattle.jb_durable_records.specs.declared.error.DurableError.{DurableError}
 use Rattle.jb_durable_records.specs.declared.error.DurableError.TheVariants.{Damaged, OtherJob, OtherRecords, Store}
-use Rattle.jb_durable_records.proofs.Causing.{untaken_for}
+use Rattle.jb_durable_records.proofs.Causing.{many_of_a_stretch, store_of_a_stretch, untaken_for}
 use Rattle.jb_checkpoint.proofs.Handed.{handed_on}
 use Rattle.jb_durable_records.proofs.Filing.{unlisted}
 use Rattle.jb_durable_records.proofs.Resting.{rests_behind}
@@ -51,6 +51,21 @@ returns-in_err-done-clause-told g c = IfOk-from_err c.from_residual.result _ c.f
 pub returns-in_err-done-clause-done : goal.returns-in_err-done-clause-done
 returns-in_err-done-clause-done g c clean opened all shows whole = IfOk-from_err c.from_residual.result _ c.from_residual.ensures.0
 
+pub returns-in_err-done-clause-other_job : goal.returns-in_err-done-clause-other_job
+returns-in_err-done-clause-other_job g c clean opened all shows =
+    let e = c.in_err-done.field-0.0 in
+    handed_on c.from_residual.result (Store e) _ c.from_residual.ensures.1 (λ is. absurd ((store_of_a_stretch e).0 is))
+
+pub returns-in_err-done-clause-other_records : goal.returns-in_err-done-clause-other_records
+returns-in_err-done-clause-other_records g c clean opened all shows =
+    let e = c.in_err-done.field-0.0 in
+    handed_on c.from_residual.result (Store e) _ c.from_residual.ensures.1 (λ is. absurd ((store_of_a_stretch e).1 is))
+
+pub returns-in_err-done-clause-damaged : goal.returns-in_err-done-clause-damaged
+returns-in_err-done-clause-damaged g c clean opened all shows =
+    let e = c.in_err-done.field-0.0 in
+    handed_on c.from_residual.result (Store e) _ c.from_residual.ensures.1 (λ is. absurd ((store_of_a_stretch e).2 is))
+
 pub returns-in_err-done-clause-shown : goal.returns-in_err-done-clause-shown
 returns-in_err-done-clause-shown g c = c.begin.ensures.shown
 
@@ -85,6 +100,15 @@ returns-in_default-clause-shut g c = c.begin.ensures.shut
 
 pub returns-in_default-clause-clean : goal.returns-in_default-clause-clean
 returns-in_default-clause-clean g c = c.begin.ensures.clean
+
+pub returns-in_default-clause-other_job : goal.returns-in_default-clause-other_job
+returns-in_default-clause-other_job g c clean opened all shows is = absurd (many_of_a_stretch.0 is)
+
+pub returns-in_default-clause-other_records : goal.returns-in_default-clause-other_records
+returns-in_default-clause-other_records g c clean opened all shows is = absurd (many_of_a_stretch.1 is)
+
+pub returns-in_default-clause-damaged : goal.returns-in_default-clause-damaged
+returns-in_default-clause-damaged g c clean opened all shows is = absurd (many_of_a_stretch.2 is)
 
 pub returns-in_default-clause-crash : goal.returns-in_default-clause-crash
 returns-in_default-clause-crash g c clean opened all shows so db may = (all, c.begin.ensures.left clean opened all shows db may, so)
