@@ -12,15 +12,15 @@ abbrev pub kept : Checkpoint → Kept
 kept c = record { saved = string_bytes c.saved; results = c.results.items }
 
 -- the same under a number
-pub record Numbered : Type 0 where
+pub record NumberedKept : Type 0 where
   pub number : ℤ
   pub it : Kept
 
-abbrev pub numbered : NumberedCheckpoint → Numbered
-numbered c = record { number = c.number; it = kept c.checkpoint }
+abbrev pub numbered_kept : NumberedCheckpoint → NumberedKept
+numbered_kept c = record { number = c.number; it = kept c.checkpoint }
 
 -- THE LIST: numbered one after the other, from a number on
-abbrev pub numbered_from : ℕ → List Kept → List Numbered
+abbrev pub numbered_from : ℕ → List Kept → List NumberedKept
 numbered_from number [] = []
 numbered_from number (it ∷ more) = record { number = pos number; it = it } ∷ numbered_from (suc number) more
 

@@ -1,7 +1,7 @@
 //! Checkpoints under the numbers at which they were found, and the list that they are.
 
 ghost use Rattle.std.specs.Prelude.{◌≡◌, ◌↔◌, map, pos, IfErr, IfOk, IsTrue};
-ghost use Rattle.jb_checkpoint.specs.Checkpoints.{kept, numbered, numbered_from};
+ghost use Rattle.jb_checkpoint.specs.Checkpoints.{kept, numbered_kept, numbered_from};
 ghost use Rattle.jb_checkpoint.specs.declared.numbered.ListError.TheVariants.{Gap, Memory};
 
 use crate::checkpoint::Checkpoint;
@@ -54,8 +54,8 @@ fn is_under(one: &NumberedCheckpoint, number: u64) -> bool
 
 /// The checkpoints, which have to be found in the order of their numbers, from 1 on.
 pub fn in_order(alloc: Global, found: Vec<NumberedCheckpoint>) -> Result<Vec<Checkpoint>, ListError>
-    ensures list { IfOk result (λ all. map numbered found.items ≡ numbered_from 1 (map kept all.items)) }
-    ensures gap { IfErr result (λ e. e ≡ Gap → (all : _) → map numbered found.items ≡ numbered_from 1 all → ⊥) }
+    ensures list { IfOk result (λ all. map numbered_kept found.items ≡ numbered_from 1 (map kept all.items)) }
+    ensures gap { IfErr result (λ e. e ≡ Gap → (all : _) → map numbered_kept found.items ≡ numbered_from 1 all → ⊥) }
 {
     let mut all = Vec::new(alloc);
     'found: for one in found {

@@ -5,7 +5,7 @@ use Rattle.sqlite.specs.Order.{Row}
 use Rattle.sqlite.specs.Tree.{Trees}
 use Rattle.sqlite.specs.Effect.{Database}
 use Rattle.sqlite_catalog.specs.Listing.{IsSound}
-use Rattle.jb_checkpoint.specs.Checkpoints.{Kept, Numbered}
+use Rattle.jb_checkpoint.specs.Checkpoints.{Kept, NumberedKept}
 use Rattle.jb_checkpoint_table.specs.Form.{checkpoint_schema, no_schema}
 
 -- the row of a checkpoint: SQLite keeps the number as the row's own, and NULL in the column that stands for it
@@ -17,8 +17,8 @@ abbrev pub shown : ℕ → Kept → Row
 shown number it = Int (pos number) ∷ Words it.saved ∷ Bytes it.results ∷ []
 
 -- the same of any number
-abbrev pub row_of : Numbered → Row
-row_of found = Int found.number ∷ Words found.it.saved ∷ Bytes found.it.results ∷ []
+abbrev pub columns_of : NumberedKept → Row
+columns_of found = Int found.number ∷ Words found.it.saved ∷ Bytes found.it.results ∷ []
 
 -- numbered one after the other
 abbrev pub stored_from : ℕ → List Kept → List Row

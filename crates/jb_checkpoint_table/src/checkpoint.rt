@@ -2,8 +2,8 @@
 
 ghost use Rattle.std.specs.Prelude.{◌≡◌, ◌≢◌, ◌⊎◌, length, map, IfOk, IfErr};
 ghost use Rattle.std.specs.List.{AllByRecursion};
-ghost use Rattle.jb_checkpoint.specs.Checkpoints.{kept, numbered};
-ghost use Rattle.jb_checkpoint_table.specs.Checkpoints.{row_of, shown_from};
+ghost use Rattle.jb_checkpoint.specs.Checkpoints.{kept, numbered_kept};
+ghost use Rattle.jb_checkpoint_table.specs.Checkpoints.{columns_of, shown_from};
 ghost use Rattle.jb_checkpoint_table.specs.declared.error.StoreError.TheVariants.{Foreign, Gap, Memory, Sql, Version};
 
 use crate::error::StoreError;
@@ -13,7 +13,7 @@ use std::alloc::Global;
 
 /// The checkpoint of a row, and its number.
 fn numbered_of(row: &Row) -> Result<NumberedCheckpoint, StoreError>
-    ensures read { length row.now ≡ 3 → IfOk result (λ c. row.now ≡ row_of (numbered c)) }
+    ensures read { length row.now ≡ 3 → IfOk result (λ c. row.now ≡ columns_of (numbered_kept c)) }
     ensures why { IfErr result (λ e. (e ≡ Memory) ⊎ ((why : _) × (e ≡ Sql why))) }
 {
     let number = row.get(0)?;
@@ -27,7 +27,7 @@ fn numbered_of(row: &Row) -> Result<NumberedCheckpoint, StoreError>
 
 /// Those of all rows.
 fn all_numbered(alloc: Global, rows: &[Row]) -> Result<Vec<NumberedCheckpoint>, StoreError>
-    ensures read { AllByRecursion (λ row. length row ≡ 3) rows.now → IfOk result (λ found. rows.now ≡ map row_of (map numbered found.items)) }
+    ensures read { AllByRecursion (λ row. length row ≡ 3) rows.now → IfOk result (λ found. rows.now ≡ map columns_of (map numbered_kept found.items)) }
     ensures why { IfErr result (λ e. (e ≡ Memory) ⊎ ((why : _) × (e ≡ Sql why))) }
 {
     let mut found = Vec::new(alloc);

@@ -2,7 +2,7 @@
 
 ghost use Rattle.std.specs.Prelude.{◌≡◌};
 ghost use Rattle.jb_checkpoint_table.specs.Errors.{list_refusal, refusal_named};
-ghost use Rattle.jb_checkpoint_table.specs.Texts.{error_text};
+ghost use Rattle.jb_checkpoint_table.specs.Texts.{store_error_text};
 ghost use Rattle.jb_checkpoint_table.specs.declared.error.StoreError.TheVariants.{Memory};
 
 use jb_checkpoint::ListError;
@@ -44,7 +44,7 @@ pub enum StoreError {
 
 /// What is wrong, in a few words; of a statement that SQLite refused also its own.
 impl fmt::Display for StoreError {
-    ghost output = { error_text };
+    ghost output = { store_error_text };
 
     fn fmt<W: fmt::Write>(&self, f: &mut fmt::Formatter<W>) -> fmt::Result {
         f.write_str(match self {

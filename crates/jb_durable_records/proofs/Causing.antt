@@ -9,15 +9,15 @@ use Rattle.jb_checkpoint_table.specs.declared.error.StoreError.{StoreError}
 use Rattle.jb_records_checkpoints.specs.declared.error.CheckpointError.{CheckpointError}
 use Rattle.jb_records_checkpoints.specs.declared.error.CheckpointError.TheVariants as refusal
 use Rattle.jb_records_checkpoints.specs.Checkpoints.{IsRunSoFar}
-use Rattle.jb_records_checkpoints.specs.Refusals.{IsOfAStretch as OfAStretch, IsStretchCause, IsTakenCause, RunsSoFarAreOwn}
+use Rattle.jb_records_checkpoints.specs.Refusals.{IsOfAStretch, IsStretchCause, IsTakenCause, RunsSoFarAreOwn}
 use Rattle.jb_durable_records.specs.declared.error.DurableError.{DurableError}
 use Rattle.jb_durable_records.specs.declared.error.DurableError.TheVariants.{Damaged, Memory, OtherJob, OtherRecords, Step, Store, TooLong, TooMany}
 use Rattle.jb_durable_records.proofs.Filing.{by_length, since}
-use Rattle.jb_durable_records.specs.Refusals.{HasALongOne, IsCauseOfNoEnd, IsGoneCause, IsOfAStretch, IsUntaken, named}
+use Rattle.jb_durable_records.specs.Refusals.{HasALongOne, IsCauseOfNoEnd, IsGoneCause, IsOfThisRun, IsUntaken, durable_refusal}
 
 module _ (f : Function) (step : RecordsStep) (records : List (List ℕ)) where
   -- a refusal for what the checkpoints are
-  pub untaken_for : (old new : State) (all : List Kept) (e : CheckpointError) → IsTakenCause f step records all e → IsUntaken f step records old new all (named e)
+  pub untaken_for : (old new : State) (all : List Kept) (e : CheckpointError) → IsTakenCause f step records all e → IsUntaken f step records old new all (durable_refusal e)
   untaken_for old new all refusal.OtherJob c = c
   untaken_for old new all refusal.OtherRecords c = c
   untaken_for old new all refusal.Damaged c = c
@@ -62,7 +62,7 @@ module _ (f : Function) (step : RecordsStep) (records : List (List ℕ)) where
   gone_since old mid new before after shut Memory c = tt
 
   -- a stretch has no checkpoint
-  pub stretch_gone : (old new : State) (e : CheckpointError) → IsStretchCause f records e → IsGoneCause f step records old new (named e)
+  pub stretch_gone : (old new : State) (e : CheckpointError) → IsStretchCause f records e → IsGoneCause f step records old new (durable_refusal e)
   stretch_gone old new refusal.OtherJob c = c
   stretch_gone old new refusal.OtherRecords c = c
   stretch_gone old new refusal.Damaged c = c
@@ -71,7 +71,7 @@ module _ (f : Function) (step : RecordsStep) (records : List (List ℕ)) where
   stretch_gone old new refusal.Memory c = tt
 
 -- and is told as none of another run's
-pub of_a_stretch : (e : CheckpointError) → OfAStretch e → IsOfAStretch (named e)
+pub of_a_stretch : (e : CheckpointError) → IsOfAStretch e → IsOfThisRun (durable_refusal e)
 of_a_stretch refusal.OtherJob own = absurd (own.0.0 refl)
 of_a_stretch refusal.OtherRecords own = absurd (own.0.1 refl)
 of_a_stretch refusal.Damaged own = absurd (own.1 refl)
@@ -80,11 +80,11 @@ of_a_stretch (refusal.Step why) own = (λ is. let none : ⊥ = cc in none, λ is
 of_a_stretch refusal.Memory own = (λ is. let none : ⊥ = cc in none, λ is. let none : ⊥ = cc in none, λ is. let none : ⊥ = cc in none)
 
 -- nor is that the file doesn't take a checkpoint, or has no number for it, or that there was no memory
-pub store_of_a_stretch : (e : StoreError) → IsOfAStretch (Store e)
+pub store_of_a_stretch : (e : StoreError) → IsOfThisRun (Store e)
 store_of_a_stretch e = (λ is. let none : ⊥ = cc in none, λ is. let none : ⊥ = cc in none, λ is. let none : ⊥ = cc in none)
 
-pub many_of_a_stretch : IsOfAStretch TooMany
+pub many_of_a_stretch : IsOfThisRun TooMany
 many_of_a_stretch = (λ is. let none : ⊥ = cc in none, λ is. let none : ⊥ = cc in none, λ is. let none : ⊥ = cc in none)
 
-pub memory_of_a_stretch : IsOfAStretch Memory
+pub memory_of_a_stretch : IsOfThisRun Memory
 memory_of_a_stretch = (λ is. let none : ⊥ = cc in none, λ is. let none : ⊥ = cc in none, λ is. let none : ⊥ = cc in none)

@@ -18,17 +18,17 @@ use Rattle.jb_durable_records.specs.declared.error.DurableError.{DurableError}
 use Rattle.jb_durable_records.specs.declared.error.DurableError.TheVariants.{Damaged, Memory, OtherJob, OtherRecords, Step, Store, TooLong, TooMany}
 
 -- how a refusal of checkpoints is named
-abbrev pub named : CheckpointError → DurableError
-named refusal.OtherJob = OtherJob
-named refusal.OtherRecords = OtherRecords
-named refusal.Damaged = Damaged
-named refusal.TooLong = TooLong
-named (refusal.Step fault) = Step fault
-named refusal.Memory = Memory
+abbrev pub durable_refusal : CheckpointError → DurableError
+durable_refusal refusal.OtherJob = OtherJob
+durable_refusal refusal.OtherRecords = OtherRecords
+durable_refusal refusal.Damaged = Damaged
+durable_refusal refusal.TooLong = TooLong
+durable_refusal (refusal.Step fault) = Step fault
+durable_refusal refusal.Memory = Memory
 
 -- a refusal that isn't one of another run's checkpoints, nor of checkpoints that are damaged
-abbrev pub IsOfAStretch : DurableError → Type 0
-IsOfAStretch e = (e ≢ OtherJob) × (e ≢ OtherRecords) × (e ≢ Damaged)
+abbrev pub IsOfThisRun : DurableError → Type 0
+IsOfThisRun e = (e ≢ OtherJob) × (e ≢ OtherRecords) × (e ≢ Damaged)
 
 -- ---- the file
 

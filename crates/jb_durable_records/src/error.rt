@@ -1,8 +1,8 @@
 //! Why a step over records has no end in its file.
 
 ghost use Rattle.std.specs.Prelude.{◌≡◌};
-ghost use Rattle.jb_durable_records.specs.Refusals.{named};
-ghost use Rattle.jb_durable_records.specs.Texts.{error_text};
+ghost use Rattle.jb_durable_records.specs.Refusals.{durable_refusal};
+ghost use Rattle.jb_durable_records.specs.Texts.{durable_error_text};
 ghost use Rattle.jb_durable_records.specs.declared.error.DurableError.TheVariants.{Memory, Store};
 
 use jb_records::RecordsStepError;
@@ -35,7 +35,7 @@ pub enum DurableError {
 
 /// What is wrong, in a few words: those of the file's fault and of the step's where it is one of these.
 impl fmt::Display for DurableError {
-    ghost output = { error_text };
+    ghost output = { durable_error_text };
 
     fn fmt<W: fmt::Write>(&self, f: &mut fmt::Formatter<W>) -> fmt::Result {
         f.write_str(match self {
@@ -77,7 +77,7 @@ impl From<StoreError> for DurableError {
 }
 
 impl From<CheckpointError> for DurableError {
-    ghost from_gives = { λ error e. e ≡ named error };
+    ghost from_gives = { λ error e. e ≡ durable_refusal error };
 
     fn from(error: CheckpointError) -> DurableError {
         match error {

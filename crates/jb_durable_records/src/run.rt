@@ -16,7 +16,7 @@ ghost use Rattle.jb_checkpoint.specs.Checkpoints.{Kept};
 ghost use Rattle.jb_checkpoint_table.specs.Connections.{IsJustOpened, Keeps};
 ghost use Rattle.jb_durable.specs.Files.{IsOfARun};
 ghost use Rattle.jb_records_checkpoints.specs.Checkpoints.{IsRunSoFar, IsWholeRun};
-ghost use Rattle.jb_durable_records.specs.Refusals.{IsCauseOfNoEnd, IsGoneCause, IsOfAStretch, IsUntaken};
+ghost use Rattle.jb_durable_records.specs.Refusals.{IsCauseOfNoEnd, IsGoneCause, IsOfThisRun, IsUntaken};
 ghost use Rattle.jb_records_checkpoints.specs.Refusals.{IsDamaged, IsOtherJob, IsOverOthers, OtherRun};
 ghost use Rattle.jb_durable_records.specs.Work.{IsAtRest};
 ghost use Rattle.jb_records_checkpoints.specs.Work.{IsRunDone, IsTold};
@@ -127,7 +127,7 @@ fn advance<F: RecordFunction + Drop + 'static, R: Threads + Wait + Sync, S: Alte
         → IsAtRest f step records (state S.Store conn.old) place.stage (⟦<RecordsRun<F> as Standing>⟧.standing place.run) place.rows.items count.old all
         → IfOk result (λ r. (now : List Kept) × IsAtRest f step records (state S.Store conn.new) r.0.stage (⟦<RecordsRun<F> as Standing>⟧.standing r.0.run) r.0.rows.items count.new now
         × (r.1 ≡ false → IsWholeRun f step records now)) }
-    ensures own { IfErr result IsOfAStretch }
+    ensures own { IfErr result IsOfThisRun }
     ensures cause { HasCleanDisk (state S.Store conn.new) → (f : Function) (step : StepOfRecords) (records : List (List ℕ)) (all : List Kept)
         → IsAtRest f step records (state S.Store conn.old) place.stage (⟦<RecordsRun<F> as Standing>⟧.standing place.run) place.rows.items count.old all
         → IfErr result (IsGoneCause f step records (state S.Store conn.old) (state S.Store conn.new)) }
@@ -185,7 +185,7 @@ pub(crate) fn run<
         → IsAtRest f step over (state S.Store conn.old) place.stage (⟦<RecordsRun<F> as Standing>⟧.standing place.run) place.rows.items count all
         → IfOk result (λ r. (now : List Kept) × (number : ℕ) × IsAtRest f step over (state S.Store conn.new) r.0.stage (⟦<RecordsRun<F> as Standing>⟧.standing r.0.run) r.0.rows.items number now
         × (r.1 ≡ Whole → IsWholeRun f step over now) × (r.1 ≡ Stretches → number ≡ count + stretches)) }
-    ensures own { IfErr result IsOfAStretch }
+    ensures own { IfErr result IsOfThisRun }
     ensures cause { HasCleanDisk (state S.Store conn.new) → (f : Function) (step : StepOfRecords) (over : List (List ℕ)) (all : List Kept)
         → IsAtRest f step over (state S.Store conn.old) place.stage (⟦<RecordsRun<F> as Standing>⟧.standing place.run) place.rows.items count all
         → IfErr result (IsGoneCause f step over (state S.Store conn.old) (state S.Store conn.new)) }
@@ -231,7 +231,7 @@ fn ended<F: RecordFunction + Drop>(
     ensures told { IsTold place.has_failed place.stage (⟦<RecordsRun<F> as Standing>⟧.standing place.run) place.rows.items → (pause ≡ Whole → AreAtTheirEnds (⟦<RecordsRun<F> as Standing>⟧.standing place.run).setup.rows) → (pause ≡ Failing → IsTrue place.has_failed)
         → IfOk result (λ end. end.status ≡ status_of end.rows.items false) }
     ensures again { pause ≡ Whole → MatchResult result (λ end. end.status ≡ Completed) (λ e. ⊥) }
-    ensures own { IfErr result IsOfAStretch }
+    ensures own { IfErr result IsOfThisRun }
     ensures cause { IfErr result (λ e. (e ≡ TooMany) × (pause ≡ Stretches)) }
 {
     places_have_results();

@@ -3,7 +3,7 @@
 ghost use Rattle.std.specs.Prelude.{◌≡◌};
 ghost use Rattle.jb_records.specs.declared.error.RecordsStepError.TheVariants.{Step as StepFault};
 ghost use Rattle.jb_records_checkpoints.specs.Refusals.{named};
-ghost use Rattle.jb_records_checkpoints.specs.Texts.{error_text};
+ghost use Rattle.jb_records_checkpoints.specs.Texts.{checkpoint_error_text};
 ghost use Rattle.jb_records_checkpoints.specs.declared.error.CheckpointError.TheVariants.{Memory, Step};
 
 use crate::coding::CodingError;
@@ -32,7 +32,7 @@ pub enum CheckpointError {
 
 /// What is wrong, in a few words; of a step that isn't begun or breaks off those of its own fault.
 impl fmt::Display for CheckpointError {
-    ghost output = { error_text };
+    ghost output = { checkpoint_error_text };
 
     fn fmt<W: fmt::Write>(&self, f: &mut fmt::Formatter<W>) -> fmt::Result {
         f.write_str(match self {

@@ -1,6 +1,6 @@
 use Rattle.std.proofs.Common.{◌≡◌, ◌+◌, ◌∷◌, ◌++◌, length, map, pos, rules, ap, sym, ◌∙◌, arith, true≢false}
 use Rattle.std.specs.Vec.Iter.{into_iter_items}
-use Rattle.jb_checkpoint.specs.Checkpoints.{kept, numbered, numbered_from}
+use Rattle.jb_checkpoint.specs.Checkpoints.{kept, numbered_kept, numbered_from}
 use Rattle.jb_checkpoint.proofs.Numbers.{other_number, push_next}
 use Rattle.jb_checkpoint.proofs.numbered.in_order.Goals as goal
 

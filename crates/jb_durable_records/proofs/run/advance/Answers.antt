@@ -2,7 +2,7 @@ use Rattle.std.proofs.Common.{◌++◌, inl, inr, [], ◌∷◌, ap, arith, le_r
 use Rattle.std.proofs.lemmas.Result.{IfOk-from_err}
 use Rattle.sqlite.specs.Held.{state}
 use Rattle.jb_checkpoint.specs.Checkpoints.{kept}
-use Rattle.jb_durable_records.specs.Refusals.{named}
+use Rattle.jb_durable_records.specs.Refusals.{durable_refusal}
 use Rattle.jb_durable_records.specs.declared.error.DurableError.TheVariants.{Store}
 use Rattle.jb_durable_records.proofs.Causing.{many_of_a_stretch, of_a_stretch, store_of_a_stretch, stretch_gone}
 use Rattle.jb_durable_records.proofs.Ending.{none_is_some}
@@ -19,12 +19,12 @@ returns-in_err-place-clause-kept g c clean f step records all at = IfOk-from_err
 pub returns-in_err-place-clause-own : goal.returns-in_err-place-clause-own
 returns-in_err-place-clause-own g c =
     let e = c.in_err-place.field-0.0 in
-    handed_on c.from_residual.result (named e) _ c.from_residual.ensures.1 (of_a_stretch e c.in_err-place.ensures.own)
+    handed_on c.from_residual.result (durable_refusal e) _ c.from_residual.ensures.1 (of_a_stretch e c.in_err-place.ensures.own)
 
 pub returns-in_err-place-clause-cause : goal.returns-in_err-place-clause-cause
 returns-in_err-place-clause-cause g c clean f step records all at =
     let e = c.in_err-place.field-0.0 in
-    handed_on c.from_residual.result (named e) _ c.from_residual.ensures.1
+    handed_on c.from_residual.result (durable_refusal e) _ c.from_residual.ensures.1
     (stretch_gone f step records (state g.S.Store c.args.conn.now) (state g.S.Store c.args.conn.now) e (c.in_err-place.ensures.why f step records all at.place))
 
 pub returns-in_err-place-clause-counted : goal.returns-in_err-place-clause-counted

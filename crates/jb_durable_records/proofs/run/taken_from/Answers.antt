@@ -10,7 +10,7 @@ use Rattle.jb_checkpoint_table.specs.Checkpoints.{ShowsList}
 use Rattle.jb_checkpoint_table.specs.Connections.{IsJustOpened, Keeps}
 use Rattle.jb_records_checkpoints.specs.Checkpoints.{IsRunSoFar}
 use Rattle.jb_records_checkpoints.specs.Refusals.{IsTakenCause}
-use Rattle.jb_durable_records.specs.Refusals.{IsUntaken, named}
+use Rattle.jb_durable_records.specs.Refusals.{IsUntaken, durable_refusal}
 use Rattle.jb_durable_records.specs.declared.error.DurableError.{DurableError}
 use Rattle.jb_durable_records.specs.declared.error.DurableError.TheVariants.{Damaged, OtherJob, OtherRecords, Store}
 use Rattle.jb_durable_records.proofs.Causing.{many_of_a_stretch, store_of_a_stretch, untaken_for}
@@ -123,7 +123,7 @@ found g c clean opened all shows = ap (map kept) c.deref.ensures.value ∙ c.in_
 -- why they aren't taken up
 refused : (g : _) (c : goal.After-drop-done-in_err-place g) → HasCleanDisk (state g.S.Store c.begin.new.conn) → IsJustOpened (state g.S.Store c.args.conn.now)
     → (all : List Kept) → ShowsList (state g.S.Store c.args.conn.now).now all
-    → IsUntaken (g.F.RecordFunction.function (arc_value c.args.function.now)) c.args.step.now c.args.records.now (state g.S.Store c.args.conn.now) (state g.S.Store c.begin.new.conn) all (named c.in_err-place.field-0.0)
+    → IsUntaken (g.F.RecordFunction.function (arc_value c.args.function.now)) c.args.step.now c.args.records.now (state g.S.Store c.args.conn.now) (state g.S.Store c.begin.new.conn) all (durable_refusal c.in_err-place.field-0.0)
 refused g c clean opened all shows =
     let e = c.in_err-place.field-0.0 in
     untaken_for (g.F.RecordFunction.function (arc_value c.args.function.now)) c.args.step.now c.args.records.now (state g.S.Store c.args.conn.now) (state g.S.Store c.begin.new.conn) all e
@@ -137,7 +137,7 @@ kept_untaken : (g : _) (c : goal.After-drop-done-in_err-place g) → HasCleanDis
     × Keeps (state g.S.Store c.begin.new.conn) all)
 kept_untaken g c clean opened all shows name =
     let keeps = subst (λ (l : List Kept). Keeps (state g.S.Store c.begin.new.conn) l) (c.in_ok-done.ensures.listed clean opened all shows) (c.in_ok-done.ensures.begun clean opened).0 in
-    handed_on c.from_residual-in_err-place.result (named c.in_err-place.field-0.0) _ c.from_residual-in_err-place.ensures.1
+    handed_on c.from_residual-in_err-place.result (durable_refusal c.in_err-place.field-0.0) _ c.from_residual-in_err-place.ensures.1
     (λ is. (
       subst (IsUntaken (g.F.RecordFunction.function (arc_value c.args.function.now)) c.args.step.now c.args.records.now (state g.S.Store c.args.conn.now) (state g.S.Store c.begin.new.conn) all) is
           (refused g c clean opened all shows),
@@ -146,7 +146,7 @@ kept_untaken g c clean opened all shows name =
 
 pub returns-in_err-place-clause-cause : goal.returns-in_err-place-clause-cause
 returns-in_err-place-clause-cause g c clean opened all shows =
-    handed_on c.from_residual-in_err-place.result (named c.in_err-place.field-0.0) _ c.from_residual-in_err-place.ensures.1 (refused g c clean opened all shows)
+    handed_on c.from_residual-in_err-place.result (durable_refusal c.in_err-place.field-0.0) _ c.from_residual-in_err-place.ensures.1 (refused g c clean opened all shows)
 
 pub returns-in_err-place-clause-damaged : goal.returns-in_err-place-clause-damaged
 returns-in_err-place-clause-damaged g c clean opened all shows = kept_untaken g c clean opened all shows Damaged
