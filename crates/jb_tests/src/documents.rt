@@ -2,7 +2,8 @@
 
 ghost use Rattle.jb_documents.specs.CheckDocument.{Claims};
 ghost use Rattle.jb_documents.specs.PlanDocument.{AsksFor};
-ghost use Rattle.jb_documents.specs.Worked.{three_equal, three_equal_document, two_rounds_claim, two_rounds_document};
+ghost use Rattle.jb_documents.specs.Worked.{three_equal_document, two_rounds_claim, two_rounds_document};
+ghost use Rattle.jb_texts.specs.Worked.{three_equal};
 
 use jb_cert::Certificate;
 use jb_documents::{
