@@ -256,6 +256,22 @@ fn said<R: Threads + Wait + Sync, L: Life>(
     Ok((crashed(files), said?))
 }
 
+/// The files behind a life over a whole run, which says what its row has.
+fn told_again<R: Threads + Wait + Sync + Abort>(
+    rt: &R,
+    alloc: Global,
+    files: Files<Memory>,
+    row: &Row,
+) -> Result<Files<Memory>, Fail> {
+    let mut life = Running {
+        in_pairs: row.in_pairs,
+        last: row.last,
+    };
+    let (files, told) = said(rt, alloc, files, &mut life)?;
+    assert_eq!(rt; told.as_str(), row.says);
+    Ok(files)
+}
+
 /// A run that is whole is told again, and another step's and other records are refused: the checkpoints stay.
 fn assert_told_apart<R: Threads + Wait + Sync + Abort>(rt: &R, alloc: Global) -> Result<(), Fail> {
     let (files, whole) = said(rt, alloc, new_files(alloc), &mut run_to(b"e"))?;
@@ -263,13 +279,7 @@ fn assert_told_apart<R: Threads + Wait + Sync + Abort>(rt: &R, alloc: Global) ->
     let (mut files, kept) = said(rt, alloc, files, &mut Listing)?;
     assert!(rt; kept.as_str().starts_with(FIRST));
     for row in &OVER_A_WHOLE_RUN {
-        let mut life = Running {
-            in_pairs: row.in_pairs,
-            last: row.last,
-        };
-        let (left, told) = said(rt, alloc, files, &mut life)?;
-        assert_eq!(rt; told.as_str(), row.says);
-        files = left;
+        files = told_again(rt, alloc, files, row)?;
     }
     let (_, now) = said(rt, alloc, files, &mut Listing)?;
     assert_eq!(rt; now.as_str(), kept.as_str());

@@ -162,7 +162,18 @@ fn is_same(files: &Files<Memory>, bytes: &[Vec<u8>; 2]) -> bool {
     files.log.bytes() == log.as_slice() && files.db.bytes() == db.as_slice()
 }
 
-/// What an append says that has a crash right behind it: whether it was told, the list that the next open finds, and what that shows.
+/// Whether an append was told, the list that the open behind a crash finds, and what that connection shows.
+fn found_says(
+    alloc: Global,
+    found: &Found,
+    shown: Result<String, AllocError>,
+) -> Result<String, Fail> {
+    let shown = shown?;
+    let list = text_of(alloc, &found.checkpoints)?;
+    Ok(format!(in alloc; "| {} {list}| {shown}", found.was_told)?)
+}
+
+/// What an append says that has a crash right behind it.
 fn crash_says<R: Threads + Wait + Sync>(
     rt: &R,
     alloc: Global,
@@ -176,27 +187,44 @@ fn crash_says<R: Threads + Wait + Sync>(
         return Err(Fail::from("an open behind a crash"));
     };
     let (_, shown) = ended(rt, alloc, again, &mut Listing);
-    let list = text_of(alloc, &found.checkpoints)?;
-    let shown = shown?;
-    Ok(format!(in alloc; "| {} {list}| {shown}", found.was_told)?)
+    found_says(alloc, &found, shown)
 }
 
-/// What is said of a database. Where it is refused, nothing is written to the log or to the file.
+/// A refusal, and whether nothing was written to the log or to the file.
+fn refusal_says<R: Threads + Wait + Sync>(
+    rt: &R,
+    alloc: Global,
+    files: Files<Memory>,
+) -> Result<String, Fail> {
+    let before = bytes_of(alloc, &files)?;
+    let (files, told) = lived(rt, alloc, files, &mut Adds(0));
+    let is_same = is_same(&files, &before);
+    let told = told?;
+    Ok(format!(in alloc; "{told}, untouched: {is_same}")?)
+}
+
+/// What is said of a list, and of an append with a crash right behind it.
+fn list_says<R: Threads + Wait + Sync>(
+    rt: &R,
+    alloc: Global,
+    files: Files<Memory>,
+    number: u32,
+) -> Result<String, Fail> {
+    let (files, told) = lived(rt, alloc, files, &mut Adds(number));
+    let more = crash_says(rt, alloc, files, number.saturating_add(1))?;
+    let told = told?;
+    Ok(format!(in alloc; "{told}{more}")?)
+}
+
+/// What is said of a database.
 fn says<R: Threads + Wait + Sync>(rt: &R, alloc: Global, row: &Row) -> Result<String, Fail> {
     let (files, made) = lived(rt, alloc, new_files(alloc), &mut Makes(row.made_by));
-    let made = made?;
-    let files = crashed(files);
-    let before = bytes_of(alloc, &files)?;
-    let (files, told) = lived(rt, alloc, files, &mut Adds(row.number));
-    let mut told = told?;
+    let _made = made?;
     if row.number == 0 {
-        let is_same = is_same(&files, &before);
-        told.push_str(format!(in alloc; ", untouched: {is_same}")?.as_str())?;
+        refusal_says(rt, alloc, crashed(files))
     } else {
-        let more = crash_says(rt, alloc, files, row.number.saturating_add(1))?;
-        told.push_str(more.as_str())?;
+        list_says(rt, alloc, crashed(files), row.number)
     }
-    Ok(told)
 }
 
 #[test]

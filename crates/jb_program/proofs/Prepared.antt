@@ -14,8 +14,8 @@ use Rattle.jb_step.specs.preparing.Prepare.{CanDiscard, IsFaultedRollback, IsPre
 use Rattle.jb_step.specs.callbacks.Callbacks.{has_fault}
 use Rattle.jb_saved.specs.SavedRows.{SavedRows}
 use Rattle.jb_saved.specs.declared.place.SavedPlace.{SavedPlace}
-use Rattle.jb_saved.specs.declared.error.StepError.{StepError}
-use Rattle.jb_saved.specs.declared.error.StepError.TheVariants as error
+use Rattle.jb_step.specs.declared.error.StepError.{StepError}
+use Rattle.jb_step.specs.declared.error.StepError.TheVariants as error
 use Rattle.jb_program.specs.JobRun.{plan_for, ranges_for}
 use Rattle.jb_program.proofs.Callbacks.{well-faults, well-grew}
 

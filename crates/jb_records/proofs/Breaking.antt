@@ -10,11 +10,11 @@ use Rattle.jb_plan.specs.declared.plan.PartitionPlan.{PartitionPlan}
 use Rattle.jb_plan.specs.Faults.{IsFirst, error_if, overlap_errors, plan_errors, range_errors}
 use Rattle.jb_plan.specs.Plans.{IsRunnable}
 use Rattle.jb_plan.proofs.NoFaults.{overlap-runnable, ranges-runnable}
-use Rattle.jb_saved.specs.declared.error.StepError.{StepError}
-use Rattle.jb_saved.specs.declared.error.StepError.TheVariants as error
+use Rattle.jb_step.specs.declared.error.StepError.{StepError}
+use Rattle.jb_step.specs.declared.error.StepError.TheVariants as error
 use Rattle.jb_saved.specs.declared.place.SavedPlace.{SavedPlace}
 use Rattle.jb_saved.specs.declared.place.SavedPlace.TheVariants as place
-use Rattle.jb_saved.specs.Answers.{RefusesRunning}
+use Rattle.jb_step.specs.restarts.Saving.{RefusesSaving}
 use Rattle.jb_saved.specs.GoingOn.{fault_if, ends_past, step_faults}
 use Rattle.jb_saved.specs.SavedRows.{SavedRows}
 use Rattle.jb_step.specs.Answers.{IsRunError}
@@ -52,7 +52,7 @@ runnable-first records plan fault can is =
 -- ---- A STRETCH BREAKS OFF
 
 -- its rows are saved where none runs
-pub unsaved : (e : StepError) (running : Option ℕ) → running ≡ None → RefusesRunning e running → IsBrokenOff (Step e)
+pub unsaved : (e : StepError) (running : Option ℕ) → running ≡ None → RefusesSaving e running → IsBrokenOff (Step e)
 unsaved (error.Plan fault) running none is = is
 unsaved (error.Mapper class) running none is = is
 unsaved (error.Reducer class) running none is = is

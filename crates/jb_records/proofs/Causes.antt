@@ -17,10 +17,11 @@ use Rattle.jb_plan.specs.declared.plan.PartitionPlan.{PartitionPlan}
 use Rattle.jb_rules.specs.declared.row.Row.{Row}
 use Rattle.jb_rules.specs.Rows.{dropped_row, fresh_row}
 use Rattle.jb_rules.specs.States.{is_failed}
-use Rattle.jb_saved.specs.declared.error.StepError.{StepError}
-use Rattle.jb_saved.specs.declared.error.StepError.TheVariants as error
+use Rattle.jb_step.specs.declared.error.StepError.{StepError}
+use Rattle.jb_step.specs.declared.error.StepError.TheVariants as error
 use Rattle.jb_saved.specs.GoingOn.{restarted}
-use Rattle.jb_saved.specs.Reading.{answer_of, saved_cause}
+use Rattle.jb_saved.specs.Reading.{answer_of}
+use Rattle.jb_step.specs.restarts.Saving.{text_cause}
 use Rattle.jb_saved.specs.SavedRows.{SavedRows}
 use Rattle.jb_step.specs.Answers.{IsRunError}
 use Rattle.jb_step.specs.callbacks.Callbacks.{has_fault}
@@ -249,7 +250,7 @@ begun-behind-refused step records text results held (Step error.Memory) read is 
 begun-behind-refused step records text results held Memory read is = is
 
 -- the text has no rows
-pub text-refused : (step : RecordsStep) (records : ℕ) (text : List ℕ) (results : List (List ℕ)) (e : StepError) → IsCause (saved_cause e) (answer_of (tree_of text)) → IsUnbegunBehind step records (Some (text, results)) (Step e)
+pub text-refused : (step : RecordsStep) (records : ℕ) (text : List ℕ) (results : List (List ℕ)) (e : StepError) → IsCause (text_cause e) (answer_of (tree_of text)) → IsUnbegunBehind step records (Some (text, results)) (Step e)
 text-refused step records text results (error.Plan fault) is = absurd is
 text-refused step records text results (error.Mapper class) is = absurd is
 text-refused step records text results (error.Reducer class) is = absurd is

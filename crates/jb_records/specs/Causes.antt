@@ -6,8 +6,8 @@ use Rattle.jb_base.specs.Rules.{RulesRecord}
 use Rattle.jb_job.specs.Reading.{tree_of}
 use Rattle.jb_plan.specs.Faults.{IsFirst, plan_errors}
 use Rattle.jb_rules.specs.declared.row.Row.{Row}
-use Rattle.jb_saved.specs.declared.error.StepError.{StepError}
-use Rattle.jb_saved.specs.declared.error.StepError.TheVariants as error
+use Rattle.jb_step.specs.declared.error.StepError.{StepError}
+use Rattle.jb_step.specs.declared.error.StepError.TheVariants as error
 use Rattle.jb_saved.specs.declared.place.SavedPlace.{SavedPlace}
 use Rattle.jb_saved.specs.GoingOn.{step_faults}
 use Rattle.jb_saved.specs.Reading.{answer_of}

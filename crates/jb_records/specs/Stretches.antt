@@ -5,7 +5,7 @@ use Rattle.jb_artifacts.specs.Meaning.{ArtifactsMeaning}
 use Rattle.jb_job.specs.Reading.{tree_of}
 use Rattle.jb_repo.specs.declared.snapshot.Snapshot.{Snapshot}
 use Rattle.jb_rules.specs.declared.row.Row.{Row}
-use Rattle.jb_saved.specs.declared.error.StepError.TheVariants as error
+use Rattle.jb_step.specs.declared.error.StepError.TheVariants as error
 use Rattle.jb_saved.specs.GoingOn.{rows_restarted}
 use Rattle.jb_saved.specs.Reading.{answer_of}
 use Rattle.jb_saved.specs.SavedRows.{SavedRows}

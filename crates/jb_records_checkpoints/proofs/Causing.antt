@@ -3,10 +3,11 @@ use Rattle.std.proofs.Common.{ℕ, ◌≡◌, ◌≢◌, ◌⊎◌, inl, inr, Li
 use Rattle.std.proofs.lemmas.Result.{IfErr-weaker}
 use Rattle.jb_job.specs.Reading.{tree_of}
 use Rattle.jb_base.specs.Causes.{IsCause}
-use Rattle.jb_saved.specs.Reading.{answer_of, saved_cause}
+use Rattle.jb_saved.specs.Reading.{answer_of}
+use Rattle.jb_step.specs.restarts.Saving.{text_cause}
 use Rattle.jb_saved.specs.SavedRows.{SavedRows}
-use Rattle.jb_saved.specs.declared.error.StepError.{StepError}
-use Rattle.jb_saved.specs.declared.error.StepError.TheVariants as error
+use Rattle.jb_step.specs.declared.error.StepError.{StepError}
+use Rattle.jb_step.specs.declared.error.StepError.TheVariants as error
 use Rattle.jb_records.specs.declared.error.RecordsStepError.{RecordsStepError}
 use Rattle.jb_records.specs.declared.error.RecordsStepError.TheVariants as fault
 use Rattle.jb_records.specs.declared.step.RecordsStep.{RecordsStep}
@@ -51,7 +52,7 @@ step_fault step records text results (error.Saved place) c = c
 step_fault step records text results error.Memory c = c
 
 -- the last text isn't read
-pub unread : (step : RecordsStep) (records : ℕ) (text : List ℕ) (e : StepError) → IsCause (saved_cause e) (answer_of (tree_of text)) → IsStepFault step records (Some (text, [])) e
+pub unread : (step : RecordsStep) (records : ℕ) (text : List ℕ) (e : StepError) → IsCause (text_cause e) (answer_of (tree_of text)) → IsStepFault step records (Some (text, [])) e
 unread step records text (error.Plan fault) c = absurd c
 unread step records text (error.Mapper class) c = absurd c
 unread step records text (error.Reducer class) c = absurd c

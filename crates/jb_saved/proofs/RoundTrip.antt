@@ -1,6 +1,6 @@
 -- Reading the tree of saved rows gives the rows.
 use Rattle.std.proofs.Common.{◌≡◌, ℕ, zero, suc, ◌≤◌, ◌++◌, Bool, true, false, cond, List, [], ◌∷◌, length, map, take, Option, Some, Ok, Err, Result, refl, sym, ap, ◌∙◌, subst, append_assoc, append-nil, arith, inl, inr, ◌⊎◌}
-use Rattle.std.specs.Prelude.{◌==◌, MatchResult}
+use Rattle.std.specs.Prelude.{◌==◌}
 use Rattle.std.proofs.lemmas.Bool.Decides.{nat_tests}
 use Rattle.std.proofs.lemmas.Bool.{cases_lt}
 use Rattle.serde_json.specs.Data.{Data, string}
@@ -14,8 +14,6 @@ use Rattle.jb_rules.specs.Numbers.{numbers_of, row_of_numbers, state_name, state
 use Rattle.jb_rules.specs.States.{is_running}
 use Rattle.jb_saved.specs.declared.place.SavedPlace.{SavedPlace}
 use Rattle.jb_saved.specs.declared.place.SavedPlace.TheVariants.{NotJson, Shape, Version, Rows, Step, Records}
-use Rattle.jb_saved.specs.declared.error.StepError.{StepError}
-use Rattle.jb_saved.specs.declared.error.StepError.TheVariants as error
 use Rattle.jb_saved.specs.SavedRows.{SavedRows, IsSaved}
 use Rattle.jb_saved.specs.Laws.{IsSavedTree}
 use Rattle.jb_saved.specs.SavedTree.{number_tree, CanHold, row_tree_in, rows_tree_in, saved_tree}
@@ -23,7 +21,6 @@ use Rattle.jb_saved.specs.inside.Forms.{AreStill}
 use Rattle.jb_saved.specs.SavedForm.{◌>>=◌, row_parts, row_of_tree, rows_from_trees, rows_of_tree, keyed, step_of, saved_of_tree, saved_form_at}
 use Rattle.jb_base.specs.Limits.{max_name, max_partitions}
 use Rattle.jb_saved.specs.Answers.{AllFit, IsFirstUnfit, saved_form_of, IsSavedAnswer}
-use Rattle.jb_saved.specs.Reading.{GivesSaved}
 use Rattle.jb_repo.proofs.Ranges.{apart_of}
 
 -- a state's name is read back
@@ -170,15 +167,3 @@ one-answer tree (Ok s) (Ok t) a b = ap Ok (ok-is (saved_form_of tree) s t a.0 b.
 one-answer tree (Ok s) (Err q) a b = absurd (ok-err tree s q a b)
 one-answer tree (Err p) (Ok t) a b = absurd (ok-err tree t p b a)
 one-answer tree (Err p) (Err q) a b = ap Err (err-err tree p q a b)
-
--- what gives these rows is these rows, or memory ran out
-pub gives : (answer : Answer) (s : SavedRows) → answer ≡ Ok s → (r : Result SavedRows StepError) → GivesSaved r answer → MatchResult r (λ read. read ≡ s) (λ e. e ≡ error.Memory)
-gives answer s is (Ok read) a = ok-is answer read s a is
-gives answer s is (Err (error.Saved p)) a = absurd (not-both answer s p is a)
-gives answer s is (Err error.Memory) a = refl
-gives answer s is (Err (error.Plan f)) a = absurd a
-gives answer s is (Err (error.Mapper c)) a = absurd a
-gives answer s is (Err (error.Reducer c)) a = absurd a
-gives answer s is (Err error.WrongArtifacts) a = absurd a
-gives answer s is (Err (error.Repository p)) a = absurd a
-gives answer s is (Err error.Workers) a = absurd a

@@ -6,8 +6,8 @@ use Rattle.jb_rules.specs.declared.row.Row.{Row}
 use Rattle.jb_rules.specs.Rows.{range_of}
 use Rattle.jb_rules.specs.Sound.{IsSoundRow}
 use Rattle.jb_rules.specs.States.{is_running}
-use Rattle.jb_saved.specs.declared.error.StepError.{StepError}
-use Rattle.jb_saved.specs.declared.error.StepError.TheVariants as error
+use Rattle.jb_saved.specs.declared.error.SavedError.{SavedError}
+use Rattle.jb_saved.specs.declared.error.SavedError.TheVariants.{Refused, Memory}
 use Rattle.jb_saved.specs.declared.place.SavedPlace.{SavedPlace}
 use Rattle.jb_saved.specs.declared.place.SavedPlace.TheVariants.{NotJson, Rows}
 use Rattle.jb_saved.specs.SavedRows.{SavedRows}
@@ -49,7 +49,7 @@ abbrev pub first_running : List Row → Option ℕ
 first_running rows = position (λ (r : Row). is_running r.state) rows
 
 -- rows aren't saved where one is running: the first is named; memory runs out only where none is
-abbrev pub RefusesRunning : StepError → Option ℕ → Type 0
-RefusesRunning (error.Saved place) (Some i) = place ≡ Rows i
-RefusesRunning error.Memory running = running ≡ None
-RefusesRunning _ running = ⊥
+abbrev pub RefusesRunning : SavedError → Option ℕ → Type 0
+RefusesRunning (Refused place) (Some i) = place ≡ Rows i
+RefusesRunning (Refused place) None = ⊥
+RefusesRunning Memory running = running ≡ None

@@ -5,8 +5,8 @@ use Rattle.jb_rules.specs.declared.row.Row.{Row}
 use Rattle.jb_rules.specs.declared.row.RowState.TheVariants.{Failed}
 use Rattle.jb_rules.specs.Rows.{dropped_row}
 use Rattle.jb_rules.specs.States.{is_failed}
-use Rattle.jb_saved.specs.declared.error.StepError.{StepError}
-use Rattle.jb_saved.specs.declared.error.StepError.TheVariants as error
+use Rattle.jb_saved.specs.declared.error.SavedError.{SavedError}
+use Rattle.jb_saved.specs.declared.error.SavedError.TheVariants.{Refused, Memory}
 use Rattle.jb_saved.specs.declared.place.SavedPlace.{SavedPlace}
 use Rattle.jb_saved.specs.declared.place.SavedPlace.TheVariants.{Step, Records}
 use Rattle.jb_saved.specs.SavedRows.{SavedRows}
@@ -41,7 +41,6 @@ abbrev pub step_faults : (step : List ℕ) → (records : ℕ) → SavedRows →
 step_faults step records s = other_step step s ++ fault_if (ends_past records s.rows) Records
 
 -- the first of the faults; memory runs out only where there is none
-abbrev pub Refuses : StepError → List SavedPlace → Type 0
-Refuses (error.Saved place) faults = slice_get faults 0 ≡ Some place
-Refuses error.Memory faults = faults ≡ []
-Refuses _ faults = ⊥
+abbrev pub Refuses : SavedError → List SavedPlace → Type 0
+Refuses (Refused place) faults = slice_get faults 0 ≡ Some place
+Refuses Memory faults = faults ≡ []

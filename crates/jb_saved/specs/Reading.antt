@@ -2,13 +2,13 @@
 use Rattle.std.specs.Prelude.{ℕ, ◌||◌, Bool, not, List, position, take, Option, Some, None, Result, Ok, Err}
 use Rattle.std.specs.List.{list_any, enumerate_from}
 use Rattle.serde_json.specs.Data.{Data}
-use Rattle.jb_base.specs.Causes.{Cause, no_memory, of_fault, never, Answers}
+use Rattle.jb_base.specs.Causes.{Cause, no_memory, of_fault, Answers}
 use Rattle.jb_plan.specs.Ranges.{do_overlap}
 use Rattle.jb_rules.specs.declared.row.Row.{Row}
 use Rattle.jb_rules.specs.Rows.{range_of}
 use Rattle.jb_rules.specs.RowTest.{is_sound}
-use Rattle.jb_saved.specs.declared.error.StepError.{StepError}
-use Rattle.jb_saved.specs.declared.error.StepError.TheVariants as error
+use Rattle.jb_saved.specs.declared.error.SavedError.{SavedError}
+use Rattle.jb_saved.specs.declared.error.SavedError.TheVariants.{Refused, Memory}
 use Rattle.jb_saved.specs.declared.place.SavedPlace.{SavedPlace}
 use Rattle.jb_saved.specs.declared.place.SavedPlace.TheVariants.{NotJson, Rows}
 use Rattle.jb_saved.specs.SavedRows.{SavedRows}
@@ -45,11 +45,10 @@ answer_of None = Err NotJson
 answer_of (Some d) = saved_at d
 
 -- what an error says of a saved text
-abbrev pub saved_cause : StepError → Cause SavedPlace
-saved_cause (error.Saved place) = of_fault place
-saved_cause error.Memory = no_memory
-saved_cause _ = never
+abbrev pub saved_cause : SavedError → Cause SavedPlace
+saved_cause (Refused place) = of_fault place
+saved_cause Memory = no_memory
 
 -- what a function returned is this answer, unless memory ran out
-abbrev pub GivesSaved : Result SavedRows StepError → Result SavedRows SavedPlace → Type 0
+abbrev pub GivesSaved : Result SavedRows SavedError → Result SavedRows SavedPlace → Type 0
 GivesSaved result answer = Answers saved_cause (λ s. s) result answer

@@ -1,55 +1,35 @@
-//! Why a step has no answer.
+//! Why there are no saved rows.
 
 ghost use Rattle.std.specs.Prelude.{◌≡◌};
-ghost use Rattle.jb_saved.specs.declared.error.StepError.TheVariants.{Memory};
+ghost use Rattle.jb_saved.specs.declared.error.SavedError.TheVariants.{Memory};
 
 use crate::place::SavedPlace;
-use jb_base::ClassId;
-use jb_plan::PlanError;
 use std::alloc::{AllocError, AllocFailed};
 use thiserror::Error;
 
-/// Why a step has no answer. Calls on saved rows answer `Saved` and `Memory` alone.
+/// Why there are no saved rows, or none to go on from.
 #[derive(Clone, Copy, Debug, PartialEq, Eq, Error)]
-pub enum StepError {
-    /// The mapper's plan can't be run.
-    #[error("the mapper's plan can't be run: {0}")]
-    Plan(PlanError),
-    /// The mapper answered a fault of this class.
-    #[error("the mapper failed with a fault of class {}", .0.number())]
-    Mapper(ClassId),
-    /// The reducer's `begin` did.
-    #[error("the reducer's begin failed with a fault of class {}", .0.number())]
-    Reducer(ClassId),
-    /// The artifacts aren't those that the unfinished partitions need.
-    #[error("the artifacts aren't those that the unfinished partitions need")]
-    WrongArtifacts,
-    /// The desk's row of this partition isn't the step's own, or the desk was used by another, or it refused an event.
-    #[error("the repository's row of partition {0} isn't the step's own, or it refused an event")]
-    Repository(u32),
-    /// A worker could not be started.
-    #[error("a worker could not be started")]
-    Workers,
-    /// The saved rows are refused.
+pub enum SavedError {
+    /// This of the saved rows is refused.
     #[error("the saved rows are refused: {0}")]
-    Saved(SavedPlace),
+    Refused(SavedPlace),
     /// There was no memory.
     #[error("no memory")]
     Memory,
 }
 
-impl From<AllocError> for StepError {
+impl From<AllocError> for SavedError {
     ghost from_gives = { λ _ e. e ≡ Memory };
 
-    fn from(_: AllocError) -> StepError {
-        StepError::Memory
+    fn from(_: AllocError) -> SavedError {
+        SavedError::Memory
     }
 }
 
-impl<T: Drop> From<AllocFailed<T>> for StepError {
+impl<T: Drop> From<AllocFailed<T>> for SavedError {
     ghost from_gives = { λ _ e. e ≡ Memory };
 
-    fn from(_: AllocFailed<T>) -> StepError {
-        StepError::Memory
+    fn from(_: AllocFailed<T>) -> SavedError {
+        SavedError::Memory
     }
 }

@@ -11,14 +11,14 @@ ghost use Rattle.jb_base.specs.Limits.{max_partitions};
 ghost use Rattle.jb_rules.specs.States.{is_running};
 ghost use Rattle.jb_saved.specs.inside.Forms.{AreStill, Finds, padded, whole_numbers, state_in, row_from};
 
-use crate::error::StepError;
+use crate::error::SavedError;
 use crate::place::SavedPlace;
 use jb_base::{MAX_NAME, MAX_PARTITIONS, Name};
 use jb_rules::{Row, RowState};
 use serde_json::{Map, Value};
 use std::alloc::Global;
 
-const SHAPE: StepError = StepError::Saved(SavedPlace::Shape);
+const SHAPE: SavedError = SavedError::Refused(SavedPlace::Shape);
 
 /// The version of the form that is written.
 pub(crate) const VERSION: u64 = 2;
@@ -84,7 +84,7 @@ fn row_of(tree: &Value, version: u64) -> Option<Row>
 
 /// The rows: a list of 1 to 1,024.
 #[tactic(auto, using(crate::proofs::Trees::tree_steps), unfolding(crate::specs::SavedForm::rows_of_tree))]
-fn rows_of(alloc: Global, tree: &Value, version: u64) -> Result<Vec<Row>, StepError>
+fn rows_of(alloc: Global, tree: &Value, version: u64) -> Result<Vec<Row>, SavedError>
     ensures form { Finds (λ rows. rows.items) result (rows_of_tree version (view tree.now)) }
     ensures some { IfOk result (λ rows. 1 ≤ length rows.items) }
     ensures few { IfOk result (λ rows. length rows.items ≤ max_partitions) }
@@ -98,7 +98,7 @@ fn rows_of(alloc: Global, tree: &Value, version: u64) -> Result<Vec<Row>, StepEr
 }
 
 /// Each of the list's members as a row.
-fn rows_in(alloc: Global, items: &Vec<Value>, version: u64) -> Result<Vec<Row>, StepError>
+fn rows_in(alloc: Global, items: &Vec<Value>, version: u64) -> Result<Vec<Row>, SavedError>
     ensures form { Finds (λ rows. rows.items) result (rows_from_trees version [] (items_view items.now.items)) }
     ensures count { IfOk result (λ rows. length rows.items ≡ length items.now.items) }
     ensures still { IfOk result (λ rows. AreStill rows.items) }
@@ -163,7 +163,7 @@ pub(crate) fn saved_of(
     alloc: Global,
     tree: &Value,
     version: u64,
-) -> Result<(Name, Vec<Row>), StepError>
+) -> Result<(Name, Vec<Row>), SavedError>
     ensures form { Finds (λ parts. record { step = parts.0; rows = parts.1.items }) result (saved_of_tree version (view tree.now)) }
     ensures named { IfOk result (λ parts. IsName parts.0) }
     ensures some { IfOk result (λ parts. 1 ≤ length parts.1.items) }

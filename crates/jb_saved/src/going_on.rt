@@ -4,9 +4,9 @@ ghost use Rattle.std.specs.Prelude.{◌≡◌, [], map, slice_get, OnOk, IfOk, I
 ghost use Rattle.jb_saved.specs.GoingOn.{restarted, ends_past, step_faults, rows_restarted, AreUnfailed, Refuses};
 ghost use Rattle.jb_saved.specs.SavedRows.{IsSaved};
 
-use crate::error::StepError;
+use crate::error::SavedError;
 use crate::place::SavedPlace;
-use crate::saved::Saved;
+use crate::saved::SavedRows;
 use jb_rules::{Row, RowState, rows_stay_sound, unfinished_rows_go_on};
 use std::alloc::{AllocError, Global};
 
@@ -38,7 +38,7 @@ fn is_past(records: u64, rows: &[Row]) -> bool
 }
 
 /// The first fault of saved rows for a step of this id and so many records.
-fn refusal(step_id: &str, records: u64, saved: &Saved) -> Option<SavedPlace>
+fn refusal(step_id: &str, records: u64, saved: &SavedRows) -> Option<SavedPlace>
     ensures { result ≡ slice_get (step_faults step_id.now records saved.now) 0 }
 {
     if saved.step_id() != step_id {
@@ -54,14 +54,14 @@ fn refusal(step_id: &str, records: u64, saved: &Saved) -> Option<SavedPlace>
 /// Batch 2.1, "Restart Processing"), the others are as they were.
 ///
 /// # Errors
-/// `Saved` with the first of: `Step`, where the rows are another step's; `Records`, where one ends past the last record.
+/// `Refused` with the first of: `Step`, where the rows are another step's; `Records`, where one ends past the last record.
 /// And `Memory`, only where none of these holds.
 pub fn rows_to_go_on(
     alloc: Global,
     step_id: &str,
     records: u64,
-    saved: &Saved,
-) -> Result<Vec<Row>, StepError>
+    saved: &SavedRows,
+) -> Result<Vec<Row>, SavedError>
     ensures accepted { OnOk result (step_faults step_id.now records saved.now ≡ []) }
     ensures refused { IfErr result (λ e. Refuses e (step_faults step_id.now records saved.now)) }
     ensures rows { IfOk result (λ rows. rows.items ≡ rows_restarted saved.now) }
@@ -71,7 +71,7 @@ pub fn rows_to_go_on(
     rows_stay_sound();
     unfinished_rows_go_on();
     if let Some(place) = refusal(step_id, records, saved) {
-        return Err(StepError::Saved(place));
+        return Err(SavedError::Refused(place));
     }
     let rows = all_restarted(alloc, saved.rows())?;
     Ok(rows)

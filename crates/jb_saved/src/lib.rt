@@ -3,7 +3,7 @@
 //! - `saved`: saved rows, of a snapshot or of a text. `text`: writing them; their text reads back as them.
 //! - `form`: what a JSON tree holds as saved rows, and `rows`: the first of its rows that can't be.
 //! - `going_on`: saved rows as a step goes on from them.
-//! - `error`, `place`: why a step has no answer, and what of saved rows is refused.
+//! - `error`, `place`: why there are no saved rows, and what of them is refused.
 //! - `laws`: what the definitions say of one another, and what they give for worked rows.
 #![tactic(auto)]
 
@@ -16,9 +16,9 @@ mod rows;
 mod saved;
 mod text;
 
-pub use error::StepError;
+pub use error::SavedError;
 pub use going_on::rows_to_go_on;
 pub use laws::{answers_are_computed, worked_saved};
 pub use place::SavedPlace;
-pub use saved::{Saved, read_saved, written_and_read};
-pub use text::{saved_text, write_saved};
+pub use saved::SavedRows;
+pub use text::write_saved;

@@ -1,17 +1,14 @@
-//! Writing saved rows: the saved object, and its text.
+//! Writing saved rows: the saved object, and the text of its bytes.
 
 ghost use Rattle.std.specs.Prelude.{◌≡◌, ◌++◌, Some, flat_map, map, decimal, IfOk, OnOk, string_bytes};
 ghost use Rattle.std.specs.Str.{IsUtf8};
 ghost use Rattle.json.specs.Token.{number};
-ghost use Rattle.serde_json.specs.Written.{compact_text};
-ghost use Rattle.jb_job.specs.Reading.{tree_of};
 ghost use Rattle.jb_saved.specs.SavedTree.{row_tree, rows_tree, saved_tree, tokens_of};
 
 use crate::form::VERSION;
-use crate::saved::Saved;
 use jb_rules::Row;
 use json::Writer;
-use std::alloc::{AllocError, Global};
+use std::alloc::AllocError;
 
 fn write_numbers(out: &mut Writer, numbers: &[u64]) -> Result<(), AllocError>
     ensures numbers { OnOk result (out.new.tokens ≡ out.old.tokens ++ map (λ n. number (decimal n)) numbers.now) }
@@ -69,19 +66,9 @@ pub fn write_saved(out: &mut Writer, rows: &[Row], id: &str) -> Result<(), Alloc
 }
 
 /// The text of bytes that are one.
-fn text_of(bytes: Vec<u8>) -> Result<String, AllocError>
+pub(crate) fn text_of(bytes: Vec<u8>) -> Result<String, AllocError>
     requires { IsUtf8 bytes.items }
     ensures { IfOk result (λ s. string_bytes s ≡ bytes.items) }
 {
     String::from_utf8(bytes).map_err(|_| AllocError)
-}
-
-/// The saved object as one JSON text with no space, which reads back as the object.
-pub fn saved_text(alloc: Global, saved: &Saved) -> Result<String, AllocError>
-    ensures text { IfOk result (λ s. string_bytes s ≡ compact_text (saved_tree saved.now)) }
-    ensures reads_back { IfOk result (λ s. tree_of (string_bytes s) ≡ Some (saved_tree saved.now)) }
-{
-    let mut out = Writer::new(Vec::new(alloc));
-    write_saved(&mut out, saved.rows(), saved.step_id())?;
-    text_of(out.into_inner())
 }

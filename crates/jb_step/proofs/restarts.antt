@@ -1,3 +1,4 @@
 pub mod Beginning
 pub mod Overriding
+pub mod ReadBack
 pub mod Restarting

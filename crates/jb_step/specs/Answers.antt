@@ -8,8 +8,8 @@ use Rattle.jb_collect.specs.declared.calls.AnalyzerCall.{AnalyzerCall}
 use Rattle.jb_collect.specs.declared.calls.ReducerCall.{ReducerCall}
 use Rattle.jb_collect.specs.declared.calls.ReducerCall.TheVariants.{Before}
 use Rattle.jb_collect.specs.declared.calls.Status.{Status}
-use Rattle.jb_saved.specs.declared.error.StepError.{StepError}
-use Rattle.jb_saved.specs.declared.error.StepError.TheVariants.{WrongArtifacts, Repository, Workers, Memory}
+use Rattle.jb_step.specs.declared.error.StepError.{StepError}
+use Rattle.jb_step.specs.declared.error.StepError.TheVariants.{WrongArtifacts, Repository, Workers, Memory}
 use Rattle.jb_cert.specs.declared.notes.PlanNote.{PlanNote}
 use Rattle.jb_collect.specs.ReducerCalls.{before_failed, calls_after, rolled_back}
 use Rattle.jb_collect.specs.Taken.{Taken, calls_of, well}

@@ -22,7 +22,7 @@ use Rattle.jb_collect.specs.ReducerCalls.{reducer_calls, rolled_back}
 use Rattle.jb_collect.specs.Taken.{Taken, well, faulted}
 use Rattle.jb_rules.specs.declared.row.Row.{Row}
 use Rattle.jb_saved.specs.SavedRows.{SavedRows}
-use Rattle.jb_saved.specs.declared.error.StepError.TheVariants as step_error
+use Rattle.jb_step.specs.declared.error.StepError.TheVariants as step_error
 use Rattle.jb_cert.specs.declared.notes.PlanNote.{PlanNote}
 use Rattle.jb_step.specs.Answers.{AreCallsInPart, artifacts_of, tasks_left}
 use Rattle.jb_step.specs.callbacks.Heard.{heard}

@@ -1,2 +1,3 @@
 pub mod Restarts
+pub mod Saving
 pub mod StepRuns

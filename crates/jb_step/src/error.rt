@@ -1,69 +1,67 @@
-//! Why the rounds of a step have no end.
+//! Why a step has no answer.
 
 ghost use Rattle.std.specs.Prelude.{◌≡◌};
-ghost use Rattle.jb_step.specs.Answers.{IsRunError};
-ghost use Rattle.jb_saved.specs.declared.error.StepError.TheVariants.{WrongArtifacts};
+ghost use Rattle.jb_step.specs.declared.error.StepError.TheVariants.{Memory};
+ghost use Rattle.jb_step.specs.restarts.Saving.{step_error};
 
-use jb_repo::Refused;
-use jb_saved::StepError;
-use jb_workers::RoundError;
+use jb_base::ClassId;
+use jb_plan::PlanError;
+use jb_saved::{SavedError, SavedPlace};
 use std::alloc::{AllocError, AllocFailed};
+use thiserror::Error;
 
-/// Why the rounds of a step have no end.
-#[derive(Clone, Copy, Debug, PartialEq, Eq)]
-pub(crate) enum RunError {
-    /// The desk's row of this partition isn't the step's own.
-    Row(u32),
-    /// The desk was used by another, or it refused an event.
-    Desk,
+/// Why a step has no answer. Calls on saved rows answer `Saved` and `Memory` alone.
+#[derive(Clone, Copy, Debug, PartialEq, Eq, Error)]
+pub enum StepError {
+    /// The mapper's plan can't be run.
+    #[error("the mapper's plan can't be run: {0}")]
+    Plan(PlanError),
+    /// The mapper answered a fault of this class.
+    #[error("the mapper failed with a fault of class {}", .0.number())]
+    Mapper(ClassId),
+    /// The reducer's `begin` did.
+    #[error("the reducer's begin failed with a fault of class {}", .0.number())]
+    Reducer(ClassId),
+    /// The artifacts aren't those that the unfinished partitions need.
+    #[error("the artifacts aren't those that the unfinished partitions need")]
+    WrongArtifacts,
+    /// The desk's row of this partition isn't the step's own, or the desk was used by another, or it refused an event.
+    #[error("the repository's row of partition {0} isn't the step's own, or it refused an event")]
+    Repository(u32),
     /// A worker could not be started.
+    #[error("a worker could not be started")]
     Workers,
+    /// The saved rows are refused.
+    #[error("the saved rows are refused: {0}")]
+    Saved(SavedPlace),
     /// There was no memory.
+    #[error("no memory")]
     Memory,
 }
 
-impl RunError {
-    /// The same, as a step of so many rows answers it.
-    pub(crate) fn of_step(self, rows: u32) -> StepError
-        ensures wrong { result ≡ WrongArtifacts → ⊥ }
-        ensures causes { IsRunError result }
-    {
-        match self {
-            RunError::Row(partition) => StepError::Repository(partition),
-            RunError::Desk => StepError::Repository(rows),
-            RunError::Workers => StepError::Workers,
-            RunError::Memory => StepError::Memory,
-        }
-    }
-}
+impl From<SavedError> for StepError {
+    ghost from_gives = { λ error e. e ≡ step_error error };
 
-impl From<Refused> for RunError {
-    fn from(refused: Refused) -> RunError {
-        match refused {
-            Refused::Memory => RunError::Memory,
-            _ => RunError::Desk,
-        }
-    }
-}
-
-impl From<RoundError> for RunError {
-    fn from(error: RoundError) -> RunError {
+    fn from(error: SavedError) -> StepError {
         match error {
-            RoundError::Refused(refused) => refused.into(),
-            RoundError::WorkerNotStarted => RunError::Workers,
-            RoundError::Memory => RunError::Memory,
+            SavedError::Refused(place) => StepError::Saved(place),
+            SavedError::Memory => StepError::Memory,
         }
     }
 }
 
-impl From<AllocError> for RunError {
-    fn from(_: AllocError) -> RunError {
-        RunError::Memory
+impl From<AllocError> for StepError {
+    ghost from_gives = { λ _ e. e ≡ Memory };
+
+    fn from(_: AllocError) -> StepError {
+        StepError::Memory
     }
 }
 
-impl<T: Drop> From<AllocFailed<T>> for RunError {
-    fn from(_: AllocFailed<T>) -> RunError {
-        RunError::Memory
+impl<T: Drop> From<AllocFailed<T>> for StepError {
+    ghost from_gives = { λ _ e. e ≡ Memory };
+
+    fn from(_: AllocFailed<T>) -> StepError {
+        StepError::Memory
     }
 }

@@ -3,7 +3,7 @@
 //! - `preparing`: the plan of a step's partitions, the rows that it begins with, new ones or those of a stopped run, and their tasks.
 //! - `step`: the step from its artifacts to its end; `pooled`: the same over one pool of workers for all its rounds.
 //! - `rounds`: the plans, one after another, and their rounds. `callbacks`: what the analyzer and the reducer are told.
-//! - `error`: why its rounds have no end.
+//! - `saved`: the rows of a stopped step, their text, and reading it; `error`: why a step has no answer.
 //! - `laws`, `worked`: what holds of every run of a step and of its restarts, and its definitions computed on whole steps.
 #![tactic(auto)]
 
@@ -13,11 +13,13 @@ mod laws;
 mod pooled;
 mod preparing;
 mod rounds;
+mod saved;
 mod step;
 mod worked;
 
+pub use error::StepError;
 pub use jb_cert::PlanNote;
-pub use jb_saved::{Saved, SavedPlace, StepError, read_saved, saved_text};
+pub use jb_saved::SavedPlace;
 pub use laws::{
     headline, others_dont_count, overrides_begin_anew, partitions_run_alone, plans_can_be_run,
     restarts_go_on,
@@ -25,5 +27,6 @@ pub use laws::{
 pub use pooled::run_pooled_step;
 pub use preparing::prepare;
 pub use preparing::prepared::Prepared;
+pub use saved::{Saved, read_saved, saved_text, written_and_read};
 pub use step::{StepEnd, run_step, run_step_by};
 pub use worked::worked_rows;

@@ -6,14 +6,14 @@ ghost use Rattle.jb_step.specs.Answers.{given_back, AreCallsAfter, AreCallsUndon
 ghost use Rattle.jb_step.specs.Headline.{Headline};
 ghost use Rattle.jb_step.specs.preparing.Prepare.{DoFit};
 ghost use Rattle.jb_step.specs.preparing.Setup.{first_tasks};
-ghost use Rattle.jb_saved.specs.declared.error.StepError.TheVariants.{WrongArtifacts, Memory};
+ghost use Rattle.jb_step.specs.declared.error.StepError.TheVariants.{WrongArtifacts, Memory};
 
+use crate::error::StepError;
 use crate::preparing::prepared::Prepared;
 use crate::step::{StepEnd, run_step_by};
 use jb_artifacts::Meaning;
 use jb_chunk::PartitionTask;
 use jb_collect::{FaultlessAnalyzer, FaultlessReducer};
-use jb_saved::StepError;
 use jb_workers::{Desk, Gate, Pool, start_pool};
 use std::alloc::Global;
 use std::sync::Wait;

@@ -4,7 +4,7 @@ ghost use Rattle.std.specs.Prelude.{◌≡◌, ◌≤◌, ◌++◌, ◌∷◌, [
 ghost use Rattle.jb_base.specs.Limits.{max_records};
 ghost use Rattle.jb_collect.specs.declared.calls.ReducerCall.TheVariants as act;
 ghost use Rattle.jb_collect.specs.Taken.{Grew, since, well};
-ghost use Rattle.jb_saved.specs.declared.error.StepError.TheVariants.{Memory};
+ghost use Rattle.jb_step.specs.declared.error.StepError.TheVariants.{Memory};
 ghost use Rattle.jb_step.specs.preparing.Prepare.{AreCallsBefore, IsAnew, IsPreparation, IsPrepareRefusal, discards_by};
 ghost use Rattle.jb_step.specs.preparing.Setup.{IsSetup, fresh_rows, saved_faults};
 ghost use Rattle.jb_step.specs.inside.preparing.Fresh.{IsDiscardRefused, IsUnopened, IsUnplanned, opened_setup, setup_of_rows};
@@ -13,13 +13,15 @@ pub(crate) mod prepared;
 pub(crate) mod start;
 
 use crate::callbacks::reduce::undo;
+use crate::error::StepError;
 use crate::preparing::prepared::Prepared;
+use crate::saved::Saved;
 use jb_base::ArtifactError;
 use jb_collect::{PartitionStatus, Reducer};
 use jb_job::Step;
 use jb_mapper::PartitionMapper;
 use jb_plan::{Checked, checked};
-use jb_saved::{Saved, SavedPlace, StepError};
+use jb_saved::SavedPlace;
 use std::alloc::Global;
 
 /// The reducer's `begin`, the mapper, its plan, and the rows that a stopped run of the step saved, in this order.

@@ -3,7 +3,7 @@
 
 use crate::repo::{most_rows, opened, rows_of};
 use jb_rules::Row;
-use jb_saved::{Saved, StepError, read_saved, rows_to_go_on, saved_text, written_and_read};
+use jb_saved::{SavedError, SavedRows, rows_to_go_on};
 use std::alloc::{AllocError, Global};
 use std::process::Abort;
 
@@ -36,7 +36,7 @@ fn text_of(alloc: Global, rows: &str) -> Result<String, AllocError> {
 }
 
 /// Whether the rows are what is read, if it was accepted.
-fn are_those(saved: &Saved, read: Result<Saved, StepError>) -> bool {
+fn are_those(saved: &SavedRows, read: Result<SavedRows, SavedError>) -> bool {
     match read {
         Ok(read) => read.rows() == saved.rows(),
         Err(_) => false,
@@ -44,13 +44,14 @@ fn are_those(saved: &Saved, read: Result<Saved, StepError>) -> bool {
 }
 
 /// Whether the rows are written as they stand in this text, and are what is read again.
-fn are_kept(alloc: Global, saved: &Saved, text: &str) -> Option<bool> {
-    let written = saved_text(alloc, saved).ok()?;
-    Some(written.as_str() == text && are_those(saved, written_and_read(alloc, saved)))
+fn are_kept(alloc: Global, saved: &SavedRows, text: &str) -> Option<bool> {
+    let written = saved.text(alloc).ok()?;
+    let read = SavedRows::read(alloc, written.as_bytes());
+    Some(written.as_str() == text && are_those(saved, read))
 }
 
 /// Whether there are rows to go on from, as many as were saved.
-fn goes_on(alloc: Global, saved: &Saved) -> bool {
+fn goes_on(alloc: Global, saved: &SavedRows) -> bool {
     match rows_to_go_on(alloc, "s", 1_024, saved) {
         Ok(rows) => rows.len() == saved.rows().len(),
         Err(_) => false,
@@ -60,7 +61,7 @@ fn goes_on(alloc: Global, saved: &Saved) -> bool {
 /// Whether these rows are read, written, read again, and gone on from, where there is memory for it.
 fn is_read(alloc: Global, rows: &str) -> Option<bool> {
     let text = text_of(alloc, rows).ok()?;
-    let saved = read_saved(alloc, text.as_bytes()).ok()?;
+    let saved = SavedRows::read(alloc, text.as_bytes()).ok()?;
     let is_kept = are_kept(alloc, &saved, text.as_str())?;
     Some(is_kept && saved.step_id() == "s" && goes_on(alloc, &saved))
 }
@@ -69,7 +70,7 @@ fn is_read(alloc: Global, rows: &str) -> Option<bool> {
 fn is_saved(rt: &impl Abort, alloc: Global, rows: Vec<Row>, told: &str) -> Option<bool> {
     let text = text_of(alloc, told).ok()?;
     let snapshot = opened(rt, rows, 64, 2).snapshot().ok()?;
-    let saved = Saved::of(alloc, "s", &snapshot).ok()?;
+    let saved = SavedRows::of(alloc, "s", &snapshot).ok()?;
     let is_kept = are_kept(alloc, &saved, text.as_str())?;
     Some(is_kept && saved.rows() == snapshot.rows.as_slice() && goes_on(alloc, &saved))
 }

@@ -1,7 +1,7 @@
 //! What the run before a restart left.
 
 use super::outputs::Outputs;
-use jb_saved::Saved;
+use jb_saved::SavedRows;
 
 /// What the run before a restart left of the step at which it ended: as many writers as rows, each with the results that
 /// its row committed at least.
@@ -10,5 +10,5 @@ pub struct Resume {
     /// What the step's writers held.
     pub outputs: Outputs,
     /// The step's rows, and its id.
-    pub saved: Saved,
+    pub saved: SavedRows,
 }

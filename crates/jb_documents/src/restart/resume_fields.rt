@@ -21,7 +21,7 @@ use crate::kinds::{any_text, array, items, object, text_bytes};
 use jb_base::PackedList;
 use jb_job::{Field, JobError, Step};
 use jb_rules::Row;
-use jb_saved::{Saved, SavedPlace, StepError};
+use jb_saved::{SavedError, SavedPlace, SavedRows};
 use json::Value as Borrowed;
 use std::alloc::Global;
 
@@ -97,15 +97,15 @@ fn has_id(steps: &[Step], id: &str) -> bool
 }
 
 /// The saved rows of the tree.
-fn saved(alloc: Global, tree: Borrowed<'_>) -> Result<Saved, RestartFault>
+fn saved(alloc: Global, tree: Borrowed<'_>) -> Result<SavedRows, RestartFault>
     requires { IsReadable (value_view tree) }
     ensures { GivesRestart result (saves (saved_at (seen tree.entry))) }
 {
     let tree = owned(alloc, &tree)?;
-    match Saved::of_value(alloc, &tree) {
+    match SavedRows::of_value(alloc, &tree) {
         Ok(saved) => Ok(saved),
-        Err(StepError::Saved(place)) => Err(RestartFault::Saved(place)),
-        Err(_) => Err(RestartFault::Document(JobError::Memory)),
+        Err(SavedError::Refused(place)) => Err(RestartFault::Saved(place)),
+        Err(SavedError::Memory) => Err(RestartFault::Document(JobError::Memory)),
     }
 }
 

@@ -6,7 +6,7 @@ ghost use Rattle.jb_program.specs.StepRun.{gone_on_from, outputs_of, rows_saved}
 
 use jb_base::PackedList;
 use jb_documents::{Outputs, Resume, WriterTexts};
-use jb_saved::Saved;
+use jb_step::Saved;
 use std::alloc::{AllocError, Global};
 
 /// The rows of the run before, if there was one, and its outputs, unless the step's plan discards them.
@@ -18,10 +18,11 @@ pub fn taken(alloc: Global, resume: Option<Resume>, replace: bool) -> (Option<Sa
         None => (None, Outputs::new(Vec::new(alloc))),
         Some(resume) => {
             let Resume { outputs, saved } = resume;
+            let saved = Some(Saved::from(saved));
             if replace {
-                return (Some(saved), Outputs::new(Vec::new(alloc)));
+                return (saved, Outputs::new(Vec::new(alloc)));
             }
-            (Some(saved), outputs)
+            (saved, outputs)
         }
     }
 }

@@ -9,7 +9,7 @@ ghost use Rattle.jb_step.specs.Headline.{Headline};
 ghost use Rattle.jb_step.specs.preparing.Prepare.{DoFit};
 ghost use Rattle.jb_step.specs.preparing.Setup.{first_tasks};
 ghost use Rattle.jb_step.specs.Statuses.{status_of};
-ghost use Rattle.jb_saved.specs.declared.error.StepError.TheVariants.{WrongArtifacts};
+ghost use Rattle.jb_step.specs.declared.error.StepError.TheVariants.{WrongArtifacts};
 ghost use Rattle.jb_program.specs.Refusals.{IsBreakOff, IsFailureOf};
 
 use crate::run::artifacts::OwnArtifacts;

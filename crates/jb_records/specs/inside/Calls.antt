@@ -9,7 +9,7 @@ use Rattle.jb_plan.specs.Faults.{IsFirst, plan_errors}
 use Rattle.jb_plan.specs.Plans.{IsWithin}
 use Rattle.jb_rules.specs.declared.row.Row.{Row}
 use Rattle.jb_rules.specs.Rows.{range_of}
-use Rattle.jb_saved.specs.declared.error.StepError.TheVariants as error
+use Rattle.jb_step.specs.declared.error.StepError.TheVariants as error
 use Rattle.jb_saved.specs.SavedRows.{SavedRows}
 use Rattle.jb_step.specs.preparing.Setup.{saved_faults}
 use Rattle.jb_records.specs.Causes.{AreOtherResults, HasSkippedTry, IsStepFault, written_in}

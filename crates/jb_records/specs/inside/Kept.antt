@@ -2,7 +2,7 @@
 use Rattle.std.specs.Prelude.{ℕ, ◌≡◌, ◌+◌, ◌∷◌, [], nat_eq, Bool, true, false, not, if◌then◌else◌, List, Option, None, Some, filter, length, drop, map, slice_get}
 use Rattle.jb_base.specs.Rules.{RulesRecord}
 use Rattle.jb_repo.specs.declared.snapshot.Snapshot.{Snapshot}
-use Rattle.jb_saved.specs.declared.error.StepError.TheVariants as error
+use Rattle.jb_step.specs.declared.error.StepError.TheVariants as error
 use Rattle.jb_saved.specs.Answers.{first_running}
 use Rattle.jb_saved.specs.GoingOn.{ends_past, rows_restarted}
 use Rattle.jb_step.specs.Alone.{AreOnTheWay}

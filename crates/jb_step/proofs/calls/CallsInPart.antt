@@ -10,7 +10,7 @@ use Rattle.jb_collect.specs.declared.calls.PartitionStatus.TheVariants as end
 use Rattle.jb_collect.specs.ReducerCalls.{before_failed, rolled_back}
 use Rattle.jb_collect.specs.Taken.{Taken, Grew, TakesCall, calls_of, since}
 use Rattle.jb_collect.proofs.Taking.{behind, since_is}
-use Rattle.jb_step.specs.declared.error.RunError.{RunError}
+use Rattle.jb_step.specs.declared.rounds.error.RunError.{RunError}
 use Rattle.jb_step.specs.Answers.{AreCallsInPart}
 use Rattle.jb_step.specs.callbacks.Callbacks.{AreSome}
 use Rattle.jb_step.specs.inside.callbacks.Reducing.{IsReducing, callback_fault}

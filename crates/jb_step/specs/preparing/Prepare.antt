@@ -14,8 +14,8 @@ use Rattle.jb_collect.specs.declared.calls.PartitionStatus.TheVariants as status
 use Rattle.jb_collect.specs.ReducerCalls.{calls_before, rolled_back}
 use Rattle.jb_collect.specs.Taken.{Taken, calls_of, faulted, well}
 use Rattle.jb_saved.specs.SavedRows.{SavedRows}
-use Rattle.jb_saved.specs.declared.error.StepError.{StepError}
-use Rattle.jb_saved.specs.declared.error.StepError.TheVariants.{Plan, Mapper, Reducer, Saved, Memory}
+use Rattle.jb_step.specs.declared.error.StepError.{StepError}
+use Rattle.jb_step.specs.declared.error.StepError.TheVariants.{Plan, Mapper, Reducer, Saved, Memory}
 use Rattle.jb_step.specs.callbacks.Callbacks.{AreSome}
 use Rattle.jb_step.specs.preparing.Setup.{Setup, discards, fresh_rows, gone_on, opening_rows, saved_faults, unfinished}
 

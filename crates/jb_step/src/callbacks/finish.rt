@@ -6,8 +6,8 @@ ghost use Rattle.jb_step.specs.preparing.Setup.{rows_now};
 ghost use Rattle.jb_step.specs.inside.table.Places.{table_in};
 ghost use Rattle.jb_step.specs.Tables.{ArePlaced, held_in};
 
-use crate::error::RunError;
 use crate::preparing::prepared::Prepared;
+use crate::rounds::error::RunError;
 use crate::rounds::plan::row_of;
 use crate::rounds::runner::{RoundRunner, StepGate, StepLedger, StepTask, StepThreads};
 use jb_chunk::PartitionTask;

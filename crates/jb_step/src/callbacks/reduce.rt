@@ -10,14 +10,14 @@ ghost use Rattle.jb_collect.specs.Taken.{Grew, calls_of, since};
 ghost use Rattle.jb_step.specs.callbacks.Callbacks.{AreSome};
 ghost use Rattle.jb_step.specs.Answers.{AreCallsInPart, AreCallsUndone};
 ghost use Rattle.jb_step.specs.Statuses.{status_of};
-ghost use Rattle.jb_saved.specs.declared.error.StepError.TheVariants.{Memory};
+ghost use Rattle.jb_step.specs.declared.error.StepError.TheVariants.{Memory};
 ghost use Rattle.jb_step.specs.inside.callbacks.Reducing.{IsEnding, IsReducing, callback_fault};
 
-use crate::error::RunError;
+use crate::error::StepError;
+use crate::rounds::error::RunError;
 use jb_base::ArtifactError;
 use jb_collect::{PartitionStatus, Reducer, Status};
 use jb_rules::Row;
-use jb_saved::StepError;
 
 // Whether some partition failed.
 fn some_failed(rows: &[Row]) -> bool

@@ -9,8 +9,8 @@ ghost use Rattle.jb_step.specs.inside.table.Places.{table_in};
 ghost use Rattle.jb_step.specs.Tables.{held_in};
 ghost use Rattle.jb_step.specs.inside.callbacks.Telling.{IsCallbackAnswer, IsHearing, empties, moment};
 
-use crate::error::RunError;
 use crate::preparing::prepared::Prepared;
+use crate::rounds::error::RunError;
 use jb_artifacts::Item;
 use jb_base::{ArtifactError, ClassId};
 use jb_chunk::{Done, PartitionTask};

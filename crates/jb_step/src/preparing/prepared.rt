@@ -4,17 +4,19 @@ ghost use Rattle.std.specs.Prelude.{◌≡◌, ◌≤◌, ◌-◌, min, [], true
 ghost use Rattle.jb_base.specs.Limits.{max_partitions, max_parts};
 ghost use Rattle.jb_chunk.specs.Standing.{HasItemCount};
 ghost use Rattle.jb_step.specs.preparing.Setup.{IsSetup, fresh_rows, needs};
-ghost use Rattle.jb_saved.specs.GoingOn.{Refuses, rows_restarted, step_faults};
-ghost use Rattle.jb_step.specs.inside.preparing.Fresh.{setup_of_rows};
+ghost use Rattle.jb_saved.specs.GoingOn.{rows_restarted, step_faults};
+ghost use Rattle.jb_step.specs.inside.preparing.Fresh.{RefusesToGoOn, setup_of_rows};
 ghost use Rattle.jb_step.specs.inside.preparing.Preparing.{MayOpen};
 ghost use Rattle.jb_step.specs.inside.preparing.Starting.{AreBegun};
 
+use crate::error::StepError;
+use crate::saved::Saved;
 use jb_base::{Range, Rules};
 use jb_job::Step;
 use jb_plan::Checked;
 use jb_repo::Repo;
 use jb_rules::{Row, rows_stay_sound};
-use jb_saved::{Saved, StepError, rows_to_go_on};
+use jb_saved::rows_to_go_on;
 use jb_workers::Desk;
 use std::alloc::{AllocError, Global};
 use std::marker::Model;
@@ -66,11 +68,11 @@ impl Prepared {
         saved: &Saved,
     ) -> Result<Prepared, StepError>
         ensures accepted { OnOk result (step_faults step.now.id records saved.now ≡ []) }
-        ensures refused { IfErr result (λ error. Refuses error (step_faults step.now.id records saved.now)) }
+        ensures refused { IfErr result (λ error. RefusesToGoOn error (step_faults step.now.id records saved.now)) }
         ensures value { IfOk result (λ prepared. prepared ≡ setup_of_rows (rows_restarted saved.now) plan.now step.now false) }
         ensures setup { IfOk result (λ prepared. IsSetup prepared) }
     {
-        let rows = rows_to_go_on(alloc, step.id(), records, saved)?;
+        let rows = rows_to_go_on(alloc, step.id(), records, saved.held())?;
         Ok(Prepared::with_rows(alloc, rows, plan, step, false)?)
     }
 

@@ -11,8 +11,8 @@ ghost use Rattle.jb_step.specs.inside.table.Places.{table_in};
 ghost use Rattle.jb_step.specs.Tables.{ArePlaced, held_in};
 ghost use Rattle.jb_step.specs.inside.preparing.Starting.{IsRowBegun, tasks_from, unfinished_from};
 
-use crate::error::RunError;
 use crate::preparing::prepared::Prepared;
+use crate::rounds::error::RunError;
 use jb_artifacts::Meaning;
 use jb_chunk::PartitionTask;
 use jb_rules::Row;

@@ -10,9 +10,9 @@ ghost use Rattle.jb_step.specs.inside.rounds.Round.{progress, table_of};
 ghost use Rattle.jb_step.specs.inside.table.Places.{table_in};
 ghost use Rattle.jb_step.specs.Tables.{ArePlaced, held_in};
 
-use crate::error::RunError;
 use crate::laws::laws_below;
 use crate::preparing::prepared::Prepared;
+use crate::rounds::error::RunError;
 use crate::rounds::ran::Ran;
 use crate::rounds::runner::{RoundRunner, StepGate, StepLedger, StepTask, StepThreads};
 use jb_cert::{PlanNote, fits};

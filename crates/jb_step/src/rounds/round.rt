@@ -18,7 +18,7 @@ ghost use Rattle.jb_workers.specs.Works.{AllCanBegin, RiseByPartition as AreInOr
 mod single;
 
 use crate::callbacks::tell::tell_round;
-use crate::error::RunError;
+use crate::rounds::error::RunError;
 use crate::rounds::ran::Ran;
 use crate::rounds::runner::{RoundRunner, StepGate, StepLedger, StepTask, StepThreads};
 use jb_cert::{Slot, lanes_are_found};

@@ -10,9 +10,9 @@ ghost use Rattle.jb_step.specs.inside.callbacks.Telling.{moment};
 ghost use Rattle.jb_step.specs.inside.table.Places.{table_in};
 ghost use Rattle.jb_step.specs.Tables.{held_in};
 
-use crate::error::RunError;
 use crate::laws::laws_below;
 use crate::preparing::prepared::Prepared;
+use crate::rounds::error::RunError;
 use crate::rounds::ran::Ran;
 use crate::rounds::runner::{RoundRunner, StepGate, StepLedger, StepTask, StepThreads};
 use jb_base::ClassId;

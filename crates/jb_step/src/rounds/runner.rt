@@ -6,7 +6,7 @@ ghost use Rattle.jb_workers.specs.Round.{AreDones};
 ghost use Rattle.jb_workers.specs.Turns.{IsDoneOf};
 ghost use Rattle.jb_workers.specs.Works.{AllCanBegin, CanBegin, RiseByPartition};
 
-use crate::error::RunError;
+use crate::rounds::error::RunError;
 use jb_cert::Certificate;
 use jb_chunk::{Done, Outcome, PartitionTask};
 use jb_repo::{Event, Refused, Snapshot};

@@ -8,7 +8,7 @@ use jb_artifacts::ArtifactsOf;
 use jb_collect::Status;
 use jb_repo::Snapshot;
 use jb_rules::Row;
-use jb_step::{Saved, StepEnd, StepError, read_saved, saved_text};
+use jb_step::{Saved, StepEnd, StepError, read_saved, saved_text, written_and_read};
 use std::alloc::{AllocError, Global};
 use std::test::*;
 
@@ -98,7 +98,8 @@ impl Between {
 
     fn hold(&mut self, alloc: Global, table: &Snapshot) -> Result<(), Fail> {
         let saved = Saved::of(alloc, STEP, table)?;
-        self.saved = Some(saved_text(alloc, &saved)?);
+        let read = written_and_read(alloc, &saved)?;
+        self.saved = Some(saved_text(alloc, &read)?);
         self.rows = Vec::from_slice(alloc, table.rows.as_slice())?;
         Ok(())
     }

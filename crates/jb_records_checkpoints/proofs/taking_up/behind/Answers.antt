@@ -2,7 +2,8 @@ use Rattle.std.proofs.Common.{rules, refl, true≢false, ◌≡◌, List, ℕ, �
 use Rattle.std.specs.Arc.{arc_value}
 use Rattle.jb_job.specs.Reading.{tree_of}
 use Rattle.jb_base.specs.Causes.{IsCause}
-use Rattle.jb_saved.specs.Reading.{answer_of, saved_cause}
+use Rattle.jb_saved.specs.Reading.{answer_of}
+use Rattle.jb_step.specs.restarts.Saving.{text_cause}
 use Rattle.jb_records.specs.declared.error.RecordsStepError.TheVariants as fault
 use Rattle.jb_records.specs.Causes.{IsCauseBehind}
 use Rattle.jb_checkpoint.specs.Checkpoints.{kept}
@@ -85,7 +86,7 @@ returns-in_err-held-clause-cause g c first =
     let xs = c.args.later.now in
     let last = c.args.last.now in
     let e = c.in_err-held.field-0.0 in
-    let why = subst (λ (b : List ℕ). IsCause (saved_cause e) (answer_of (tree_of b))) c.as_bytes.ensures.value c.in_err-held.ensures in
+    let why = subst (λ (b : List ℕ). IsCause (text_cause e) (answer_of (tree_of b))) c.as_bytes.ensures.value c.in_err-held.ensures in
     handed_on c.from_residual.result (Step (fault.Step e)) (IsTakenCause f step records (first ∷ map kept xs)) c.from_residual.ensures.1
     (unbegun f step records first (map kept (take (length xs - 1) xs)) (kept last) (map kept xs) (split_last xs last c.requires) (fault.Step e)
     (unread step (length records) (string_bytes last.saved) e why))

@@ -7,8 +7,8 @@ use Rattle.jb_collect.specs.declared.calls.Status.{Status}
 use Rattle.jb_collect.specs.declared.calls.Status.TheVariants.{Failed}
 use Rattle.jb_collect.specs.ReducerCalls.{before_failed, calls_after}
 use Rattle.jb_collect.specs.Taken.{Taken, calls_of}
-use Rattle.jb_step.specs.declared.error.RunError.{RunError}
-use Rattle.jb_step.specs.declared.error.RunError.TheVariants as error
+use Rattle.jb_step.specs.declared.rounds.error.RunError.{RunError}
+use Rattle.jb_step.specs.declared.rounds.error.RunError.TheVariants as error
 use Rattle.jb_step.specs.callbacks.Callbacks.{has_fault}
 
 -- these calls were taken; whether one was answered with a fault, and whether `before_completion` was

@@ -11,9 +11,10 @@ use Rattle.jb_collect.specs.declared.calls.ReducerCall.TheVariants.{Rollback, Af
 use Rattle.jb_collect.specs.declared.calls.PartitionStatus.TheVariants as status
 use Rattle.jb_collect.specs.ReducerCalls.{rolled_back}
 use Rattle.jb_collect.specs.Taken.{Taken, calls_of, faulted, since}
+use Rattle.jb_saved.specs.declared.place.SavedPlace.{SavedPlace}
 use Rattle.jb_saved.specs.SavedRows.{SavedRows}
-use Rattle.jb_saved.specs.declared.error.StepError.{StepError}
-use Rattle.jb_saved.specs.declared.error.StepError.TheVariants.{Plan, Mapper, Reducer, Saved, Memory}
+use Rattle.jb_step.specs.declared.error.StepError.{StepError}
+use Rattle.jb_step.specs.declared.error.StepError.TheVariants.{Plan, Mapper, Reducer, Saved, Memory}
 use Rattle.jb_step.specs.callbacks.Callbacks.{AreSome}
 use Rattle.jb_step.specs.preparing.Setup.{Setup, gone_on, opening_rows, saved_faults}
 
@@ -30,6 +31,12 @@ setup_of_rows rows plan step begun_anew = record {
 abbrev pub opened_setup : CheckedPlan → StepRecord → Option SavedRows → Setup
 opened_setup plan step saved =
     let from = gone_on plan.replace saved in setup_of_rows (opening_rows plan.ranges from) plan step (is_none from)
+
+-- the first fault of the saved rows for this step; memory runs out only where there is none
+abbrev pub RefusesToGoOn : StepError → List SavedPlace → Type 0
+RefusesToGoOn (Saved place) faults = slice_get faults 0 ≡ Some place
+RefusesToGoOn Memory faults = faults ≡ []
+RefusesToGoOn _ faults = ⊥
 
 -- the saved rows are refused; where memory lacked, nothing is said
 abbrev pub IsUnopened : StepRecord → (records : ℕ) → (replace : Bool) → Option SavedRows → StepError → Type 0

@@ -9,7 +9,7 @@ ghost use Rattle.jb_step.specs.Tables.{ArePlaced, held_in};
 ghost use Rattle.jb_step.specs.Alone.{AreReady};
 
 use crate::callbacks::tell::tell_one;
-use crate::error::RunError;
+use crate::rounds::error::RunError;
 use crate::rounds::ran::Ran;
 use crate::rounds::round::{is_committed, put_task, sum, take_task};
 use crate::rounds::runner::{RoundRunner, StepGate, StepLedger, StepTask, StepThreads};

@@ -3,7 +3,7 @@ use Rattle.jb_base.specs.Name.{IsName}
 use Rattle.jb_rules.specs.declared.row.Row.{Row}
 use Rattle.jb_saved.specs.Answers.{first_running}
 use Rattle.jb_saved.proofs.RowByRow.{kept_of}
-use Rattle.jb_saved.proofs.saved.Saved.of.Goals as goal
+use Rattle.jb_saved.proofs.saved.SavedRows.of.Goals as goal
 
 pub invariant_of-result : goal.invariant_of-result
 invariant_of-result c =

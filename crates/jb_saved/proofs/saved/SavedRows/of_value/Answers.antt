@@ -3,7 +3,7 @@ use Rattle.jb_rules.specs.declared.row.Row.{Row}
 use Rattle.jb_saved.specs.Reading.{first_unfit}
 use Rattle.jb_saved.proofs.RowByRow.{kept}
 use Rattle.jb_saved.proofs.Unfit.{all-fit}
-use Rattle.jb_saved.proofs.saved.Saved.of_value.Goals as goal
+use Rattle.jb_saved.proofs.saved.SavedRows.of_value.Goals as goal
 
 pub invariant_of-result : goal.invariant_of-result
 invariant_of-result c =
