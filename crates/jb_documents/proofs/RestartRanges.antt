@@ -26,7 +26,7 @@ use Rattle.jb_saved.specs.SavedRows.{SavedRows}
 use Rattle.jb_documents.specs.declared.restart.document.RestartDocument.{RestartDocument}
 use Rattle.jb_documents.specs.DocumentRanges.{IsStepData, HoldsResults, IsLeft, IsRestartDocument}
 use Rattle.jb_documents.specs.RestartDocument.{Refusal, fields, saves, named_in, resume_at, restart_at}
-use Rattle.jb_documents.specs.ResumeFields.{WrittenTexts, holds, held_at, outputs_at}
+use Rattle.jb_documents.specs.ResumeFields.{WrittenTexts, holds, held_outputs_at, outputs_at}
 use Rattle.jb_documents.specs.RunDocument.{data_list_at}
 use Rattle.jb_documents.proofs.DocumentRanges.{list-read}
 
@@ -39,8 +39,8 @@ of-fields P (Err fault) known = tt
 pub hold-decides : (pairs : List (WrittenTexts × Row)) → Decides (list_all holds pairs) (All HoldsResults pairs)
 hold-decides pairs = Decides-by_and holds HoldsResults (list_all holds) (λ pair. (leb-true pair.1.written (length pair.0), le-leb pair.1.written (length pair.0))) refl (λ pair more. refl) pairs
 
-held-read : (f : Field) (outputs : List WrittenTexts) (rows : List Row) → IfOk (held_at f outputs rows) (λ held. (length held ≡ length rows) × All HoldsResults (zip held rows))
-unfolding held_at
+held-read : (f : Field) (outputs : List WrittenTexts) (rows : List Row) → IfOk (held_outputs_at f outputs rows) (λ held. (length held ≡ length rows) × All HoldsResults (zip held rows))
+unfolding held_outputs_at
 held-read f outputs rows =
     if-so _ (length outputs == length rows) _ _ (λ many. if-so (λ held. (length held ≡ length rows) × All HoldsResults (zip held rows)) (list_all holds (zip outputs rows)) _ (Ok outputs) (λ all. (eqb-true (length outputs) (length rows) many, (hold-decides (zip outputs rows)).0 all)))
 
@@ -64,7 +64,7 @@ resume-read steps f d =
     next _ (fields (required outputs_at field.Outputs resume)) _ (λ outputs.
     next _ (fields (required (λ _ tree. Ok tree) field.Saved resume)) _ (λ tree.
     next _ (saves (saved_at tree)) _ (λ saved.
-    followed _ _ (fields (held_at field.Outputs outputs saved.rows)) _ (of-fields (λ held. (length held ≡ length saved.rows) × All HoldsResults (zip held saved.rows)) (held_at field.Outputs outputs saved.rows) (held-read field.Outputs outputs saved.rows)) (λ held are.
+    followed _ _ (fields (held_outputs_at field.Outputs outputs saved.rows)) _ (of-fields (λ held. (length held ≡ length saved.rows) × All HoldsResults (zip held saved.rows)) (held_outputs_at field.Outputs outputs saved.rows) (held-read field.Outputs outputs saved.rows)) (λ held are.
     followed _ _ (saves (named_in steps saved)) _ (named-by steps saved (list_any (λ (step : StepRecord). bytes_eq step.id saved.step) steps) refl) (λ named is.
     left-of steps held saved named are is))))))
 

@@ -27,7 +27,7 @@ use Rattle.jb_documents.specs.declared.restart.resume.Resume.{Resume}
 use Rattle.jb_documents.specs.DocumentRanges.{HoldsResults, IsLeft, IsRestartDocument}
 use Rattle.jb_documents.specs.DocumentTrees.{data_tree, texts_tree, resume_tree, restart_tree}
 use Rattle.jb_documents.specs.RestartDocument.{fields, saves, named_in, resume_at, restart_at}
-use Rattle.jb_documents.specs.ResumeFields.{WrittenTexts, held_at, texts_at, outputs_at}
+use Rattle.jb_documents.specs.ResumeFields.{WrittenTexts, held_outputs_at, texts_at, outputs_at}
 use Rattle.jb_documents.specs.RunDocument.{data_list_at}
 use Rattle.jb_documents.proofs.DocumentTrees.{list-back-data}
 use Rattle.jb_documents.proofs.RestartRanges.{hold-decides}
@@ -45,8 +45,8 @@ outputs-back : (f : Field) (outputs : List WrittenTexts) → outputs_at f (list_
 unfolding outputs_at
 outputs-back f outputs = each-back (λ _. texts_at f) texts_tree (λ texts. texts) outputs (λ done texts rest is. texts-back f texts) ∙ ap Ok (map-id outputs)
 
-held-back : (f : Field) (outputs : List WrittenTexts) (rows : List Row) → length outputs ≡ length rows → All HoldsResults (zip outputs rows) → held_at f outputs rows ≡ Ok outputs
-unfolding held_at
+held-back : (f : Field) (outputs : List WrittenTexts) (rows : List Row) → length outputs ≡ length rows → All HoldsResults (zip outputs rows) → held_outputs_at f outputs rows ≡ Ok outputs
+unfolding held_outputs_at
 held-back f outputs rows many held = rw (eq-eqb (length outputs) (length rows) many, (hold-decides (zip outputs rows)).1 held) refl
 
 found-back : (steps : List StepRecord) (id : List ℕ) → Contains (map (λ step. step.id) steps) id → list_any (λ (step : StepRecord). bytes_eq step.id id) steps ≡ true
@@ -71,7 +71,7 @@ resume-back law steps f resume kept sound =
     then-ok (fields (required outputs_at field.Outputs d)) resume.outputs _ resume (field-ok (required outputs_at field.Outputs d) resume.outputs (required-back outputs_at field.Outputs d (list_tree (map texts_tree resume.outputs)) resume.outputs refl (outputs-back field.Outputs resume.outputs)))
     (then-ok (fields (required (λ _ tree. Ok tree) field.Saved d)) (saved_tree s) _ resume (field-ok (required (λ _ tree. Ok tree) field.Saved d) (saved_tree s) (required-back (λ _ tree. Ok tree) field.Saved d (saved_tree s) (saved_tree s) refl refl))
     (then-ok (saves (saved_at (saved_tree s))) s _ resume (saved-back law s sound)
-    (then-ok (fields (held_at field.Outputs resume.outputs s.rows)) resume.outputs _ resume (field-ok (held_at field.Outputs resume.outputs s.rows) resume.outputs (held-back field.Outputs resume.outputs s.rows kept.one_each kept.held))
+    (then-ok (fields (held_outputs_at field.Outputs resume.outputs s.rows)) resume.outputs _ resume (field-ok (held_outputs_at field.Outputs resume.outputs s.rows) resume.outputs (held-back field.Outputs resume.outputs s.rows kept.one_each kept.held))
     (then-ok (saves (named_in steps s)) s _ resume (named-back steps s kept.named)
     refl))))
 

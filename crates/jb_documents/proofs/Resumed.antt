@@ -12,7 +12,7 @@ use Rattle.jb_saved.specs.declared.place.SavedPlace.TheVariants.{Step}
 use Rattle.jb_saved.specs.Reading.{saved_at}
 use Rattle.jb_saved.specs.SavedRows.{SavedRows}
 use Rattle.jb_documents.specs.declared.restart.resume.Resume.{Resume}
-use Rattle.jb_documents.specs.ResumeFields.{WrittenTexts, outputs_at, held_at}
+use Rattle.jb_documents.specs.ResumeFields.{WrittenTexts, outputs_at, held_outputs_at}
 use Rattle.jb_documents.specs.RestartDocument.{Refusal, of_saved, ◌>>=◌, fields, saves, named_in, resume_at}
 
 -- the step's name comes last
@@ -21,8 +21,8 @@ end true outputs saved = Ok (record { outputs = outputs; saved = saved })
 end false outputs saved = Err (of_saved Step)
 
 after-saved : (steps : List StepRecord) (outputs held : List WrittenTexts) (saved : SavedRows) (found : Bool) (reading : Result SavedRows Refusal)
-    → reading ≡ Ok saved → held_at field.Outputs outputs saved.rows ≡ Ok held → list_any (λ (step : StepRecord). bytes_eq step.id saved.step) steps ≡ found
-    → (reading >>= λ s. fields (held_at field.Outputs outputs s.rows) >>= λ h. saves (named_in steps s) >>= λ n. Ok (record { outputs = h; saved = n })) ≡ end found held saved
+    → reading ≡ Ok saved → held_outputs_at field.Outputs outputs saved.rows ≡ Ok held → list_any (λ (step : StepRecord). bytes_eq step.id saved.step) steps ≡ found
+    → (reading >>= λ s. fields (held_outputs_at field.Outputs outputs s.rows) >>= λ h. saves (named_in steps s) >>= λ n. Ok (record { outputs = h; saved = n })) ≡ end found held saved
 after-saved steps outputs held saved true reading f g h = rw (f, g, h) refl
 after-saved steps outputs held saved false reading f g h = rw (f, g, h) refl
 
@@ -30,7 +30,7 @@ pub resume-read : (steps : List StepRecord) (d resume o t : Data) (outputs held 
     → object_at field.Resume (field.Outputs ∷ field.Saved ∷ []) d ≡ Ok resume
     → get (name_of field.Outputs) resume ≡ Some o → outputs_at field.Outputs o ≡ Ok outputs
     → shaped field.Saved (get (name_of field.Saved) resume) ≡ Ok t → saves (saved_at t) ≡ Ok saved
-    → held_at field.Outputs outputs saved.rows ≡ Ok held → list_any (λ (step : StepRecord). bytes_eq step.id saved.step) steps ≡ found
+    → held_outputs_at field.Outputs outputs saved.rows ≡ Ok held → list_any (λ (step : StepRecord). bytes_eq step.id saved.step) steps ≡ found
     → resume_at steps field.Resume d ≡ end found held saved
 unfolding resume_at required
 resume-read steps d resume o t outputs held saved found a b c e f g h = rw (a, b, c, e) (after-saved steps outputs held saved found (saves (saved_at t)) f g h)

@@ -21,7 +21,7 @@ use Rattle.jb_documents.specs.declared.restart.document.RestartDocument.{Restart
 use Rattle.jb_documents.specs.declared.restart.fault.RestartFault.{RestartFault}
 use Rattle.jb_documents.specs.declared.restart.fault.RestartFault.TheVariants.{Document, Saved}
 use Rattle.jb_documents.specs.declared.restart.resume.Resume.{Resume}
-use Rattle.jb_documents.specs.ResumeFields.{outputs_at, held_at}
+use Rattle.jb_documents.specs.ResumeFields.{outputs_at, held_outputs_at}
 use Rattle.jb_documents.specs.RunDocument.{data_list_at}
 
 -- what is refused: a field of the document, or the saved rows
@@ -50,7 +50,7 @@ resume_at steps f d = do
   outputs ← fields (required outputs_at field.Outputs resume)
   tree ← fields (required (λ f d. Ok d) field.Saved resume)
   saved ← saves (saved_at tree)
-  held ← fields (held_at field.Outputs outputs saved.rows)
+  held ← fields (held_outputs_at field.Outputs outputs saved.rows)
   named ← saves (named_in steps saved)
   Ok (record { outputs = held; saved = named })
 

@@ -24,8 +24,8 @@ abbrev pub holds : WrittenTexts × Row → Bool
 holds (texts, row) = nat_le row.written (length texts)
 
 -- as many writers as rows, and each holds what its row committed
-unfoldable pub held_at : Field → List WrittenTexts → List Row → Read (List WrittenTexts)
-held_at f outputs rows =
+unfoldable pub held_outputs_at : Field → List WrittenTexts → List Row → Read (List WrittenTexts)
+held_outputs_at f outputs rows =
     if length outputs == length rows
     then (if list_all holds (zip outputs rows) then Ok outputs else Err (out_of_range f))
     else Err (wrong_shape f)

@@ -11,7 +11,7 @@ use Rattle.jb_rules.specs.declared.row.Row.{Row}
 use Rattle.jb_saved.specs.declared.place.SavedPlace.TheVariants.{Step}
 use Rattle.jb_saved.specs.Reading.{saved_at}
 use Rattle.jb_saved.specs.SavedRows.{SavedRows}
-use Rattle.jb_documents.specs.ResumeFields.{WrittenTexts, held_at, holds, outputs_at}
+use Rattle.jb_documents.specs.ResumeFields.{WrittenTexts, held_outputs_at, holds, outputs_at}
 use Rattle.jb_documents.specs.RestartDocument.{IsRestartText, Refusal, ◌>>=◌, fields, named_in, restart_at, resume_at, saves}
 use Rattle.jb_documents.specs.RunDocument.{data_list_at}
 use Rattle.jb_documents.specs.declared.run.step_data.StepData.{StepData}
@@ -46,24 +46,24 @@ held-same true true outputs held is = same-given outputs held is
 held-same true false outputs held is = absurd (cc is)
 held-same false all outputs held is = absurd (cc is)
 
-same-held : (outputs held : List WrittenTexts) (rows : List Row) → ◌≡◌ {A = Result (List WrittenTexts) Refusal} (fields (held_at field.Outputs outputs rows)) (Ok held) → outputs ≡ held
-unfolding held_at
+same-held : (outputs held : List WrittenTexts) (rows : List Row) → ◌≡◌ {A = Result (List WrittenTexts) Refusal} (fields (held_outputs_at field.Outputs outputs rows)) (Ok held) → outputs ≡ held
+unfolding held_outputs_at
 same-held outputs held rows is = held-same (length outputs == length rows) (list_all holds (zip outputs rows)) outputs held is
 
 -- what is read once the saved rows are: what they and the outputs say of each other, and their step's name
 abbrev behind : List StepRecord → List WrittenTexts → SavedRows → Result Resume Refusal
 behind steps outputs saved =
-    fields (held_at field.Outputs outputs saved.rows) >>= (λ held. saves (named_in steps saved) >>= (λ named. Ok (record { outputs = held; saved = named })))
+    fields (held_outputs_at field.Outputs outputs saved.rows) >>= (λ held. saves (named_in steps saved) >>= (λ named. Ok (record { outputs = held; saved = named })))
 
 behind-held : (steps : List StepRecord) (outputs : List WrittenTexts) (saved : SavedRows) (resume : Resume) → ◌≡◌ {A = Result Resume Refusal} (behind steps outputs saved) (Ok resume) → AreHeld resume
 behind-held steps outputs saved resume is =
-    let held = before (fields (held_at field.Outputs outputs saved.rows)) (λ (os : List WrittenTexts). saves (named_in steps saved) >>= (λ (n : SavedRows). Ok (record { outputs = os; saved = n }))) resume is in
+    let held = before (fields (held_outputs_at field.Outputs outputs saved.rows)) (λ (os : List WrittenTexts). saves (named_in steps saved) >>= (λ (n : SavedRows). Ok (record { outputs = os; saved = n }))) resume is in
     let named = before (saves (named_in steps saved)) (λ (n : SavedRows). Ok (record { outputs = held.0; saved = n })) resume held.2 in
     let same : outputs ≡ held.0 = same-held outputs held.0 saved.rows held.1 in
     let rows : saved ≡ named.0 = named-same (list_any (λ (step : StepRecord). bytes_eq step.id saved.step) steps) saved named.0 named.1 in
     let whole : AreHeld (record { outputs = held.0; saved = named.0 }) =
-    subst (λ (s : SavedRows). held_at field.Outputs held.0 s.rows ≡ Ok held.0) rows
-    (subst (λ (os : List WrittenTexts). held_at field.Outputs os saved.rows ≡ Ok held.0) same (fields-gave (held_at field.Outputs outputs saved.rows) held.0 held.1)) in
+    subst (λ (s : SavedRows). held_outputs_at field.Outputs held.0 s.rows ≡ Ok held.0) rows
+    (subst (λ (os : List WrittenTexts). held_outputs_at field.Outputs os saved.rows ≡ Ok held.0) same (fields-gave (held_outputs_at field.Outputs outputs saved.rows) held.0 held.1)) in
     subst (λ (r : Resume). AreHeld r) (same-given (record { outputs = held.0; saved = named.0 }) resume named.2) whole
 
 -- the same of all that is read of the run before, whatever the readings of its parts are

@@ -20,7 +20,7 @@ use Rattle.jb_rules.specs.declared.row.RowState.TheVariants as state
 use Rattle.jb_saved.specs.GoingOn.{restarted, fault_if, ends_past}
 use Rattle.jb_saved.specs.declared.place.SavedPlace.TheVariants.{Step, Records}
 use Rattle.jb_step.specs.preparing.Setup.{IsSetup, Setup, fresh_rows, opening_rows, saved_faults}
-use Rattle.jb_documents.specs.ResumeFields.{WrittenTexts, held_at, holds}
+use Rattle.jb_documents.specs.ResumeFields.{WrittenTexts, held_outputs_at, holds}
 use Rattle.jb_documents.specs.declared.restart.resume.Resume.{Resume}
 use Rattle.jb_program.specs.PartitionRun.{held_by, records_in}
 use Rattle.jb_program.specs.StepRun.{AreHeld, gone_on_from, outputs_of, rows_saved, setup_with}
@@ -103,7 +103,7 @@ held-if true false outputs is = absurd (cc is)
 held-if false all outputs is = absurd (cc is)
 
 are-held : (resume : Resume) → AreHeld resume → ((length resume.outputs == length resume.saved.rows) ≡ true) × (list_all holds (zip resume.outputs resume.saved.rows) ≡ true)
-unfolding held_at
+unfolding held_outputs_at
 are-held resume held = held-if (length resume.outputs == length resume.saved.rows) (list_all holds (zip resume.outputs resume.saved.rows)) resume.outputs held
 
 restarted-served : (outputs : List WrittenTexts) (rows : List Row) → length outputs ≡ length rows → list_all holds (zip outputs rows) ≡ true

@@ -17,7 +17,7 @@ use Rattle.jb_step.specs.Answers.{IsRunOfStep, StepRun}
 use Rattle.jb_step.specs.Headline.{Headline}
 use Rattle.jb_step.specs.preparing.Setup.{Setup, opening_rows, saved_faults, unfinished}
 use Rattle.jb_step.specs.Statuses.{status_of}
-use Rattle.jb_documents.specs.ResumeFields.{held_at}
+use Rattle.jb_documents.specs.ResumeFields.{held_outputs_at}
 use Rattle.jb_documents.specs.declared.restart.resume.Resume.{Resume}
 use Rattle.jb_texts.specs.Report.{PartitionReport, StepReport}
 use Rattle.jb_program.specs.declared.run.settings.StepSettings.{StepSettings}
@@ -44,7 +44,7 @@ outputs_of (Some resume) = resume.outputs
 
 -- there are as many writers as rows, and each holds what its row committed
 abbrev pub AreHeld : Resume → Type 0
-AreHeld resume = held_at field.Outputs resume.outputs resume.saved.rows ≡ Ok resume.outputs
+AreHeld resume = held_outputs_at field.Outputs resume.outputs resume.saved.rows ≡ Ok resume.outputs
 
 -- ---- what it begins with
 

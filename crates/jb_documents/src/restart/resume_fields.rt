@@ -7,7 +7,7 @@ ghost use Rattle.serde_json.specs.Find.{as_str, get};
 ghost use Rattle.jb_job.specs.Names.{name_of};
 ghost use Rattle.jb_job.specs.Reading.{Gives, GivesExactly, each_at, shaped};
 ghost use Rattle.jb_job.specs.declared.field.Field.TheVariants as field;
-ghost use Rattle.jb_documents.specs.ResumeFields.{texts_at, outputs_at, holds, held_at};
+ghost use Rattle.jb_documents.specs.ResumeFields.{texts_at, outputs_at, holds, held_outputs_at};
 ghost use Rattle.jb_documents.specs.RestartDocument.{GivesRestart, resume_at, saves};
 ghost use Rattle.jb_documents.specs.inside.Borrowed.{IsReadable, items_seen, seen};
 ghost use Rattle.jb_saved.specs.Reading.{saved_at};
@@ -76,9 +76,9 @@ fn hold(outputs: &[WriterTexts], rows: &[Row]) -> bool
 }
 
 /// The outputs, where there are as many writers as rows, and each holds what its row committed.
-#[tactic(auto, unfolding(crate::specs::ResumeFields::held_at))]
+#[tactic(auto, unfolding(crate::specs::ResumeFields::held_outputs_at))]
 fn held(outputs: Outputs, rows: &[Row]) -> Result<Outputs, JobError>
-    ensures { GivesExactly (λ o. o) result (held_at field.Outputs outputs rows.now) }
+    ensures { GivesExactly (λ o. o) result (held_outputs_at field.Outputs outputs rows.now) }
 {
     if outputs.as_slice().len() != rows.len() {
         Err(JobError::WrongShape(Field::Outputs))
