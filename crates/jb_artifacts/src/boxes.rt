@@ -56,10 +56,6 @@ impl ItemWriter for Box<dyn ItemWriter + Send + Drop> {
     fn item_at(&self, i: u64) -> Option<&[u8]> {
         (**self).item_at(i)
     }
-
-    fn is_ascii(&self) -> bool {
-        (**self).is_ascii()
-    }
 }
 
 impl Collector for Box<dyn Collector + Send + Drop> {

@@ -12,8 +12,7 @@
 //! the same item, a write of the same results after `open_at` of the count before it. Its answer is that of the plan as it
 //! then stands.
 
-ghost use Rattle.std.specs.Prelude.{◌≡◌, ◌≤◌, ◌<◌, ℕ, List, length, Some, None, slice_get, option_copied, All, IfOk, IsTrue, OnOk};
-ghost use Rattle.std.specs.Str.{IsAscii};
+ghost use Rattle.std.specs.Prelude.{◌≡◌, ◌≤◌, ◌<◌, ℕ, List, length, Some, None, slice_get, option_copied, IfOk, OnOk};
 ghost use Rattle.jb_artifacts.specs.declared.view.RowView.{RowView};
 ghost use Rattle.jb_artifacts.specs.Answers.{IfFault, IfNoMemory};
 ghost use Rattle.jb_artifacts.specs.Reader.{Reader, reader_end, opened, record_at, read_fault, after_read};
@@ -101,13 +100,6 @@ pub trait ItemWriter: Send {
     /// The result at this place of the list, the first being 0, or none past its end.
     fn item_at(&self, i: u64) -> Option<&[u8]>
         ensures { option_copied result ≡ slice_get (writer self.now).written i };
-
-    /// Whether the writer knows that each of its results is ASCII, so that who prints them need not test each. One that doesn't know says no.
-    fn is_ascii(&self) -> bool
-        ensures { IsTrue result → All IsAscii (writer self.now).written }
-    {
-        false
-    }
 }
 
 /// A collector: for each view of a partition it has one text.

@@ -68,10 +68,6 @@ impl ItemWriter for ListWriter {
     fn item_at(&self, i: u64) -> Option<&[u8]> {
         self.written.get(i as usize)
     }
-
-    fn is_ascii(&self) -> bool {
-        self.written.is_ascii()
-    }
 }
 
 impl PackedWriter for ListWriter {

@@ -34,7 +34,7 @@ heard_in attempts = flat_map heard_of attempts
 
 -- before the first round: the partitions with an empty range are completed, where the step begins them; where its rows are
 -- those of an earlier run they were told of then
-abbrev pub heard_first : (begun_anew : Bool) → List Row → List AnalyzerCall
+abbrev pub heard_first : (is_fresh : Bool) → List Row → List AnalyzerCall
 heard_first false rows = []
 heard_first true rows = map (λ n. call.Status n.0 Completed) (filter (λ n. n.1.lo == n.1.hi) (enumerate_from 0 rows))
 
@@ -43,8 +43,8 @@ abbrev pub heard_last : List TaskState → List AnalyzerCall
 heard_last tasks = map (λ t. call.Status t.partition Stopped) (filter (λ t. is_waiting t.row.state) tasks)
 
 -- of a whole run of a step: by the rows that it begins with, all its attempts, and the tasks as they were left
-abbrev pub heard_by : (begun_anew : Bool) → List Row → List AttemptEnd → List TaskState → List AnalyzerCall
-heard_by begun_anew rows attempts tasks = heard_first begun_anew rows ++ heard_in attempts ++ heard_last tasks
+abbrev pub heard_by : (is_fresh : Bool) → List Row → List AttemptEnd → List TaskState → List AnalyzerCall
+heard_by is_fresh rows attempts tasks = heard_first is_fresh rows ++ heard_in attempts ++ heard_last tasks
 
 -- the calls about a partition
 abbrev pub partition_told : AnalyzerCall → ℕ

@@ -14,7 +14,7 @@ abbrev pub rolled_back : List ReducerCall
 rolled_back = Rollback ∷ After partitions.Rollback ∷ []
 
 -- before the partitions begin: `begin`, and the rollback of an earlier run's results where these are discarded
-abbrev pub calls_before : (discards : Bool) → List ReducerCall
+abbrev pub calls_before : (overrides : Bool) → List ReducerCall
 calls_before false = Begin ∷ []
 calls_before true = Begin ∷ Rollback ∷ []
 
@@ -26,9 +26,9 @@ calls_after status.Completed false = Before ∷ After partitions.Commit ∷ []
 calls_after _ before_failed = rolled_back
 
 -- all calls of a run: where `begin` fails there are no more
-abbrev pub reducer_calls : (begun : Bool) → (discards : Bool) → Status → (before_failed : Bool) → List ReducerCall
-reducer_calls false discards stands before_failed = Begin ∷ []
-reducer_calls true discards stands before_failed = calls_before discards ++ calls_after stands before_failed
+abbrev pub reducer_calls : (begun : Bool) → (overrides : Bool) → Status → (before_failed : Bool) → List ReducerCall
+reducer_calls false overrides stands before_failed = Begin ∷ []
+reducer_calls true overrides stands before_failed = calls_before overrides ++ calls_after stands before_failed
 
 -- `before_completion` was answered with a fault
 abbrev pub is_before : ReducerCall → Bool

@@ -97,7 +97,7 @@ pub record ListedCalls : Type 0 where
 
 -- THE REDUCER'S CALLS, in all cases: an earlier run's results are kept or discarded
 pub record ReducerCalls : Type 0 where
-  pub begin_fails : (discards : Bool) (stands : Status) (fails : Bool) → reducer_calls false discards stands fails ≡ Begin ∷ []
+  pub begin_fails : (overrides : Bool) (stands : Status) (fails : Bool) → reducer_calls false overrides stands fails ≡ Begin ∷ []
   pub completed : reducer_calls true false Completed false ≡ Begin ∷ Before ∷ After end.Commit ∷ []
   pub before_fails : reducer_calls true false Completed true ≡ Begin ∷ Before ∷ Rollback ∷ After end.Rollback ∷ []
   pub stopped : (fails : Bool) → reducer_calls true false Stopped fails ≡ Begin ∷ Rollback ∷ After end.Rollback ∷ []

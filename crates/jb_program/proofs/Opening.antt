@@ -132,7 +132,7 @@ served-by records plan (Some resume) runnable is i row at =
 
 -- ---- all of it
 
--- what a step was prepared with: its plan can be run, and nothing is wrong with the rows that it goes on from or discards
+-- what a step was prepared with: its plan can be run, and nothing is wrong with the rows that it goes on from or overrides
 pub record IsPreparedWith (step : StepRecord) (records : ℕ) (plan : PartitionPlan) (resume : Option Resume) (s : Setup) : Type 0 where
   pub runnable : IsRunnable records plan
   pub accepted : saved_faults step records plan.replace (rows_saved resume) ≡ []

@@ -10,7 +10,7 @@ use Rattle.jb_mapper.specs.Mapping.{even, fixed}
 use Rattle.jb_collect.specs.declared.calls.ReducerCall.{ReducerCall}
 use Rattle.jb_collect.specs.declared.calls.ReducerCall.TheVariants.{Begin}
 use Rattle.jb_collect.specs.Taken.{Taken, Grew, calls_of, faulted, since, well}
-use Rattle.jb_step.specs.preparing.Prepare.{CanDiscard, IsFaultedRollback, IsPrepareRefusal}
+use Rattle.jb_step.specs.preparing.Prepare.{CanOverride, IsFaultedRollback, IsPrepareRefusal}
 use Rattle.jb_step.specs.callbacks.Callbacks.{has_fault}
 use Rattle.jb_saved.specs.SavedRows.{SavedRows}
 use Rattle.jb_saved.specs.declared.place.SavedPlace.{SavedPlace}
@@ -43,7 +43,7 @@ other-refusal step records mapped saved plan before new (error.Mapper class) gre
 other-refusal step records mapped saved plan before new (error.Reducer class) grew maps is plans places memory =
     no-fault is
   where
-    no-fault : (since before (map well new) ≡ faulted Begin class ∷ []) ⊎ CanDiscard step records mapped saved × IsFaultedRollback class (since before (map well new)) → ⊥
+    no-fault : (since before (map well new) ≡ faulted Begin class ∷ []) ⊎ CanOverride step records mapped saved × IsFaultedRollback class (since before (map well new)) → ⊥
     no-fault (inl at_begin) = let none : false ≡ true = sym (well-faults (length before) new) ∙ ap has_fault at_begin in cc
     no-fault (inr later) = let none : false ≡ true = sym (well-faults (length before) new) ∙ ap has_fault later.1.calls in cc
 other-refusal step records mapped saved plan before new error.WrongArtifacts grew maps is plans places memory = is

@@ -20,7 +20,7 @@ use Rattle.jb_cert.specs.declared.notes.PlanNote.{PlanNote}
 use Rattle.jb_step.specs.Answers.{AreLeftOnTheWay, IsRunOfStep, tasks_left}
 use Rattle.jb_step.specs.Headline.{Headline}
 use Rattle.jb_step.specs.preparing.Prepare.{DoFit}
-use Rattle.jb_step.specs.preparing.Setup.{IsSetup, Setup, discards, first_tasks, gone_on, row_now, rows_now, saved_faults}
+use Rattle.jb_step.specs.preparing.Setup.{IsSetup, Setup, overrides, first_tasks, gone_on, row_now, rows_now, saved_faults}
 use Rattle.jb_step.specs.Statuses.{status_of}
 use Rattle.jb_documents.specs.declared.restart.resume.Resume.{Resume}
 use Rattle.jb_documents.specs.declared.run.step_data.StepData.{StepData}
@@ -99,7 +99,7 @@ pub step-run : LawsOfTheCratesBelow → (step : StepRecord) (supply : StepData) 
     → AreGiven step resume count prepared records outputs → records ≡ supply.records → settings ≡ settings_of step supply → AreKept settings → artifacts ≡ all_opening_artifacts settings records outputs prepared.rows
     → silent ≡ [] → IsRunOfStep (run_with prepared artifacts round_limit (map well silent) (map well listened) plans snapshot left)
     → Headline (run_with prepared artifacts round_limit (map well silent) (map well listened) plans snapshot left) → AreLeftOnTheWay (first_tasks prepared artifacts) snapshot.rows.items left
-    → status ≡ status_of snapshot.rows.items false → begun ≡ calls_before (discards step.spec.replace (rows_saved resume)) → recorded ≡ begun ++ calls_after (status_of snapshot.rows.items false) false
+    → status ≡ status_of snapshot.rows.items false → begun ≡ calls_before (overrides step.spec.replace (rows_saved resume)) → recorded ≡ begun ++ calls_after (status_of snapshot.rows.items false) false
     → id ≡ step.id → heard ≡ calls_of (map well listened) → reducer ≡ calls_of (map well recorded)
     → IsStepRun step supply round_limit resume (record { id = id; status = status; partitions = partitions_left outputs snapshot.rows.items left; heard = heard; plans = plans; reducer = reducer })
 step-run below step supply round_limit resume count prepared records outputs settings artifacts snapshot left id status plans heard silent listened reducer begun recorded given records-are settings-are kept are quiet run headline way stands begins calls id-is heard-is reducer-is =

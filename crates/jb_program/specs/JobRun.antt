@@ -14,7 +14,7 @@ use Rattle.jb_documents.specs.declared.restart.resume.Resume.{Resume}
 use Rattle.jb_artifacts.specs.Meaning.{ArtifactsMeaning}
 use Rattle.jb_collect.specs.declared.calls.Status.{Status}
 use Rattle.jb_collect.specs.declared.calls.Status.TheVariants.{Completed}
-use Rattle.jb_step.specs.preparing.Setup.{Setup, discards, saved_faults}
+use Rattle.jb_step.specs.preparing.Setup.{Setup, overrides, saved_faults}
 use Rattle.jb_texts.specs.Report.{Report, StepReport}
 use Rattle.jb_program.specs.declared.run.settings.StepSettings.{StepSettings}
 use Rattle.jb_program.specs.declared.streams.failure.Failure.{Failure}
@@ -40,7 +40,7 @@ plan_of_step step supply = plan_for step.spec (length supply.records)
 abbrev pub settings_of : StepRecord → StepData → StepSettings
 settings_of step supply = record { rules = step.rules; item_count = step.item_count; prefix = supply.prefix; drop = supply.drop; faults = supply.faults }
 
--- what it goes on from: what the run before left, unless its plan discards that
+-- what it goes on from: what the run before left, unless its plan overrides that
 abbrev pub kept_of : StepRecord → Option Resume → Option Resume
 kept_of step resume = gone_on_from step.spec.replace resume
 
@@ -52,14 +52,14 @@ setup_of step supply resume = setup_with step (plan_of_step step supply) (rows_s
 abbrev pub opening_artifacts_of : StepRecord → StepData → Option Resume → List ArtifactsMeaning
 opening_artifacts_of step supply resume = all_opening_artifacts (settings_of step supply) supply.records (outputs_of (kept_of step resume)) (setup_of step supply resume).rows
 
--- The step's plan can be run, nothing is wrong with the rows that it goes on from or discards, and its report tells of a run of it: each
+-- The step's plan can be run, nothing is wrong with the rows that it goes on from or overrides, and its report tells of a run of it: each
 -- partition left what it leaves by itself, and the plans, what was heard, the reducer's calls and the status are the run's.
 pub record IsStepRun (step : StepRecord) (supply : StepData) (round_limit : Option ℕ) (resume : Option Resume) (report : StepReport) : Type 0 where
   pub runnable : IsRunnable (length supply.records) (plan_of_step step supply)
   pub accepted : saved_faults step (length supply.records) step.spec.replace (rows_saved resume) ≡ []
   pub id : report.id ≡ step.id
   pub partitions : ArePartitionRuns (begun_with (settings_of step supply) supply.records (outputs_of (kept_of step resume))) 0 (setup_of step supply resume).rows report.partitions
-  pub told : IsToldOf (discards step.spec.replace (rows_saved resume)) (setup_of step supply resume) (opening_artifacts_of step supply resume) (outputs_of (kept_of step resume)) round_limit report
+  pub told : IsToldOf (overrides step.spec.replace (rows_saved resume)) (setup_of step supply resume) (opening_artifacts_of step supply resume) (outputs_of (kept_of step resume)) round_limit report
 
 -- The step is refused: its plan, or else what it would go on from, for the first fault.
 abbrev pub IsStepRefused : StepRecord → StepData → Option Resume → Failure → Type 0

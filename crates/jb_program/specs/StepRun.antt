@@ -32,7 +32,7 @@ abbrev pub rows_saved : Option Resume → Option SavedRows
 rows_saved None = None
 rows_saved (Some resume) = Some resume.saved
 
--- what a step goes on from: nothing where its plan discards it
+-- what a step goes on from: nothing where its plan overrides it
 abbrev pub gone_on_from : (replace : Bool) → Option Resume → Option Resume
 gone_on_from true resume = None
 gone_on_from false resume = resume
@@ -55,7 +55,7 @@ setup_with step plan saved = record {
   rules = step.rules;
   item_count = step.item_count;
   threads = threads_of plan;
-  begun_anew = is_none saved;
+  is_fresh = is_none saved;
 }
 
 -- The step isn't begun: its plan has a first fault, or it can be run and the saved rows have one.
@@ -102,11 +102,11 @@ run_told s artifacts round_limit report snapshot left = record {
 -- its analyzer heard, and all calls of its reducer, the rollback of an earlier run's results among them where these are
 -- discarded. Each call of the two was answered well. Of the run the headline holds: each plan in the report has exactly the
 -- chunks not yet committed then, in the fewest rounds of all lawful plans, with its certificate.
-pub record IsToldOf (discards : Bool) (s : Setup) (artifacts : List ArtifactsMeaning) (outputs : List (List (List ℕ))) (round_limit : Option ℕ) (report : StepReport) : Type 0 where
+pub record IsToldOf (overrides : Bool) (s : Setup) (artifacts : List ArtifactsMeaning) (outputs : List (List (List ℕ))) (round_limit : Option ℕ) (report : StepReport) : Type 0 where
   pub snapshot : Snapshot
   pub left : List (ℕ × ArtifactsMeaning)
   pub run : IsRunOfStep (run_told s artifacts round_limit report snapshot left)
   pub headline : Headline (run_told s artifacts round_limit report snapshot left)
   pub partitions : report.partitions ≡ partitions_left outputs snapshot.rows.items left
   pub status : report.status ≡ status_of snapshot.rows.items false
-  pub reducer : report.reducer ≡ reducer_calls true discards (status_of snapshot.rows.items false) false
+  pub reducer : report.reducer ≡ reducer_calls true overrides (status_of snapshot.rows.items false) false

@@ -58,10 +58,6 @@ impl<W: ItemWriter> ItemWriter for NotingWriter<W> {
     fn item_at(&self, i: u64) -> Option<&[u8]> {
         self.inner.item_at(i)
     }
-
-    fn is_ascii(&self) -> bool {
-        self.inner.is_ascii()
-    }
 }
 
 /// The numbers of the results' records.

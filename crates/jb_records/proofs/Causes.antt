@@ -25,7 +25,7 @@ use Rattle.jb_step.specs.restarts.Saving.{text_cause}
 use Rattle.jb_saved.specs.SavedRows.{SavedRows}
 use Rattle.jb_step.specs.Answers.{IsRunError}
 use Rattle.jb_step.specs.callbacks.Callbacks.{has_fault}
-use Rattle.jb_step.specs.preparing.Prepare.{CanDiscard, IsFaultedRollback, IsPreparation, IsPrepareRefusal}
+use Rattle.jb_step.specs.preparing.Prepare.{CanOverride, IsFaultedRollback, IsPreparation, IsPrepareRefusal}
 use Rattle.jb_step.specs.preparing.Setup.{Setup, fresh_rows, gone_on, opening_rows, saved_faults}
 use Rattle.jb_records.specs.Causes.{HasSkippedTry, IsCauseOf, written_in}
 use Rattle.jb_records.specs.declared.error.RecordsStepError.{RecordsStepError}
@@ -55,7 +55,7 @@ no-plan plan class is = cc
 
 -- the reducer answers each call well
 no-fault : (step : StepRecord) (records : ℕ) (mapped : Result PartitionPlan ClassId) (saved : Option SavedRows) (before : List (Taken ReducerCall)) (new : List ReducerCall) (class : ClassId)
-    → (since before (map well new) ≡ faulted Begin class ∷ []) ⊎ CanDiscard step records mapped saved × IsFaultedRollback class (since before (map well new)) → ⊥
+    → (since before (map well new) ≡ faulted Begin class ∷ []) ⊎ CanOverride step records mapped saved × IsFaultedRollback class (since before (map well new)) → ⊥
 no-fault step records mapped saved before new class (inl at_begin) = let none : false ≡ true = sym (well-faults (length before) new) ∙ ap has_fault at_begin in cc
 no-fault step records mapped saved before new class (inr later) = let none : false ≡ true = sym (well-faults (length before) new) ∙ ap has_fault later.1.calls in cc
 

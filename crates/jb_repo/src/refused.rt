@@ -2,7 +2,9 @@
 
 use thiserror::Error;
 
-/// Why an event is refused.
+/// Why an event is refused. `Repo::apply` lists the refusals of each event, the first that holds being answered. `BadDelta` comes last
+/// of those of a `Commit`, a `Roll` or a `Fail`, after `LaneRange` and `NotRunning`: a `Commit` that isn't one of the partition's next
+/// block, or any of the three after more than 100,000 repeats in place.
 #[derive(Clone, Copy, Debug, PartialEq, Eq, Error)]
 pub enum Refused {
     /// A stop was asked for.

@@ -30,7 +30,7 @@ abbrev pub HeardOfPartition : Type 0
 HeardOfPartition =
     (p : ℕ) (s : Setup) (start : Table) (plans : List PlanRun)
     → calls_about p (heard s start plans)
-    ≡ calls_about p (heard_first s.begun_anew s.rows)
+    ≡ calls_about p (heard_first s.is_fresh s.rows)
     ++ heard_in (attempts_at p (all_attempts plans start)) ++ heard_last (held_in (alone_at p (table_after plans start)))
 
 -- and these attempts are those that the partition makes alone from its task

@@ -28,7 +28,7 @@ use Rattle.jb_step.specs.Answers.{AreCallsInPart, artifacts_of, tasks_left}
 use Rattle.jb_step.specs.callbacks.Heard.{heard}
 use Rattle.jb_step.specs.preparing.Prepare.{AreCallsAtRefusal, AreCallsBefore}
 use Rattle.jb_step.specs.rounds.Runs.{PlanRun, AreOver, ArePlanRuns, IsPlanRun, note_of, table_after, events_of}
-use Rattle.jb_step.specs.preparing.Setup.{Setup, discards, needs, first_table, fresh_rows, gone_on, opening_rows, rows_now}
+use Rattle.jb_step.specs.preparing.Setup.{Setup, overrides, needs, first_table, fresh_rows, gone_on, opening_rows, rows_now}
 use Rattle.jb_step.specs.Statuses.{status_of}
 use Rattle.jb_step.specs.Tables.{Table, held_in}
 use Rattle.jb_step.specs.restarts.StepRuns.{artifacts_restarted}
@@ -45,7 +45,7 @@ step rules item_count threads ranges = record {
   rules = rules;
   item_count = item_count;
   threads = threads;
-  begun_anew = true;
+  is_fresh = true;
 }
 
 -- a run of a step: what it begins with, and its plans
@@ -72,7 +72,7 @@ saved_of r = record { step = codes "s"; rows = rows_at_last r }
 
 -- the step is taken up again where a run left it, with these artifacts, or with those that were handed back
 abbrev pub resumed_run : WorkedRun → List ArtifactsMeaning → List PlanRun → WorkedRun
-resumed_run r artifacts plans = run_of (record r.step { rows = opening_rows [] (Some (saved_of r)); begun_anew = false }) artifacts plans
+resumed_run r artifacts plans = run_of (record r.step { rows = opening_rows [] (Some (saved_of r)); is_fresh = false }) artifacts plans
 
 abbrev pub resumed_as_left : WorkedRun → List PlanRun → WorkedRun
 resumed_as_left r plans = resumed_run r (artifacts_restarted (tasks_at_end r)) plans
@@ -371,9 +371,9 @@ two_ranges = range 0 4 ∷ range 4 7 ∷ []
 pub record Overridden : Type 0 where
   pub goes_on : opening_rows two_ranges (gone_on false (Some (saved_of stopped_seven))) ≡ rest_of_seven.step.rows
   pub anew : opening_rows two_ranges (gone_on true (Some (saved_of stopped_seven))) ≡ fresh_rows two_ranges
-  pub discarded : discards true (Some (saved_of stopped_seven)) ≡ true
-  pub no_override : discards false (Some (saved_of stopped_seven)) ≡ false
-  pub first_run : discards true None ≡ false
+  pub discarded : overrides true (Some (saved_of stopped_seven)) ≡ true
+  pub no_override : overrides false (Some (saved_of stopped_seven)) ≡ false
+  pub first_run : overrides true None ≡ false
 
 -- of `run_step` without memory
 pub record CallsWithoutMemory : Type 0 where

@@ -10,7 +10,14 @@ use jb_saved::{SavedError, SavedPlace};
 use std::alloc::{AllocError, AllocFailed};
 use thiserror::Error;
 
-/// Why a step has no answer. Calls on saved rows answer `Saved` and `Memory` alone.
+/// Why a step has no answer. The first error that holds is answered:
+///
+/// - `prepare`: `Reducer` (its `begin`); `Mapper`; `Plan`; `Saved` (`Step`, then `Records`); `Reducer` (its `rollback`, under `override`).
+/// - `run_step`: `WrongArtifacts`; `Repository` (the desk's rows, as the step finds them); then the first of `Workers`, `Repository`
+///   and `Memory` that ends a round; `Repository` (the desk's rows, as the step leaves them).
+/// - Calls on saved rows: `Saved` alone.
+///
+/// Each of them answers `Memory` at the first call that is out of memory.
 #[derive(Clone, Copy, Debug, PartialEq, Eq, Error)]
 pub enum StepError {
     /// The mapper's plan can't be run.

@@ -80,7 +80,7 @@ pub fn restarts_go_on()
     runs_end_alike();
 }
 
-/// A restart whose plan discards what was saved is prepared as where nothing was saved, but for the reducer's `rollback`: it
+/// A restart whose plan overrides what was saved is prepared as where nothing was saved, but for the reducer's `rollback`: it
 /// begins a chain of restarts of its own.
 pub fn overrides_begin_anew()
     ensures { OverridesBeginAnew }

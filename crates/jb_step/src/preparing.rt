@@ -5,7 +5,7 @@ ghost use Rattle.jb_base.specs.Limits.{max_records};
 ghost use Rattle.jb_collect.specs.declared.calls.ReducerCall.TheVariants as act;
 ghost use Rattle.jb_collect.specs.Taken.{Grew, since, well};
 ghost use Rattle.jb_step.specs.declared.error.StepError.TheVariants.{Memory};
-ghost use Rattle.jb_step.specs.preparing.Prepare.{AreCallsBefore, IsAnew, IsPreparation, IsPrepareRefusal, discards_by};
+ghost use Rattle.jb_step.specs.preparing.Prepare.{AreCallsBefore, IsOverridden, IsPreparation, IsPrepareRefusal, overrides_by};
 ghost use Rattle.jb_step.specs.preparing.Setup.{IsSetup, fresh_rows, saved_faults};
 ghost use Rattle.jb_step.specs.inside.preparing.Fresh.{IsDiscardRefused, IsUnopened, IsUnplanned, opened_setup, setup_of_rows};
 
@@ -48,8 +48,8 @@ pub fn prepare(
     ensures prepared { IfOk result (λ prepared. IsPreparation step.now records (mapping mapper.old records) saved prepared) }
     ensures setup { IfOk result (λ prepared. IsSetup prepared) }
     ensures refused { IfErr result (λ error. IsPrepareRefusal step.now records (mapping mapper.old records) saved (since (reduced reducer.old) (reduced reducer.new)) error) }
-    ensures calls { AreCallsBefore (discards_by (mapping mapper.old records) saved) result (since (reduced reducer.old) (reduced reducer.new)) }
-    ensures anew { IfOk result (λ prepared. IsAnew (mapping mapper.old records) saved (since (reduced reducer.old) (reduced reducer.new)) prepared) }
+    ensures calls { AreCallsBefore (overrides_by (mapping mapper.old records) saved) result (since (reduced reducer.old) (reduced reducer.new)) }
+    ensures overridden { IfOk result (λ prepared. IsOverridden (mapping mapper.old records) saved (since (reduced reducer.old) (reduced reducer.new)) prepared) }
     ensures grew { Grew (reduced reducer.old) (reduced reducer.new) }
     ensures mapper { mapping mapper.new ≡ mapping mapper.old }
 {
@@ -57,8 +57,8 @@ pub fn prepare(
         Err(ArtifactError::Fault(class)) => Err(StepError::Reducer(class)),
         Err(ArtifactError::Memory) => Err(StepError::Memory),
         Ok(()) => match planned(alloc, step, records, mapper, saved) {
-            Ok((prepared, discards)) => {
-                if discards {
+            Ok((prepared, overrides)) => {
+                if overrides {
                     discard(prepared, reducer)
                 } else {
                     Ok(prepared)
@@ -90,7 +90,7 @@ fn discard(prepared: Prepared, reducer: &mut dyn Reducer) -> Result<Prepared, St
     }
 }
 
-// What the mapper's plan and the saved rows give, and whether the plan discards these.
+// What the mapper's plan and the saved rows give, and whether the plan overrides these.
 fn planned(
     alloc: Global,
     step: &Step,
@@ -100,7 +100,7 @@ fn planned(
 ) -> Result<(Prepared, bool), StepError>
     requires { records ≤ max_records }
     ensures prepared { IfOk result (λ r. IsPreparation step.now records (mapping mapper.old records) saved r.0) }
-    ensures discards { IfOk result (λ r. r.1 ≡ discards_by (mapping mapper.old records) saved) }
+    ensures overrides { IfOk result (λ r. r.1 ≡ overrides_by (mapping mapper.old records) saved) }
     ensures setup { IfOk result (λ r. IsSetup r.0) }
     ensures refused { IfErr result (λ error. IsUnplanned step.now records (mapping mapper.old records) saved error) }
     ensures mapper { mapping mapper.new ≡ mapping mapper.old }
@@ -112,9 +112,9 @@ fn planned(
     };
     match checked(plan, records) {
         Ok(plan_checked) => {
-            let discards = plan_checked.replace() && saved.is_some();
+            let overrides = plan_checked.replace() && saved.is_some();
             let prepared = opened(alloc, &plan_checked, step, records, saved)?;
-            Ok((prepared, discards))
+            Ok((prepared, overrides))
         }
         Err(fault) => Err(StepError::Plan(fault)),
     }
@@ -134,7 +134,7 @@ fn opened(
     ensures refused { IfErr result (λ error. IsUnopened step.now records plan.now.replace saved error) }
 {
     match saved {
-        None => anew(alloc, plan, step),
+        None => fresh(alloc, plan, step),
         Some(saved) => {
             if !plan.replace() {
                 return Prepared::resumed(alloc, plan, step, records, &saved);
@@ -142,13 +142,13 @@ fn opened(
             if saved.step_id() != step.id() {
                 return Err(StepError::Saved(SavedPlace::Step));
             }
-            anew(alloc, plan, step)
+            fresh(alloc, plan, step)
         }
     }
 }
 
 // All partitions begin anew on the plan's ranges. The only error is want of memory.
-fn anew(alloc: Global, plan: &Checked, step: &Step) -> Result<Prepared, StepError>
+fn fresh(alloc: Global, plan: &Checked, step: &Step) -> Result<Prepared, StepError>
     ensures value { IfOk result (λ prepared. prepared ≡ setup_of_rows (fresh_rows plan.now.ranges) plan.now step.now true) }
     ensures setup { IfOk result (λ prepared. IsSetup prepared) }
     ensures err { IfErr result (λ error. error ≡ Memory) }

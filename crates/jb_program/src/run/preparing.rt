@@ -4,7 +4,7 @@ ghost use Rattle.std.specs.Prelude.{◌≡◌, ◌≤◌, ◌⊎◌, ◌++◌, [
 ghost use Rattle.jb_collect.specs.ReducerCalls.{calls_before};
 ghost use Rattle.jb_base.specs.Limits.{max_records};
 ghost use Rattle.jb_plan.specs.Plans.{IsRunnable};
-ghost use Rattle.jb_step.specs.preparing.Setup.{IsSetup, discards, gone_on, saved_faults};
+ghost use Rattle.jb_step.specs.preparing.Setup.{IsSetup, overrides, gone_on, saved_faults};
 ghost use Rattle.jb_program.specs.JobRun.{plan_for};
 ghost use Rattle.jb_program.specs.StepRun.{IsNotBegun, setup_with};
 
@@ -39,7 +39,7 @@ fn prepared_by(
     ensures accepted { OnOk result (saved_faults step.now records step.now.spec.replace saved ≡ []) }
     ensures prepared { IfOk result (λ prepared. prepared ≡ setup_with step.now (plan_for step.now.spec records) (gone_on step.now.spec.replace saved)) }
     ensures setup { IfOk result (λ prepared. IsSetup prepared) }
-    ensures begun { OnOk result (reducer.new ≡ reducer.old ++ calls_before (discards step.now.spec.replace saved)) }
+    ensures begun { OnOk result (reducer.new ≡ reducer.old ++ calls_before (overrides step.now.spec.replace saved)) }
     ensures why { IfErr result (λ e. (e ≡ Failure.Memory) ⊎ IsNotBegun step.now records (plan_for step.now.spec records) saved e) }
 {
     match prepare(alloc, step, records, mapper, reducer, saved) {
@@ -54,7 +54,7 @@ fn prepared_by(
 }
 
 /// Prepares a step with so many records: with its own ranges, or with even ones, or with the rows of an earlier run, unless
-/// its plan discards them.
+/// its plan overrides them.
 pub fn prepared_step(
     alloc: Global,
     step: &Step,
@@ -67,7 +67,7 @@ pub fn prepared_step(
     ensures accepted { OnOk result (saved_faults step.now records step.now.spec.replace saved ≡ []) }
     ensures prepared { IfOk result (λ prepared. prepared ≡ setup_with step.now (plan_for step.now.spec records) (gone_on step.now.spec.replace saved)) }
     ensures setup { IfOk result (λ prepared. IsSetup prepared) }
-    ensures begun { OnOk result (reducer.new ≡ reducer.old ++ calls_before (discards step.now.spec.replace saved)) }
+    ensures begun { OnOk result (reducer.new ≡ reducer.old ++ calls_before (overrides step.now.spec.replace saved)) }
     ensures why { IfErr result (λ e. (e ≡ Failure.Memory) ⊎ IsNotBegun step.now records (plan_for step.now.spec records) saved e) }
 {
     let spec = step.spec();

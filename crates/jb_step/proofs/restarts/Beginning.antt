@@ -82,9 +82,9 @@ saved-may-open saved kept unfailed = record {
   begun = λ i row e. begun-state row.state (kept.idle i row e).1 (unfailed i row e);
 }
 
-pub opened-is : (rows : List Row) (plan : CheckedPlan) (step : StepRecord) (begun_anew : Bool) → MayOpen rows → 1 ≤ plan.threads → plan.threads ≤ max_threads → step.rules.retry_limit ≤ max_retry_limit → HasItemCount step.item_count
-    → IsSetup (setup_of_rows rows plan step begun_anew)
-opened-is rows plan step begun_anew open_ some few retried items = record {
+pub opened-is : (rows : List Row) (plan : CheckedPlan) (step : StepRecord) (is_fresh : Bool) → MayOpen rows → 1 ≤ plan.threads → plan.threads ≤ max_threads → step.rules.retry_limit ≤ max_retry_limit → HasItemCount step.item_count
+    → IsSetup (setup_of_rows rows plan step is_fresh)
+opened-is rows plan step is_fresh open_ some few retried items = record {
   openable = record {
     some_rows = open_.some_rows;
     few_rows = open_.few_rows;

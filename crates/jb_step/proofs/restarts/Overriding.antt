@@ -1,4 +1,4 @@
--- A restart whose plan discards what was saved.
+-- A restart whose plan overrides what was saved.
 use Rattle.std.proofs.Common.{◌≡◌, Bool, true, false, Result, Ok, Err, None, refl, ap, sym, ◌∙◌}
 use Rattle.std.specs.Prelude.{is_none}
 use Rattle.jb_base.specs.declared.class.ClassId.{ClassId}
@@ -23,5 +23,5 @@ overrides-begin-anew step records mapped saved s plan is replaced h =
       rules = h.rules;
       item_count = h.item_count;
       threads = h.threads;
-      begun_anew = h.begun_anew ∙ ap is_none none;
+      is_fresh = h.is_fresh ∙ ap is_none none;
     }

@@ -56,7 +56,7 @@ pub record IsLeft (r : StepRun) (fault : Option ClassId) : Type 0 where
   pub first : Moment
   pub now : Progress
   pub stopped : Bool
-  pub begun : HasTaken r.heard_before (heard_first r.setup.begun_anew r.setup.rows) first.fault first.calls
+  pub begun : HasTaken r.heard_before (heard_first r.setup.is_fresh r.setup.rows) first.fault first.calls
   pub run : IsRunOfStepSoFar r.setup r.round_limit stopped (at_first first (table_before r)) now
   pub ended : stopped ≡ false → have_ended (held_in now.table) ≡ true
   pub table : IsTaskTable r.setup now.table
@@ -97,7 +97,7 @@ module _ (below : LawsBelow) (r : StepRun) (fault : Option ClassId) (h : IsLeft 
 
   heard-all : HasTaken r.heard_before (heard r.setup start plans) fault r.heard_after
   heard-all =
-      let first = heard_first r.setup.begun_anew r.setup.rows in
+      let first = heard_first r.setup.is_fresh r.setup.rows in
       let told = heard_in (all_attempts plans start) in
       subst (λ table. HasTaken r.heard_before ((first ++ told) ++ heard_last (held_in table)) fault r.heard_after) left.table_is
       (hears-more below.more below.no_more None r.heard_before (first ++ told) (heard_last (held_in h.now.table)) h.now.moment (moment r.heard_after fault)

@@ -65,7 +65,7 @@ about-last p table =
 
 pub heard_of_partition : PartitionsAreHeardApart → HeardOfPartition
 heard_of_partition law p s start plans =
-    let first = heard_first s.begun_anew s.rows in
+    let first = heard_first s.is_fresh s.rows in
     let all = all_attempts plans start in
     let last = heard_last (held_in (table_after plans start)) in
     filter-append (λ (d : AnalyzerCall). nat_eq (partition_told d) p) (first ++ heard_in all) last

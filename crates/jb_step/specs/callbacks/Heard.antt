@@ -11,7 +11,7 @@ use Rattle.jb_step.specs.Tables.{Table, held_in}
 
 -- at first the empty ranges; then of each round its attempts, by rising partition; at last the partitions left unfinished
 abbrev pub heard : Setup → Table → List PlanRun → List AnalyzerCall
-heard s start plans = heard_by s.begun_anew s.rows (all_attempts plans start) (held_in (table_after plans start))
+heard s start plans = heard_by s.is_fresh s.rows (all_attempts plans start) (held_in (table_after plans start))
 
 -- the analyzer took these calls, one after another, all of them or up to its first fault
 abbrev pub HasHeard : (before : List (Taken AnalyzerCall)) → List AnalyzerCall → (after : List (Taken AnalyzerCall)) → Type 0

@@ -17,7 +17,7 @@ use Rattle.jb_saved.specs.SavedRows.{SavedRows}
 use Rattle.jb_step.specs.declared.error.StepError.{StepError}
 use Rattle.jb_step.specs.declared.error.StepError.TheVariants.{Plan, Mapper, Reducer, Saved, Memory}
 use Rattle.jb_step.specs.callbacks.Callbacks.{AreSome}
-use Rattle.jb_step.specs.preparing.Setup.{Setup, discards, fresh_rows, gone_on, opening_rows, saved_faults, unfinished}
+use Rattle.jb_step.specs.preparing.Setup.{Setup, overrides, fresh_rows, gone_on, opening_rows, saved_faults, unfinished}
 
 -- The mapper's plan can be run, and nothing is wrong with the saved rows. The partitions begin anew on the plan's ranges; or,
 -- where there are saved rows that the plan doesn't discard, they go on from these, and of the plan only the thread number
@@ -31,27 +31,27 @@ pub record IsPreparation (step : StepRecord) (records : ℕ) (mapped : Result Pa
   pub rules : s.rules ≡ step.rules
   pub item_count : s.item_count ≡ step.item_count
   pub threads : s.threads ≡ threads_of plan
-  pub begun_anew : s.begun_anew ≡ is_none (gone_on plan.replace saved)
+  pub is_fresh : s.is_fresh ≡ is_none (gone_on plan.replace saved)
 
--- whether the mapper's plan discards what an earlier run left
-abbrev pub discards_by : Result PartitionPlan ClassId → Option SavedRows → Bool
-discards_by (Ok plan) saved = discards plan.replace saved
-discards_by (Err class) saved = false
+-- whether the mapper's plan overrides what an earlier run left
+abbrev pub overrides_by : Result PartitionPlan ClassId → Option SavedRows → Bool
+overrides_by (Ok plan) saved = overrides plan.replace saved
+overrides_by (Err class) saved = false
 
 -- Where it does, every partition begins anew on the plan's ranges, and the reducer took `begin` and then `rollback`, both
 -- answered well. (No partition has begun yet: a step's desk has no event when its rounds begin.)
-abbrev pub IsAnew : Result PartitionPlan ClassId → Option SavedRows → List (Taken ReducerCall) → Setup → Type 0
-IsAnew mapped saved taken s =
-    (plan : PartitionPlan) → mapped ≡ Ok plan → discards plan.replace saved ≡ true
-    → (s.rows ≡ fresh_rows plan.ranges) × (s.begun_anew ≡ true) × (taken ≡ well Begin ∷ well Rollback ∷ [])
+abbrev pub IsOverridden : Result PartitionPlan ClassId → Option SavedRows → List (Taken ReducerCall) → Setup → Type 0
+IsOverridden mapped saved taken s =
+    (plan : PartitionPlan) → mapped ≡ Ok plan → overrides plan.replace saved ≡ true
+    → (s.rows ≡ fresh_rows plan.ranges) × (s.is_fresh ≡ true) × (taken ≡ well Begin ∷ well Rollback ∷ [])
 
--- the mapper's plan can be run, and discards saved rows that are the step's
-pub record CanDiscard (step : StepRecord) (records : ℕ) (mapped : Result PartitionPlan ClassId) (saved : Option SavedRows) : Type 0 where
+-- the mapper's plan can be run, and overrides saved rows that are the step's
+pub record CanOverride (step : StepRecord) (records : ℕ) (mapped : Result PartitionPlan ClassId) (saved : Option SavedRows) : Type 0 where
   pub plan : PartitionPlan
   pub mapping : mapped ≡ Ok plan
   pub runnable : IsRunnable records plan
   pub accepted : saved_faults step records plan.replace saved ≡ []
-  pub discarded : discards plan.replace saved ≡ true
+  pub discarded : overrides plan.replace saved ≡ true
 
 -- the rollback of what is discarded was answered with this fault: `after` follows it, whatever it is answered, and no
 -- second rollback
@@ -62,7 +62,7 @@ pub record IsFaultedRollback (class : ClassId) (taken : List (Taken ReducerCall)
 -- the first refusal in the order: `begin`, the mapper, its plan, the saved rows, the rollback of what is discarded; where
 -- memory lacked, nothing is said
 abbrev pub IsPrepareRefusal : StepRecord → ℕ → Result PartitionPlan ClassId → Option SavedRows → List (Taken ReducerCall) → StepError → Type 0
-IsPrepareRefusal step records mapped saved taken (Reducer class) = (taken ≡ faulted Begin class ∷ []) ⊎ CanDiscard step records mapped saved × IsFaultedRollback class taken
+IsPrepareRefusal step records mapped saved taken (Reducer class) = (taken ≡ faulted Begin class ∷ []) ⊎ CanOverride step records mapped saved × IsFaultedRollback class taken
 IsPrepareRefusal step records mapped saved taken (Mapper class) = mapped ≡ Err class
 IsPrepareRefusal step records mapped saved taken (Plan fault) = (plan : PartitionPlan) × (mapped ≡ Ok plan) × IsFirst fault (plan_errors records plan)
 IsPrepareRefusal step records mapped saved taken (Saved place) =
@@ -87,9 +87,9 @@ AreCallsAtRefusal Memory taken = (taken ≡ []) ⊎ (calls : List ReducerCall) �
 AreCallsAtRefusal _ taken = ⊥
 
 -- what it took: where `prepare` didn't refuse, `begin`, and the rollback of what is discarded, all answered well
-abbrev pub AreCallsBefore : {A : Type 0} → (discards : Bool) → Result A StepError → List (Taken ReducerCall) → Type 0
-AreCallsBefore discards (Ok p) taken = taken ≡ map well (calls_before discards)
-AreCallsBefore discards (Err e) taken = AreCallsAtRefusal e taken
+abbrev pub AreCallsBefore : {A : Type 0} → (overrides : Bool) → Result A StepError → List (Taken ReducerCall) → Type 0
+AreCallsBefore overrides (Ok p) taken = taken ≡ map well (calls_before overrides)
+AreCallsBefore overrides (Err e) taken = AreCallsAtRefusal e taken
 
 -- as many artifacts as unfinished partitions, and each serves its partition's row, in this order
 abbrev pub FitRows : List (ℕ × Row) → List ArtifactsMeaning → Type 0

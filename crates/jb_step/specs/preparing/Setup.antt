@@ -25,7 +25,7 @@ pub record Setup : Type 0 where
   pub item_count : ℕ
   pub threads : ℕ
   -- the rows are new ones, and not those of an earlier run
-  pub begun_anew : Bool
+  pub is_fresh : Bool
 
 -- the rows that a run begins with: new ones of the ranges, or an earlier run's, of which the failed ones wait again
 abbrev pub fresh_rows : List Range → List Row
@@ -41,8 +41,8 @@ gone_on true saved = None
 gone_on false saved = saved
 
 -- an earlier run's results are discarded
-abbrev pub discards : (replace : Bool) → Option SavedRows → Bool
-discards replace saved = replace && is_some saved
+abbrev pub overrides : (replace : Bool) → Option SavedRows → Bool
+overrides replace saved = replace && is_some saved
 
 -- what is wrong with an earlier run's rows for a step of so many records; where they are discarded, whose they are is all
 -- that counts

@@ -87,7 +87,7 @@ RestartsEndAsUnstopped =
     → IsChain step unstopped [] → BeginAlike first unstopped → unstopped.snapshot.stopping ≡ false
     → ((last_run first later).snapshot.rows.items ≡ unstopped.snapshot.rows.items) × (artifacts_of (tasks_at_last first later) ≡ unstopped.left)
 
--- a restart whose plan discards what was saved is prepared as where nothing was saved: so it is the first run of a chain
+-- a restart whose plan overrides what was saved is prepared as where nothing was saved: so it is the first run of a chain
 abbrev pub OverridesBeginAnew : Type 0
 OverridesBeginAnew =
     (step : StepRecord) (records : ℕ) (mapped : Result PartitionPlan ClassId) (saved : Option SavedRows) (s : Setup) (plan : PartitionPlan)

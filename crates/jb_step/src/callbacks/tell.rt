@@ -80,10 +80,10 @@ pub(crate) fn tell_first(
     prepared: &Prepared,
     analyzer: &mut dyn Analyzer,
 ) -> Result<Option<ClassId>, RunError>
-    ensures heard { IfOk result (λ fault. HasTaken (analyzed analyzer.old) (heard_first prepared.now.begun_anew prepared.now.rows) fault (analyzed analyzer.new)) }
+    ensures heard { IfOk result (λ fault. HasTaken (analyzed analyzer.old) (heard_first prepared.now.is_fresh prepared.now.rows) fault (analyzed analyzer.new)) }
     ensures grew { Grew (analyzed analyzer.old) (analyzed analyzer.new) }
 {
-    if !prepared.begun_anew() {
+    if !prepared.is_fresh() {
         return Ok(None);
     }
     let rows = prepared.begun_rows();

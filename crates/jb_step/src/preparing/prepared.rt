@@ -30,7 +30,7 @@ pub struct Prepared {
     rules: Rules,
     item_count: u64,
     threads: u32,
-    begun_anew: bool,
+    is_fresh: bool,
 }
 
 impl Model for Prepared {
@@ -82,10 +82,10 @@ impl Prepared {
         rows: Vec<Row>,
         plan: &Checked,
         step: &Step,
-        begun_anew: bool,
+        is_fresh: bool,
     ) -> Result<Prepared, AllocError>
         requires { MayOpen rows.items }
-        ensures value { IfOk result (λ prepared. prepared ≡ setup_of_rows rows.items plan.now step.now begun_anew) }
+        ensures value { IfOk result (λ prepared. prepared ≡ setup_of_rows rows.items plan.now step.now is_fresh) }
         ensures setup { IfOk result (λ prepared. IsSetup prepared) }
     {
         let rules = step.rules();
@@ -98,7 +98,7 @@ impl Prepared {
             rules,
             item_count: step.item_count(),
             threads: plan.threads(),
-            begun_anew,
+            is_fresh,
         })
     }
 
@@ -178,10 +178,10 @@ impl Prepared {
     }
 
     /// Whether the rows are new ones, and not those of an earlier run.
-    pub(crate) fn begun_anew(&self) -> bool
-        ensures { result ≡ self.now.begun_anew }
+    pub(crate) fn is_fresh(&self) -> bool
+        ensures { result ≡ self.now.is_fresh }
     {
-        self.begun_anew
+        self.is_fresh
     }
 }
 

@@ -15,7 +15,7 @@ again : (ranges : List Range) (saved : Option SavedRows) (rows : List Row) → r
 again ranges None rows is = tt
 again ranges (Some held) rows is = is
 
--- no plan of an even mapper's discards them
+-- no plan of an even mapper's overrides them
 gone : (ranges : List Range) (replace : Bool) (saved : Option SavedRows) (rows : List Row) → replace ≡ false → rows ≡ opening_rows ranges (gone_on replace saved) → rows ≡ opening_rows ranges saved
 gone ranges replace saved rows none is = is ∙ ap (λ (b : Bool). opening_rows ranges (gone_on b saved)) none
 

@@ -19,13 +19,13 @@ use Rattle.jb_step.specs.callbacks.Callbacks.{AreSome}
 use Rattle.jb_step.specs.preparing.Setup.{Setup, gone_on, opening_rows, saved_faults}
 
 -- the step with these rows, on the plan's threads
-abbrev pub setup_of_rows : List Row → CheckedPlan → StepRecord → (begun_anew : Bool) → Setup
-setup_of_rows rows plan step begun_anew = record {
+abbrev pub setup_of_rows : List Row → CheckedPlan → StepRecord → (is_fresh : Bool) → Setup
+setup_of_rows rows plan step is_fresh = record {
   rows = rows;
   rules = step.rules;
   item_count = step.item_count;
   threads = plan.threads;
-  begun_anew = begun_anew;
+  is_fresh = is_fresh;
 }
 
 abbrev pub opened_setup : CheckedPlan → StepRecord → Option SavedRows → Setup

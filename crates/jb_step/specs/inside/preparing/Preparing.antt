@@ -10,7 +10,7 @@ use Rattle.jb_step.specs.declared.preparing.prepared.Prepared.TheInside.{Inside}
 use Rattle.jb_step.specs.preparing.Setup.{Setup, IsSetup, needs}
 
 abbrev pub prepared_setup : Inside → Setup
-prepared_setup a = record { rows = a.rows.items; rules = a.rules; item_count = a.item_count; threads = a.threads; begun_anew = a.begun_anew }
+prepared_setup a = record { rows = a.rows.items; rules = a.rules; item_count = a.item_count; threads = a.threads; is_fresh = a.is_fresh }
 
 -- a step may begin with them, and the unfinished partitions are listed
 pub record IsPrepared (a : Inside) : Type 0 where

@@ -41,7 +41,7 @@ returns-clause-listed c = record { second = refl; later = refl; never = refl }
 
 pub returns-clause-reducer : goal.returns-clause-reducer
 returns-clause-reducer c = record {
-  begin_fails = λ discards stands fails. refl;
+  begin_fails = λ overrides stands fails. refl;
   completed = refl;
   before_fails = refl;
   stopped = λ fails. refl;

@@ -1,7 +1,7 @@
 use Rattle.std.proofs.Common.{rules, ◌≡◌, ◌++◌, ◌⊎◌, Option, length, refl, ap, ◌∙◌}
 use Rattle.jb_collect.specs.ReducerCalls.{calls_before}
 use Rattle.jb_saved.specs.SavedRows.{SavedRows}
-use Rattle.jb_step.specs.preparing.Setup.{discards}
+use Rattle.jb_step.specs.preparing.Setup.{overrides}
 use Rattle.jb_program.specs.JobRun.{IsStepRefused}
 use Rattle.jb_program.specs.Refusals.{IsBreakOff}
 use Rattle.jb_program.proofs.StepRuns.{handed-on, prepared-with, refused, step-run, within-prepared, artifacts-serve}
@@ -33,7 +33,7 @@ returns g c =
     let counted : c.len-count.result ≡ length c.into_list-records.result = search rules in
     let taken : c.into_list-records.result ≡ c.args.supply.records = search rules in
     let prepared = c.in_ok-prepared.ensures in
-    let calls = λ (rows : Option SavedRows). calls_before (discards c.args.step.now.spec.replace rows) in
+    let calls = λ (rows : Option SavedRows). calls_before (overrides c.args.step.now.spec.replace rows) in
     let begins = c.in_ok-prepared.ensures.begun ∙ ap (λ cs. cs ++ calls c.taken-saved.result.0) c.new-reducer.ensures ∙ ap calls c.taken-saved.ensures.saved in
     let run = step-run c.laws_below.ensures c.args.step.now c.args.supply c.args.round_limit c.args.resume c.len-count.result c.in_ok-prepared.prepared c.into_list-records.result _ c.settings_for-settings.result _
     c.in_ok-end.end.snapshot _ c.id.result.now c.in_ok-end.end.status c.in_ok-end.end.plans.items c.calls.result.now _ _ c.calls-2.result.now _ _
