@@ -15,4 +15,4 @@ mod statements;
 pub use error::StoreError;
 pub use listing::list;
 pub use opening::{begin, opened_leaves_its_list, takes};
-pub use statements::{append, is_appended};
+pub use statements::append;

@@ -40,19 +40,3 @@ pub fn append<S: Alter>(
     )?;
     Ok(())
 }
-
-/// The same, and the answer is whether it is told that the checkpoint was added.
-pub fn is_appended<S: Alter>(
-    conn: &mut Connection<S>,
-    number: u32,
-    saved: &str,
-    results: &[u8],
-) -> bool
-    ensures added { HasCleanDisk (state S.Store conn.new) → (all : _) → Keeps (state S.Store conn.old) all → number ≡ length all + 1
-        → IsTrue result → Keeps (state S.Store conn.new) (all ++ (record { saved = saved.now; results = results.now }) ∷ []) }
-    ensures crash { HasCleanDisk (state S.Store conn.new) → (all : _) → Keeps (state S.Store conn.old) all → number ≡ length all + 1
-        → (db : _) → (state S.Store conn.new).may_leave db
-        → StandsFor db all ⊎ StandsFor db (all ++ (record { saved = saved.now; results = results.now }) ∷ []) }
-{
-    append(conn, number, saved, results).is_ok()
-}

@@ -9,19 +9,25 @@ use jb_records::RecordsStepError;
 use jb_store::StoreError;
 use std::alloc::AllocError;
 use std::{fmt, io};
+use thiserror::Error;
 
 /// Why there is no answer. What the file keeps stays.
-#[derive(Debug, Drop)]
+#[derive(Debug, Drop, Error)]
 pub enum Failure {
     /// The words of the command line ask for nothing.
+    #[error("the words of the command line ask for nothing")]
     Usage,
     /// The file of the checkpoints.
+    #[error("{0}")]
     File(StoreError),
     /// The run has no end.
+    #[error("{0}")]
     Run(DurableError),
     /// A stream failed.
+    #[error("a stream failed: {0}")]
     Stream(io::Error),
     /// There was no memory.
+    #[error("no memory")]
     Memory,
 }
 

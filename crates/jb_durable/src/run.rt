@@ -17,17 +17,23 @@ use jb_store::{StoreError, append, begin};
 use sqlite::{Alter, Connection, FileStore};
 use sqlite_disk::Disk;
 use std::alloc::Global;
+use std::fmt::{Debug, Display};
 use std::sync::Wait;
 use std::thread::Threads;
+use thiserror::Error;
 
 /// Why a run doesn't go on. Its checkpoints stay: the next one goes on from them.
-#[derive(Drop)]
+#[derive(Debug, Drop, Error)]
+#[error_bound(E: Debug + Display)]
 pub enum RunError<E: Drop> {
     /// The file.
+    #[error("{0}")]
     Store(StoreError),
     /// The work.
+    #[error("{0}")]
     DurableWork(E),
     /// There are 4,294,967,295 checkpoints.
+    #[error("there are 4,294,967,295 checkpoints")]
     TooMany,
 }
 

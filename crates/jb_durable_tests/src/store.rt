@@ -2,8 +2,8 @@
 
 use crate::files::{crashed, new_files, opened, text_of};
 use crate::lives::{Life, Listing, ended, listed, lived, named};
-use jb_store::{Checkpoint, Found, StoreError, append, append_over_crash, begin};
-use sqlite::{Alter, Connection, Error, FileStore, Files, Options};
+use jb_store::{Checkpoint, StoreError, append, begin, open_files};
+use sqlite::{Alter, Connection, Error, Files, Options};
 use sqlite_disk::Memory;
 use std::alloc::{AllocError, Global};
 use std::sync::Wait;
@@ -59,17 +59,24 @@ fn begun<S: Alter>(alloc: Global, conn: &mut Connection<S>) -> Result<Vec<Checkp
     begin(alloc, conn)
 }
 
-fn added<S: Alter>(conn: &mut Connection<S>, number: u32) -> Result<(), StoreError> {
-    append(conn, number, "new", &[7, 8])
+/// A checkpoint is added.
+#[derive(Drop)]
+struct AddsLast(u32);
+
+impl Life for AddsLast {
+    fn live<R: Threads + Wait + Sync, S: Alter>(
+        &mut self,
+        _rt: &R,
+        alloc: Global,
+        conn: &mut Connection<S>,
+    ) -> Result<String, AllocError> {
+        let added = append(conn, self.0, "last", &[]);
+        format!(in alloc; "{added:?}")
+    }
 }
 
-/// An append with a crash right behind it, and the next open.
-fn added_over_crash(
-    alloc: Global,
-    conn: Connection<FileStore<Memory>>,
-    number: u32,
-) -> Option<(Connection<FileStore<Memory>>, Found)> {
-    append_over_crash(alloc, conn, number, "last", &[], Options::new(3))
+fn added<S: Alter>(conn: &mut Connection<S>, number: u32) -> Result<(), StoreError> {
+    append(conn, number, "new", &[7, 8])
 }
 
 /// A database, and what is said of it.
@@ -84,18 +91,18 @@ const ROWS: [Row; 13] = [
     Row {
         made_by: "",
         number: 1,
-        says: "| Ok(()) Err(Taken) | new:[7, 8] | true new:[7, 8] last:[] | new:[7, 8] last:[] ",
+        says: "| Ok(()) Err(Taken) | new:[7, 8] | Ok(()) new:[7, 8] last:[] | new:[7, 8] last:[] ",
     },
     Row {
         made_by: "CREATE TABLE checkpoint (number INTEGER PRIMARY KEY, saved TEXT NOT NULL, results BLOB NOT NULL) STRICT",
         number: 1,
-        says: "| Ok(()) Err(Taken) | new:[7, 8] | true new:[7, 8] last:[] | new:[7, 8] last:[] ",
+        says: "| Ok(()) Err(Taken) | new:[7, 8] | Ok(()) new:[7, 8] last:[] | new:[7, 8] last:[] ",
     },
     // The text of the definition is its maker's own, and so is the order in which the rows came.
     Row {
         made_by: "create table checkpoint(number integer primary key,saved text not null,results blob not null) strict; insert into checkpoint values (2, 'b', x''), (1, 'a', x'00ff')",
         number: 3,
-        says: "a:[0, 255] b:[] | Ok(()) Err(Taken) | a:[0, 255] b:[] new:[7, 8] | true a:[0, 255] b:[] new:[7, 8] last:[] | a:[0, 255] b:[] new:[7, 8] last:[] ",
+        says: "a:[0, 255] b:[] | Ok(()) Err(Taken) | a:[0, 255] b:[] new:[7, 8] | Ok(()) a:[0, 255] b:[] new:[7, 8] last:[] | a:[0, 255] b:[] new:[7, 8] last:[] ",
     },
     Row {
         made_by: "CREATE TABLE checkpoint (number INTEGER PRIMARY KEY, saved TEXT NOT NULL, results BLOB NOT NULL) STRICT; INSERT INTO checkpoint VALUES (1, 'a', x''), (3, 'c', x'')",
@@ -162,32 +169,20 @@ fn is_same(files: &Files<Memory>, bytes: &[Vec<u8>; 2]) -> bool {
     files.log.bytes() == log.as_slice() && files.db.bytes() == db.as_slice()
 }
 
-/// Whether an append was told, the list that the open behind a crash finds, and what that connection shows.
-fn found_says(
-    alloc: Global,
-    found: &Found,
-    shown: Result<String, AllocError>,
-) -> Result<String, Fail> {
-    let shown = shown?;
-    let list = text_of(alloc, &found.checkpoints)?;
-    Ok(format!(in alloc; "| {} {list}| {shown}", found.was_told)?)
-}
-
-/// What an append says that has a crash right behind it.
+/// What an append says after which the machine stops, the list that the next open finds, and what that connection shows.
 fn crash_says<R: Threads + Wait + Sync>(
     rt: &R,
     alloc: Global,
     files: Files<Memory>,
     number: u32,
 ) -> Result<String, Fail> {
-    let Ok(conn) = opened(alloc, files) else {
-        return Err(Fail::from("an open"));
-    };
-    let Some((again, found)) = added_over_crash(alloc, conn, number) else {
-        return Err(Fail::from("an open behind a crash"));
+    let (files, told) = lived(rt, alloc, files, &mut AddsLast(number));
+    let Ok((again, found)) = open_files(alloc, crashed(files), Options::new(3)) else {
+        return Err(Fail::from("an open after a crash"));
     };
     let (_, shown) = ended(rt, alloc, again, &mut Listing);
-    found_says(alloc, &found, shown)
+    let (told, found, shown) = (told?, text_of(alloc, &found)?, shown?);
+    Ok(format!(in alloc; "| {told} {found}| {shown}")?)
 }
 
 /// A refusal, and whether nothing was written to the log or to the file.

@@ -1,7 +1,7 @@
 //! A step over records in memory, made of one function: threads, chunks, skips, retries, a stop and a restart.
 //!
 //! - `function`: what is done to each record, and `shared`: the same for all partitions.
-//! - `run`: the step in one call, `watched`: with someone who looks on, `watcher`; `end`: how it ended; `job`: what the calls are made of.
+//! - `run`: the step in one call; `end`: how it ended; `job`: what the calls are made of.
 //! - `kept`: a run that stays in memory between its stretches, `stretch`: one of these, `stretch_end`: what is kept of its end, and
 //!   `news`: what is new in it.
 //! - `step`: how it runs its records. `works`: what its partitions work with. `shares`: the results of each.
@@ -25,8 +25,6 @@ mod skips;
 mod step;
 mod stretch;
 mod stretch_end;
-mod watched;
-mod watcher;
 
 pub use end::RecordsEnd;
 pub use error::RecordsStepError;
@@ -37,5 +35,3 @@ pub use laws::{results_go_on, skips_are_counted, steps_keep_results};
 pub use run::{Earlier, run_records};
 pub use step::RecordsStep;
 pub use stretch::Stretch;
-pub use watched::run_records_watched;
-pub use watcher::Watcher;

@@ -1,4 +1,4 @@
-//! Steps over records, each made of one function: how they end, and who looks on.
+//! Steps over records, each made of one function: how they end.
 
 ghost use Rattle.std.specs.Prelude.{◌==◌, ◌∷◌, [], None, Some, if◌then◌else◌, length};
 
@@ -7,47 +7,22 @@ use jb_artifacts::Item;
 use jb_base::{ClassId, MAX_ITEM_COUNT, Name, PackedList};
 use jb_collect::Status;
 use jb_records::{
-    RecordFunction, RecordsEnd, RecordsRun, RecordsStep, RecordsStepError, Watcher, run_records,
-    run_records_watched,
+    RecordFunction, RecordsEnd, RecordsRun, RecordsStep, RecordsStepError, run_records,
 };
-use jb_workers::Desk;
 use std::alloc::{AllocError, Global};
-use std::sync::atomic::{AtomicU64, Ordering};
-use std::sync::ledger::Ledger;
 use std::sync::{Arc, Wait};
 use std::test::*;
-use std::thread;
 use std::thread::Threads;
-use std::time::{Clock, Duration};
 
-/// How often a watcher looks, where there is one.
-const LOOKS: u64 = 3;
-
-/// A record of no byte can't be read, the first try at one of two bytes fails, and its result is the record itself. It is given
-/// once a watcher has looked so often.
+/// A record of no byte can't be read, the first try at one of two bytes fails, and its result is the record itself.
 #[derive(Drop)]
-struct Letters<R> {
-    rt: R,
+struct Letters {
     alloc: Global,
     refused: ClassId,
     late: ClassId,
-    looks: Arc<AtomicU64, Global>,
-    awaited: u64,
 }
 
-impl<R: Clock> Letters<R> {
-    /// Waits for the looks, 5,000 turns of a millisecond at most.
-    fn wait(&self) {
-        for _ in 0..5_000 {
-            if self.awaited <= self.looks.load(Ordering::SeqCst) {
-                return;
-            }
-            thread::sleep(&self.rt, Duration::from_millis(1));
-        }
-    }
-}
-
-impl<R: Clock + Send + Sync> RecordFunction for Letters<R> {
+impl RecordFunction for Letters {
     ghost function = { λ f. record {
       refusal = λ item. if length item == 0 then Some f.refused else None;
       answer = λ _ item. Some item;
@@ -63,7 +38,6 @@ impl<R: Clock + Send + Sync> RecordFunction for Letters<R> {
     }
 
     fn answer_of(&self, _number: u64, item: &[u8]) -> Result<Option<Item>, AllocError> {
-        self.wait();
         Ok(Some(Item::copy_of(self.alloc, item)?))
     }
 
@@ -80,79 +54,48 @@ impl<R: Clock + Send + Sync> RecordFunction for Letters<R> {
     }
 }
 
-/// Counts its looks at a desk with so many rows, and has seen enough after the last one.
-#[derive(Drop)]
-struct Looker {
-    looks: Arc<AtomicU64, Global>,
-    rows: usize,
-}
-
-impl Watcher for Looker {
-    fn pause(&self) -> Duration {
-        Duration::from_millis(1)
-    }
-
-    fn look<L: Ledger, R: Wait>(&self, rt: &R, desk: &Desk<L>) -> bool {
-        if let Ok(snapshot) = desk.status(rt) {
-            if snapshot.rows.len() == self.rows {
-                self.looks.fetch_add(1, Ordering::SeqCst);
-            }
-        }
-        self.looks.load(Ordering::SeqCst) < LOOKS
-    }
-}
-
 /// Steps of four records in two partitions on two threads, and what comes of them.
 ///
 /// In `records` each stands before a dot. Of the step, its item count, the sets of classes that are skipped, retried, and retried in place,
-/// and whether one fault alone is skipped; and the greatest number of rounds. Behind it stand, in one run, in one with who looks on, in
-/// stretches of one round, and in stretches of which the later ones go on from what was kept of the first: the status, the number of skipped
+/// and whether one fault alone is skipped; and the greatest number of rounds. Behind it stand, in one run, in stretches of one round, and in
+/// stretches of which the later ones go on from what was kept of the first: the status, the number of skipped
 /// reads, the results, each with a bar behind it, and the faults: the records that were skipped, each as NUMBER/CLASS, and the partitions
 /// that failed, each as PARTITION:NUMBER/CLASS; or why there is none. A stretch that fails is the last one.
 ///
 /// A record that can't be read, and a try that fails, each under several rules, and both in one chunk.
 const STEPS: &str = "> records=a.b.c.d. items=1
 Completed 0 a|b|c|d|
-Completed 0 a|b|c|d| after 3 looks
 Completed 0 a|b|c|d|
 Completed 0 a|b|c|d|
 > records=a.b.c.d. items=1 rounds=1
 Stopped 0 a|c|
-Stopped 0 a|c| after 3 looks
 Stopped 0 a|c|
 Stopped 0 a|c|
 > records=a..c.d. items=1
 Failed 0 a|c|d| 0:1/0
-Failed 0 a|c|d| 0:1/0 after 3 looks
 Failed 0 a|c|d| 0:1/0
 Failed 0 a|c|d| 0:1/0
 > records=..c.d. items=1 skippable=1
 Completed 2 c|d| 0/0 1/0
-Completed 2 c|d| 0/0 1/0 after 3 looks
 Completed 2 c|d| 0/0 1/0
 Completed 2 c|d| 0/0 1/0
 > records=..c.d. items=2 skippable=1 one-skip
 Failed 0 c|d| 0:1/0
-Failed 0 c|d| 0:1/0 after 3 looks
 Failed 0 c|d| 0:1/0
 Failed 0 c|d| 0:1/0
 > records=aa..c.d. items=2 retryable=2 in-place=2
 Failed 0 c|d| 0:1/0
-Failed 0 c|d| 0:1/0 after 3 looks
 Failed 0 c|d| 0:1/0
 Failed 0 c|d| 0:1/0
 > records=aa.b.c.d. items=1
 Failed 0 c|d| 0:0/1
-Failed 0 c|d| 0:0/1 after 3 looks
 Failed 0 c| 0:0/1
 Failed 0 c| 0:0/1
 > records=aa.b.c.d. items=1 retryable=2
 Completed 0 aa|b|c|d|
-Completed 0 aa|b|c|d| after 3 looks
 Completed 0 aa|b|c|d|
 Completed 0 aa|b|c|d|
 > records=aa.b.c.d. items=1 skippable=2
-SkippedTry
 SkippedTry
 SkippedTry
 SkippedTry
@@ -217,11 +160,11 @@ fn add_results(text: &mut String, alloc: Global, end: &RecordsEnd) -> Result<(),
 }
 
 /// Adds the records that were skipped, and the partitions that failed.
-fn add_faults<R: Clock + Send + Sync>(
+fn add_faults(
     text: &mut String,
     alloc: Global,
     end: &RecordsEnd,
-    function: &Letters<R>,
+    function: &Letters,
     records: &PackedList,
 ) -> Result<(), AllocError> {
     for skip in &end.skipped(alloc, function, records)? {
@@ -237,11 +180,11 @@ fn add_faults<R: Clock + Send + Sync>(
 }
 
 /// Adds what came of a step.
-fn add_end<R: Clock + Send + Sync>(
+fn add_end(
     text: &mut String,
     alloc: Global,
     end: Result<RecordsEnd, RecordsStepError>,
-    function: &Letters<R>,
+    function: &Letters,
     records: &PackedList,
 ) -> Result<(), AllocError> {
     match end {
@@ -255,21 +198,13 @@ fn add_end<R: Clock + Send + Sync>(
     }
 }
 
-/// The function, which gives its results once a watcher has looked so often.
-fn new_letters<R: Copy>(
-    rt: &R,
-    alloc: Global,
-    looks: &Arc<AtomicU64, Global>,
-    awaited: u64,
-) -> Result<Letters<R>, AllocError> {
-    Ok(Letters {
-        rt: *rt,
+/// The function.
+fn letters(alloc: Global) -> Letters {
+    Letters {
         alloc,
         refused: ClassId::new(0),
         late: ClassId::new(1),
-        looks: Arc::try_clone(looks)?,
-        awaited,
-    })
+    }
 }
 
 /// The line's step.
@@ -303,7 +238,7 @@ fn records_of(alloc: Global, line: &str) -> Result<PackedList, AllocError> {
 }
 
 /// Adds what comes of the line's step in stretches, in memory, or behind what was kept of the first.
-fn add_stretches<R: Threads + Wait + Clock + Copy + Send + Sync + 'static>(
+fn add_stretches<R: Threads + Wait + Sync>(
     text: &mut String,
     rt: &R,
     alloc: Global,
@@ -312,43 +247,15 @@ fn add_stretches<R: Threads + Wait + Clock + Copy + Send + Sync + 'static>(
     records: &PackedList,
     is_kept: bool,
 ) -> Result<(), AllocError> {
-    let looks = Arc::new(alloc, AtomicU64::new(0))?;
-    let function = Arc::new(alloc, new_letters(rt, alloc, &looks, 0)?)?;
+    let function = Arc::new(alloc, letters(alloc))?;
     let stretches = number(line, "rounds").unwrap_or(8);
     let end = in_stretches(rt, alloc, step, &function, records, stretches, is_kept);
     add_end(text, alloc, end, &*function, records)?;
     text.push_str("\n")
 }
 
-/// Adds what comes of the line's step with who looks on, and how often it was looked. A step that has no answer may be over before the first
-/// look: of it that is added only where it was looked too often.
-fn add_watched<R: Threads + Wait + Clock + Copy + Send + Sync + 'static>(
-    text: &mut String,
-    rt: &R,
-    alloc: Global,
-    step: &RecordsStep,
-    function: &Letters<R>,
-    records: &PackedList,
-    rounds: Option<u64>,
-) -> Result<(), AllocError> {
-    let looks = Arc::new(alloc, AtomicU64::new(0))?;
-    let seen = new_letters(rt, alloc, &looks, LOOKS)?;
-    let looker = Looker {
-        looks: Arc::try_clone(&looks)?,
-        rows: 2,
-    };
-    let end = run_records_watched(rt, alloc, step, seen, records, None, rounds, looker);
-    let has_end = end.is_ok();
-    add_end(text, alloc, end, function, records)?;
-    let looks = looks.load(Ordering::SeqCst);
-    if has_end || LOOKS < looks {
-        text.push_str(&format!(in alloc; " after {looks} looks")?)?;
-    }
-    text.push_str("\n")
-}
-
 /// Adds what comes of the line's step.
-fn add_told<R: Threads + Wait + Clock + Copy + Send + Sync + 'static>(
+fn add_told<R: Threads + Wait + Sync>(
     text: &mut String,
     rt: &R,
     alloc: Global,
@@ -357,19 +264,15 @@ fn add_told<R: Threads + Wait + Clock + Copy + Send + Sync + 'static>(
     let step = step_of(alloc, line)?;
     let records = records_of(alloc, line)?;
     let rounds = number(line, "rounds");
-    let looks = Arc::new(alloc, AtomicU64::new(0))?;
-    let function = new_letters(rt, alloc, &looks, 0)?;
-    let alone = new_letters(rt, alloc, &looks, 0)?;
-    let end = run_records(rt, alloc, &step, alone, &records, None, rounds);
-    add_end(text, alloc, end, &function, &records)?;
+    let end = run_records(rt, alloc, &step, letters(alloc), &records, None, rounds);
+    add_end(text, alloc, end, &letters(alloc), &records)?;
     text.push_str("\n")?;
-    add_watched(text, rt, alloc, &step, &function, &records, rounds)?;
     add_stretches(text, rt, alloc, line, &step, &records, false)?;
     add_stretches(text, rt, alloc, line, &step, &records, true)?;
     Ok(())
 }
 
-/// A step is looked at as often as its watcher asks for, and neither that nor a stretch changes what comes of it.
+/// Stretches don't change what comes of a step.
 #[test]
 fn steps_over_records(rt: HostRuntime) -> Result<(), Fail> {
     let mut text = String::new(rt.alloc());
