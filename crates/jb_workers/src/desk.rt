@@ -38,8 +38,18 @@ impl<L: Ledger> Desk<L> {
         requires all { blank.parts ≡ max_parts }
         requires empty { repo.past ≡ [] }
     {
+        Desk::with_parts(repo, blank, MAX_PARTS)
+    }
+
+    /// The same with a ledger of so many parts. Each worker holds one, so no more of them work at once.
+    pub fn with_parts(repo: Repo, blank: Blank, number: u64) -> Desk<L>
+        requires name { blank.name ≡ L.name }
+        requires parts { blank.parts ≡ L.parts }
+        requires all { blank.parts ≡ number }
+        requires empty { repo.past ≡ [] }
+    {
         let (book, share) = blank.open::<L>();
-        let spare = Parts::new(share, MAX_PARTS);
+        let spare = Parts::new(share, number);
         Desk {
             state: Mutex::new(DeskState::new(repo, book, spare)),
             stopping: AtomicBool::new(false),

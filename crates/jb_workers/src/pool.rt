@@ -89,7 +89,8 @@ impl<T: PartitionTask, L: Ledger> Pool<T, L> {
     }
 }
 
-/// A worker with a part of the book, and its thread. `Memory`, or `WorkerNotStarted` where no thread can be made.
+/// A worker with a part of the book, and its thread. `Memory`, or `WorkerNotStarted` where no thread can be made, or the desk has no part
+/// left for it. A part is lost only with a thread that can't be made.
 fn start_one<
     's,
     E,
@@ -103,10 +104,7 @@ fn start_one<
     rt: &'s R,
     alloc: Global,
     gate: &'s G,
-    share: Share<L>,
-) -> Result<(IdleWorker<T>, Handle<L>), RoundError>
-    requires part { share.parts ≡ 1 }
-{
+) -> Result<(IdleWorker<T>, Handle<L>), RoundError> {
     let Ok((mailbox, ours, theirs)) = Mailbox::<T>::new(alloc) else {
         return Err(RoundError::Memory);
     };
@@ -115,6 +113,9 @@ fn start_one<
     };
     let Ok(shared) = Arc::try_clone(&mailbox) else {
         return Err(RoundError::Memory);
+    };
+    let Some(share) = desk.take_share(&*rt) else {
+        return Err(RoundError::WorkerNotStarted);
     };
     let job = move || -> Share<L>
         requires { IsSync R.row × IsSync G.row × IsSend T.row × (share.parts ≡ 1) × IsPassOf (arc_value shared).queue theirs × (view theirs ≡ known false true None) }
@@ -151,10 +152,7 @@ fn add_worker<
     if pool.idle.reserve(1).is_err() || pool.threads.reserve(1).is_err() {
         return Err(RoundError::Memory);
     }
-    let Some(share) = desk.take_share(&*rt) else {
-        return Err(RoundError::WorkerNotStarted);
-    };
-    let (worker, thread) = start_one(&*scope, &*desk, &*rt, alloc, &*gate, share)?;
+    let (worker, thread) = start_one(&*scope, &*desk, &*rt, alloc, &*gate)?;
     if pool.threads.push(thread).is_err() || pool.idle.push(worker).is_err() {
         return Err(RoundError::Memory);
     }
