@@ -106,7 +106,7 @@ fn on_a_desk<
     requires all { blank.parts ≡ max_parts }
     requires ready { AllCanBegin T.standing works.items }
 {
-    let desk = planned_desk::<L>(rt, alloc, blank)?;
+    let desk = planned_desk::<L>(rt, alloc, blank, MAX_PARTS)?;
     in_scope(rt, alloc, &desk, works)
 }
 

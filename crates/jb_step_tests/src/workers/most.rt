@@ -90,17 +90,18 @@ fn repository(alloc: Global, partitions: u32) -> Option<Repo>
     }
 }
 
-/// A desk of 1,024 partitions with a plan for a round.
+/// A desk of 1,024 partitions with a plan of 16 rounds, whose ledger has so many parts.
 pub(crate) fn planned_desk<L: Ledger>(
     rt: &impl Wait,
     alloc: Global,
     blank: Blank,
+    parts: u64,
 ) -> Option<Desk<L>>
     requires name { blank.name ≡ L.name }
     requires parts { blank.parts ≡ L.parts }
-    requires all { blank.parts ≡ max_parts }
+    requires all { blank.parts ≡ parts }
 {
-    let desk = Desk::<L>::new(repository(alloc, 1_024)?, blank);
+    let desk = Desk::<L>::with_parts(repository(alloc, 1_024)?, blank, parts);
     desk.apply(rt, Event::Plan(16, Certificate::FullLoad)).ok()?;
     Some(desk)
 }
@@ -117,7 +118,7 @@ fn run<
     requires all { blank.parts ≡ max_parts }
     requires ready { AllCanBegin T.standing works.items }
 {
-    let desk = planned_desk::<L>(rt, alloc, blank)?;
+    let desk = planned_desk::<L>(rt, alloc, blank, MAX_PARTS)?;
     let dones = run_round_in(way, &desk, rt, alloc, &NoGate, works).ok()?;
     let (all, committed) = commits(dones.as_slice());
     let after = desk.status(rt).ok()?;
