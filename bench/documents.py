@@ -1,6 +1,5 @@
 """The documents that are measured: jobs of one step on one thread, restarts, and loads to be planned."""
 import json
-import os
 import subprocess
 import sys
 
