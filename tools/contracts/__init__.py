@@ -1,0 +1,1 @@
+"""What the contracts of the crates rest on: tools/believed prints it."""
