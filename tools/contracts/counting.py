@@ -86,10 +86,10 @@ class Believed:
 
 
 def names_of(block):
-    """The names by which a function of this block is told from others of its name."""
+    """The names by which a function of this block is told from others of its name: its trait's, or its type's."""
     if block.kind == "trait":
         return {block.trait}
-    return {rust_head(block.of), rust_head(block.trait), f"<{block.of} as {block.trait}>"} - {""}
+    return {rust_head(block.of), f"<{block.of} as {block.trait}>"}
 
 
 def counted(pieces, kind):
