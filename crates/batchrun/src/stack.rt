@@ -1,0 +1,82 @@
+//! The program's stack, which is taken before any other memory.
+//!
+//! A stack grows when it is first used. If the system refuses that, the process ends by SIGSEGV, and no code can answer it. So the
+//! program takes all of its stack first: later no heap and no thread can have that room.
+
+ghost use Rattle.std.specs.Prelude.{◌≡◌, ◌<◌, ◌≤◌, true, false};
+ghost use Rattle.jb_program.specs.declared.streams.failure.Failure.TheVariants.{Memory};
+ghost use Rattle.jb_program.specs.Failures.{IsFailureTold};
+
+use jb_texts::write_whole;
+use libc::types::rlimit;
+use libc::{RLIMIT_STACK, getrlimit};
+use std::alloc::Global;
+use std::io::Write;
+
+/// The most that the program uses of its stack, with room to spare, in bytes.
+const NEEDED: usize = 1_441_792;
+
+/// The smallest limit of a stack that has room for it. The process's arguments and environment take up to a quarter of a stack.
+const LEAST_LIMIT: u64 = 2_097_152;
+
+/// Linux's number of the limit of a process's address space.
+const RLIMIT_AS: i32 = 9;
+
+/// The limit of a resource that isn't limited, or of which the system tells none.
+const UNLIMITED: u64 = u64::MAX;
+
+/// The process's limit of this resource.
+fn limit_of(resource: i32) -> u64 {
+    let mut limit = rlimit {
+        rlim_cur: UNLIMITED,
+        rlim_max: UNLIMITED,
+    };
+    match getrlimit(resource, &mut limit) {
+        0 => limit.rlim_cur,
+        _ => UNLIMITED,
+    }
+}
+
+/// The limits of the process's stack and of its address space.
+pub fn limits() -> (u64, u64) {
+    (limit_of(RLIMIT_STACK), limit_of(RLIMIT_AS))
+}
+
+/// Whether the address space has room for the stack: as much of the heap is had, and given back.
+fn has_room(alloc: Global) -> bool {
+    Vec::<u8>::with_capacity(alloc, NEEDED).is_ok()
+}
+
+/// Uses N bytes of stack once. The place keeps a compiler from leaving them out.
+#[inline(never)]
+fn used<const N: usize>(byte: u8, place: usize) -> u8
+    requires { place < N }
+    ensures { result ≡ byte }
+{
+    let bytes = [byte; N];
+    bytes[place]
+}
+
+/// Takes the stack that the program needs. It is false if there is too little, by the limits of the stack and of the address space.
+#[inline(never)]
+pub fn is_taken(alloc: Global, stack_limit: u64, space_limit: u64) -> bool
+    ensures too_small { stack_limit < LEAST_LIMIT → result ≡ false }
+    ensures enough { LEAST_LIMIT ≤ stack_limit → space_limit ≡ UNLIMITED → result ≡ true }
+{
+    if stack_limit < LEAST_LIMIT {
+        return false;
+    }
+    if space_limit < UNLIMITED && !has_room(alloc) {
+        return false;
+    }
+    let byte = (stack_limit % 251) as u8;
+    used::<NEEDED>(byte, (stack_limit % 1_021) as usize) == byte
+}
+
+/// Reports that there is no memory, and gives the exit status.
+pub fn report_none<F: Write>(fault_writer: &mut F) -> u8
+    ensures { IsFailureTold Memory (F.contents fault_writer.old) (F.contents fault_writer.new) result }
+{
+    let _ = write_whole(b"no memory\n", fault_writer);
+    4
+}
