@@ -83,6 +83,10 @@ Completed 2 c|d| 0/0 1/0
 Failed 0 c|d| 0:1/0
 Failed 0 c|d| 0:1/0
 Failed 0 c|d| 0:1/0
+> records=.aa.c.d. items=2 skippable=1
+Failed 0 c|d| 0:1/1
+Failed 0 c|d| 0:1/1
+Failed 0 c|d| 0:1/1
 > records=aa..c.d. items=2 retryable=2 in-place=2
 Failed 0 c|d| 0:1/0
 Failed 0 c|d| 0:1/0
