@@ -1,9 +1,10 @@
 -- With which fault each failed partition failed.
-use Rattle.std.specs.Prelude.{ℕ, ◌≡◌, ◌≤◌, ◌<◌, ◌⊎◌, List, None, Some, Contains, IfSome, filter}
+use Rattle.std.specs.Prelude.{ℕ, ◌≡◌, ◌+◌, ◌-◌, ◌≤◌, ◌<◌, ◌⊎◌, nat_eq, nat_lt, if◌then◌else◌, List, [], ◌∷◌, length, slice_get, Option, None, Some, Contains, IfSome, filter}
 use Rattle.std.specs.List.{enumerate_from}
 use Rattle.jb_base.specs.Pairwise.{Pairwise}
 use Rattle.jb_base.specs.declared.class.ClassId.{ClassId}
 use Rattle.jb_ready.specs.declared.notes.Note.{Note}
+use Rattle.jb_ready.specs.Notes.{NotesOf}
 use Rattle.jb_rules.specs.declared.row.Row.{Row}
 use Rattle.jb_rules.specs.States.{is_failed}
 use Rattle.jb_records.specs.declared.failures.Failure.{Failure}
@@ -31,3 +32,26 @@ pub record IsFailure (f : Function) (records : List (List ℕ)) (n : ℕ × Row)
 -- THE FAILED PARTITIONS, each with its fault, if that is known
 abbrev pub AreFailures : Function → (records : List (List ℕ)) → List Row → List Failure → Type 0
 AreFailures f records rows failures = Pairwise (IsFailure f records) (failed_rows rows) failures
+
+-- ---- THE FAULT THAT WAS MET LAST
+
+-- the last one of some notes
+abbrev pub last_of : List Note → Option Note
+last_of notes = slice_get notes (length notes - 1)
+
+-- of two faults the one of the later record
+abbrev pub later_of : Option Note → Option Note → Option Note
+later_of None tried = tried
+later_of (Some read) None = Some read
+later_of (Some read) (Some tried) = if nat_lt read.number tried.number then Some tried else Some read
+
+-- The last fault of a read, or that of a try, whichever is of the later record: a partition takes its records in their order. It isn't
+-- known if a note was lost.
+abbrev pub last_fault : (reads tries : NotesOf Note) → Option Note
+last_fault reads tries = if nat_eq (reads.lost + tries.lost) 0 then later_of (last_of reads.kept) (last_of tries.kept) else None
+
+-- that of the partition of this number
+abbrev pub fault_noted : {A : Type 0} → List (ℕ × A) → (partition : ℕ) → (reads tries : A → NotesOf Note) → Option Note
+fault_noted [] partition reads tries = None
+fault_noted (a ∷ others) partition reads tries =
+    if nat_eq a.0 partition then last_fault (reads a.1) (tries a.1) else fault_noted others partition reads tries

@@ -4,13 +4,13 @@ ghost use Rattle.std.specs.Prelude.{◌+◌, ◌<◌, ◌^◌, filter, length, I
 ghost use Rattle.std.specs.List.{enumerate_from};
 ghost use Rattle.jb_base.specs.Pairwise.{Pairwise};
 ghost use Rattle.jb_rules.specs.States.{is_failed};
-ghost use Rattle.jb_records.specs.Failures.{AreFailures, IsFailure, IsFaultIn, IsFaultOf};
+ghost use Rattle.jb_records.specs.Failures.{AreFailures, IsFailure, IsFaultIn, IsFaultOf, fault_noted, last_fault, later_of};
 
 use crate::artifacts::RecordsArtifacts;
 use crate::function::RecordFunction;
 use jb_artifacts::record_of;
 use jb_base::{ClassId, PackedList};
-use jb_ready::Note;
+use jb_ready::{Note, Notes};
 use jb_rules::Row;
 use std::alloc::{AllocError, Global};
 
@@ -22,29 +22,38 @@ pub struct Failure {
     pub fault: Option<Note>,
 }
 
-/// The later of two faults: a record that can't be read isn't tried, and an attempt that fails goes on to no later record.
-fn later_of(read: Option<&Note>, tried: Option<&Note>) -> Option<Note> {
+/// The one of the later record: a record that can't be read isn't tried, and an attempt goes to no record after the one that ends it.
+fn later_of(read: Option<Note>, tried: Option<Note>) -> Option<Note>
+    ensures { result ≡ later_of read tried }
+{
     match (read, tried) {
-        (Some(read), Some(tried)) if read.number < tried.number => Some(*tried),
-        (Some(read), _) => Some(*read),
-        (None, Some(tried)) => Some(*tried),
-        (None, None) => None,
+        (Some(read), Some(tried)) if read.number < tried.number => Some(tried),
+        (Some(read), _) => Some(read),
+        (None, tried) => tried,
     }
+}
+
+/// The fault that was met last, by the notes of the reads and of the tries, if none of these was lost.
+fn last_fault(reads: &Notes<Note>, tries: &Notes<Note>) -> Option<Note>
+    ensures { result ≡ last_fault reads.now tries.now }
+{
+    if reads.lost() > 0 || tries.lost() > 0 {
+        return None;
+    }
+    later_of(reads.kept().last().copied(), tries.kept().last().copied())
 }
 
 /// The fault that the partition of this number met last, if all of its faults were noted.
 fn noted_of<F: RecordFunction>(
     artifacts: &[(u32, RecordsArtifacts<F>)],
     partition: u32,
-) -> Option<Note> {
+) -> Option<Note>
+    ensures { result ≡ fault_noted artifacts.now partition (λ a. a.inner.reader.notes) (λ a. a.inner.processor.notes) }
+{
     for one in artifacts {
         if one.0 == partition {
-            let artifacts = &one.1.artifacts().inner;
-            let (reads, tries) = (&artifacts.reader.notes, &artifacts.processor.notes);
-            if reads.lost() > 0 || tries.lost() > 0 {
-                return None;
-            }
-            return later_of(reads.kept().last(), tries.kept().last());
+            let own = &one.1.artifacts().inner;
+            return last_fault(&own.reader.notes, &own.processor.notes);
         }
     }
     None
