@@ -42,7 +42,7 @@ fn perform_apart<T: Threads + Wait + Sync, R: Read, W: Write, F: Write>(
 }
 
 fn main(rt: HostRuntime) -> ExitCode {
-    let (stack_limit, space_limit) = stack::limits();
+    let (stack_limit, space_limit) = stack::limits(&rt);
     if !stack::is_taken(rt.alloc(), stack_limit, space_limit) {
         return ExitCode::from(stack::report_none(&mut rt.stderr()));
     }

@@ -3,15 +3,15 @@
 //! A stack grows when it is first used. If the system refuses that, the process ends by SIGSEGV, and no code can answer it. So the
 //! program takes all of its stack first: later no heap and no thread can have that room.
 
-ghost use Rattle.std.specs.Prelude.{◌≡◌, ◌<◌, ◌≤◌, true, false};
+ghost use Rattle.std.specs.Prelude.{◌≡◌, ◌<◌, ◌≤◌, length, true, false, IfOk};
 ghost use Rattle.jb_program.specs.declared.streams.failure.Failure.TheVariants.{Memory};
 ghost use Rattle.jb_program.specs.Failures.{IsFailureTold};
 
 use jb_texts::write_whole;
-use libc::types::rlimit;
-use libc::{RLIMIT_STACK, getrlimit};
 use std::alloc::Global;
-use std::io::Write;
+use std::fs::File;
+use std::io;
+use std::io::{Read, Write};
 
 /// The most that the program uses of its stack, with room to spare, in bytes.
 const NEEDED: usize = 1_441_792;
@@ -19,27 +19,36 @@ const NEEDED: usize = 1_441_792;
 /// The smallest limit of a stack that has room for it. The process's arguments and environment take up to a quarter of a stack.
 const LEAST_LIMIT: u64 = 2_097_152;
 
-/// Linux's number of the limit of a process's address space.
-const RLIMIT_AS: i32 = 9;
-
 /// The limit of a resource that isn't limited, or of which the system tells none.
 const UNLIMITED: u64 = u64::MAX;
 
-/// The process's limit of this resource.
-fn limit_of(resource: i32) -> u64 {
-    let mut limit = rlimit {
-        rlim_cur: UNLIMITED,
-        rlim_max: UNLIMITED,
-    };
-    match getrlimit(resource, &mut limit) {
-        0 => limit.rlim_cur,
-        _ => UNLIMITED,
+/// The limit in a line `NAME LIMIT ..` of this text.
+fn limit_in(text: &str, name: &str) -> u64 {
+    for line in text.lines() {
+        if let Some(rest) = line.strip_prefix(name) {
+            let soft = rest.split_whitespace().next().unwrap_or("");
+            return soft.parse::<u64>().unwrap_or(UNLIMITED);
+        }
     }
+    UNLIMITED
 }
 
-/// The limits of the process's stack and of its address space.
-pub fn limits() -> (u64, u64) {
-    (limit_of(RLIMIT_STACK), limit_of(RLIMIT_AS))
+/// The first bytes of a file, as many as there is room for: how many there are.
+fn front_of(rt: &HostRuntime, path: &str, front: &mut [u8]) -> io::Result<usize>
+    ensures { IfOk result (λ count. count ≤ length front.old) }
+{
+    File::open(rt, path)?.read(front)
+}
+
+/// The limits of the process's stack and of its address space, as Linux lists them in a file. Each is unlimited if that file can't be read.
+pub fn limits(rt: &HostRuntime) -> (u64, u64) {
+    let mut front = [0; 4_096];
+    let count = front_of(rt, "/proc/self/limits", &mut front).unwrap_or(0);
+    let text = str::from_utf8(&front[..count]).unwrap_or("");
+    (
+        limit_in(text, "Max stack size"),
+        limit_in(text, "Max address space"),
+    )
 }
 
 /// Whether the address space has room for the stack: as much of the heap is had, and given back.
