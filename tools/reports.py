@@ -15,7 +15,7 @@ from rules.rows import METRICS, NUMBERS, STATES, row_of, skips_of
 
 TOP = os.path.dirname(os.path.dirname(os.path.realpath(__file__)))
 PROGRAM = os.environ.get("BATCHRUN") or os.path.join(TOP, "crates/batchrun/out/batchrun")
-UNPROVED = os.path.join(TOP, "crates/batchrun/out/unproved/batchrun")
+UNPROVED = os.path.join(TOP, "crates/batchrun/out/unproved/quiet/batchrun")
 HEADINGS = ["partition", "records", "at", "state", *METRICS, "in_place", "left"]
 SUMMED = [*METRICS, "in_place", "left"]
 SHOWN_LETTERS = 60  # of a value in a line
@@ -51,7 +51,7 @@ def end_with_the_reader():
 
 
 def program_of(tool, is_unproved):
-    """The program that a tool runs. The unproved one is built here, where it isn't current; Refused where that can't be."""
+    """The program that a tool runs. The unproved one is built here, if it isn't current, and the tool says so; Refused if that can't be."""
     if not is_unproved:
         return PROGRAM
     build = [os.path.join(TOP, "tools/build-program"), "--unproved"]
