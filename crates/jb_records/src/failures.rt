@@ -1,6 +1,6 @@
 //! With which fault each failed partition failed.
 
-ghost use Rattle.std.specs.Prelude.{◌+◌, ◌<◌, ◌^◌, filter, length, IfOk, IfSome};
+ghost use Rattle.std.specs.Prelude.{◌≡◌, ◌+◌, ◌<◌, ◌^◌, filter, length, IfOk, IfSome};
 ghost use Rattle.std.specs.List.{enumerate_from};
 ghost use Rattle.jb_base.specs.Pairwise.{Pairwise};
 ghost use Rattle.jb_rules.specs.States.{is_failed};
