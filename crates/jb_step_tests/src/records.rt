@@ -203,7 +203,7 @@ fn add_end(
 }
 
 /// The function.
-fn letters(alloc: Global) -> Letters {
+fn new_letters(alloc: Global) -> Letters {
     Letters {
         alloc,
         refused: ClassId::new(0),
@@ -251,7 +251,7 @@ fn add_stretches<R: Threads + Wait + Sync>(
     records: &PackedList,
     is_kept: bool,
 ) -> Result<(), AllocError> {
-    let function = Arc::new(alloc, letters(alloc))?;
+    let function = Arc::new(alloc, new_letters(alloc))?;
     let stretches = number(line, "rounds").unwrap_or(8);
     let end = in_stretches(rt, alloc, step, &function, records, stretches, is_kept);
     add_end(text, alloc, end, &*function, records)?;
@@ -268,8 +268,8 @@ fn add_told<R: Threads + Wait + Sync>(
     let step = step_of(alloc, line)?;
     let records = records_of(alloc, line)?;
     let rounds = number(line, "rounds");
-    let end = run_records(rt, alloc, &step, letters(alloc), &records, None, rounds);
-    add_end(text, alloc, end, &letters(alloc), &records)?;
+    let end = run_records(rt, alloc, &step, new_letters(alloc), &records, None, rounds);
+    add_end(text, alloc, end, &new_letters(alloc), &records)?;
     text.push_str("\n")?;
     add_stretches(text, rt, alloc, line, &step, &records, false)?;
     add_stretches(text, rt, alloc, line, &step, &records, true)?;
