@@ -1,0 +1,32 @@
+//! Records of CSV as packed fields, one function from the fields of a record to the fields of its result, and results written.
+//!
+//! - `packed`: the fields of a record in one string of bytes. `row`: they are read in place; `row_builder`: they are put together;
+//!   `rows`: records, one after the other.
+//! - `row_function`: what is done to each record. `numbers`: the numbers in fields.
+//! - `rows_reader`, `rows_writer`: records from a stream and to one. `rows_options`: how. `bounded_reader`: a stream under the
+//!   reader, which fails if a record doesn't end. `rows_error`: why records are not read or not written.
+//! - `run`: all of it as one call over streams.
+#![tactic(auto)]
+
+mod bounded_reader;
+pub mod numbers;
+mod packed;
+mod row;
+mod row_builder;
+mod row_function;
+mod rows;
+mod rows_error;
+mod rows_options;
+mod rows_reader;
+mod rows_writer;
+mod run;
+
+pub use row::Row;
+pub use row_builder::RowBuilder;
+pub use row_function::{Outcome, RowFunction, process_all};
+pub use rows::Rows;
+pub use rows_error::RowsError;
+pub use rows_options::RowsOptions;
+pub use rows_reader::RowsReader;
+pub use rows_writer::RowsWriter;
+pub use run::run_rows;
