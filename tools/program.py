@@ -1,7 +1,6 @@
 """What a program of a repository is made of, and what is kept beside it when it is built. tools/build-program builds it."""
 import hashlib
 import os
-import pathlib
 import sys
 
 
