@@ -177,7 +177,11 @@ fn crash_says<R: Threads + Wait + Sync>(
     number: u32,
 ) -> Result<String, Fail> {
     let (files, told) = lived(rt, alloc, files, &mut AddsLast(number));
-    let Ok((again, found)) = open_files(alloc, crashed(files), Options::new(3)) else {
+    let files = crashed(files);
+    if !files.may_be_used() {
+        return Err(Fail::from("files that may be used"));
+    }
+    let Ok((again, found)) = open_files(alloc, files, Options::new(3)) else {
         return Err(Fail::from("an open after a crash"));
     };
     let (_, shown) = ended(rt, alloc, again, &mut Listing);

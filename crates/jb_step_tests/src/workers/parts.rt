@@ -89,13 +89,14 @@ fn run_told<L: Ledger + Send + Sync + 'static, R: Threads + Wait + Sync>(
     alloc: Global,
     blank: Blank,
     parts: u64,
-    line: &str,
+    line: String,
     text: &mut String,
 ) -> Result<(), Fail>
     requires name { blank.name ≡ L.name }
     requires parts { blank.parts ≡ L.parts }
     requires all { blank.parts ≡ parts }
 {
+    let line = line.as_str();
     let desk = planned_desk::<L>(rt, alloc, blank, parts).ok_or("a desk")?;
     for round in 0..3 {
         let came = run_round(way, rt, alloc, &desk, line, round).ok_or("works")?;
@@ -121,7 +122,9 @@ fn all_told<R: Threads + Wait + Sync>(
         if line.starts_with("> ") {
             add_line(&mut text, line)?;
             let parts = number(line, "parts").ok_or("parts")?;
-            run_told::<Brand, R>(way, rt, alloc, Blank::new(parts), parts, line, &mut text)?;
+            let blank = Blank::new(parts);
+            let line = String::from_str(alloc, line)?;
+            run_told::<Brand, R>(way, rt, alloc, blank, parts, line, &mut text)?;
         }
     }
     Ok(text)
