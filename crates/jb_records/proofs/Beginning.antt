@@ -16,10 +16,11 @@ use Rattle.jb_saved.specs.GoingOn.{restarted, rows_restarted}
 use Rattle.jb_saved.specs.Reading.{answer_of}
 use Rattle.jb_saved.specs.SavedRows.{SavedRows}
 use Rattle.jb_step.specs.preparing.Setup.{IsSetup, Setup, needs, unfinished}
+use Rattle.jb_records.specs.declared.step.RecordsStep.{RecordsStep}
 use Rattle.jb_records.specs.Function.{Function}
 use Rattle.jb_records.specs.Shares.{AreNumbered, AreAtTheirEnds, IsSoFar, newer_share, newer_shares}
 use Rattle.jb_records.specs.Steps.{AreFirstArtifacts, AreArtifacts}
-use Rattle.jb_records.specs.Stretches.{RunState, StandsOver, numbers_in, artifacts_in}
+use Rattle.jb_records.specs.Stretches.{GoesBy, RunState, StandsOver, numbers_in, artifacts_in}
 use Rattle.jb_records.specs.inside.Kept.{IsKept}
 use Rattle.jb_records.proofs.Begun.{artifacts-at-first}
 use Rattle.jb_records.proofs.Keeping.{finished-again}
@@ -105,6 +106,14 @@ kept-stands f records step setup shares s kept is so = record {
   partitions = kept.partitions ∙ sym (ap (λ (x : Setup). needs x.rows) kept.setup_is);
   artifacts = subst (λ (xs : List (List (List ℕ))). AreArtifacts f s.setup.rules records xs (unfinished s.setup.rows) (artifacts_in s.artifacts)) (sym kept.shares_are)
       (subst (λ (x : Setup). AreArtifacts f x.rules records shares (unfinished x.rows) (artifacts_in s.artifacts)) (sym kept.setup_is) kept.artifacts);
+}
+
+-- by the rules of the step that it was prepared for
+pub goes-by : (f : Function) (records : List (List ℕ)) (id : List ℕ) (step : RecordsStep) (setup : Setup) (shares : List (List (List ℕ))) (s : RunState) → IsKept f records id setup shares s
+    → setup.rules ≡ step.rules → setup.item_count ≡ step.item_count → GoesBy step s
+goes-by f records id step setup shares s kept ruled counted = record {
+  rules_are = ap (λ (x : Setup). x.rules) kept.setup_is ∙ ruled;
+  item_count_is = ap (λ (x : Setup). x.item_count) kept.setup_is ∙ counted;
 }
 
 -- behind the rows of a text

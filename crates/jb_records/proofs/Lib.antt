@@ -13,6 +13,7 @@ mod Joining
 mod Keeping
 mod LeavingOut
 mod Putting
+mod Reaching
 mod Resuming
 mod Sharing
 mod Skipping

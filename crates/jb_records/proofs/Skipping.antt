@@ -21,7 +21,7 @@ one-option None = refl
 one-option (Some note) = refl
 
 -- one record more
-skips-more : (f : Function) (records : List (List ℕ)) (lo i : ℕ) → skips_between f records lo (lo + (i + 1)) ≡ skips_between f records lo (lo + i) ++ option_to_list (skip_by (lo + i) (f.refusal (record_of 0 records (lo + i))))
+pub skips-more : (f : Function) (records : List (List ℕ)) (lo i : ℕ) → skips_between f records lo (lo + (i + 1)) ≡ skips_between f records lo (lo + i) ++ option_to_list (skip_by (lo + i) (f.refusal (record_of 0 records (lo + i))))
 skips-more f records lo i =
     let g : ℕ → Option Note = λ k. skip_by k (f.refusal (record_of 0 records k)) in
     let long : lo + (i + 1) - lo ≡ i + 1 = omega arith in

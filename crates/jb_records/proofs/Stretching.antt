@@ -216,8 +216,9 @@ goes-on law f records before after results rounds snapshot shown left brought fi
     subst (HasGoneOn f records before after ends) (sym told-is) gone
 
 pub made-of : (before after : RunState) (rounds : Option ℕ) (snapshot : Snapshot) (left others : List (ℕ × ArtifactsMeaning)) (artifacts : List ArtifactsMeaning) (put : List (List (List ℕ))) (rules : RulesRecord)
-    → artifacts ≡ artifacts_in before.artifacts → IsRanOver before.setup artifacts rounds snapshot left → IsGoingOn before.step before.records rules snapshot.rows.items others put after → IsStretchMade rounds before snapshot after
-made-of before after rounds snapshot left others artifacts put rules own ran on = record {
+    → artifacts ≡ artifacts_in before.artifacts → IsRanOver before.setup artifacts rounds snapshot left → IsGoingOn before.step before.records rules snapshot.rows.items others put after
+    → rules ≡ before.setup.rules → after.setup.item_count ≡ before.setup.item_count → IsStretchMade rounds before snapshot after
+made-of before after rounds snapshot left others artifacts put rules own ran on ruled counted = record {
   run = ran.run;
   setup = ran.setup;
   rounds_are = ran.rounds_are;
@@ -228,4 +229,6 @@ made-of before after rounds snapshot left others artifacts put rules own ran on 
   snapshot_is = ran.snapshot_is;
   rows = on.rows_are;
   step_is = on.step_is;
+  rules_are = on.rules_are ∙ ruled;
+  item_count_is = counted;
 }

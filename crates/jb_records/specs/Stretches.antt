@@ -16,6 +16,7 @@ use Rattle.jb_step.specs.preparing.Setup.{IsSetup, Setup, needs, unfinished}
 use Rattle.jb_step.specs.restarts.StepRuns.{IsAnswered}
 use Rattle.jb_records.specs.declared.error.RecordsStepError.{RecordsStepError}
 use Rattle.jb_records.specs.declared.error.RecordsStepError.TheVariants.{Memory, Step}
+use Rattle.jb_records.specs.declared.step.RecordsStep.{RecordsStep}
 use Rattle.jb_records.specs.Function.{Function}
 use Rattle.jb_records.specs.Shares.{AreNumbered, AreAtTheirEnds, IsSoFar, joined}
 use Rattle.jb_records.specs.Steps.{AreArtifacts}
@@ -49,6 +50,11 @@ pub record StandsOver (f : Function) (records : List (List ℕ)) (s : RunState) 
 
 -- ---- HOW IT BEGINS
 
+-- by the step's rules, in chunks of its item count
+pub record GoesBy (step : RecordsStep) (s : RunState) : Type 0 where
+  pub rules_are : s.setup.rules ≡ step.rules
+  pub item_count_is : s.setup.item_count ≡ step.item_count
+
 -- anew: with no result
 pub record BeginsEmpty (step : List ℕ) (s : RunState) : Type 0 where
   pub step_is : s.step ≡ step
@@ -81,7 +87,7 @@ pub record HasGoneOn (f : Function) (records : List (List ℕ)) (before after : 
   pub stands : StandsOver f records after
 
 -- what was run: `run_step` says it of this setup and these artifacts, its `Headline` among it; and the next stretch goes on from the
--- rows that it left, of which the failed ones wait again
+-- rows that it left, of which the failed ones wait again, by the same rules
 pub record IsStretchMade (rounds : Option ℕ) (before : RunState) (snapshot : Snapshot) (after : RunState) : Type 0 where
   pub run : StepRun
   pub setup : run.setup ≡ before.setup
@@ -93,6 +99,8 @@ pub record IsStretchMade (rounds : Option ℕ) (before : RunState) (snapshot : S
   pub snapshot_is : run.snapshot ≡ snapshot
   pub rows : after.setup.rows ≡ rows_restarted (record { step = before.step; rows = snapshot.rows.items })
   pub step_is : after.step ≡ before.step
+  pub rules_are : after.setup.rules ≡ before.setup.rules
+  pub item_count_is : after.setup.item_count ≡ before.setup.item_count
 
 -- a stretch broke off: its desk wasn't its own, a worker could not be started, or memory lacked
 abbrev pub IsBrokenOff : RecordsStepError → Type 0

@@ -1,24 +1,29 @@
 //! With which fault each failed partition failed.
 
-ghost use Rattle.std.specs.Prelude.{◌≡◌, ◌+◌, ◌<◌, ◌^◌, filter, length, IfOk, IfSome};
+ghost use Rattle.std.specs.Prelude.{◌≡◌, ◌+◌, ◌<◌, ◌^◌, true, filter, length, IfOk, IfSome};
 ghost use Rattle.std.specs.List.{enumerate_from};
 ghost use Rattle.jb_base.specs.Pairwise.{Pairwise};
+ghost use Rattle.jb_chunk.specs.Block.{choice_at};
+ghost use Rattle.jb_chunk.specs.Standing.{HasItemCount};
+ghost use Rattle.jb_rules.specs.Sound.{IsSoundRow};
 ghost use Rattle.jb_rules.specs.States.{is_failed};
-ghost use Rattle.jb_records.specs.Failures.{AreFailures, IsFailure, IsFaultIn, IsFaultOf, fault_noted, last_fault, later_of};
+ghost use Rattle.jb_records.specs.Failures.{AreFailures, EndsAttempt, IsFailure, IsFaultIn, IsFaultOf, fault_noted, last_fault, later_of};
+ghost use Rattle.jb_records.specs.inside.Attempts.{IsPassed, IsReached};
 
 use crate::artifacts::RecordsArtifacts;
 use crate::function::RecordFunction;
 use jb_artifacts::record_of;
-use jb_base::{ClassId, PackedList};
+use jb_base::{ClassId, PackedList, Rules};
 use jb_ready::{Note, Notes};
-use jb_rules::Row;
+use jb_rules::{Choice, Row, decide};
 use std::alloc::{AllocError, Global};
 
 /// A partition that failed.
 #[derive(Clone, Copy, Debug, PartialEq, Eq)]
 pub struct Failure {
     pub partition: u32,
-    /// The record whose fault was neither skipped nor retried, and its class. None where there was no memory to note it.
+    /// The record whose fault was neither skipped nor retried, and its class: that of the partition's last attempt. None where there was
+    /// no memory to note it.
     pub fault: Option<Note>,
 }
 
@@ -80,29 +85,106 @@ fn fault_of<F: RecordFunction>(
     }
 }
 
-/// The fault that was noted, if it is one of a record of this row that isn't committed.
+/// What becomes of a fault of this class after so many skips, in an attempt at the chunk where the row stands.
+fn choice_at(rules: &Rules, row: &Row, class: ClassId, skips: u64) -> Choice
+    ensures { result ≡ choice_at rules.now row.now class skips }
+{
+    decide(rules, class, row.at < row.redo, skips, row.retries)
+}
+
+/// The skips up to this record, given those before it. None if the record can't be read and isn't skipped.
+fn skips_past<F: RecordFunction>(
+    function: &F,
+    rules: &Rules,
+    records: &PackedList,
+    row: &Row,
+    number: u64,
+    skips: u64,
+) -> Result<Option<u64>, AllocError>
+    ensures { IfOk result (λ past. IfSome past (IsPassed (F.function function.now) rules.now records.now row.now number skips)) }
+{
+    let Some(class) = function.refusal_of(record_of(records, 0, number))? else {
+        return Ok(Some(skips));
+    };
+    match choice_at(rules, row, class, skips) {
+        Choice::Skip => Ok(skips.checked_add(1)),
+        _ => Ok(None),
+    }
+}
+
+/// The skips before this record in an attempt at the chunk where the row stands. None if an earlier record of the chunk can't be read and
+/// isn't skipped.
+fn skips_before<F: RecordFunction>(
+    function: &F,
+    rules: &Rules,
+    records: &PackedList,
+    row: &Row,
+    number: u64,
+) -> Result<Option<u64>, AllocError>
+    requires { IsSoundRow row.now }
+    ensures { IfOk result (λ before. IfSome before (IsReached (F.function function.now) rules.now records.now row.now number)) }
+{
+    let mut skips = row.skips();
+    let count = number.saturating_sub(row.at);
+    for index in 0..count {
+        match skips_past(function, rules, records, row, row.at + index, skips)? {
+            Some(past) => skips = past,
+            None => return Ok(None),
+        }
+    }
+    Ok(Some(skips))
+}
+
+/// Whether the partition's last attempt, at the chunk where its row stands, ended by this fault.
+fn ends_attempt<F: RecordFunction>(
+    function: &F,
+    rules: &Rules,
+    item_count: u64,
+    records: &PackedList,
+    row: &Row,
+    fault: Note,
+) -> Result<bool, AllocError>
+    requires items { HasItemCount item_count }
+    ensures { IfOk result (λ ends. ends ≡ true → EndsAttempt (F.function function.now) rules.now item_count records.now row.now fault) }
+{
+    // Each row that a run leaves is sound.
+    if !row.sound() || row.block(item_count).hi <= fault.number {
+        return Ok(false);
+    }
+    match skips_before(function, rules, records, row, fault.number)? {
+        Some(skips) => Ok(matches!(choice_at(rules, row, fault.class, skips), Choice::Fail)),
+        None => Ok(false),
+    }
+}
+
+/// The fault that was noted, if it is one of a record of this row that isn't committed, and ended the last attempt.
 fn fault_in<F: RecordFunction>(
     alloc: Global,
     function: &F,
+    rules: &Rules,
+    item_count: u64,
     records: &PackedList,
     row: &Row,
     noted: Option<Note>,
 ) -> Result<Option<Note>, AllocError>
-    ensures { IfOk result (λ fault. IfSome fault (IsFaultIn (F.function function.now) records.now row.now)) }
+    requires items { HasItemCount item_count }
+    ensures { IfOk result (λ fault. IfSome fault (IsFaultIn (F.function function.now) rules.now item_count records.now row.now)) }
 {
-    let Some(note) = noted else {
+    let Some(Note { number, class }) = noted else {
         return Ok(None);
     };
-    if note.number < row.at || row.hi <= note.number {
+    if number < row.at || row.hi <= number {
         return Ok(None);
     }
-    let item = record_of(records, 0, note.number);
-    match fault_of(alloc, function, note.number, item, note.class)? {
-        Some(class) => Ok(Some(Note {
-            number: note.number,
-            class,
-        })),
-        None => Ok(None),
+    let item = record_of(records, 0, number);
+    let Some(class) = fault_of(alloc, function, number, item, class)? else {
+        return Ok(None);
+    };
+    let fault = Note { number, class };
+    if ends_attempt(function, rules, item_count, records, row, fault)? {
+        Ok(Some(fault))
+    } else {
+        Ok(None)
     }
 }
 
@@ -110,23 +192,37 @@ fn fault_in<F: RecordFunction>(
 fn failures_from<F: RecordFunction>(
     alloc: Global,
     function: &F,
+    rules: &Rules,
+    item_count: u64,
     records: &PackedList,
     partition: u32,
     rows: &[Row],
     artifacts: &[(u32, RecordsArtifacts<F>)],
 ) -> Result<Vec<Failure>, AllocError>
-    requires { partition + length rows.now < 2 ^ 32 }
-    ensures { IfOk result (λ failures. Pairwise (IsFailure (F.function function.now) records.now)
+    requires items { HasItemCount item_count }
+    requires few { partition + length rows.now < 2 ^ 32 }
+    ensures { IfOk result (λ failures. Pairwise (IsFailure (F.function function.now) rules.now item_count records.now)
         (filter (λ n. is_failed n.1.state) (enumerate_from partition rows.now)) failures.items) }
 {
     let Some((row, others)) = rows.split_first() else {
         return Ok(Vec::new(alloc));
     };
-    let mut failures = failures_from(alloc, function, records, partition + 1, others, artifacts)?;
+    let mut failures = failures_from(
+        alloc,
+        function,
+        rules,
+        item_count,
+        records,
+        partition + 1,
+        others,
+        artifacts,
+    )?;
     if row.state.is_failed() {
         let fault = fault_in(
             alloc,
             function,
+            rules,
+            item_count,
             records,
             row,
             noted_of(artifacts, partition),
@@ -136,16 +232,21 @@ fn failures_from<F: RecordFunction>(
     Ok(failures)
 }
 
-/// The partitions that failed, each with its fault.
+/// The partitions that failed in a step with these rules and chunks of so many records, each with its fault.
 pub(crate) fn failures_of<F: RecordFunction>(
     alloc: Global,
     function: &F,
+    rules: &Rules,
+    item_count: u64,
     records: &PackedList,
     rows: &[Row],
     artifacts: &[(u32, RecordsArtifacts<F>)],
 ) -> Result<Vec<Failure>, AllocError>
-    requires { length rows.now < 2 ^ 32 }
-    ensures { IfOk result (λ failures. AreFailures (F.function function.now) records.now rows.now failures.items) }
+    requires items { HasItemCount item_count }
+    requires few { length rows.now < 2 ^ 32 }
+    ensures { IfOk result (λ failures. AreFailures (F.function function.now) rules.now item_count records.now rows.now failures.items) }
 {
-    failures_from(alloc, function, records, 0, rows, artifacts)
+    failures_from(
+        alloc, function, rules, item_count, records, 0, rows, artifacts,
+    )
 }

@@ -4,6 +4,7 @@ ghost use Rattle.std.specs.Prelude.{◌≡◌, ◌≤◌, false, length, None, S
 ghost use Rattle.jb_base.specs.Limits.{max_records};
 ghost use Rattle.jb_mapper.specs.EvenCover.{even_ranges};
 ghost use Rattle.jb_mapper.specs.Mapping.{even};
+ghost use Rattle.jb_chunk.specs.Standing.{HasItemCount};
 ghost use Rattle.jb_collect.specs.declared.calls.Status.TheVariants.{Completed};
 ghost use Rattle.jb_step.specs.preparing.Prepare.{IsPreparation};
 ghost use Rattle.jb_step.specs.preparing.Setup.{IsSetup};
@@ -44,8 +45,11 @@ pub(crate) struct RecordsJob {
     pub(crate) prepared: Prepared,
     pub(crate) results: Vec<PackedList>,
     pub(crate) rules: Rules,
+    pub(crate) item_count: u64,
     pub(crate) reducer: FaultlessReducer,
     ghost same_rules: { prepared.rules ≡ rules },
+    ghost same_items: { prepared.item_count ≡ item_count },
+    ghost items: { HasItemCount item_count },
 }
 
 impl RecordsJob {
@@ -79,6 +83,7 @@ impl RecordsJob {
             prepared,
             results,
             rules: step.rules,
+            item_count: step.item_count,
             reducer,
         })
     }
@@ -112,6 +117,7 @@ impl RecordsJob {
             prepared,
             results,
             rules: step.rules,
+            item_count: step.item_count,
             reducer,
         })
     }
@@ -138,7 +144,7 @@ impl RecordsJob {
         ensures why { IfErr result (HasNoEnd (F.function function) self.prepared.rules records.now) }
         ensures made { IfOk result (λ end. IsRunMade (F.function function) records.now rounds self.prepared self.results.items end.snapshot end.results.items) }
         ensures status { IfOk result (λ end. end.status ≡ status_of end.snapshot.rows.items false) }
-        ensures failures { IfOk result (λ end. AreFailures (F.function function) records.now end.snapshot.rows.items end.failures.items) }
+        ensures failures { IfOk result (λ end. AreFailures (F.function function) self.prepared.rules self.prepared.item_count records.now end.snapshot.rows.items end.failures.items) }
         ensures so_far { IfOk result (λ end. IsSetup self.prepared → IsSoFar (F.function function) records.now self.prepared.rows self.results.items →
             IsSoFar (F.function function) records.now end.snapshot.rows.items end.results.items) }
         ensures whole { IfOk result (λ end. IsSetup self.prepared → IsSoFar (F.function function) records.now self.prepared.rows self.results.items → end.status ≡ Completed →
@@ -152,6 +158,7 @@ impl RecordsJob {
             prepared,
             results,
             rules,
+            item_count,
             reducer,
         } = self;
         let function = Arc::new(alloc, function)?;
@@ -167,7 +174,15 @@ impl RecordsJob {
             artifacts,
             ..
         } = end;
-        let failures = failures_of(alloc, &*function, records, &snapshot.rows, &artifacts)?;
+        let failures = failures_of(
+            alloc,
+            &*function,
+            &rules,
+            item_count,
+            records,
+            &snapshot.rows,
+            &artifacts,
+        )?;
         Ok(RecordsEnd {
             status,
             snapshot,

@@ -12,7 +12,7 @@ ghost use Rattle.jb_step.specs.preparing.Setup.{IsSetup};
 ghost use Rattle.jb_records.specs.Causes.{IsCauseBehind, IsCauseOf};
 ghost use Rattle.jb_records.specs.Made.{even_partitions};
 ghost use Rattle.jb_records.specs.Shares.{AreAtTheirEnds, IsSoFar, newer_shares};
-ghost use Rattle.jb_records.specs.Stretches.{BeginsBehind, BeginsEmpty, RunState, StandsOver};
+ghost use Rattle.jb_records.specs.Stretches.{BeginsBehind, BeginsEmpty, GoesBy, RunState, StandsOver};
 ghost use Rattle.jb_records.specs.inside.Calls.{CanBeginOver, IsTryRefused};
 ghost use Rattle.jb_records.specs.inside.Kept.{IsKept};
 
@@ -50,6 +50,7 @@ pub struct RecordsRun<F> {
     ghost runnable: { IsRunnable count (even_partitions step count) },
     ghost few_rows: { length prepared.rows ≤ max_partitions },
     ghost same_rules: { prepared.rules ≡ step.rules },
+    ghost same_items: { prepared.item_count ≡ step.item_count },
 }
 
 impl<F: RecordFunction + Drop> Standing for RecordsRun<F> {
@@ -75,6 +76,7 @@ impl<F: RecordFunction + Drop> RecordsRun<F> {
     ) -> Result<RecordsRun<F>, RecordsStepError>
         ensures why { IfErr result (IsCauseOf (F.function (arc_value function.now)) step.now records.now None) }
         ensures stands { IfOk result (λ run. StandsOver (F.function (arc_value function.now)) records.now (⟦<RecordsRun<F> as Standing>⟧.standing run)) }
+        ensures by { IfOk result (λ run. GoesBy step.now (⟦<RecordsRun<F> as Standing>⟧.standing run)) }
         ensures anew { IfOk result (λ run. BeginsEmpty step.now.id (⟦<RecordsRun<F> as Standing>⟧.standing run)) }
     {
         let job = RecordsJob::begin(alloc, step, records, None, &PackedList::new(alloc))?;
@@ -95,6 +97,7 @@ impl<F: RecordFunction + Drop> RecordsRun<F> {
         results: Vec<PackedList>,
     ) -> Result<RecordsRun<F>, RecordsStepError>
         ensures why { IfErr result (IsCauseBehind (F.function (arc_value function.now)) step.now records.now saved.now results.items) }
+        ensures by { IfOk result (λ run. GoesBy step.now (⟦<RecordsRun<F> as Standing>⟧.standing run)) }
         ensures behind { IfOk result (λ run. BeginsBehind step.now.id saved.now results.items (⟦<RecordsRun<F> as Standing>⟧.standing run)) }
         ensures stands { IfOk result (λ run. (held : SavedRows) → answer_of (tree_of saved.now) ≡ Ok held → IsSoFar (F.function (arc_value function.now)) records.now held.rows results.items →
             StandsOver (F.function (arc_value function.now)) records.now (⟦<RecordsRun<F> as Standing>⟧.standing run)) }
@@ -117,6 +120,7 @@ impl<F: RecordFunction + Drop> RecordsRun<F> {
         requires runnable { IsRunnable (length records.now) (even_partitions step.now (length records.now)) }
         requires setup { IsSetup job.prepared }
         requires same_rules { job.prepared.rules ≡ step.now.rules }
+        requires same_items { job.prepared.item_count ≡ step.now.item_count }
         ensures why { IfErr result (IsTryRefused (F.function (arc_value function.now)) step.now.rules 0 records.now) }
         ensures kept { IfOk result (λ run. IsKept (F.function (arc_value function.now)) records.now step.now.id job.prepared job.results.items (⟦<RecordsRun<F> as Standing>⟧.standing run)) }
     {
@@ -125,6 +129,7 @@ impl<F: RecordFunction + Drop> RecordsRun<F> {
             results,
             rules,
             reducer,
+            ..
         } = job;
         let artifacts = all_artifacts(alloc, function, &rules, records, &prepared, &results)?;
         let artifacts = numbered(alloc, prepared.needs(), artifacts)?;

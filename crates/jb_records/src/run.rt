@@ -54,7 +54,7 @@ pub fn run_records<F: RecordFunction + Drop + 'static, R: Threads + Wait + Sync>
     ensures why { IfErr result (IsCauseOf (F.function function) step.now records.now (option_map (λ e. (e.saved.now, e.results.now)) earlier.entry)) }
     ensures run { IfOk result (λ end. IsRecordsRun (F.function function) step.now records.now (option_map (λ e. (e.saved.now, e.results.now)) earlier.entry) rounds end.snapshot end.results.items) }
     ensures status { IfOk result (λ end. end.status ≡ status_of end.snapshot.rows.items false) }
-    ensures failures { IfOk result (λ end. AreFailures (F.function function) records.now end.snapshot.rows.items end.failures.items) }
+    ensures failures { IfOk result (λ end. AreFailures (F.function function) step.now.rules step.now.item_count records.now end.snapshot.rows.items end.failures.items) }
     ensures counted { earlier.entry ≡ None → IfOk result (λ end. AreCounted (F.function function) records.now end.snapshot.rows.items) }
     ensures so_far { earlier.entry ≡ None → IfOk result (λ end. IsSoFar (F.function function) records.now end.snapshot.rows.items end.results.items) }
     ensures all { earlier.entry ≡ None → IfOk result (λ end. end.status ≡ Completed → joined end.results.items ≡ all_results (F.function function) records.now) }
@@ -112,7 +112,7 @@ fn run_on<
     ensures why { IfErr result (HasNoEnd (F.function function) job.prepared.rules records.now) }
     ensures made { IfOk result (λ end. IsRunMade (F.function function) records.now rounds job.prepared job.results.items end.snapshot end.results.items) }
     ensures status { IfOk result (λ end. end.status ≡ status_of end.snapshot.rows.items false) }
-    ensures failures { IfOk result (λ end. AreFailures (F.function function) records.now end.snapshot.rows.items end.failures.items) }
+    ensures failures { IfOk result (λ end. AreFailures (F.function function) job.prepared.rules job.prepared.item_count records.now end.snapshot.rows.items end.failures.items) }
     ensures so_far { IfOk result (λ end. IsSetup job.prepared → IsSoFar (F.function function) records.now job.prepared.rows job.results.items →
         IsSoFar (F.function function) records.now end.snapshot.rows.items end.results.items) }
     ensures whole { IfOk result (λ end. IsSetup job.prepared → IsSoFar (F.function function) records.now job.prepared.rows job.results.items → end.status ≡ Completed →

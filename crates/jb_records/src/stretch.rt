@@ -114,6 +114,7 @@ fn going_on<F: RecordFunction + Drop>(
     requires runnable { IsRunnable count (even_partitions step count) }
     ensures text { IfOk result (λ r. answer_of (tree_of (string_bytes r.1)) ≡ Ok (record { step = step.id; rows = snapshot.now.rows.items })) }
     ensures state { IfOk result (λ r. IsGoingOn step.id count step.rules snapshot.now.rows.items (given_back ⟦<RecordsArtifacts<F> as Meaning>⟧.meaning artifacts.items) results.items (⟦<RecordsRun<F> as Standing>⟧.standing r.0)) }
+    ensures items { IfOk result (λ r. (⟦<RecordsRun<F> as Standing>⟧.standing r.0).setup.item_count ≡ step.item_count) }
     ensures why { first_running snapshot.now.rows.items ≡ None → ends_past count snapshot.now.rows.items ≡ false → IfErr result IsBrokenOff }
 {
     answers_are_computed();
@@ -165,11 +166,13 @@ impl<F: RecordFunction + Drop + 'static> RecordsRun<F> {
         records: &PackedList,
         stretch: &Stretch,
     ) -> Result<Vec<Failure>, AllocError>
-        ensures { IfOk result (λ failures. AreFailures (F.function function.now) records.now stretch.now.snapshot.rows.items failures.items) }
+        ensures { IfOk result (λ failures. AreFailures (F.function function.now) (⟦<RecordsRun<F> as Standing>⟧.standing self.now).setup.rules (⟦<RecordsRun<F> as Standing>⟧.standing self.now).setup.item_count records.now stretch.now.snapshot.rows.items failures.items) }
     {
         failures_of(
             alloc,
             function,
+            &self.step.rules,
+            self.step.item_count,
             records,
             &stretch.snapshot.rows,
             &self.artifacts,

@@ -18,7 +18,9 @@ returns-in_err-run-clause-why g c f records stands =
     handed-on c.from_residual-in_err-run.result e _ c.from_residual-in_err-run.ensures.1 (c.in_err-run.ensures.why saved.0 saved.1)
 
 pub returns-clause-made : goal.returns-clause-made
-returns-clause-made g c = made-of _ _ c.args.rounds _ _ _ _ _ _ c.in_ok-artifacts.ensures c.in_ok-end.ensures.ran c.in_ok-run.ensures.state
+returns-clause-made g c =
+    made-of _ _ c.args.rounds _ _ _ _ _ _ c.in_ok-artifacts.ensures c.in_ok-end.ensures.ran c.in_ok-run.ensures.state
+    (sym c.args.self.same_rules) (c.in_ok-run.ensures.items ∙ sym c.args.self.same_items)
 
 pub returns-clause-goes_on : goal.returns-clause-goes_on
 returns-clause-goes_on g c f records stands =
