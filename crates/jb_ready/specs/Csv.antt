@@ -1,6 +1,5 @@
 -- The records of a text in CSV (RFC 4180, as the kit's `csv` reads it by its defaults; there is no header row).
-use Rattle.std.specs.Prelude.{ℕ, ◌≡◌, ◌+◌, ◌<◌, ◌≤◌, ◌==◌, Bool, true, false, List, [], Option, count_by, length, map, option_map, slice_index_or, take}
-use Rattle.csv.specs.Machine.{next_record}
+use Rattle.std.specs.Prelude.{ℕ, ◌≡◌, ◌+◌, ◌<◌, ◌≤◌, ◌==◌, Bool, true, false, List, [], count_by, length, map, slice_index_or, take}
 use Rattle.csv.specs.Reading.{AreRecords, default_config, strip_bom}
 use Rattle.csv.specs.Writing.{default_writer, row_text}
 use Rattle.csv.specs.declared.parser.State.TheVariants as st
@@ -17,10 +16,6 @@ AreFieldsOf text records = AreRecords default_config st.StartRecord (strip_bom t
 -- the line of CSV of a record
 unfoldable pub csv_row : Fields → List ℕ
 csv_row fields = row_text default_writer fields
-
--- the fields of the text's first record, if it has one
-unfoldable pub first_fields : (text : List ℕ) → Option Fields
-first_fields text = option_map (λ p. p.0) (next_record default_config st.StartRecord [] [] (strip_bom text))
 
 -- the record has as many fields as the first of these
 abbrev pub HasWidthOf : List Fields → Fields → Type 0

@@ -3,5 +3,4 @@ pub mod Csv
 pub mod Json
 pub mod Lines
 pub mod Notes
-pub mod Numbers
 pub mod Refused

@@ -1,14 +1,14 @@
 //! The records of a text in CSV.
 
-ghost use Rattle.std.specs.Prelude.{◌≡◌, map, option_map, IfOk, MatchOption};
+ghost use Rattle.std.specs.Prelude.{◌≡◌, map, IfOk, MatchOption};
 ghost use Rattle.csv.specs.Records.{fields_of};
-ghost use Rattle.jb_ready.specs.Csv.{AreEvenRowsOf, AreRowsOf, BeginsIn, HasWidthOf, IsUnevenAt, first_fields, csv_row};
+ghost use Rattle.jb_ready.specs.Csv.{AreEvenRowsOf, AreRowsOf, BeginsIn, HasWidthOf, IsUnevenAt, csv_row};
 ghost use Rattle.jb_ready.specs.Refused.{AreAll, IfRefused, IsFirstRefused};
 
 use crate::csv_lines::line_of;
 use crate::csv_text::byte_records_of;
 use crate::records_error::RecordsError;
-use csv::{ByteRecord, ReaderBuilder, WriterBuilder};
+use csv::{ByteRecord, WriterBuilder};
 use jb_base::PackedList;
 use std::alloc::{AllocError, Global};
 
@@ -48,24 +48,8 @@ pub fn flexible_records_of(alloc: Global, text: &[u8]) -> Result<PackedList, Rec
     }
 }
 
-/// The first record of a text in CSV, as of a line that one of the calls above gave, if it has one.
-#[tactic(auto, unfolding(crate::specs::Csv::first_fields))]
-pub fn first_record_of(alloc: Global, text: &[u8]) -> Result<Option<ByteRecord>, AllocError>
-    ensures { IfOk result (λ found. option_map fields_of found ≡ first_fields text.now) }
-{
-    let mut reader = ReaderBuilder::new()
-        .has_headers(false)
-        .from_reader(alloc, text);
-    let mut record = ByteRecord::new(alloc);
-    match reader.read_byte_record(&mut record) {
-        Ok(true) => Ok(Some(record)),
-        Ok(false) => Ok(None),
-        Err(_) => Err(AllocError),
-    }
-}
-
 /// The record as a line of CSV with its end.
-pub fn row_of(alloc: Global, row: &ByteRecord) -> Result<Vec<u8>, AllocError>
+fn row_of(alloc: Global, row: &ByteRecord) -> Result<Vec<u8>, AllocError>
     ensures { IfOk result (λ bytes. bytes.items ≡ csv_row (fields_of row.now)) }
 {
     let mut writer = WriterBuilder::new().from_writer(Vec::new(alloc));

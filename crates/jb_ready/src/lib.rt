@@ -6,7 +6,6 @@
 //!   those answer.
 //! - `numbered`: a reader over a table of records whose numbers may be too many.
 //! - `lines`, `csv_rows`, `json_lines`: the records of a text; `csv_text`, `csv_lines`: what the second is made of.
-//! - `numbers`: the number that a field writes.
 //! - `records_error`: why there are no records.
 #![tactic(auto)]
 
@@ -22,7 +21,6 @@ mod noting_processor;
 mod noting_reader;
 mod noting_writer;
 mod numbered;
-pub mod numbers;
 mod records_error;
 
 pub use answering::{Answer, AnswerProcessor};

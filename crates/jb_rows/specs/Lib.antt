@@ -5,3 +5,5 @@ pub mod Fields
 pub mod Numbers
 pub mod Refusals
 pub mod Streams
+pub mod TextLines
+pub mod Texts

@@ -1,7 +1,7 @@
 //! A stream that fails once it has given as many bytes as it was allowed.
 
-ghost use Rattle.std.specs.Prelude.{◌≡◌};
-ghost use Rattle.jb_rows.specs.Bounded.{bounded_inner, bounded_remaining};
+ghost use Rattle.std.specs.Prelude.{◌≡◌, false};
+ghost use Rattle.jb_rows.specs.Bounded.{bounded_inner, bounded_remaining, bounded_used_up};
 
 use std::cell::Cell;
 use std::io::{Error, ErrorKind, Read, Result};
@@ -18,7 +18,8 @@ pub struct BoundedReader<R> {
 impl<R> BoundedReader<R> {
     /// This stream, of which no byte may be read yet.
     pub fn new(inner: R) -> BoundedReader<R>
-        ensures { bounded_inner result ≡ inner }
+        ensures inner { bounded_inner result ≡ inner }
+        ensures unused { bounded_used_up result ≡ false }
     {
         BoundedReader {
             inner,
@@ -33,7 +34,9 @@ impl<R> BoundedReader<R> {
     }
 
     /// Whether a read failed since all bytes that were allowed were given.
-    pub fn is_used_up(&self) -> bool {
+    pub fn is_used_up(&self) -> bool
+        ensures { result ≡ bounded_used_up self.now }
+    {
         self.is_used_up
     }
 }

@@ -3,12 +3,15 @@
 //! - `packed`: the fields of a record in one string of bytes. `row`: they are read in place; `row_builder`: they are put together;
 //!   `rows`: records, one after the other.
 //! - `row_function`: what is done to each record. `numbers`: the numbers in fields.
-//! - `rows_reader`, `rows_writer`: records from a stream and to one. `rows_options`: how. `bounded_reader`: a stream under the
-//!   reader, which fails if a record doesn't end. `rows_error`: why records are not read or not written.
+//! - `rows_reader`, `rows_writer`: records from a stream and to one. `rows_options`: how; `input`: whether a record is one of CSV or a line;
+//!   `header`: whether there is a header row. `bounded_reader`: a stream under the reader, which fails if a record doesn't end.
+//!   `rows_error`: why records are not read or not written.
 //! - `run`: all of it as one call over streams.
 #![tactic(auto)]
 
 mod bounded_reader;
+mod header;
+mod input;
 pub mod numbers;
 mod packed;
 mod row;
@@ -21,6 +24,8 @@ mod rows_reader;
 mod rows_writer;
 mod run;
 
+pub use header::Header;
+pub use input::{Input, lines_are_records};
 pub use row::Row;
 pub use row_builder::RowBuilder;
 pub use row_function::{Outcome, RowFunction, process_all};
@@ -29,4 +34,4 @@ pub use rows_error::RowsError;
 pub use rows_options::RowsOptions;
 pub use rows_reader::RowsReader;
 pub use rows_writer::RowsWriter;
-pub use run::run_rows;
+pub use run::{copy_header, run_rows};

@@ -1,7 +1,7 @@
 //! Records of fields, one behind the other.
 
 ghost use Rattle.std.specs.Prelude.{◌≡◌, ◌<◌, ◌++◌, ◌∷◌, [], length, map, slice_index_or, OnErr, OnOk};
-ghost use Rattle.jb_rows.specs.Fields.{fields_in};
+ghost use Rattle.jb_rows.specs.Fields.{fields_in, packed};
 
 use crate::row::Row;
 use crate::row_builder::RowBuilder;
@@ -17,11 +17,13 @@ pub struct Rows {
 
 impl Model for Rows {
     ghost use Rattle.std.specs.Prelude.{ℕ, List, map};
-    ghost use Rattle.jb_rows.specs.Fields.{fields_in};
+    ghost use Rattle.jb_rows.specs.Fields.{ArePacked, fields_in};
 
     ghost Value = { List (List (List ℕ)) };
 
     ghost view = { λ rows. map fields_in rows.list };
+
+    ghost invariant = { λ rows. ArePacked rows.list };
 }
 
 impl Rows {
@@ -66,8 +68,18 @@ impl Rows {
 
     /// The records, each packed in one string of bytes.
     pub fn as_list(&self) -> &PackedList
-        ensures { map fields_in result.now ≡ self.now }
+        ensures packed { result.now ≡ map packed self.now }
+        ensures fields { map fields_in result.now ≡ self.now }
     {
         &self.list
+    }
+
+    /// The records, each packed in one string of bytes, given away.
+    pub fn into_list(self) -> PackedList
+        ensures packed { result ≡ map packed self }
+        ensures fields { map fields_in result ≡ self }
+    {
+        let Rows { list } = self;
+        list
     }
 }

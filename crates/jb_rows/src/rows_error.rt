@@ -10,9 +10,13 @@ use thiserror::Error;
 /// Why records are not read or not written.
 #[derive(Debug, Drop, Error)]
 pub enum RowsError {
-    /// The record of this number, the first being 0, is longer than a record may be. The number stops at 2^64 - 1.
+    /// The record of this number, the first after the header row being 0, is longer than a record may be. The number stops at
+    /// 2^64 - 1.
     #[error("record {number} is too long")]
     TooLong { number: u64 },
+    /// The header row is longer than a record may be.
+    #[error("the header row is too long")]
+    LongHeader,
     /// The stream failed.
     #[error("{0}")]
     Stream(csv::Error),

@@ -1,15 +1,18 @@
 //! Records to a stream of CSV.
 
-ghost use Rattle.std.specs.Prelude.{ℕ, [], IfOk, OnOk};
+ghost use Rattle.std.specs.Prelude.{ℕ, [], map, IfOk, OnOk};
 ghost use Rattle.std.specs.Io.KnownBytes.{Appends, Keeps};
 ghost use Rattle.csv.specs.Records.{fields_of};
 ghost use Rattle.csv.specs.Writing.{text_written};
+ghost use Rattle.jb_rows.specs.Fields.{fields_in};
 ghost use Rattle.jb_rows.specs.Streams.{IsBetween, IsBetweenRows, csv_row, csv_rows, rows_written};
 
+use crate::row::Row;
 use crate::rows::Rows;
 use crate::rows_error::{RowsError, failure_of};
 use crate::rows_options::RowsOptions;
 use csv::{ByteRecord, Writer, WriterBuilder};
+use jb_base::PackedList;
 use std::alloc::Global;
 use std::io::Write;
 
@@ -29,6 +32,14 @@ fn writer_to<W: Write + Drop>(delimiter: u8, to: W) -> Writer<W>
         .flexible(true)
         .delimiter(delimiter)
         .from_writer(to)
+}
+
+/// Lets `entry` grow to the largest of these records, so that want of memory comes before the first of them is written.
+fn grow_for(entry: &mut ByteRecord, records: &PackedList) -> Result<(), RowsError> {
+    for index in 0..records.len() {
+        Row::of(records.at(index)).copy_to(entry)?;
+    }
+    Ok(())
 }
 
 /// Writes a record.
@@ -62,8 +73,17 @@ impl<W: Write + Drop> RowsWriter<W> {
         ensures { OnOk result ((delimiter : ℕ) → IsBetweenRows delimiter self.old → IsBetweenRows delimiter self.new
             × Appends (rows_written W.contents self.old) (rows_written W.contents self.new) (csv_rows delimiter rows.now)) }
     {
-        for index in 0..rows.len() {
-            rows.row(index).copy_to(&mut self.entry)?;
+        self.write_packed(rows.as_list())
+    }
+
+    /// Writes each of these strings as the record whose fields it has, packed. Want of memory is told before any of them is written.
+    pub fn write_packed(&mut self, records: &PackedList) -> Result<(), RowsError>
+        ensures { OnOk result ((delimiter : ℕ) → IsBetweenRows delimiter self.old → IsBetweenRows delimiter self.new
+            × Appends (rows_written W.contents self.old) (rows_written W.contents self.new) (csv_rows delimiter (map fields_in records.now))) }
+    {
+        grow_for(&mut self.entry, records)?;
+        for index in 0..records.len() {
+            Row::of(records.at(index)).copy_to(&mut self.entry)?;
             write_record(&mut self.writer, &self.entry)?;
         }
         Ok(())

@@ -1,11 +1,14 @@
 //! A job over streams: records are read, answered and written, part by part.
 
-ghost use Rattle.std.specs.Prelude.{◌≡◌, ◌<◌, ◌++◌, ℕ, List, [], IfOk, IfSome};
+ghost use Rattle.std.specs.Prelude.{false, ◌≡◌, ◌<◌, ◌++◌, ℕ, List, IfOk, IfSome, OnOk};
 ghost use Rattle.std.specs.Io.KnownBytes.{Appends};
 ghost use Rattle.jb_rows.specs.Answers.{all_results};
 ghost use Rattle.jb_rows.specs.Fields.{Fields};
-ghost use Rattle.jb_rows.specs.Streams.{AreAllDone, HasGivenOrAll, HasGivenRows, IsBetweenRows, csv_rows, rows_written};
+ghost use Rattle.jb_rows.specs.Streams.{AreAllDone, HasGivenRows, IsBetweenRows, csv_rows, kept_header, rows_written};
+ghost use Rattle.jb_rows.specs.Texts.{AreRowsOf, copied_by};
+ghost use Rattle.jb_rows.specs.declared.rows_options.RowsOptions.{RowsOptions};
 
+use crate::header::Header;
 use crate::row_builder::RowBuilder;
 use crate::row_function::{RowFunction, process_all};
 use crate::rows::Rows;
@@ -24,6 +27,21 @@ struct Work {
     results: Rows,
 }
 
+/// Writes the header row that the reader keeps, if it is copied.
+pub fn copy_header<R: Read, W: Write + Drop>(
+    options: &RowsOptions,
+    reader: &RowsReader<R>,
+    writer: &mut RowsWriter<W>,
+) -> Result<(), RowsError>
+    ensures { OnOk result (IsBetweenRows options.now.delimiter writer.old → IsBetweenRows options.now.delimiter writer.new
+        × Appends (rows_written W.contents writer.old) (rows_written W.contents writer.new) (csv_rows options.now.delimiter (copied_by options.now.header (kept_header reader.now)))) }
+{
+    match options.header {
+        Header::None | Header::Skipped => Ok(()),
+        Header::Copied => writer.write_rows(reader.header()),
+    }
+}
+
 /// Reads the next records, at most so many, and writes their results; and whether there may be more.
 fn run_part<F: RowFunction, R: Read, W: Write + Drop>(
     function: &F,
@@ -32,10 +50,11 @@ fn run_part<F: RowFunction, R: Read, W: Write + Drop>(
     writer: &mut RowsWriter<W>,
     work: &mut Work,
 ) -> Result<bool, RowsError>
-    ensures { IfOk result (λ more. (delimiter : ℕ) (text : List ℕ) (before : List Fields)
-        → HasGivenRows delimiter R.remaining reader.old text before → IsBetweenRows delimiter writer.old
-        → (records : List Fields) × HasGivenOrAll more delimiter R.remaining reader.new text (before ++ records) × IsBetweenRows delimiter writer.new
-        × Appends (rows_written W.contents writer.old) (rows_written W.contents writer.new) (csv_rows delimiter (all_results (F.answer function.now) records))) }
+    ensures { IfOk result (λ more. (options : RowsOptions) (text : List ℕ) (before : List Fields)
+        → HasGivenRows options R.remaining reader.old text before → IsBetweenRows options.delimiter writer.old
+        → (records : List Fields) × HasGivenRows options R.remaining reader.new text (before ++ records) × (more ≡ false → AreRowsOf options text (before ++ records))
+        × IsBetweenRows options.delimiter writer.new
+        × Appends (rows_written W.contents writer.old) (rows_written W.contents writer.new) (csv_rows options.delimiter (all_results (F.answer function.now) records))) }
 {
     let more = reader.next_rows(&mut work.rows, most)?;
     work.results.clear();
@@ -44,8 +63,9 @@ fn run_part<F: RowFunction, R: Read, W: Write + Drop>(
     Ok(more)
 }
 
-/// Reads all records, at most so many at a time, writes their results, and gives the stream back that they were written to. What it keeps
-/// in memory is so many records and their results, however many there are.
+/// Reads all records, at most so many at a time, writes their results, and gives the stream back that they were written to. A header row
+/// is no record; if the options say so, it is written first. What it keeps in memory is so many records and their results, however many
+/// there are.
 pub fn run_rows<F: RowFunction, R: Read + Drop, W: Write + Drop>(
     alloc: Global,
     options: &RowsOptions,
@@ -55,10 +75,11 @@ pub fn run_rows<F: RowFunction, R: Read + Drop, W: Write + Drop>(
     to: W,
 ) -> Result<W, RowsError>
     requires { 0 < most }
-    ensures { IfOk result (λ done. IfSome (R.remaining from) (λ text. AreAllDone (F.answer function.now) options.now.delimiter text (W.contents to) (W.contents done))) }
+    ensures { IfOk result (λ done. IfSome (R.remaining from) (λ text. AreAllDone (F.answer function.now) options.now text (W.contents to) (W.contents done))) }
 {
-    let mut reader = RowsReader::new(alloc, options, from);
+    let mut reader = RowsReader::new(alloc, options, from)?;
     let mut writer = RowsWriter::new(alloc, options, to);
+    copy_header(options, &reader, &mut writer)?;
     let mut work = Work {
         rows: Rows::new(alloc),
         built: RowBuilder::new(alloc),

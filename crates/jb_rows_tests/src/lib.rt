@@ -1,9 +1,11 @@
 //! Tests of `jb_rows`: what no clause says of it, and memory that is refused.
 //!
-//! They stand apart from the library, so that it is proved once. `texts`: what texts of CSV are read into and written as; `longest`:
-//! records that are too long.
+//! They stand apart from the library, so that it is proved once. `texts`: what texts of CSV are read into and written as; `headers`: texts
+//! with a header row; `longest`: records that are too long.
 #![tactic(auto)]
 
+#[cfg(test)]
+mod headers;
 #[cfg(test)]
 mod longest;
 #[cfg(test)]

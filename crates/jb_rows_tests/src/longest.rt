@@ -1,24 +1,33 @@
 //! Records that are too long.
 
 use crate::texts::show;
-use jb_rows::{Rows, RowsError, RowsOptions, RowsReader};
+use jb_rows::{Input, Rows, RowsError, RowsOptions, RowsReader};
 use std::alloc::Global;
 use std::io::{Read, repeat};
 
-/// Commas, and records of at most eight bytes packed.
-const EIGHT: RowsOptions = RowsOptions {
-    delimiter: b',',
+/// Commas, records of at most eight bytes packed, and no header row.
+pub(crate) const EIGHT: RowsOptions = RowsOptions {
     longest: 8,
+    ..RowsOptions::CSV
+};
+
+/// The same of lines.
+const EIGHT_LINES: RowsOptions = RowsOptions {
+    input: Input::Lines,
+    ..EIGHT
 };
 
 /// The number of the record that is refused, if one is, with the records read before it in its slice.
 fn refused<R: Read + Drop>(
     alloc: Global,
+    options: &RowsOptions,
     from: R,
     slice: usize,
     shown: &mut Vec<u8>,
 ) -> Option<u64> {
-    let mut reader = RowsReader::new(alloc, &EIGHT, from);
+    let Ok(mut reader) = RowsReader::new(alloc, options, from) else {
+        return None;
+    };
     let mut rows = Rows::new(alloc);
     for _ in 0..u64::MAX {
         let answer = reader.next_rows(&mut rows, slice);
@@ -38,13 +47,14 @@ fn refused<R: Read + Drop>(
 /// Whether the record of this number is refused, and these are read.
 fn refuses<R: Read + Drop>(
     alloc: Global,
+    options: &RowsOptions,
     from: R,
     slice: usize,
     number: u64,
     records: &[u8],
 ) -> bool {
     let mut shown = Vec::new(alloc);
-    refused(alloc, from, slice, &mut shown) == Some(number) && shown.as_slice() == records
+    refused(alloc, options, from, slice, &mut shown) == Some(number) && shown.as_slice() == records
 }
 
 /// Records of 8 bytes packed are read, and one of 9 is refused by its number.
@@ -55,7 +65,8 @@ fn the_first_record_past_the_limit_is_refused(rt: HostRuntime) {
     let records = b"aaaa;bb|ccccccc|".as_slice();
     for slice in [1, 2, 3, 7] {
         assert!(rt;
-            refuses(alloc, text, slice, 2, records) || refuses(alloc, text, slice, 2, records),
+            refuses(alloc, &EIGHT, text, slice, 2, records)
+                || refuses(alloc, &EIGHT, text, slice, 2, records),
             "by {slice}"
         );
     }
@@ -75,9 +86,30 @@ fn a_record_without_an_end_is_refused(rt: HostRuntime) {
     ] {
         let front = front.as_bytes();
         assert!(rt;
-            refuses(alloc, front.chain(repeat(byte)), 7, 2, records)
-                || refuses(alloc, front.chain(repeat(byte)), 7, 2, records),
+            refuses(alloc, &EIGHT, front.chain(repeat(byte)), 7, 2, records)
+                || refuses(alloc, &EIGHT, front.chain(repeat(byte)), 7, 2, records),
             "of {byte}"
         );
     }
+}
+
+/// A line of 8 bytes packed is read, and one of 9 is refused by its number, and so is one that doesn't end.
+#[test]
+fn a_line_past_the_limit_is_refused(rt: HostRuntime) {
+    let alloc = rt.alloc();
+    let text = b"a,bb,c\"\n\"cccccc\n\ndddddddd\ne\n".as_slice();
+    let records = b"a,bb,c\"|\"cccccc|".as_slice();
+    for slice in [1, 2, 7] {
+        assert!(rt;
+            refuses(alloc, &EIGHT_LINES, text, slice, 2, records)
+                || refuses(alloc, &EIGHT_LINES, text, slice, 2, records),
+            "by {slice}"
+        );
+    }
+    let front = b"a\nb\n".as_slice();
+    let before = b"a|b|".as_slice();
+    assert!(rt;
+        refuses(alloc, &EIGHT_LINES, front.chain(repeat(b'"')), 7, 2, before)
+            || refuses(alloc, &EIGHT_LINES, front.chain(repeat(b'"')), 7, 2, before)
+    );
 }

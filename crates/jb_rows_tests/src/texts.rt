@@ -1,4 +1,4 @@
-//! What texts of CSV are read into, and written as.
+//! What texts of CSV and of lines are read into, and written as.
 
 use jb_rows::{Row, Rows, RowsError, RowsOptions, RowsReader, RowsWriter};
 use std::alloc::{AllocError, Global};
@@ -36,6 +36,28 @@ const TEXTS: [(&str, &str, &str); 16] = [
     (" a , \"b\" \n", " a ; \"b\" |", " a ,\" \"\"b\"\" \"\n"),
 ];
 
+/// Texts that are read as lines, and the same of them. A record has one field; where it has two, a byte 0 was between them.
+const LINES: [(&str, &str, &str); 10] = [
+    ("", "", ""),
+    ("\n\r\n\n", "", ""),
+    (
+        "{\"a\": \"x,y\"}\n{\"b\": [1, 2]}\n",
+        "{\"a\": \"x,y\"}|{\"b\": [1, 2]}|",
+        "\"{\"\"a\"\": \"\"x,y\"\"}\"\n\"{\"\"b\"\": [1, 2]}\"\n",
+    ),
+    ("{}\r\n[]\r\n", "{}|[]|", "{}\n[]\n"),
+    ("1\n\n\r\n2\r3", "1|2|3|", "1\n2\n3\n"),
+    ("\u{feff}1\n\u{feff}2", "1|\u{feff}2|", "1\n\u{feff}2\n"),
+    (
+        "{\"open\n\"\n\"\"\n",
+        "{\"open|\"|\"\"|",
+        "\"{\"\"open\"\n\"\"\"\"\n\"\"\"\"\"\"\n",
+    ),
+    (" \n\t1 \n", " |\t1 |", " \n\t1 \n"),
+    ("\"é, 日本\"", "\"é, 日本\"|", "\"\"\"é, 日本\"\"\"\n"),
+    ("a\0b\nc\n", "a;b|c|", "a,b\nc\n"),
+];
+
 /// How many records are read at a time.
 const SLICES: [usize; 4] = [1, 2, 3, 7];
 
@@ -68,12 +90,13 @@ pub(crate) fn show(rows: &Rows, shown: &mut Vec<u8>) -> Result<(), AllocError> {
 /// Reads a text by slices of so many records, shows its records after `shown`, and gives them as lines of CSV.
 fn read_and_write(
     alloc: Global,
+    options: &RowsOptions,
     text: &[u8],
     slice: usize,
     shown: &mut Vec<u8>,
 ) -> Result<Vec<u8>, RowsError> {
-    let mut reader = RowsReader::new(alloc, &RowsOptions::CSV, text);
-    let mut writer = RowsWriter::new(alloc, &RowsOptions::CSV, Vec::new(alloc));
+    let mut reader = RowsReader::new(alloc, options, text)?;
+    let mut writer = RowsWriter::new(alloc, options, Vec::new(alloc));
     let mut rows = Rows::new(alloc);
     for _ in 0..u64::MAX {
         let more = reader.next_rows(&mut rows, slice)?;
@@ -87,9 +110,16 @@ fn read_and_write(
 }
 
 /// Whether a text has these records and these lines. Where a request for memory is refused, it is at the second call.
-fn gives(alloc: Global, text: &[u8], slice: usize, records: &[u8], lines: &[u8]) -> bool {
+fn gives(
+    alloc: Global,
+    options: &RowsOptions,
+    text: &[u8],
+    slice: usize,
+    records: &[u8],
+    lines: &[u8],
+) -> bool {
     let mut shown = Vec::new(alloc);
-    match read_and_write(alloc, text, slice, &mut shown) {
+    match read_and_write(alloc, options, text, slice, &mut shown) {
         Ok(written) => written.as_slice() == lines && shown.as_slice() == records,
         Err(_) => false,
     }
@@ -103,8 +133,24 @@ fn texts_are_read_and_written_as_by_python(rt: HostRuntime) {
         let (text, records, lines) = (text.as_bytes(), records.as_bytes(), lines.as_bytes());
         for slice in SLICES {
             assert!(rt;
-                gives(alloc, text, slice, records, lines)
-                    || gives(alloc, text, slice, records, lines),
+                gives(alloc, &RowsOptions::CSV, text, slice, records, lines)
+                    || gives(alloc, &RowsOptions::CSV, text, slice, records, lines),
+                "of {text:?} by {slice}"
+            );
+        }
+    }
+}
+
+/// Each line is a record of one field, whatever the size of a slice.
+#[test]
+fn lines_are_read_as_they_stand(rt: HostRuntime) {
+    let alloc = rt.alloc();
+    for (text, records, lines) in LINES {
+        let (text, records, lines) = (text.as_bytes(), records.as_bytes(), lines.as_bytes());
+        for slice in SLICES {
+            assert!(rt;
+                gives(alloc, &RowsOptions::LINES, text, slice, records, lines)
+                    || gives(alloc, &RowsOptions::LINES, text, slice, records, lines),
                 "of {text:?} by {slice}"
             );
         }
@@ -127,7 +173,7 @@ fn gives_long(alloc: Global, size: usize) -> bool {
         long_text(alloc, size, b",y\n"),
         long_text(alloc, size, b";y|"),
     ) {
-        (Ok(text), Ok(shown)) => gives(alloc, &text, 1, &shown, &text),
+        (Ok(text), Ok(shown)) => gives(alloc, &RowsOptions::CSV, &text, 1, &shown, &text),
         _ => false,
     }
 }

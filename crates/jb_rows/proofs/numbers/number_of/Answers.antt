@@ -1,6 +1,5 @@
-use Rattle.std.proofs.Common.{refl, ◌≡◌, ◌+◌, ◌*◌, ◌^◌, ◌<◌, ◌≤◌, ℕ, Bool, true, false, List, length, get_or, take, Some, None, sym, ap, ◌∙◌, arith}
+use Rattle.std.proofs.Common.{refl, ◌≡◌, ◌^◌, ◌≤◌, ℕ, Bool, true, false, List, length, get_or, Some, None, sym, ap, ◌∙◌, arith}
 use Rattle.std.specs.Char.{digit_value}
-use Rattle.std.specs.Prelude.{nat_le}
 use Rattle.std.specs.Str.{all_ascii_digits}
 use Rattle.std.specs.Str.Parse.{digits_value}
 use Rattle.std.proofs.lemmas.Bool.{and_from, and_right, cond-false, cond-true, cond_above, cond_below, le-leb}
