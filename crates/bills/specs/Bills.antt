@@ -1,10 +1,7 @@
--- A customer's usage and the bill for it, each a line of CSV.
+-- A customer's usage NAME,UNITS and the bill for it NAME,CENTS, each a packed record.
 use Rattle.std.specs.Prelude.{ℕ, List, [], ◌∷◌, Option, Some, None, decimal, option_and_then, option_map}
-use Rattle.csv.specs.Records.{field_at}
-use Rattle.jb_base.specs.Classes.{class_of}
-use Rattle.jb_base.specs.declared.class.ClassId.{ClassId}
-use Rattle.jb_ready.specs.Csv.{first_fields, csv_row}
-use Rattle.jb_ready.specs.Numbers.{number_of, product_of, sum_of}
+use Rattle.jb_rows.specs.Author.{ClassId, Fields, class_of, field_at, number_of, product_of, sum_of}
+use Rattle.jb_rows.specs.Fields.{fields_in, packed}
 use Rattle.bills.specs.declared.bill.Tariff.{Tariff}
 
 -- WHAT SO MANY UNITS COST, in cents, if it is below 2^64
@@ -17,24 +14,20 @@ cost_by tariff None units = None
 cost_by tariff (Some name) None = None
 cost_by tariff (Some name) (Some units) = option_map (λ cents. (name, cents)) (option_and_then (cost_of tariff) (number_of units))
 
-abbrev pub named_cost : Tariff → (fields : List (List ℕ)) → Option (List ℕ × ℕ)
-named_cost tariff fields = cost_by tariff (field_at fields 0) (field_at fields 1)
+abbrev pub named_cost : Tariff → (usage : Fields) → Option (List ℕ × ℕ)
+named_cost tariff usage = cost_by tariff (field_at usage 0) (field_at usage 1)
 
-abbrev pub bill_line : List ℕ × ℕ → List ℕ
-bill_line named = csv_row (named.0 ∷ decimal named.1 ∷ [])
+abbrev pub bill_with : List ℕ × ℕ → List ℕ
+bill_with named = packed (named.0 ∷ decimal named.1 ∷ [])
 
-abbrev pub bill_by : Tariff → (fields : Option (List (List ℕ))) → Option (List ℕ)
-bill_by tariff None = None
-bill_by tariff (Some fields) = option_map bill_line (named_cost tariff fields)
+-- THE BILL FOR THE USAGE IN A PACKED RECORD, packed, if it has one
+unfoldable pub bill_of : Tariff → (bytes : List ℕ) → Option (List ℕ)
+bill_of tariff bytes = option_map bill_with (named_cost tariff (fields_in bytes))
 
--- THE BILL FOR A LINE OF USAGE, if it has one
-unfoldable pub bill_of : Tariff → (line : List ℕ) → Option (List ℕ)
-bill_of tariff line = bill_by tariff (first_fields line)
-
--- a line that has no bill can't be read: its fault has class 0
+-- a record that has no bill can't be read: its fault has class 0
 abbrev pub unless_billed : (bill : Option (List ℕ)) → Option ClassId
 unless_billed None = Some (class_of 0)
 unless_billed (Some bill) = None
 
-abbrev pub refusal_of : Tariff → (line : List ℕ) → Option ClassId
-refusal_of tariff line = unless_billed (bill_of tariff line)
+abbrev pub refusal_of : Tariff → (bytes : List ℕ) → Option ClassId
+refusal_of tariff bytes = unless_billed (bill_of tariff bytes)

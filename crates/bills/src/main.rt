@@ -1,10 +1,13 @@
 //! A job with a reader, a processor and a writer of its own: usage in, bills out, in a step over four threads.
 //!
-//! `bills` reads lines `NAME,UNITS` on standard input, and writes lines `NAME,CENTS` on standard output. A line that has no bill is skipped,
-//! and standard error tells its number.
+//! `bills` reads lines `NAME,UNITS` on standard input, and writes lines `NAME,CENTS` on standard output. A record that has no bill is
+//! skipped, and standard error gives its number.
 //!
 //! - `bill`: what is charged. `reader`, `processor`, `writer`: the artifacts. `step`: the step that they work in.
 #![tactic(auto)]
+
+ghost use Rattle.std.specs.Prelude.{◌≤◌, length, IfOk, IfSome};
+ghost use Rattle.jb_base.specs.Limits.{max_records};
 
 mod bill;
 mod processor;
@@ -12,51 +15,74 @@ mod reader;
 mod step;
 mod writer;
 
-use jb_base::MAX_RECORDS;
+use jb_base::{MAX_RECORDS, PackedList};
 use jb_collect::Status;
-use jb_ready::csv_rows::flexible_records_of;
+use jb_rows::{Rows, RowsError, RowsOptions, RowsReader, RowsWriter};
+use std::alloc::Global;
 use std::io::{self, Read, Write};
 use std::process::ExitCode;
 use step::{BillArtifacts, run};
 
-/// Tells which lines a partition skipped, and writes its bills.
-fn write_bills<W: Write>(
-    rt: &HostRuntime,
-    artifacts: &BillArtifacts,
-    out: &mut W,
-) -> io::Result<()> {
+/// The usage on a stream, each record packed, if it has no more records than a step may have.
+fn usage_in<R: Read + Drop>(alloc: Global, from: R) -> Result<Option<PackedList>, RowsError>
+    ensures { IfOk result (λ usage. IfSome usage (λ records. length records ≤ max_records)) }
+{
+    let mut reader = RowsReader::new(alloc, &RowsOptions::CSV, from)?;
+    let mut usage = Rows::new(alloc);
+    reader.next_rows(&mut usage, MAX_RECORDS as usize + 1)?;
+    if usage.len() as u64 > MAX_RECORDS {
+        return Ok(None);
+    }
+    Ok(Some(usage.into_list()))
+}
+
+/// Writes the bills of all partitions.
+fn write_bills<W: Write + Drop>(
+    alloc: Global,
+    all: &[(u32, BillArtifacts)],
+    to: W,
+) -> Result<W, RowsError> {
+    let mut writer = RowsWriter::new(alloc, &RowsOptions::CSV, to);
+    for (_, artifacts) in all {
+        writer.write_packed(&artifacts.writer.bills)?;
+    }
+    writer.finish()
+}
+
+/// Says which records a partition skipped.
+fn tell_skips(rt: &HostRuntime, artifacts: &BillArtifacts) -> io::Result<()> {
     for note in artifacts.reader.notes.kept() {
         eprintln!(rt; "record {} is skipped", note.number)?;
-    }
-    let bills = &artifacts.writer.bills;
-    for index in 0..bills.len() {
-        out.write_all(bills.at(index))?;
     }
     Ok(())
 }
 
 fn main(rt: HostRuntime) -> io::Result<ExitCode> {
     let alloc = rt.alloc();
-    let mut text = Vec::new(alloc);
-    rt.stdin().read_to_end(&mut text)?;
-    let Ok(lines) = flexible_records_of(alloc, &text) else {
-        eprintln!(rt; "no memory")?;
-        return Ok(ExitCode::from(3));
+    let usage = match usage_in(alloc, rt.stdin()) {
+        Ok(Some(usage)) => usage,
+        Ok(None) => {
+            eprintln!(rt; "more than {MAX_RECORDS} records")?;
+            return Ok(ExitCode::from(3));
+        }
+        Err(error) => {
+            eprintln!(rt; "{error}")?;
+            return Ok(ExitCode::from(3));
+        }
     };
-    if lines.len() as u64 > MAX_RECORDS {
-        eprintln!(rt; "more than {MAX_RECORDS} lines")?;
-        return Ok(ExitCode::from(3));
-    }
-    let end = match run(&rt, alloc, lines) {
+    let end = match run(&rt, alloc, usage) {
         Ok(end) => end,
         Err(error) => {
             eprintln!(rt; "{error}")?;
             return Ok(ExitCode::from(3));
         }
     };
-    let mut out = rt.stdout();
     for (_, artifacts) in &end.artifacts {
-        write_bills(&rt, artifacts, &mut out)?;
+        tell_skips(&rt, artifacts)?;
+    }
+    if let Err(error) = write_bills(alloc, &end.artifacts, rt.stdout()) {
+        eprintln!(rt; "{error}")?;
+        return Ok(ExitCode::from(3));
     }
     Ok(ExitCode::from(if end.status == Status::Completed {
         0

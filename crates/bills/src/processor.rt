@@ -8,7 +8,7 @@ use jb_artifacts::{Item, ItemProcessor};
 use jb_base::ArtifactError;
 use std::alloc::Global;
 
-/// A processor that makes the bill for a line of usage. It never fails.
+/// A processor that makes the bill for the usage in a record. It never fails.
 #[derive(Drop)]
 pub struct BillProcessor {
     pub alloc: Global,
@@ -16,10 +16,10 @@ pub struct BillProcessor {
 }
 
 impl ItemProcessor for BillProcessor {
-    ghost processor = { λ p. record { answer = λ _ line. bill_of p.tariff line; faults = λ _. Sound } };
+    ghost processor = { λ p. record { answer = λ _ usage. bill_of p.tariff usage; faults = λ _. Sound } };
 
-    fn process_item(&mut self, _number: u64, line: &[u8]) -> Result<Option<Item>, ArtifactError> {
-        let bill = bill_of(self.alloc, self.tariff, line)?;
+    fn process_item(&mut self, _number: u64, usage: &[u8]) -> Result<Option<Item>, ArtifactError> {
+        let bill = bill_of(self.alloc, self.tariff, usage)?;
         Ok(bill)
     }
 }

@@ -1,4 +1,4 @@
-//! The reader: lines of usage, which all partitions share.
+//! The reader: records of usage, which all partitions share.
 
 ghost use Rattle.std.specs.Prelude.{◌≡◌, ◌≤◌, length, IfOk};
 ghost use Rattle.std.specs.Arc.{arc_value};
@@ -11,36 +11,36 @@ use jb_base::{ArtifactError, ClassId, PackedList};
 use std::alloc::{AllocError, Global};
 use std::sync::Arc;
 
-/// A reader of lines of usage, with a place of its own. A line that has no bill can't be read.
+/// A reader of records of usage, with a place of its own. A record that has no bill can't be read.
 #[derive(Drop)]
 pub struct UsageReader {
     pub alloc: Global,
     pub tariff: Tariff,
     /// The first one has the number 0.
-    pub lines: Arc<PackedList, Global>,
+    pub usage: Arc<PackedList, Global>,
     pub place: u64,
-    pub ghost within: { place ≤ length (arc_value lines) },
+    pub ghost within: { place ≤ length (arc_value usage) },
 }
 
-/// The class with which the read of a line fails, if it does.
-fn refusal_of(alloc: Global, tariff: Tariff, line: &[u8]) -> Result<Option<ClassId>, AllocError>
-    ensures { IfOk result (λ class. class ≡ refusal_of tariff line.now) }
+/// The class with which the read of a record fails, if it does.
+fn refusal_of(alloc: Global, tariff: Tariff, usage: &[u8]) -> Result<Option<ClassId>, AllocError>
+    ensures { IfOk result (λ class. class ≡ refusal_of tariff usage.now) }
 {
-    match bill_of(alloc, tariff, line)? {
+    match bill_of(alloc, tariff, usage)? {
         Some(_) => Ok(None),
         None => Ok(Some(ClassId::new(0))),
     }
 }
 
 impl ItemReader for UsageReader {
-    ghost reader = { λ r. record { first = 0; records = arc_value r.lines; place = r.place; faults = checked_plans (refusal_of r.tariff) 0 (arc_value r.lines) } };
+    ghost reader = { λ r. record { first = 0; records = arc_value r.usage; place = r.place; faults = checked_plans (refusal_of r.tariff) 0 (arc_value r.usage) } };
 
     fn first(&self) -> u64 {
         0
     }
 
     fn end(&self) -> u64 {
-        self.lines.len() as u64
+        self.usage.len() as u64
     }
 
     fn place(&self) -> u64 {
@@ -53,15 +53,15 @@ impl ItemReader for UsageReader {
 
     fn read_item(&mut self) -> Result<Option<Item>, ArtifactError> {
         let index = self.place as usize;
-        if index >= self.lines.len() {
+        if index >= self.usage.len() {
             return Ok(None);
         }
-        let line = self.lines.at(index);
-        if let Some(class) = refusal_of(self.alloc, self.tariff, line)? {
+        let bytes = self.usage.at(index);
+        if let Some(class) = refusal_of(self.alloc, self.tariff, bytes)? {
             self.place += 1;
             return Err(ArtifactError::Fault(class));
         }
-        let item = Item::copy_of(self.alloc, line)?;
+        let item = Item::copy_of(self.alloc, bytes)?;
         self.place += 1;
         Ok(Some(item))
     }

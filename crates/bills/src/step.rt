@@ -22,7 +22,7 @@ use std::sync::ledger::{Blank, Ledger};
 use std::sync::{Arc, Wait};
 use std::thread::Threads;
 
-/// What a partition works with. The lines that it can't read are noted.
+/// What a partition works with. The records that it can't read are noted.
 pub type BillArtifacts = ArtifactsOf<
     NotingReader<UsageReader>,
     BillProcessor,
@@ -35,7 +35,7 @@ const TARIFF: Tariff = Tariff {
     per_unit: 30,
 };
 
-/// A line that has no bill, class 0, is skipped. No other call fails, so nothing is retried.
+/// A record that has no bill, class 0, is skipped. No other call fails, so nothing is retried.
 const RULES: Rules = Rules {
     skippable: 1,
     retryable: 0,
@@ -53,14 +53,14 @@ const ITEM_COUNT: u64 = 2;
 /// What a partition works with as it begins.
 fn new_artifacts(
     alloc: Global,
-    lines: &Arc<PackedList, Global>,
+    usage: &Arc<PackedList, Global>,
 ) -> Result<BillArtifacts, AllocError> {
     Ok(ArtifactsOf {
         reader: NotingReader {
             inner: UsageReader {
                 alloc,
                 tariff: TARIFF,
-                lines: Arc::try_clone(lines)?,
+                usage: Arc::try_clone(usage)?,
                 place: 0,
             },
             notes: Notes::new(alloc),
@@ -76,16 +76,16 @@ fn new_artifacts(
     })
 }
 
-/// Runs the step over these lines to its end.
+/// Runs the step over this usage to its end.
 pub fn run<R: Threads + Wait + Sync>(
     rt: &R,
     alloc: Global,
-    lines: PackedList,
+    usage: PackedList,
 ) -> Result<StepEnd<BillArtifacts>, StepError>
-    requires { length lines ≤ max_records }
+    requires { length usage ≤ max_records }
 {
-    let count = lines.len() as u64;
-    let lines = Arc::new(alloc, lines)?;
+    let count = usage.len() as u64;
+    let usage = Arc::new(alloc, usage)?;
     let id = Name::new(String::from_str(alloc, "bills")?);
     let step = Step::new(
         id,
@@ -98,7 +98,7 @@ pub fn run<R: Threads + Wait + Sync>(
     let prepared = prepare(alloc, &step, count, &mut mapper, &mut reducer, None)?;
     let mut artifacts = Vec::new(alloc);
     for _ in prepared.needs() {
-        artifacts.push(new_artifacts(alloc, &lines)?)?;
+        artifacts.push(new_artifacts(alloc, &usage)?)?;
     }
     let blank = Blank::new(MAX_PARTS);
     over_desk::<Brand, R>(rt, alloc, blank, prepared, artifacts, reducer)

@@ -1,2 +1,4 @@
+mod Input
+mod Packed
 mod Resuming
 mod Written

@@ -1,20 +1,25 @@
 -- A run that goes on from what its file keeps.
-use Rattle.std.proofs.Common.{◌≡◌, ℕ, List, [], ◌∷◌, map, length, Option, Some, None, ap, sym, subst, ◌∙◌, refl}
-use Rattle.std.specs.Prelude.{IfSome}
+use Rattle.std.proofs.Common.{◌≡◌, ℕ, List, [], ◌∷◌, ◌++◌, map, length, Option, Some, None, ap, sym, subst, ◌∙◌, refl}
+use Rattle.std.proofs.lemmas.List.{append_cancel_left, length-map}
 use Rattle.csv.specs.Machine.{Read, next_record}
-use Rattle.csv.specs.Reading.{Reached, default_config, strip_bom}
+use Rattle.csv.specs.Reading.{Reached, strip_bom}
 use Rattle.csv.specs.declared.parser.State.TheVariants as st
 use Rattle.csv.specs.declared.parser.State.{State}
 use Rattle.csv.specs.declared.parser.Config.{Config}
 use Rattle.sqlite.specs.Tree.{Trees}
+use Rattle.jb_checkpoint.specs.Checkpoints.{Kept}
+use Rattle.jb_csv_job.specs.Done.{IsInput}
+use Rattle.jb_csv_job.specs.Job.{JobRecord, step_function}
 use Rattle.jb_csv_job.specs.Kept.{IsJobSoFar}
 use Rattle.jb_durable.specs.Files.{IsOfARun}
-use Rattle.jb_records_checkpoints.specs.Checkpoints.{IsRunSoFar, form_of}
-use Rattle.jb_records_checkpoints.specs.Form.{Form, form_text}
-use Rattle.jb_ready.specs.Csv.{AreRowsOf, csv_row}
 use Rattle.jb_records.specs.Function.{Function}
 use Rattle.jb_records.specs.declared.step.RecordsStep.{RecordsStep}
-use Rattle.jb_checkpoint.specs.Checkpoints.{Kept}
+use Rattle.jb_records_checkpoints.specs.Checkpoints.{IsRunSoFar, form_of}
+use Rattle.jb_records_checkpoints.specs.Form.{Form, form_text}
+use Rattle.jb_rows.specs.Fields.{Fields, packed}
+use Rattle.jb_rows.proofs.Lines.{known}
+use Rattle.jb_rows.specs.Texts.{AreFieldsOf, AreRowsOf, config_of, copied_header, header_of}
+use Rattle.jb_rows.specs.declared.rows_options.RowsOptions.{RowsOptions}
 
 -- ---- FILES ARE READ IN ONE WAY ONLY
 
@@ -39,21 +44,14 @@ same-records cfg s xs (r ∷ rs) (o ∷ os) s2 s3 ys zs read none other end =
     let later = subst (λ (p : Read). Reached cfg p.1 p.2 rs s2 ys) same read.3 in
     ap (λ x. x ∷ rs) first ∙ ap (λ l. o ∷ l) (same-records cfg other.0.1 other.0.2 rs os s2 s3 ys zs later none other.3 end)
 
-same-rows : (text : List ℕ) (rows others : List (List ℕ)) → AreRowsOf text rows → AreRowsOf text others → rows ≡ others
-same-rows text rows others are were =
-    are.are
-    ∙ ap (map csv_row) (same-records default_config st.StartRecord (strip_bom text) are.records were.records are.read.0 were.read.0 are.read.1 were.read.1 are.read.2 are.read.3 were.read.2 were.read.3)
-    ∙ sym were.are
+same-fields : (config : Config) (text : List ℕ) (rows others : List Fields) → AreFieldsOf config text rows → AreFieldsOf config text others → rows ≡ others
+same-fields config text rows others are were =
+    same-records config st.StartRecord (strip_bom text) rows others are.0 were.0 are.1 were.1 are.2 are.3 were.2 were.3
 
-no-text : (bytes : List ℕ) → None ≡ Some bytes → ⊥
-no-text bytes e = cc
-
-same-text : (a b : List ℕ) → Some a ≡ Some b → a ≡ b
-same-text a b e = cc
-
-known-rows : (text : Option (List ℕ)) (bytes : List ℕ) (rows : List (List ℕ)) → text ≡ Some bytes → IfSome text (λ b. AreRowsOf b rows) → AreRowsOf bytes rows
-known-rows None bytes rows known read = absurd (no-text bytes known)
-known-rows (Some b) bytes rows known read = subst (λ x. AreRowsOf x rows) (same-text b bytes known) read
+same-rows : (options : RowsOptions) (text : List ℕ) (rows others : List Fields) → AreRowsOf options text rows → AreRowsOf options text others → rows ≡ others
+same-rows options text rows others are were =
+    let header = header_of options text in
+    append_cancel_left header rows others (same-fields (config_of options) text (header ++ rows) (header ++ others) are were)
 
 -- ---- STEPS OF ONE FORM HAVE THE SAME RUNS
 
@@ -61,25 +59,38 @@ same-form : (f : Function) (step other : RecordsStep) (records : List (List ℕ)
 same-form f step other records [] same is = is
 same-form f step other records (first ∷ later) same is = (record { form = is.0.form ∙ ap form_text same; digest = is.0.digest }, is.1)
 
-module _ (f : Function) (form : (records : ℕ) → Form) (text : Option (List ℕ)) (records : List (List ℕ)) (step : RecordsStep) (read : IfSome text (λ bytes. AreRowsOf bytes records)) (of_form : (number : ℕ) → form_of step number ≡ form number) where
+module _ (job : JobRecord) (text : Option (List ℕ)) (header records : List Fields) (step : RecordsStep) (read : IsInput job text header records) (of_form : (number : ℕ) → form_of step number ≡ job.form number) where
+  rows-read : (bytes : List ℕ) → text ≡ Some bytes → AreRowsOf job.options bytes records
+  rows-read bytes is = (known text (λ b. (header ≡ copied_header job.options b) × AreRowsOf job.options b records) bytes is read).1
+
   -- what the file keeps is of the records that were read, and of this step
-  pub own-run : (all : List Kept) → IsJobSoFar f form text all → IsRunSoFar f step records all
+  own-run : (all : List Kept) → IsJobSoFar job text all → IsRunSoFar (step_function job) step (map packed records) all
   own-run all so =
-      let same = same-rows so.bytes so.records records so.rows (known-rows text so.bytes records so.known read) in
-      subst (λ rs. IsRunSoFar f step rs all) same (same-form f so.step step so.records all (so.same ∙ sym (of_form (length so.records))) so.so_far)
+      let same = same-rows job.options so.bytes so.records records so.read (rows-read so.bytes so.known) in
+      let form = ap (form_of so.step) (length-map so.records packed) ∙ so.same ∙ sym (of_form (length so.records)) ∙ ap (form_of step) (sym (length-map so.records packed)) in
+      subst (λ rs. IsRunSoFar (step_function job) step (map packed rs) all) same (same-form (step_function job) so.step step (map packed so.records) all form so.so_far)
 
   -- and so is what a crash leaves of it
-  pub job-left : (bytes : List ℕ) (db : Trees) → text ≡ Some bytes → IsOfARun (IsRunSoFar f step records) db → IsOfARun (IsJobSoFar f form text) db
-  job-left bytes db known left = (
+  job-left : (bytes : List ℕ) (db : Trees) → text ≡ Some bytes → IsOfARun (IsRunSoFar (step_function job) step (map packed records)) db → IsOfARun (IsJobSoFar job text) db
+  job-left bytes db is left = (
     left.0,
     left.1,
     record {
       bytes = bytes;
-      known = known;
+      known = is;
       records = records;
-      rows = known-rows text bytes records known read;
+      read = rows-read bytes is;
       step = step;
       same = of_form (length records);
       so_far = left.2;
     },
+  )
+
+  -- both, of the packed records as a list
+  pub kept-of : (list : List (List ℕ)) → list ≡ map packed records
+      → ((all : List Kept) → IsJobSoFar job text all → IsRunSoFar (step_function job) step list all)
+      × ((bytes : List ℕ) (db : Trees) → text ≡ Some bytes → IsOfARun (IsRunSoFar (step_function job) step list) db → IsOfARun (IsJobSoFar job text) db)
+  kept-of list is = (
+    λ all so. subst (λ l. IsRunSoFar (step_function job) step l all) (sym is) (own-run all so),
+    λ bytes db known left. job-left bytes db known (subst (λ l. IsOfARun (IsRunSoFar (step_function job) step l) db) is left),
   )

@@ -1,18 +1,19 @@
--- What is written, result by result.
-use Rattle.std.proofs.Common.{◌≡◌, ℕ, ◌+◌, ◌++◌, ◌<◌, List, [], ◌∷◌, length, Option, ap, subst, sym, ◌∙◌}
-use Rattle.std.proofs.KnownBytes.{Appends-trans}
-use Rattle.std.proofs.lemmas.List.{append-nil, take_more}
+-- The lines of a header row and of results, one behind the other.
+use Rattle.std.proofs.Common.{◌≡◌, ◌∙◌, ◌++◌, ℕ, List, [], Option, ap, map, subst, sym}
+use Rattle.std.proofs.lemmas.List.{map-append}
 use Rattle.std.proofs.lemmas.List.Folds.{concat-append}
 use Rattle.std.specs.Io.KnownBytes.{Appends}
 use Rattle.std.specs.List.{concat}
-use Rattle.std.specs.Prelude.{slice_index_or, take}
+use Rattle.csv.proofs.WriteFacts.{appends-more}
+use Rattle.jb_rows.specs.Fields.{Fields}
+use Rattle.jb_rows.specs.Streams.{csv_row, csv_rows}
 
-longer : (results : List (List ℕ)) (i : ℕ) (result : List ℕ) → i < length results → result ≡ slice_index_or results i [] → concat (take (i + 1) results) ≡ concat (take i results) ++ result
-longer results i result within is =
-    ap concat (take_more results i [] within ∙ ap (λ y. take i results ++ y ∷ []) (sym is))
-    ∙ concat-append (take i results) (result ∷ [])
-    ∙ ap (λ last. concat (take i results) ++ last) (append-nil result)
+lines-of-both : (delimiter : ℕ) (header results : List Fields) → csv_rows delimiter (header ++ results) ≡ csv_rows delimiter header ++ csv_rows delimiter results
+lines-of-both delimiter header results =
+    ap concat (map-append (csv_row delimiter) header results) ∙ concat-append (map (csv_row delimiter) header) (map (csv_row delimiter) results)
 
-pub result-written : (results : List (List ℕ)) (i : ℕ) (result : List ℕ) (a b c : Option (List ℕ)) → i < length results → result ≡ slice_index_or results i []
-    → Appends a b (concat (take i results)) → Appends b c result → Appends a c (concat (take (i + 1) results))
-result-written results i result a b c within is before now = subst (Appends a c) (sym (longer results i result within is)) (Appends-trans a b c (concat (take i results)) result before now)
+pub both-written : (delimiter : ℕ) (old begun middle new : Option (List ℕ)) (header results : List Fields)
+    → Appends old begun [] → Appends begun middle (csv_rows delimiter header) → Appends middle new (csv_rows delimiter results) → Appends old new (csv_rows delimiter (header ++ results))
+both-written delimiter old begun middle new header results nothing first later =
+    subst (Appends old new) (sym (lines-of-both delimiter header results))
+    (appends-more old middle new (csv_rows delimiter header) (csv_rows delimiter results) (appends-more old begun middle [] (csv_rows delimiter header) nothing first) later)

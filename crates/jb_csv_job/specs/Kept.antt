@@ -1,24 +1,29 @@
 -- What the file of a job over CSV keeps.
-use Rattle.std.specs.Prelude.{ℕ, ◌≡◌, List, Option, Some, length}
-use Rattle.jb_csv_job.specs.declared.job.CsvJob.{CsvJob}
-use Rattle.jb_records_checkpoints.specs.Checkpoints.{IsRunSoFar, form_of}
-use Rattle.jb_records_checkpoints.specs.Form.{Form}
-use Rattle.jb_ready.specs.Csv.{AreRowsOf}
-use Rattle.jb_records.specs.Function.{Function}
-use Rattle.jb_records.specs.declared.step.RecordsStep.{RecordsStep}
+use Rattle.std.specs.Prelude.{ℕ, ◌≡◌, List, Option, Some, length, map}
+use Rattle.sqlite.specs.State.{HasCleanDisk, State}
 use Rattle.jb_checkpoint.specs.Checkpoints.{Kept}
+use Rattle.jb_checkpoint_table.specs.Checkpoints.{ShowsList}
+use Rattle.jb_checkpoint_table.specs.Connections.{IsJustOpened}
+use Rattle.jb_csv_job.specs.Job.{JobRecord, step_function}
+use Rattle.jb_records.specs.declared.step.RecordsStep.{RecordsStep}
+use Rattle.jb_records_checkpoints.specs.Checkpoints.{IsRunSoFar, form_of}
+use Rattle.jb_rows.specs.Fields.{Fields, packed}
+use Rattle.jb_rows.specs.Texts.{AreRowsOf}
 
--- the form of its step over so many records, which no number of threads changes
-abbrev pub job_form : CsvJob → (records : ℕ) → Form
-job_form job records = record { step = job.name.now; records = records; partitions = job.partitions; item_count = job.item_count; rules = job.rules }
-
--- THE CHECKPOINTS OF A JOB SO FAR, none or some, of this function over the records of the text, in a step of this form; nothing is so
--- where the bytes of a stream aren't known
-pub record IsJobSoFar (f : Function) (form : (records : ℕ) → Form) (text : Option (List ℕ)) (all : List Kept) : Type 0 where
+-- THE CHECKPOINTS OF A JOB SO FAR, none or some, over the records of the text, in a step of its form; nothing is so where the bytes of a
+-- stream aren't known
+pub record IsJobSoFar (job : JobRecord) (text : Option (List ℕ)) (all : List Kept) : Type 0 where
   pub bytes : List ℕ
   pub known : text ≡ Some bytes
-  pub records : List (List ℕ)
-  pub rows : AreRowsOf bytes records
+  pub records : List Fields
+  pub read : AreRowsOf job.options bytes records
   pub step : RecordsStep
-  pub same : form_of step (length records) ≡ form (length records)
-  pub so_far : IsRunSoFar f step records all
+  pub same : form_of step (length records) ≡ job.form (length records)
+  pub so_far : IsRunSoFar (step_function job) step (map packed records) all
+
+-- THE JOB IS TAKEN UP behind these checkpoints of it: a connection that was just opened shows them, and its disk is clean to the end
+pub record IsTakenUp (job : JobRecord) (text : Option (List ℕ)) (before after : State) (all : List Kept) : Type 0 where
+  pub clean : HasCleanDisk after
+  pub opened : IsJustOpened before
+  pub shows : ShowsList before.now all
+  pub so_far : IsJobSoFar job text all

@@ -1,3 +1,5 @@
+pub mod Classes
 pub mod Done
 pub mod Failures
+pub mod Job
 pub mod Kept

@@ -2,12 +2,13 @@
 
 ghost use Rattle.std.specs.Prelude.{◌≡◌};
 ghost use Rattle.jb_csv_job.specs.Failures.{job_failure_text};
-ghost use Rattle.jb_csv_job.specs.declared.failure.Failure.TheVariants.{File, Memory, Run, Stream};
+ghost use Rattle.jb_csv_job.specs.declared.failure.Failure.TheVariants.{File, Memory, Rows, Run, Words};
 
 use jb_durable_records::DurableError;
 use jb_records::RecordsStepError;
+use jb_rows::RowsError;
 use jb_store::StoreError;
-use std::alloc::AllocError;
+use std::alloc::{AllocError, AllocFailed};
 use std::{fmt, io};
 use thiserror::Error;
 
@@ -23,9 +24,12 @@ pub enum Failure {
     /// The run has no end.
     #[error("{0}")]
     Run(DurableError),
-    /// A stream failed.
-    #[error("a stream failed: {0}")]
-    Stream(io::Error),
+    /// The words of the command line can't be read.
+    #[error("the words of the command line can't be read: {0}")]
+    Words(io::Error),
+    /// The records aren't read, or the results not written.
+    #[error("{0}")]
+    Rows(RowsError),
     /// There was no memory.
     #[error("no memory")]
     Memory,
@@ -52,6 +56,7 @@ impl<'a> fmt::Display for FailureText<'a> {
             | Failure::Run(DurableError::Store(StoreError::Memory))
             | Failure::Run(DurableError::Step(RecordsStepError::Memory))
             | Failure::Run(DurableError::Memory)
+            | Failure::Rows(RowsError::Memory)
             | Failure::Memory => f.write_str("no memory"),
             Failure::Run(DurableError::Step(RecordsStepError::Records)) => {
                 write!(f, "Records: more than 10,000,000 {records}")
@@ -65,14 +70,23 @@ impl<'a> fmt::Display for FailureText<'a> {
             Failure::Run(DurableError::OtherJob) => {
                 write!(
                     f,
-                    "OtherJob: the checkpoints in the file are another job's, or of another number of {records}"
+                    "OtherJob: the checkpoints in the file are another job's, of another number of {records}, or of an older version"
                 )
             }
             Failure::File(error) | Failure::Run(DurableError::Store(error)) => {
                 write!(f, "{error:?}: {error}")
             }
             Failure::Run(error) => write!(f, "{error:?}: {error}"),
-            Failure::Stream(error) => write!(f, "a stream failed: {error}"),
+            Failure::Words(error) => {
+                write!(f, "the words of the command line can't be read: {error}")
+            }
+            Failure::Rows(RowsError::TooLong { number }) => {
+                write!(f, "TooLong: record {number} is too long")
+            }
+            Failure::Rows(RowsError::LongHeader) => {
+                f.write_str("TooLong: the header row is too long")
+            }
+            Failure::Rows(RowsError::Stream(error)) => write!(f, "a stream failed: {error}"),
         }
     }
 }
@@ -85,11 +99,27 @@ impl From<AllocError> for Failure {
     }
 }
 
+impl<T: Drop> From<AllocFailed<T>> for Failure {
+    ghost from_gives = { λ _ failure. failure ≡ Memory };
+
+    fn from(_: AllocFailed<T>) -> Failure {
+        Failure::Memory
+    }
+}
+
 impl From<io::Error> for Failure {
-    ghost from_gives = { λ error failure. failure ≡ Stream error };
+    ghost from_gives = { λ error failure. failure ≡ Words error };
 
     fn from(error: io::Error) -> Failure {
-        Failure::Stream(error)
+        Failure::Words(error)
+    }
+}
+
+impl From<RowsError> for Failure {
+    ghost from_gives = { λ error failure. failure ≡ Rows error };
+
+    fn from(error: RowsError) -> Failure {
+        Failure::Rows(error)
     }
 }
 

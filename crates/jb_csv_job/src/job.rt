@@ -1,10 +1,12 @@
 //! What a job over CSV is called, and how its step runs.
 
-ghost use Rattle.std.specs.Prelude.{◌≤◌};
-ghost use Rattle.jb_base.specs.Limits.{max_item_count, max_partitions_asked};
+ghost use Rattle.std.specs.Prelude.{◌≤◌, length};
+ghost use Rattle.std.specs.Option.{ForSome};
+ghost use Rattle.jb_base.specs.Limits.{max_classes, max_item_count, max_partitions_asked, max_retry_limit, max_skip_limit};
 ghost use Rattle.jb_base.specs.Name.{IsName};
 
-use jb_base::Rules;
+use crate::fault_class::FaultClass;
+use jb_rows::RowsOptions;
 
 /// What a job over CSV is called, and how its step runs.
 #[derive(Clone, Copy)]
@@ -17,15 +19,24 @@ pub struct CsvJob<'a> {
     pub records: &'a str,
     /// What its results are, as `pay slips`.
     pub results: &'a str,
+    /// How the text is read, and the results are written.
+    pub options: RowsOptions,
     /// 1 to 4,096, of which a step takes 1,024 at most.
     pub partitions: u32,
     /// How many records a chunk has, 1 to 1,000,000.
     pub item_count: u64,
-    /// Which faults are skipped and which retried.
-    pub rules: Rules,
+    /// The classes of faults, at most 64: the first has the number 0.
+    pub classes: &'a [FaultClass<'a>],
+    /// How many faults a partition skips, at most 10,000,000. With none there is no limit.
+    pub skip_limit: Option<u64>,
+    /// How many retries a partition makes, at most 100,000.
+    pub retry_limit: u64,
     pub ghost named: { IsName name.now },
     pub ghost some: { 1 ≤ partitions },
     pub ghost few: { partitions ≤ max_partitions_asked },
     pub ghost items: { 1 ≤ item_count },
     pub ghost few_items: { item_count ≤ max_item_count },
+    pub ghost few_classes: { length classes.now ≤ max_classes },
+    pub ghost few_skips: { ForSome skip_limit (λ limit. limit ≤ max_skip_limit) },
+    pub ghost few_retries: { retry_limit ≤ max_retry_limit },
 }

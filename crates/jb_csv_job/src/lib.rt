@@ -1,25 +1,35 @@
 //! A job over CSV, from the words of its command line to its exit status: a text of CSV is read, its records go through one function in a
-//! step whose checkpoints are kept in a file, and the results are written. Whatever ends it, the same call goes on.
+//! step whose checkpoints are kept in a file, and the results are written. Whatever ends it, the same call resumes.
 //!
-//! - `job`: what the job is called, and how it runs. `step`: its step.
+//! - `job_main`: all of a job's `main`. `job`: what the job is called, and how it runs. `step`: its step.
 //! - `opening`: the words of the command line, and the file that they name.
-//! - `reading`: the records of a stream. `writing`: its results to a stream. `progress`: how far the step is.
+//! - `reading`: the records of a stream. `writing`: its results to a stream. `progress`: how far the step is; `reporting`: which records are
+//!   skipped or fail, by the names of `fault_class`.
+//! - `on_packed`: the function, as the step takes it. `first_tries`: first tries that fail, as a simulation has them.
 //! - `run`: the run. `failure`: why there is no answer. `exit`: the exit status.
 #![tactic(auto)]
 
 mod exit;
 mod failure;
+mod fault_class;
+mod first_tries;
 mod job;
+mod job_main;
+mod on_packed;
 mod opening;
 mod progress;
 mod reading;
+mod reporting;
 mod run;
 mod step;
 mod writing;
 
 pub use exit::exit_code;
 pub use failure::{Failure, FailureText};
+pub use fault_class::{Fate, FaultClass};
+pub use first_tries::{FirstTries, NoTries};
 pub use jb_store::closed;
 pub use job::CsvJob;
+pub use job_main::{Host, run_job, run_job_at};
 pub use opening::{Asked, opened};
-pub use run::run_csv_job;
+pub use run::{run_csv_job, run_csv_job_with_tries};

@@ -24,7 +24,8 @@ pub struct Asked {
     pub ghost few: { threads ≤ max_threads },
 }
 
-fn words_of(rt: &HostRuntime) -> Result<Asked, Failure> {
+/// The words of the command line.
+pub(crate) fn words_of(rt: &HostRuntime) -> Result<Asked, Failure> {
     let mut words = env::args(rt)?.skip(1);
     let threads = words.next().ok_or(Failure::Usage)?;
     let file = words.next().ok_or(Failure::Usage)?;

@@ -1,31 +1,30 @@
 //! The records of a stream.
 
-ghost use Rattle.std.specs.Prelude.{◌≡◌, IfErr, IfOk, IfSome};
-ghost use Rattle.jb_csv_job.specs.declared.failure.Failure.TheVariants.{Memory};
-ghost use Rattle.jb_ready.specs.Csv.{AreRowsOf};
+ghost use Rattle.std.specs.Prelude.{IfOk, List, ℕ, []};
+ghost use Rattle.jb_rows.specs.Streams.{HasGivenRows};
+ghost use Rattle.jb_rows.specs.Texts.{AreRowsOf};
+ghost use Rattle.jb_rows.specs.declared.rows_options.RowsOptions.{RowsOptions};
 
 use crate::failure::Failure;
-use jb_base::PackedList;
-use jb_ready::csv_rows::flexible_records_of;
+use jb_base::MAX_RECORDS;
+use jb_durable_records::DurableError;
+use jb_records::RecordsStepError;
+use jb_rows::{Rows, RowsReader};
 use std::alloc::Global;
 use std::io::Read;
 
-/// The records of a text, each as a line of CSV.
-fn rows_of(alloc: Global, text: &[u8]) -> Result<PackedList, Failure>
-    ensures rows { IfOk result (λ rows. AreRowsOf text.now rows) }
-    ensures memory { IfErr result (λ failure. failure ≡ Memory) }
+/// The records of a stream, read to its end. More than a step may have are refused before they are all in memory.
+pub(crate) fn records_in<R: Read + Drop>(
+    alloc: Global,
+    reader: &mut RowsReader<R>,
+) -> Result<Rows, Failure>
+    ensures { IfOk result (λ rows. (options : RowsOptions) (text : List ℕ) → HasGivenRows options R.remaining reader.old text []
+        → HasGivenRows options R.remaining reader.new text rows × AreRowsOf options text rows) }
 {
-    match flexible_records_of(alloc, text) {
-        Ok(rows) => Ok(rows),
-        Err(_) => Err(Failure::Memory),
+    let mut rows = Rows::new(alloc);
+    let more = reader.next_rows(&mut rows, MAX_RECORDS as usize + 1)?;
+    if more {
+        return Err(Failure::Run(DurableError::Step(RecordsStepError::Records)));
     }
-}
-
-/// The records of a stream, read to its end.
-pub(crate) fn records_in<R: Read>(alloc: Global, reader: &mut R) -> Result<PackedList, Failure>
-    ensures { IfOk result (λ records. IfSome (R.remaining reader.old) (λ bytes. AreRowsOf bytes records)) }
-{
-    let mut text = Vec::new(alloc);
-    reader.read_to_end(&mut text)?;
-    rows_of(alloc, &text)
+    Ok(rows)
 }

@@ -1,20 +1,31 @@
 //! Results to a stream.
 
-ghost use Rattle.std.specs.Prelude.{OnOk};
+ghost use Rattle.std.specs.Prelude.{map, ◌++◌, IfOk};
 ghost use Rattle.std.specs.Io.KnownBytes.{Appends};
-ghost use Rattle.std.specs.List.{concat};
+ghost use Rattle.jb_rows.specs.Fields.{fields_in};
+ghost use Rattle.jb_rows.specs.Streams.{csv_rows, kept_header};
+ghost use Rattle.jb_rows.specs.Texts.{copied_by};
 
 use crate::failure::Failure;
 use jb_base::PackedList;
-use std::io::Write;
+use jb_rows::{RowsOptions, RowsReader, RowsWriter, copy_header};
+use std::alloc::Global;
+use std::io::{Read, Write};
 
-/// Writes the results, one behind the other.
-pub(crate) fn write_results<W: Write>(writer: &mut W, results: &PackedList) -> Result<(), Failure>
-    ensures { OnOk result (Appends (W.contents writer.old) (W.contents writer.new) (concat results.now)) }
+/// Writes the header row, if it is copied, and the results, each a line, one behind the other; and gives the stream back.
+pub(crate) fn write_results<R: Read, W: Write + Drop>(
+    alloc: Global,
+    options: &RowsOptions,
+    reader: &RowsReader<R>,
+    to: W,
+    results: &PackedList,
+) -> Result<W, Failure>
+    ensures { IfOk result (λ done. Appends (W.contents to) (W.contents done)
+        (csv_rows options.now.delimiter (copied_by options.now.header (kept_header reader.now) ++ map fields_in results.now))) }
 {
-    for index in 0..results.len() {
-        writer.write_all(results.at(index))?;
-    }
-    writer.flush()?;
-    Ok(())
+    let mut writer = RowsWriter::new(alloc, options, to);
+    copy_header(options, reader, &mut writer)?;
+    writer.write_packed(results)?;
+    let done = writer.finish()?;
+    Ok(done)
 }

@@ -27,7 +27,7 @@ const WHOLE: &str = "Completed [97] [98, 99] [] [100] [101] ";
 
 /// The first checkpoint of that: the form of the step, and SHA-256 of the coding of the records.
 const FIRST: &str =
-    "{\"form\":1,\"step\":\"lines\",\"records\":5,\"partitions\":2,\"item-count\":1,\"rules\":{\"skippable\":[1],\"retryable\":[0,5],\"no-rollback\":[],\"skip-limit\":null,\"retry-limit\":7}}:[90, 154, 77, 146, 130, 101, 93, 224, 172, 252, 183, 242, 176, 158, 245, 252, 49, 151, 161, 203, 139, 114, 97, 12, 92, 181, 74, 30, 85, 244, 222, 143] ";
+    "{\"form\":2,\"step\":\"lines\",\"records\":5,\"partitions\":2,\"item-count\":1,\"rules\":{\"skippable\":[1],\"retryable\":[0,5],\"no-rollback\":[],\"skip-limit\":null,\"retry-limit\":7}}:[90, 154, 77, 146, 130, 101, 93, 224, 172, 252, 183, 242, 176, 158, 245, 252, 49, 151, 161, 203, 139, 114, 97, 12, 92, 181, 74, 30, 85, 244, 222, 143] ";
 
 /// Gives each record back. Those of three bytes can't be read.
 #[derive(Drop)]

@@ -41,10 +41,10 @@ rules_tree rules = object
     (member (codes "skip-limit") (limit_tree rules.skip_limit)
     (member (codes "retry-limit") (number_tree rules.retry_limit) no_members)))))
 
--- THE FORM as a JSON object, in the version 1 of this format
+-- THE FORM as a JSON object, in the version 2 of this format
 abbrev pub form_tree : Form → Data
 form_tree f = object
-    (member (codes "form") (number_tree 1)
+    (member (codes "form") (number_tree 2)
     (member (codes "step") (string f.step)
     (member (codes "records") (number_tree f.records)
     (member (codes "partitions") (number_tree f.partitions)

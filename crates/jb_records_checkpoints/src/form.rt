@@ -13,7 +13,7 @@ use json::Writer;
 use std::alloc::{AllocError, Global};
 
 /// The version of the form's text.
-const VERSION: u64 = 1;
+const VERSION: u64 = 2;
 
 /// Writes the numbers of the classes in a set.
 fn write_members(out: &mut Writer, set: u64) -> Result<(), AllocError>
@@ -102,7 +102,7 @@ fn write_rules(out: &mut Writer, rules: &Rules) -> Result<(), AllocError>
 
 /// Writes what this form is, and the step's id.
 fn write_id(out: &mut Writer, id: &str) -> Result<(), AllocError>
-    ensures id { OnOk result (out.new.tokens ≡ out.old.tokens ++ (member_tokens (codes "form") (number_tree 1) ++ member_tokens (codes "step") (string_tree id.now))) }
+    ensures id { OnOk result (out.new.tokens ≡ out.old.tokens ++ (member_tokens (codes "form") (number_tree 2) ++ member_tokens (codes "step") (string_tree id.now))) }
     ensures before { out.new.before ≡ out.old.before }
 {
     write_number(out, "form", VERSION)?;

@@ -91,6 +91,18 @@ Failed 0 c|d| 0:1/1
 Failed 0 c|d| 0:1/0
 Failed 0 c|d| 0:1/0
 Failed 0 c|d| 0:1/0
+> records=..c.d. items=2 skippable=1 retryable=1 one-skip
+Failed 1 c|d| 0/0 0:1/0
+Failed 1 c|d| 0/0 0:1/0
+Failed 1 c|d| 0/0 0:1/0
+> records=.a.c.d. items=2 retryable=1 in-place=1
+Failed 0 c|d| 0:0/0
+Failed 0 c|d| 0:0/0
+Failed 0 c|d| 0:0/0
+> records=.a..b.c.d.e.f. items=2 skippable=1 one-skip
+Failed 1 a|c|d|e|f| 0/0 0:2/0
+Failed 1 a|c|d|e|f| 0/0 0:2/0
+Failed 1 a|c|d|e|f| 0/0 0:2/0
 > records=aa.b.c.d. items=1
 Failed 0 c|d| 0:0/1
 Failed 0 c| 0:0/1

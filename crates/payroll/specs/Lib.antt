@@ -1,3 +1,2 @@
-pub mod Kept
 pub mod Payroll
 pub mod Sheets

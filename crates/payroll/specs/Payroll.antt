@@ -1,47 +1,44 @@
 -- A payroll: the pay slips of all time sheets.
-use Rattle.std.specs.Prelude.{ℕ, Bool, if◌then◌else◌, List, [], ◌∷◌, Option, Some, None, IfSome}
-use Rattle.std.specs.Io.KnownBytes.{Appends}
-use Rattle.std.specs.List.{concat, filter_map}
-use Rattle.jb_base.specs.Classes.{class_of}
-use Rattle.jb_base.specs.declared.class.ClassId.{ClassId}
-use Rattle.jb_ready.specs.Csv.{AreRowsOf}
-use Rattle.jb_records.specs.Function.{Function}
-use Rattle.payroll.specs.Sheets.{is_shaky, slip_of}
+use Rattle.std.specs.Prelude.{ℕ, List, Option, None, codes}
+use Rattle.jb_base.specs.Rules.{RulesRecord}
+use Rattle.jb_checkpoint.specs.Checkpoints.{Kept}
+use Rattle.jb_csv_job.specs.Done.{IsDoneSoFar, IsJobDone}
+use Rattle.jb_csv_job.specs.Job.{JobRecord}
+use Rattle.jb_csv_job.specs.Kept.{IsJobSoFar}
+use Rattle.jb_records_checkpoints.specs.Form.{Form}
+use Rattle.jb_rows.specs.declared.header.Header.TheVariants as header
+use Rattle.jb_rows.specs.declared.input.Input.TheVariants as input
+use Rattle.jb_rows.specs.declared.rows_options.RowsOptions.{RowsOptions}
+use Rattle.payroll.specs.Sheets.{pay_slip, sheet_tries}
 
--- ---- WHAT IS DONE TO A TIME SHEET
+-- ---- THE JOB
 
--- one without a pay slip can't be read
-abbrev pub broken_class : ClassId
-broken_class = class_of 0
+-- a time sheet without a pay slip is skipped, and a try that fails is made again
+abbrev pub payroll_rules : RulesRecord
+payroll_rules = record { skippable = 1; retryable = 2; no_rollback = 0; skip_limit = None; retry_limit = 1000 }
 
-abbrev pub unless_paid : (slip : Option (List ℕ)) → Option ClassId
-unless_paid None = Some broken_class
-unless_paid (Some slip) = None
+-- the form of its step, which no number of threads changes
+abbrev pub payroll_form : (sheets : ℕ) → Form
+payroll_form sheets = record { step = codes "payroll"; records = sheets; partitions = 8; item_count = 100; rules = payroll_rules }
 
--- the first try at a shaky one fails
-abbrev pub unsteady_class : ClassId
-unsteady_class = class_of 1
+-- records of CSV with commas between fields, of up to 1 MiB, and no header row
+abbrev pub payroll_options : RowsOptions
+payroll_options = record { input = input.Csv; delimiter = 44; longest = 1048576; header = header.None }
 
-abbrev pub tries_by : (shaky : Bool) → List ClassId
-tries_by shaky = if shaky then unsteady_class ∷ [] else []
+abbrev pub payroll : JobRecord
+payroll = record { answer = pay_slip; tries = sheet_tries; options = payroll_options; form = payroll_form }
 
--- and its answer is its pay slip
-abbrev pub payroll : Function
-payroll = record {
-  refusal = λ line. unless_paid (slip_of line);
-  answer = λ number line. slip_of line;
-  tries = λ number line. tries_by (is_shaky line);
-}
+-- ---- WHAT IS KEPT AND WRITTEN
 
--- ---- WHAT IS WRITTEN
+-- THE CHECKPOINTS OF A PAYROLL SO FAR, none or some, of the time sheets in these bytes
+abbrev pub IsPayrollSoFar : (text : Option (List ℕ)) → (all : List Kept) → Type 0
+IsPayrollSoFar text all = IsJobSoFar payroll text all
 
--- THE PAY SLIPS OF ALL TIME SHEETS, in order, of those that have one
-abbrev pub all_slips : (lines : List (List ℕ)) → List (List ℕ)
-all_slips lines = filter_map slip_of lines
+-- WHAT WAS WRITTEN IS THE PAY SLIPS OF THE TIME SHEETS THAT WERE READ, each a line, once and in order
+abbrev pub IsPaid : (text old new : Option (List ℕ)) → Type 0
+IsPaid text old new = IsJobDone payroll text old new
 
--- What was written is the pay slips of the time sheets that were read, each once and in order. Where the bytes of a stream aren't
--- known, nothing is said of them.
-pub record IsPaid (text old new : Option (List ℕ)) : Type 0 where
-  pub lines : List (List ℕ)
-  pub read : IfSome text (λ bytes. AreRowsOf bytes lines)
-  pub written : Appends old new (concat (all_slips lines))
+-- so far as the step is, those of each partition's time sheets before its checkpoint, one partition behind the other; and the exit status
+-- is of the status of their rows
+abbrev pub IsPaidSoFar : (text old new : Option (List ℕ)) → (status : ℕ) → Type 0
+IsPaidSoFar text old new status = IsDoneSoFar payroll text old new status

@@ -1,8 +1,6 @@
--- A time sheet and its pay slip, each a line of CSV.
-use Rattle.std.specs.Prelude.{ℕ, Bool, false, List, [], ◌∷◌, Option, Some, None, bytes_eq, codes, decimal, option_map}
-use Rattle.csv.specs.Records.{field_at}
-use Rattle.jb_ready.specs.Csv.{first_fields, csv_row}
-use Rattle.jb_ready.specs.Numbers.{number_of, product_of}
+-- A time sheet NAME,HOURS,RATE and its pay slip NAME,PAY.
+use Rattle.std.specs.Prelude.{ℕ, Bool, false, if◌then◌else◌, List, [], ◌∷◌, Option, Some, None, bytes_eq, codes, decimal, option_map}
+use Rattle.jb_rows.specs.Author.{Answer, ClassId, Fields, Given, Refused, class_of, field_at, number_of, product_of}
 
 -- ---- pay
 
@@ -19,20 +17,20 @@ named_pay (Some name) None rate = None
 named_pay (Some name) (Some hours) None = None
 named_pay (Some name) (Some hours) (Some rate) = option_map (λ pay. (name, pay)) (pay_by (number_of hours) (number_of rate))
 
-abbrev pub pay_in : (fields : List (List ℕ)) → Option (List ℕ × ℕ)
-pay_in fields = named_pay (field_at fields 0) (field_at fields 1) (field_at fields 2)
+abbrev pub pay_in : (sheet : Fields) → Option (List ℕ × ℕ)
+pay_in sheet = named_pay (field_at sheet 0) (field_at sheet 1) (field_at sheet 2)
 
-abbrev pub slip_with : Option (List ℕ × ℕ) → Option (List ℕ)
-slip_with None = None
-slip_with (Some named) = Some (csv_row (named.0 ∷ decimal named.1 ∷ []))
+-- one without pay is refused
+abbrev pub broken_class : ClassId
+broken_class = class_of 0
 
-abbrev pub slip_by : (fields : Option (List (List ℕ))) → Option (List ℕ)
-slip_by None = None
-slip_by (Some fields) = slip_with (pay_in fields)
+abbrev pub slip_with : Option (List ℕ × ℕ) → Answer
+slip_with None = Refused broken_class
+slip_with (Some named) = Given (named.0 ∷ decimal named.1 ∷ [])
 
--- THE PAY SLIP OF A TIME SHEET, if it has one: its name, and its hours times its rate
-unfoldable pub slip_of : (line : List ℕ) → Option (List ℕ)
-slip_of line = slip_by (first_fields line)
+-- THE PAY SLIP OF A TIME SHEET: its name, and its hours times its rate
+abbrev pub pay_slip : (sheet : Fields) → Answer
+pay_slip sheet = slip_with (pay_in sheet)
 
 -- ---- first tries
 
@@ -41,10 +39,9 @@ abbrev pub says_shaky : Option (List ℕ) → Bool
 says_shaky None = false
 says_shaky (Some field) = bytes_eq field (codes "shaky")
 
-abbrev pub shaky_by : (fields : Option (List (List ℕ))) → Bool
-shaky_by None = false
-shaky_by (Some fields) = says_shaky (field_at fields 3)
+abbrev pub unsteady_class : ClassId
+unsteady_class = class_of 1
 
--- THE FIRST TRY AT A TIME SHEET FAILS: its record has a fourth field, and that is the word "shaky"
-unfoldable pub is_shaky : (line : List ℕ) → Bool
-is_shaky line = shaky_by (first_fields line)
+-- THE FIRST TRY AT A TIME SHEET FAILS if its fourth field is the word "shaky"
+abbrev pub sheet_tries : (sheet : Fields) → List ClassId
+sheet_tries sheet = if says_shaky (field_at sheet 3) then unsteady_class ∷ [] else []

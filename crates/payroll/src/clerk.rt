@@ -1,50 +1,52 @@
 //! What is done to a time sheet.
 
 ghost use Rattle.std.specs.Prelude.{◌≡◌};
-ghost use Rattle.payroll.specs.Payroll.{broken_class, payroll, unsteady_class};
+ghost use Rattle.payroll.specs.Sheets.{broken_class, pay_slip, sheet_tries, unsteady_class};
 
-use crate::sheet::{is_shaky, slip_of};
-use jb_artifacts::Item;
-use jb_base::{ClassId, DEFAULT_RETRY_LIMIT, Rules};
-use jb_records::RecordFunction;
+use crate::sheet::{is_shaky, named_pay};
+use jb_base::ClassId;
+use jb_csv_job::{Fate, FaultClass, FirstTries};
+use jb_rows::{Outcome, Row, RowBuilder, RowFunction};
 use std::alloc::{AllocError, Global};
 
 /// A time sheet that has no pay slip is skipped, and a try that fails is made again.
-pub const RULES: Rules = Rules {
-    skippable: 1, // class 0
-    retryable: 2, // class 1
-    no_rollback: 0,
-    skip_limit: None,
-    retry_limit: DEFAULT_RETRY_LIMIT,
-};
+pub const CLASSES: &[FaultClass<'static>] = &[
+    FaultClass {
+        name: "no pay slip",
+        fate: Fate::Skipped,
+    },
+    FaultClass {
+        name: "a bad day",
+        fate: Fate::Retried,
+    },
+];
 
-/// Makes a pay slip of a time sheet. One that has none can't be read, and some of its first tries fail.
+/// Makes a pay slip of a time sheet. One that has none is refused.
 #[derive(Drop)]
-pub struct Clerk {
-    pub alloc: Global,
+pub struct Clerk;
+
+impl RowFunction for Clerk {
+    ghost answer = { λ _. pay_slip };
+
+    fn process(&self, sheet: &Row, slip: &mut RowBuilder) -> Result<Outcome, AllocError> {
+        let Some((name, pay)) = named_pay(sheet) else {
+            return Ok(Outcome::Refused(broken()));
+        };
+        slip.push(name)?;
+        slip.push_number(pay)?;
+        Ok(Outcome::Given)
+    }
 }
 
-impl RecordFunction for Clerk {
-    ghost function = { λ _. payroll };
+/// A day on which the first try at a shaky time sheet fails.
+#[derive(Drop)]
+pub struct BadDay;
 
-    fn refusal_of(&self, item: &[u8]) -> Result<Option<ClassId>, AllocError> {
-        match slip_of(self.alloc, item)? {
-            Some(_) => Ok(None),
-            None => Ok(Some(broken())),
-        }
-    }
+impl FirstTries for BadDay {
+    ghost tries = { λ _. sheet_tries };
 
-    fn answer_of(&self, _number: u64, item: &[u8]) -> Result<Option<Item>, AllocError> {
-        slip_of(self.alloc, item)
-    }
-
-    fn tries_of(
-        &self,
-        alloc: Global,
-        _number: u64,
-        item: &[u8],
-    ) -> Result<Vec<ClassId>, AllocError> {
-        if is_shaky(alloc, item)? {
+    fn tries_of(&self, alloc: Global, sheet: &Row) -> Result<Vec<ClassId>, AllocError> {
+        if is_shaky(sheet) {
             Vec::from_slice(alloc, &[unsteady()])
         } else {
             Ok(Vec::new(alloc))

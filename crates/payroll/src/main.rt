@@ -10,20 +10,19 @@
 
 ghost use Rattle.std.specs.Prelude.{◌≡◌, ◌≤◌, ◌⊎◌, List, IfOk};
 ghost use Rattle.sqlite.specs.Held.{state};
-ghost use Rattle.sqlite.specs.State.{HasCleanDisk};
 ghost use Rattle.jb_base.specs.Limits.{max_threads};
 ghost use Rattle.jb_checkpoint.specs.Checkpoints.{Kept};
-ghost use Rattle.jb_checkpoint_table.specs.Checkpoints.{ShowsList};
-ghost use Rattle.jb_checkpoint_table.specs.Connections.{IsJustOpened};
+ghost use Rattle.jb_csv_job.specs.Kept.{IsTakenUp};
 ghost use Rattle.jb_durable.specs.Files.{IsOfARun};
-ghost use Rattle.payroll.specs.Kept.{IsPaidSoFar, IsPayrollSoFar};
-ghost use Rattle.payroll.specs.Payroll.{IsPaid};
+ghost use Rattle.payroll.specs.Payroll.{IsPaid, IsPaidSoFar, IsPayrollSoFar, payroll};
 
 mod clerk;
 mod sheet;
 
-use clerk::{Clerk, RULES};
-use jb_csv_job::{CsvJob, Failure, closed, exit_code, opened, run_csv_job};
+use clerk::{BadDay, CLASSES, Clerk};
+use jb_base::DEFAULT_RETRY_LIMIT;
+use jb_csv_job::{CsvJob, Failure, closed, exit_code, opened, run_csv_job_with_tries};
+use jb_rows::RowsOptions;
 use sqlite::{Alter, Connection};
 use std::alloc::Global;
 use std::io::{Read, Write};
@@ -38,47 +37,39 @@ const JOB: CsvJob<'static> = CsvJob {
     input: "SHEETS",
     records: "time sheets",
     results: "pay slips",
+    options: RowsOptions::CSV,
     partitions: 8,
-    item_count: 2,
-    rules: RULES,
+    item_count: 100,
+    classes: CLASSES,
+    skip_limit: None,
+    retry_limit: DEFAULT_RETRY_LIMIT,
 };
 
 /// Reads the time sheets, runs the step from the last checkpoint that the connection has to its end, writes the pay slips, and gives
-/// the exit status.
+/// the exit status and the stream back.
 fn answer<
     T: Threads + Wait + Clock + Eprint + Copy + Send + Sync + 'static,
     S: Alter,
-    R: Read,
-    W: Write,
+    R: Read + Drop,
+    W: Write + Drop,
 >(
     rt: &T,
     alloc: Global,
     threads: u32,
     conn: &mut Connection<S>,
-    reader: &mut R,
-    writer: &mut W,
-) -> Result<u8, Failure>
+    from: R,
+    to: W,
+) -> Result<(u8, W), Failure>
     requires { threads ≤ max_threads }
-    ensures all { HasCleanDisk (state S.Store conn.new) → IsJustOpened (state S.Store conn.old) → (all : List Kept) → ShowsList (state S.Store conn.old).now all
-        → IsPayrollSoFar (R.remaining reader.old) all
-        → IfOk result (λ status. status ≡ 0 → IsPaid (R.remaining reader.old) (W.contents writer.old) (W.contents writer.new)) }
-    ensures so_far { HasCleanDisk (state S.Store conn.new) → IsJustOpened (state S.Store conn.old) → (all : List Kept) → ShowsList (state S.Store conn.old).now all
-        → IsPayrollSoFar (R.remaining reader.old) all → IfOk result (IsPaidSoFar (R.remaining reader.old) (W.contents writer.old) (W.contents writer.new)) }
-    ensures status { IfOk result (λ status. (status ≡ 0) ⊎ (status ≡ 1)) }
-    ensures crash { HasCleanDisk (state S.Store conn.new) → IsJustOpened (state S.Store conn.old) → (all : List Kept) → ShowsList (state S.Store conn.old).now all
-        → IsPayrollSoFar (R.remaining reader.old) all
-        → (db : _) → (state S.Store conn.new).may_leave db → IsOfARun (IsPayrollSoFar (R.remaining reader.old)) db }
+    ensures all { (all : List Kept) → IsTakenUp payroll (R.remaining from) (state S.Store conn.old) (state S.Store conn.new) all
+        → IfOk result (λ r. r.0 ≡ 0 → IsPaid (R.remaining from) (W.contents to) (W.contents r.1)) }
+    ensures so_far { (all : List Kept) → IsTakenUp payroll (R.remaining from) (state S.Store conn.old) (state S.Store conn.new) all
+        → IfOk result (λ r. IsPaidSoFar (R.remaining from) (W.contents to) (W.contents r.1) r.0) }
+    ensures status { IfOk result (λ r. (r.0 ≡ 0) ⊎ (r.0 ≡ 1)) }
+    ensures crash { (all : List Kept) → IsTakenUp payroll (R.remaining from) (state S.Store conn.old) (state S.Store conn.new) all
+        → (db : _) → (state S.Store conn.new).may_leave db → IsOfARun (IsPayrollSoFar (R.remaining from)) db }
 {
-    run_csv_job(
-        rt,
-        alloc,
-        &JOB,
-        threads,
-        Clerk { alloc },
-        conn,
-        reader,
-        writer,
-    )
+    run_csv_job_with_tries(rt, alloc, &JOB, threads, Clerk, BadDay, conn, from, to)
 }
 
 fn main(rt: HostRuntime) -> ExitCode {
@@ -89,8 +80,8 @@ fn main(rt: HostRuntime) -> ExitCode {
                 rt.alloc(),
                 asked.threads,
                 &mut conn,
-                &mut rt.stdin(),
-                &mut rt.stdout(),
+                rt.stdin(),
+                rt.stdout(),
             );
             let _files = closed(conn);
             answer

@@ -1,8 +1,15 @@
-use Rattle.std.proofs.Common.{◌<◌, subst}
-use Rattle.jb_csv_job.proofs.Written.{result-written}
+use Rattle.std.proofs.Common.{map}
+use Rattle.jb_csv_job.proofs.Written.{both-written}
+use Rattle.jb_rows.proofs.Lines.{appends-kept}
+use Rattle.jb_rows.specs.Fields.{fields_in}
+use Rattle.jb_rows.specs.Streams.{kept_header}
+use Rattle.jb_rows.specs.Texts.{copied_by}
 use Rattle.jb_csv_job.proofs.writing.write_results.Goals as goal
 
-pub loop-index-preserved : goal.loop-index-preserved
-loop-index-preserved g c =
-    let within = subst (λ n. c.loop-index.index < n) c.len-index-end.ensures c.loop-index-test.true in
-    result-written c.args.results.now c.loop-index.index _ _ _ _ within c.at.ensures c.loop-index.invariant c.in_ok-write_all.ensures.bytes
+pub returns : goal.returns
+returns g c =
+    let options = c.args.options.now in
+    let (between, header) = c.in_ok-copy_header.ensures c.new-writer.ensures.between in
+    let (again, results) = c.in_ok-write_packed.ensures options.delimiter between in
+    let written = both-written options.delimiter _ _ _ _ (copied_by options.header (kept_header c.args.reader.now)) (map fields_in c.args.results.now) c.new-writer.ensures.nothing header results in
+    appends-kept _ _ _ _ written c.in_ok-done.ensures

@@ -6,4 +6,4 @@ use Rattle.bills.proofs.processor.BillProcessorItemProcessor.process_item.Goals 
 
 pub returns-clause-answered : goal.returns-clause-answered
 returns-clause-answered c =
-    (refl, c.in_ok-bill.ensures, λ i. record { answer = λ _ line. bill_of c.args.self.now.tariff line; faults = sym (used_at-sound (λ _. Sound) c.args._number refl) i })
+    (refl, c.in_ok-bill.ensures, λ i. record { answer = λ _ usage. bill_of c.args.self.now.tariff usage; faults = sym (used_at-sound (λ _. Sound) c.args._number refl) i })

@@ -8,14 +8,14 @@ use Rattle.bills.proofs.reader.UsageReaderItemReader.read_item.Goals as goal
 pub returns-in-Some-clause-faulted : goal.returns-in-Some-clause-faulted
 returns-in-Some-clause-faulted c below =
     let r = c.args.self.now in
-    let is : c.at-line.result.now ≡ slice_index_or (arc_value r.lines) (r.place - 0) [] = simp unary_clauses (search rules) in
-    let told : refusal_of r.tariff c.at-line.result.now ≡ Some c.in-Some.class = search rules in
-    check-reads (refusal_of r.tariff) 0 (arc_value r.lines) r.place c.at-line.result.now (Some c.in-Some.class) (omega arith) below is told
+    let is : c.at-bytes.result.now ≡ slice_index_or (arc_value r.usage) (r.place - 0) [] = simp unary_clauses (search rules) in
+    let told : refusal_of r.tariff c.at-bytes.result.now ≡ Some c.in-Some.class = search rules in
+    check-reads (refusal_of r.tariff) 0 (arc_value r.usage) r.place c.at-bytes.result.now (Some c.in-Some.class) (omega arith) below is told
 
 pub returns-clause-answered : goal.returns-clause-answered
 returns-clause-answered c below =
     let r = c.args.self.now in
-    let is : c.at-line.result.now ≡ slice_index_or (arc_value r.lines) (r.place - 0) [] = simp unary_clauses (search rules) in
-    let told : refusal_of r.tariff c.at-line.result.now ≡ None = search rules in
-    let reads = check-reads (refusal_of r.tariff) 0 (arc_value r.lines) r.place c.at-line.result.now None (omega arith) below is told in
+    let is : c.at-bytes.result.now ≡ slice_index_or (arc_value r.usage) (r.place - 0) [] = simp unary_clauses (search rules) in
+    let told : refusal_of r.tariff c.at-bytes.result.now ≡ None = search rules in
+    let reads = check-reads (refusal_of r.tariff) 0 (arc_value r.usage) r.place c.at-bytes.result.now None (omega arith) below is told in
     (reads.0, ap Some (c.in_ok-item.ensures ∙ is), reads.1)
