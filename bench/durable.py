@@ -5,7 +5,7 @@
 
 First a checkpoint by itself: 500 of them, fewer of the largest ones, each with the saved text of eight rows and with results of so many
 bytes, by the program `checkpoint`: microseconds of processor time, and of wall time the least and the median, which a busy machine makes many
-times longer; and the bytes that FILE has for each at the end. Then a payroll of 1,000,000 time sheets in eight partitions and chunks of 2,
+times longer; and the bytes that FILE has for each at the end. Then a payroll of 1,000,000 time sheets in eight partitions and chunks of 100,
 with a checkpoint for about each second's work, beside the same step in memory alone, by the program `unkept`, which is built of the payroll's
 own function: their pay slips are compared, they take turns, and `cpu s` is the least processor time of some runs of each, all threads
 together. `to unkept` is the one by the other.

@@ -31,11 +31,12 @@ def in_a_process(work, *given):
         sys.exit(f"{work.__name__} failed")
 
 
-def measure(command, document):
-    """Gives (status, wall seconds, processor seconds, peak memory in MB) of one run, whose output goes nowhere."""
+def measure(command, document, stderr=None):
+    """Gives (status, wall seconds, processor seconds, peak memory in MB) of one run, whose output goes nowhere; what it says on standard error
+    goes where `stderr` says, as for `subprocess`."""
     with open(document, "rb") as given, open(os.devnull, "wb") as taken:
         begun = time.monotonic()
-        child = subprocess.Popen(command, stdin=given, stdout=taken)
+        child = subprocess.Popen(command, stdin=given, stdout=taken, stderr=stderr)
         _, status, used = os.wait4(child.pid, 0)
         wall = time.monotonic() - begun
         child.returncode = os.waitstatus_to_exitcode(status)

@@ -1,5 +1,7 @@
 """What the scripts on the durable payroll have in common: made-up time sheets with the pay slips that they have, a life of the payroll
 with the moment at which it is killed, and what its file has to keep."""
+import csv
+import io
 import pathlib
 import re
 import subprocess
@@ -15,6 +17,8 @@ TABLE = "CREATE TABLE checkpoint (number INTEGER PRIMARY KEY, saved TEXT NOT NUL
 LONGEST = 120  # seconds of a life
 NAMED = re.compile(rb"[A-Z][A-Za-z]+(\([A-Za-z()]+\))?: [^\n]+\n")  # the line of a refusal, on standard error
 THREADS = [0, 1, 2, 3, 4, 8, 64]
+CALM = 200  # time sheets of which no first try fails, so that whole chunks are committed; among as many others some fail
+LENGTHS = [254, 255, 256, 509, 510, 511]  # of names, in bytes: round those at which a size takes one byte more
 
 
 # ---- made-up payrolls
@@ -28,10 +32,14 @@ def sheet(chance, number):
         return f"{name},forty,{rate}", None  # can't be read: skipped
     if kind < 0.06:
         return f"{name},{hours}", None
-    if kind < 0.10:
+    if kind < 0.14 and number // CALM % 2 == 0:
         return f"{name},{hours},{rate},shaky", f"{name},{hours * rate}"  # its first try fails, and is made again
-    if kind < 0.14:
-        return f'"{name}, jr",{hours},{rate}', f'"{name}, jr",{hours * rate}'
+    if kind > 0.98:
+        name = f'"{name}, jr"'
+    elif kind > 0.97:
+        name = f'"{name}, ""jr"""'
+    elif kind > 0.96:
+        name = name.ljust(chance.choice(LENGTHS), "x")
     return f"{name},{hours},{rate}", f"{name},{hours * rate}"
 
 
@@ -105,19 +113,28 @@ def faults_of(file, before):
     if kept[: len(before)] != before:
         lines.append(f"it had {len(before)} checkpoints, and has others now: {len(kept)}")
     if run and not has_results(run, kept):
-        lines.append("its results aren't as many as its rows say")
+        lines.append("its results aren't as many packed records as its rows say")
     return kept, lines
 
 
 def has_results(run, kept):
-    """Whether each partition has as many results, over all checkpoints, as its row has written."""
+    """Whether each partition has as many results, over all checkpoints, as its row has written, and each is a packed record."""
     news = [checkpoints.news_of(coded, run.form.partitions) for _, _, coded in kept[1:]]
-    if None in news:
+    if None in news or any(checkpoints.fields_in(packed) is None for new in news for results in new for packed in results):
         return False
     return [row.written for row in run.rows] == [sum(len(new[place]) for new in news) for place in range(run.form.partitions)]
 
 
 def slips_in(file):
-    """All pay slips that a file has, partition by partition."""
+    """All pay slips that a file has, partition by partition, as lines of CSV. None where a result is no packed record."""
     with checkpoints.opened(str(file)) as base:
-        return b"".join(slip for results in checkpoints.results_in(base, checkpoints.run_in(base, file).form.partitions) for slip in results)
+        joined = checkpoints.results_in(base, checkpoints.run_in(base, file).form.partitions)
+    records = [checkpoints.fields_in(packed) for results in joined for packed in results]
+    return None if None in records else lines_of(records)
+
+
+def lines_of(records):
+    """The lines of these records, as Python's csv writes them. A byte is a character."""
+    text = io.StringIO()
+    csv.writer(text, lineterminator="\n").writerows([field.decode("latin-1") for field in fields] for fields in records)
+    return text.getvalue().encode("latin-1")

@@ -22,6 +22,7 @@ COPIES = 100  # tries, until the file was the same before and behind one
 COLUMNS = [("number", "INTEGER", 0, None, 1, 0), ("saved", "TEXT", 1, None, 0, 0), ("results", "BLOB", 1, None, 0, 0)]
 FORM_NUMBERS = {"records": (0, limits.RECORDS), "partitions": (1, limits.PARTITIONS_ASKED), "item-count": (1, limits.ITEM_COUNT)}
 FORM_KEYS = {"form", "step", *FORM_NUMBERS, "rules"}
+FORM = 2  # the version of the form
 CLASS_LISTS = ("skippable", "retryable", "no-rollback")
 DIGEST = 32  # bytes
 REFUSED, NO_ANSWER = 3, 4  # exit statuses: the file isn't such a one; it can't be read
@@ -200,7 +201,7 @@ def form_of(base):
         tree = reports.tree_of(saved, "checkpoint 1")
     except reports.Refused as refused:
         raise Refused("Form", refused) from None
-    is_other = isinstance(tree, dict) and reports.is_number(tree.get("form")) and tree["form"] != 1
+    is_other = isinstance(tree, dict) and reports.is_number(tree.get("form")) and tree["form"] != FORM
     checked(not is_other, "Version", "checkpoint 1 has a form of another version")
     checked(is_form(tree) and len(digest) == DIGEST, "Form", "checkpoint 1 isn't the form of a step with a digest of its records")
     return Form(tree["step"], tree["records"], tree["partitions"], tree["item-count"], tree["rules"])
@@ -286,3 +287,19 @@ def results_in(base, partitions):
         for results, more in zip(joined, news):
             results += more
     return joined
+
+
+def fields_in(packed):
+    """The fields of a packed record, as the results of a job over CSV are: of each field its size, and then its bytes. A size is the sum of
+    its bytes, of which the last one alone is below 255. None where the bytes are no whole fields."""
+    at, fields = 0, []
+    while at < len(packed):
+        size = 0
+        while at < len(packed) and packed[at] == 255:
+            size, at = size + 255, at + 1
+        if at == len(packed) or at + 1 + packed[at] + size > len(packed):
+            return None
+        size, at = size + packed[at], at + 1
+        fields.append(packed[at : at + size])
+        at += size
+    return fields

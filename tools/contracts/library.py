@@ -37,8 +37,15 @@ class Library:
         importing = [*self.imports.values(), *(each.imports for source in self.sources.values() for each in [source, *source.impls])]
         for imports in importing:
             for module, name in imports.values():
-                if module.partition(".")[0] in crates and not self.imported(module, name or "x"):
+                module, name = self.passed_on(module, name or "x")
+                if module.partition(".")[0] in crates and not self.imported(module, name):
                     yield f"{module}.{name}"
+
+    def passed_on(self, module, name):
+        """The module and the name from which a module has a name that it passes on, as those of the kit's crates."""
+        while (module, name) not in self.definitions and name in self.imports.get(module, {}):
+            module, name = self.imports[module][name]
+        return module, name
 
     def source_at(self, path):
         return next((source for source in self.sources.values() if source.path == path), None)
