@@ -2,7 +2,7 @@
 
 ghost use Rattle.std.specs.Prelude.{◌≡◌, ◌≤◌, length, IfOk};
 ghost use Rattle.std.specs.Arc.{arc_value};
-ghost use Rattle.jb_ready.specs.Checks.{checked_plans};
+ghost use Rattle.bills.specs.Checks.{checked_plans};
 ghost use Rattle.bills.specs.Bills.{refusal_of};
 
 use crate::bill::{Tariff, bill_of};

@@ -1,3 +1,1 @@
 pub mod Noting
-pub mod Places
-pub mod Refusals

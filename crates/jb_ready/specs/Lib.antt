@@ -1,5 +1,3 @@
-pub mod Checks
-pub mod Csv
 pub mod Json
 pub mod Lines
 pub mod Notes

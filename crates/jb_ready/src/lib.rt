@@ -1,19 +1,12 @@
 //! Ready parts for a job of one's own, above `jb_artifacts`.
 //!
-//! - `answering`: a processor that is made of one function.
-//! - `checking`: a reader over items that checks each item as it is read.
 //! - `notes`, `noting_reader`, `noting_processor`, `noting_writer`: artifacts round others, which note the faults that
 //!   those answer.
 //! - `numbered`: a reader over a table of records whose numbers may be too many.
-//! - `lines`, `csv_rows`, `json_lines`: the records of a text; `csv_text`, `csv_lines`: what the second is made of.
+//! - `lines`, `json_lines`: the records of a text.
 //! - `records_error`: why there are no records.
 #![tactic(auto)]
 
-mod answering;
-mod checking;
-mod csv_lines;
-pub mod csv_rows;
-mod csv_text;
 pub mod json_lines;
 pub mod lines;
 mod notes;
@@ -23,8 +16,6 @@ mod noting_writer;
 mod numbered;
 mod records_error;
 
-pub use answering::{Answer, AnswerProcessor};
-pub use checking::{Check, CheckedReader};
 pub use notes::{Note, Notes, WriteNote};
 pub use noting_processor::NotingProcessor;
 pub use noting_reader::NotingReader;

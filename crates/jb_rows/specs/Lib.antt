@@ -1,9 +1,13 @@
 pub mod Answers
 pub mod Author
-pub mod Bounded
+pub mod Bytes
+pub mod Even
 pub mod Fields
 pub mod Numbers
+pub mod Passing
+pub mod Places
 pub mod Refusals
+pub mod Source
 pub mod Streams
 pub mod TextLines
 pub mod Texts

@@ -5,34 +5,39 @@ use Rattle.std.specs.Bool.{MatchBool}
 use Rattle.std.specs.Io.Iter.{u64_saturate}
 use Rattle.std.specs.Io.KnownBytes.{Appends}
 use Rattle.std.specs.List.{concat}
-use Rattle.csv.specs.Reading.{Reached, Ready, reader_config, reader_state, reader_trim, source_of, strip_bom}
+use Rattle.csv.specs.Reading.{AreRecords, strip_bom}
 use Rattle.csv.specs.Writing.{default_writer, fields_written, has_written, row_text, text_written, with_delimiter, with_flexible, writer_setup}
 use Rattle.csv.specs.declared.parser.Config.{Config}
 use Rattle.csv.specs.declared.parser.State.TheVariants as st
-use Rattle.csv.specs.declared.reader.Reader.{Reader}
-use Rattle.csv.specs.declared.reader.Trim.TheVariants as trim
 use Rattle.csv.specs.declared.writer.Writer.{Writer}
 use Rattle.csv.specs.declared.writer.WriterBuilder.{WriterBuilder}
 use Rattle.jb_rows.specs.Answers.{Answer, all_results}
-use Rattle.jb_rows.specs.Bounded.{bounded_remaining}
+use Rattle.jb_rows.specs.Bytes.{line_after, marks_config}
 use Rattle.jb_rows.specs.Fields.{Fields}
-use Rattle.jb_rows.specs.Texts.{AreFieldsOf, AreRowsOf, config_of, copied_header, header_of}
+use Rattle.jb_rows.specs.Source.{unread}
+use Rattle.jb_rows.specs.Texts.{AreFieldsOf, AreFirst, AreRowsOf, config_of, copied_header, header_of}
 use Rattle.jb_rows.specs.declared.rows_options.RowsOptions.{RowsOptions}
 use Rattle.jb_rows.specs.declared.rows_reader.RowsReader.{RowsReader}
+use Rattle.jb_rows.specs.declared.text_reader.TextReader.{TextReader}
 use Rattle.jb_rows.specs.declared.rows_writer.RowsWriter.{RowsWriter}
 
 -- ---- READ
 
--- A READER OF THE TEXT HAS GIVEN THESE RECORDS SO FAR: its records before what the reader has left
-abbrev pub HasGiven : {R : Type 0} → (config : Config) (remaining : R → Option (List ℕ)) → Reader R → (text : List ℕ) → List Fields → Type 0
+-- these bytes are these records, whole: whatever text comes after them, its records come after these, be they all of it or the first ones
+abbrev pub AreWhole : (config : Config) (bytes : List ℕ) → List Fields → Type 0
+AreWhole config bytes records =
+    ((after : List ℕ) (later : List Fields) → AreRecords config st.StartRecord after later → AreRecords config st.StartRecord (bytes ++ after) (records ++ later))
+    × ((after : List ℕ) (later : List Fields) → AreFirst config after later → AreFirst config (bytes ++ after) (records ++ later))
+
+-- A READER OF THE TEXT HAS GIVEN THESE RECORDS SO FAR: they are those of the bytes before what it has left. It counts lines on its way.
+abbrev pub HasGiven : {R : Type 0} → (config : Config) (remaining : R → Option (List ℕ)) → TextReader R → (text : List ℕ) → List Fields → Type 0
 HasGiven config remaining reader text records =
-    (reader_trim reader ≡ trim.None) × Ready reader × (reader_config reader ≡ config)
-    × (left : List ℕ) × (source_of remaining reader ≡ Some left) × Reached config st.StartRecord (strip_bom text) records (reader_state reader) left
+    (passed left : List ℕ) × (strip_bom text ≡ passed ++ left) × (unread remaining reader.source ≡ Some left) × AreWhole config passed records
+    × (marks_config reader.marks ≡ config) × (reader.line ≡ line_after passed)
 
 -- the same of a reader of rows; once it has come to the end, these are all records
 abbrev pub HasRead : {R : Type 0} → (config : Config) (remaining : R → Option (List ℕ)) → RowsReader R → (text : List ℕ) → List Fields → Type 0
-HasRead config remaining rows text records =
-    MatchBool rows.is_done (AreFieldsOf config text records) (HasGiven config (bounded_remaining remaining) rows.reader text records)
+HasRead config remaining rows text records = MatchBool rows.is_done (AreFieldsOf config text records) (HasGiven config remaining rows.reader text records)
 
 -- A READER OF ROWS HAS GIVEN THESE RECORDS OF THE TEXT SO FAR, after its header row, which it keeps. It counts them.
 abbrev pub HasGivenRows : {R : Type 0} → RowsOptions → (remaining : R → Option (List ℕ)) → RowsReader R → (text : List ℕ) → List Fields → Type 0
@@ -42,6 +47,10 @@ HasGivenRows options remaining rows text records =
 -- the header row that the reader keeps, if the text has one
 abbrev pub kept_header : {R : Type 0} → RowsReader R → List Fields
 kept_header rows = rows.header
+
+-- the lines in which the records begin that the reader gave last
+abbrev pub lines_of : {R : Type 0} → RowsReader R → List ℕ
+lines_of rows = rows.lines.items
 
 -- the most bytes that a record which the reader gives may have, packed
 abbrev pub longest_of : {R : Type 0} → RowsReader R → ℕ

@@ -1,13 +1,13 @@
 -- The records of a text of CSV (RFC 4180, as the kit's `csv` reads it; records may differ in their number of fields) or of lines, and its
 -- header row.
-use Rattle.std.specs.Prelude.{Bool, true, false, ℕ, ◌≡◌, ◌++◌, List, [], length, option_map, option_to_list}
+use Rattle.std.specs.Prelude.{Bool, true, false, ℕ, ◌≡◌, ◌<◌, ◌++◌, ◌∷◌, List, [], length, option_map, option_to_list}
 use Rattle.std.specs.Io.Iter.{u64_saturate}
 use Rattle.csv.specs.Machine.{next_record}
 use Rattle.csv.specs.Reading.{AreRecords, Reached, default_config, strip_bom}
 use Rattle.csv.specs.declared.parser.Config.{Config}
 use Rattle.csv.specs.declared.parser.State.{State}
 use Rattle.csv.specs.declared.parser.State.TheVariants as st
-use Rattle.jb_rows.specs.Fields.{Fields}
+use Rattle.jb_rows.specs.Fields.{Fields, packed}
 use Rattle.jb_rows.specs.declared.header.Header.{Header}
 use Rattle.jb_rows.specs.declared.header.Header.TheVariants as hd
 use Rattle.jb_rows.specs.declared.input.Input.{Input}
@@ -33,9 +33,13 @@ config_of options = config_by options.input options.delimiter
 abbrev pub AreFieldsOf : (config : Config) (text : List ℕ) → List Fields → Type 0
 AreFieldsOf config text records = AreRecords config st.StartRecord (strip_bom text) records
 
--- these are the first ones, after which more text may follow
+-- these are the first records of these bytes, after which there may be more
+abbrev pub AreFirst : (config : Config) (bytes : List ℕ) → List Fields → Type 0
+AreFirst config bytes records = (state : State) × (left : List ℕ) × Reached config st.StartRecord bytes records state left
+
+-- these are the first ones of the text
 abbrev pub AreFirstFieldsOf : (config : Config) (text : List ℕ) → List Fields → Type 0
-AreFirstFieldsOf config text records = (state : State) × (left : List ℕ) × Reached config st.StartRecord (strip_bom text) records state left
+AreFirstFieldsOf config text records = AreFirst config (strip_bom text) records
 
 -- the text's first record, if it has one
 unfoldable pub first_record : (config : Config) (text : List ℕ) → List Fields
@@ -76,3 +80,13 @@ AreFirstRowsOf options text records = AreFirstFieldsOf (config_of options) text 
 -- the record of this number, the first after the header row being 0, comes after these, which are the first ones of the text
 abbrev pub IsAfter : RowsOptions → (text : List ℕ) → List Fields → (number : ℕ) → Type 0
 IsAfter options text records number = AreFirstRowsOf options text records × (number ≡ u64_saturate (length records))
+
+-- the record after these, which are the first ones of the text, has more bytes than the longest may have, packed
+pub record IsLongAfter (config : Config) (text : List ℕ) (records : List Fields) (longest : ℕ) : Type 0 where
+  pub fields : Fields
+  pub read : AreFirstFieldsOf config text (records ++ fields ∷ [])
+  pub longer : longest < length (packed fields)
+
+-- the same after the header row
+abbrev pub IsTooLongAfter : RowsOptions → (text : List ℕ) → List Fields → (longest : ℕ) → Type 0
+IsTooLongAfter options text records longest = IsLongAfter (config_of options) text (header_of options text ++ records) longest

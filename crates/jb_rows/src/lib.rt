@@ -4,14 +4,16 @@
 //!   `rows`: records, one after the other.
 //! - `row_function`: what is done to each record. `numbers`: the numbers in fields.
 //! - `rows_reader`, `rows_writer`: records from a stream and to one. `rows_options`: how; `input`: whether a record is one of CSV or a line;
-//!   `header`: whether there is a header row. `bounded_reader`: a stream under the reader, which fails if a record doesn't end.
-//!   `rows_error`: why records are not read or not written.
+//!   `header`: whether there is a header row. `rows_error`: why records are not read or not written.
+//! - `text_reader`: one record, and the line in which it begins. `machine`: what a byte of a record does; `tokens`: the bytes of a record
+//!   are put together; `byte_source`: the bytes of a stream; `window`: those of them that were read and not yet used.
 //! - `run`: all of it as one call over streams.
 #![tactic(auto)]
 
-mod bounded_reader;
+mod byte_source;
 mod header;
 mod input;
+mod machine;
 pub mod numbers;
 mod packed;
 mod row;
@@ -23,6 +25,9 @@ mod rows_options;
 mod rows_reader;
 mod rows_writer;
 mod run;
+mod text_reader;
+mod tokens;
+mod window;
 
 pub use header::Header;
 pub use input::{Input, lines_are_records};

@@ -1,6 +1,6 @@
 //! A record's fields, read in place.
 
-ghost use Rattle.std.specs.Prelude.{◌≡◌, option_map, OnOk};
+ghost use Rattle.std.specs.Prelude.{◌≡◌, length, option_map, OnOk};
 ghost use Rattle.csv.specs.Records.{field_at, fields_of};
 ghost use Rattle.jb_rows.specs.Fields.{fields_in};
 
@@ -32,6 +32,13 @@ impl<'a> Row<'a> {
         Row { bytes }
     }
 
+    /// How many fields there are.
+    pub fn len(&self) -> usize
+        ensures { result ≡ length self.now }
+    {
+        count_fields(self.bytes)
+    }
+
     /// The field of this index, the first being 0, if there is one.
     pub fn get(&self, index: usize) -> Option<&[u8]>
         ensures { option_map (λ field. field.now) result ≡ field_at self.now index }
@@ -60,6 +67,23 @@ fn copy_fields(bytes: &[u8], entry: &mut ByteRecord) -> Result<(), AllocError>
                 behind = later;
             }
             None => return Ok(()),
+        }
+    }
+}
+
+/// How many fields packed bytes have.
+fn count_fields(bytes: &[u8]) -> usize
+    ensures { result ≡ length (fields_in bytes.now) }
+{
+    let mut count = 0;
+    let mut behind = bytes;
+    'fields: loop {
+        match first_field(behind) {
+            Some((_, later)) => {
+                count += 1;
+                behind = later;
+            }
+            None => return count,
         }
     }
 }

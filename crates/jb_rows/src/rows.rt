@@ -1,6 +1,7 @@
 //! Records of fields, one behind the other.
 
-ghost use Rattle.std.specs.Prelude.{◌≡◌, ◌<◌, ◌++◌, ◌∷◌, [], length, map, slice_index_or, OnErr, OnOk};
+ghost use Rattle.std.specs.Prelude.{◌≡◌, ◌<◌, ◌++◌, ◌∷◌, [], length, map, slice_index_or, MatchOption, OnErr, OnOk};
+ghost use Rattle.jb_rows.specs.Even.{AreEven, IsUnevenAt};
 ghost use Rattle.jb_rows.specs.Fields.{fields_in, packed};
 
 use crate::row::Row;
@@ -49,6 +50,18 @@ impl Rows {
         ensures { result ≡ slice_index_or self.now index [] }
     {
         Row::of(self.list.at(index))
+    }
+
+    /// The index of the first record that has more fields or fewer than the first record, if there is one.
+    pub fn first_uneven(&self) -> Option<usize>
+        ensures { MatchOption result (AreEven self.now) (IsUnevenAt self.now) }
+    {
+        for index in 0..self.len() {
+            if self.row(index).len() != self.row(0).len() {
+                return Some(index);
+            }
+        }
+        None
     }
 
     /// Takes the records away and keeps their memory for others.

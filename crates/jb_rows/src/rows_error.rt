@@ -2,9 +2,10 @@
 
 ghost use Rattle.std.specs.Prelude.{◌≡◌};
 ghost use Rattle.jb_rows.specs.Refusals.{IfTooLong};
-ghost use Rattle.jb_rows.specs.declared.rows_error.RowsError.TheVariants.{Memory};
+ghost use Rattle.jb_rows.specs.declared.rows_error.RowsError.TheVariants.{Memory, Stream};
 
-use std::alloc::AllocError;
+use std::alloc::{AllocError, AllocFailed};
+use std::io;
 use thiserror::Error;
 
 /// Why records are not read or not written.
@@ -19,7 +20,7 @@ pub enum RowsError {
     LongHeader,
     /// The stream failed.
     #[error("{0}")]
-    Stream(csv::Error),
+    Stream(io::Error),
     /// There was no memory.
     #[error("out of memory")]
     Memory,
@@ -33,12 +34,28 @@ impl From<AllocError> for RowsError {
     }
 }
 
-/// A failure of `csv`, which is of the stream or of memory: records may differ in their number of fields, and are no text.
+impl<T: Drop> From<AllocFailed<T>> for RowsError {
+    ghost from_gives = { λ _ error. error ≡ Memory };
+
+    fn from(_: AllocFailed<T>) -> RowsError {
+        RowsError::Memory
+    }
+}
+
+impl From<io::Error> for RowsError {
+    ghost from_gives = { λ why error. error ≡ Stream why };
+
+    fn from(why: io::Error) -> RowsError {
+        RowsError::Stream(why)
+    }
+}
+
+/// A failure of a writer of `csv`, which is of the stream or of memory: records may differ in their number of fields, and are no text.
 pub(crate) fn failure_of(error: csv::Error) -> RowsError
     ensures { IfTooLong result (λ _. ⊥) }
 {
-    if error.is_io_error() {
-        return RowsError::Stream(error);
+    match error.into_kind() {
+        csv::ErrorKind::Io(why) => RowsError::Stream(why),
+        _ => RowsError::Memory,
     }
-    RowsError::Memory
 }

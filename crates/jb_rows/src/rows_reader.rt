@@ -1,110 +1,40 @@
 //! The records of a stream, some at a time.
 
-ghost use Rattle.std.specs.Prelude.{true, false, ◌≡◌, ◌≤◌, ◌++◌, ◌∷◌, ℕ, List, [], length, IfErr, IfOk, IfSome, IsOk, OnOk};
+ghost use Rattle.std.specs.Prelude.{true, false, ◌≡◌, ◌≤◌, ◌++◌, ◌∷◌, ℕ, List, [], length, IfErr, IfOk, IfSome, IsOk, OnErr, OnOk};
 ghost use Rattle.std.specs.Bool.{MatchBool};
 ghost use Rattle.std.specs.List.{All};
-ghost use Rattle.csv.specs.Records.{fields_of};
+ghost use Rattle.csv.specs.Reading.{strip_bom};
 ghost use Rattle.csv.specs.declared.parser.Config.{Config};
-ghost use Rattle.jb_rows.specs.Bounded.{bounded_remaining};
 ghost use Rattle.jb_rows.specs.Fields.{Fields, packed};
+ghost use Rattle.jb_rows.specs.Places.{AreLinesFrom, BeginsAt, BeginsIn};
 ghost use Rattle.jb_rows.specs.Refusals.{IfTooLong};
-ghost use Rattle.jb_rows.specs.Streams.{HasGiven, HasGivenRows, HasRead, kept_header, longest_of};
-ghost use Rattle.jb_rows.specs.Texts.{AreFieldsOf, AreRowsOf, IsAfter, config_of, config_with, first_record, header_of};
+ghost use Rattle.jb_rows.specs.Streams.{HasGivenRows, HasRead, kept_header, lines_of, longest_of};
+ghost use Rattle.jb_rows.specs.Texts.{AreFieldsOf, AreFirstFieldsOf, AreRowsOf, IsAfter, IsLongAfter, IsTooLongAfter, config_of, first_record, header_of};
 ghost use Rattle.jb_rows.specs.declared.header.Header.TheVariants as hd;
 ghost use Rattle.jb_rows.specs.declared.rows_options.RowsOptions.{RowsOptions};
 
-use crate::bounded_reader::BoundedReader;
 use crate::header::Header;
-use crate::input::Input;
 use crate::row_builder::RowBuilder;
 use crate::rows::Rows;
-use crate::rows_error::{RowsError, failure_of};
+use crate::rows_error::RowsError;
 use crate::rows_options::RowsOptions;
-use csv::{ByteRecord, Reader, ReaderBuilder};
-use std::alloc::{AllocError, Global};
+use crate::text_reader::TextReader;
+use std::alloc::Global;
 use std::io::Read;
 
-/// How many bytes of text may be between two records, as line ends and blank lines, beside those of a record.
-const BETWEEN: usize = 8192;
-
-/// The records of a stream, some at a time. After an error nothing is known of it.
+/// The records of a stream, some at a time, and the lines in which they begin. After an error nothing is known of it.
 #[derive(Drop)]
 pub struct RowsReader<R> {
-    reader: Reader<BoundedReader<R>>,
+    reader: TextReader<R>,
     longest: usize,
     header: Rows,
     given: u64,
     is_done: bool,
-    entry: ByteRecord,
     row: RowBuilder,
-}
-
-/// How many bytes of text a record may have, with what is before it. A field of quotes alone has at most two for each of its own,
-/// two round it, and one or two after it, so no record that is short enough packed has more than four times as many.
-fn text_bytes(longest: usize) -> usize {
-    longest.saturating_mul(4).saturating_add(BETWEEN)
-}
-
-/// The fields of a record, put together.
-fn put_fields(entry: &ByteRecord, row: &mut RowBuilder) -> Result<(), AllocError>
-    ensures { OnOk result (row.new ≡ fields_of entry.now) }
-{
-    row.clear();
-    for index in 0..entry.len() {
-        match entry.get(index) {
-            Some(field) => row.push(field)?,
-            None => unreachable!(),
-        }
-    }
-    Ok(())
-}
-
-/// Whether quotes have a meaning, and the byte between fields.
-fn marks(options: &RowsOptions) -> (bool, u8)
-    ensures { config_with result.0 result.1 ≡ config_of options.now }
-{
-    match options.input {
-        Input::Csv => (true, options.delimiter),
-        Input::Lines => (false, 0),
-    }
-}
-
-/// A reader of a stream.
-fn reader_of<R: Read>(alloc: Global, options: &RowsOptions, from: R) -> Reader<BoundedReader<R>>
-    ensures { IfSome (R.remaining from)
-        (λ text. HasGiven (config_of options.now) (bounded_remaining R.remaining) result text []) }
-{
-    let (quoting, delimiter) = marks(options);
-    ReaderBuilder::new()
-        .has_headers(false)
-        .flexible(true)
-        .quoting(quoting)
-        .delimiter(delimiter)
-        .from_reader(alloc, BoundedReader::new(from))
-}
-
-/// The next record, which has this number, of so many bytes of text at most; and whether there was one.
-fn read_entry<R: Read>(
-    reader: &mut Reader<BoundedReader<R>>,
-    entry: &mut ByteRecord,
-    number: u64,
-    most: usize,
-) -> Result<bool, RowsError>
-    ensures given { IfOk result (λ found. (config : Config) (text : List ℕ) (before : List Fields)
-        → HasGiven config (bounded_remaining R.remaining) reader.old text before
-        → MatchBool found (HasGiven config (bounded_remaining R.remaining) reader.new text (before ++ fields_of entry.new ∷ [])) (AreFieldsOf config text before)) }
-    ensures refused { IfErr result (λ error. IfTooLong error (λ refused. refused ≡ number)) }
-{
-    reader.get_ref().allow(most);
-    match reader.read_byte_record(entry) {
-        Ok(found) => Ok(found),
-        Err(error) => {
-            if reader.get_ref().is_used_up() {
-                return Err(RowsError::TooLong { number });
-            }
-            Err(failure_of(error))
-        }
-    }
+    field: Vec<u8>,
+    /// The line in which the record in `row` begins.
+    line: u64,
+    lines: Vec<u64>,
 }
 
 /// A header row that is too long is no record.
@@ -146,13 +76,15 @@ impl<R: Read> RowsReader<R> {
         ensures longest { longest_of result ≡ options.now.longest }
     {
         RowsReader {
-            reader: reader_of(alloc, options, from),
+            reader: TextReader::new(options, from),
             longest: options.longest,
             header: Rows::new(alloc),
             given: 0,
             is_done: false,
-            entry: ByteRecord::new(alloc),
             row: RowBuilder::new(alloc),
+            field: Vec::new(alloc),
+            line: 0,
+            lines: Vec::new(alloc),
         }
     }
 
@@ -188,24 +120,37 @@ impl<R: Read> RowsReader<R> {
         ensures given { IfOk result (λ found. (config : Config) (text : List ℕ) (before : List Fields) → HasRead config R.remaining self.old text before
             → MatchBool found (HasRead config R.remaining self.new text (before ++ self.new.row ∷ [])) (HasRead config R.remaining self.new text before × AreFieldsOf config text before)) }
         ensures short { IfOk result (λ found. found ≡ true → length (packed self.new.row) ≤ longest_of self.old) }
+        ensures begins { IfOk result (λ found. found ≡ true → (config : Config) (text : List ℕ) (before : List Fields) → HasRead config R.remaining self.old text before
+            → BeginsAt config (strip_bom text) (length before) self.new.line) }
+        ensures lines { lines_of self.new ≡ lines_of self.old }
         ensures header { self.new.header ≡ self.old.header }
         ensures number { self.new.given ≡ self.old.given }
         ensures longest { longest_of self.new ≡ longest_of self.old }
         ensures refused { IfErr result (λ error. IfTooLong error (λ number. number ≡ self.old.given)) }
+        ensures too_long { IfErr result (λ error. (config : Config) (text : List ℕ) (before : List Fields) → HasRead config R.remaining self.old text before
+            → IfTooLong error (λ _. IsLongAfter config text before (longest_of self.old))) }
     {
         if self.is_done {
             return Ok(false);
         }
-        let most = text_bytes(self.longest);
-        let found = read_entry(&mut self.reader, &mut self.entry, self.given, most)?;
+        let found = match self.reader.skip_ends() {
+            Ok(found) => found,
+            Err(error) => return Err(error),
+        };
         if !found {
             self.is_done = true;
             return Ok(false);
         }
-        put_fields(&self.entry, &mut self.row)?;
-        if self.row.as_bytes().len() > self.longest {
-            return Err(RowsError::TooLong { number: self.given });
-        }
+        self.line = self.reader.line();
+        let (given, longest) = (self.given, self.longest);
+        let is_last = match self
+            .reader
+            .read_record(given, longest, &mut self.row, &mut self.field)
+        {
+            Ok(is_last) => is_last,
+            Err(error) => return Err(error),
+        };
+        self.is_done = is_last;
         Ok(true)
     }
 
@@ -214,10 +159,18 @@ impl<R: Read> RowsReader<R> {
         ensures given { IfOk result (λ found. (options : RowsOptions) (text : List ℕ) (before : List Fields) → HasGivenRows options R.remaining self.old text before
             → MatchBool found (HasGivenRows options R.remaining self.new text (before ++ self.new.row ∷ [])) (HasGivenRows options R.remaining self.new text before × AreRowsOf options text before)) }
         ensures short { IfOk result (λ found. found ≡ true → length (packed self.new.row) ≤ longest_of self.old) }
+        ensures begins { IfOk result (λ found. found ≡ true → (options : RowsOptions) (text : List ℕ) (before : List Fields) → HasGivenRows options R.remaining self.old text before
+            → BeginsIn options text (length before) self.new.line) }
+        ensures lines { lines_of self.new ≡ lines_of self.old }
         ensures longest { longest_of self.new ≡ longest_of self.old }
         ensures refused { IfErr result (λ error. IfTooLong error (λ number. number ≡ self.old.given)) }
+        ensures too_long { IfErr result (λ error. (options : RowsOptions) (text : List ℕ) (before : List Fields) → HasGivenRows options R.remaining self.old text before
+            → IfTooLong error (λ _. IsTooLongAfter options text before (longest_of self.old))) }
     {
-        let found = self.read_row()?;
+        let found = match self.read_row() {
+            Ok(found) => found,
+            Err(error) => return Err(error),
+        };
         if !found {
             return Ok(false);
         }
@@ -238,8 +191,14 @@ impl<R: Read> RowsReader<R> {
         ensures longest { longest_of self.new ≡ longest_of self.old }
         ensures refused { IfErr result (λ error. (options : RowsOptions) (text : List ℕ) (before : List Fields) → HasGivenRows options R.remaining self.old text before
             → IfTooLong error (IsAfter options text (before ++ rows.new))) }
+        ensures too_long { IfErr result (λ error. (options : RowsOptions) (text : List ℕ) (before : List Fields) → HasGivenRows options R.remaining self.old text before
+            → IfTooLong error (λ _. IsTooLongAfter options text (before ++ rows.new) (longest_of self.old))) }
+        ensures lines { (options : RowsOptions) (text : List ℕ) (before : List Fields) → HasGivenRows options R.remaining self.old text before
+            → AreLinesFrom options text (length before) (lines_of self.new) }
+        ensures counted { OnOk result (length (lines_of self.new) ≡ length rows.new) }
     {
         rows.clear();
+        self.lines.clear();
         for _ in 0..most {
             let found = match self.next_row() {
                 Ok(found) => found,
@@ -249,7 +208,15 @@ impl<R: Read> RowsReader<R> {
                 return Ok(false);
             }
             rows.push(&self.row)?;
+            self.lines.push(self.line)?;
         }
         Ok(true)
+    }
+
+    /// The line in which each record begins that `next_rows` gave last, the first line being 1. A line ends at a line feed.
+    pub fn lines(&self) -> &[u64]
+        ensures { result.now ≡ lines_of self.now }
+    {
+        &self.lines
     }
 }

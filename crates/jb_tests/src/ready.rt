@@ -1,16 +1,14 @@
 //! The ready parts of `jb_ready`: what texts are read into, and what is noted.
 
-ghost use Rattle.std.specs.Prelude.{◌==◌, ◌++◌, Some, None, if◌then◌else◌, length};
-
 use crate::artifacts::{failing_once, fault, fault_of, holds, records};
 use jb_artifacts::{
-    FaultPlans, Item, ItemProcessor, ItemReader, ItemWriter, LendingReader, ListWriter,
-    PackedResults, PackingProcessor,
+    FaultPlan, FaultPlans, Item, ItemProcessor, ItemReader, ItemWriter, LendingReader, ListWriter,
+    PackedResults, PackingProcessor, PrefixProcessor, TableReader,
 };
 use jb_base::{ClassId, PackedList};
 use jb_ready::{
-    Answer, AnswerProcessor, Check, CheckedReader, Note, Notes, NotingProcessor, NotingReader,
-    NotingWriter, RecordsError, csv_rows, json_lines, lines, table_reader,
+    Note, Notes, NotingProcessor, NotingReader, NotingWriter, RecordsError, json_lines, lines,
+    table_reader,
 };
 use std::alloc::{AllocError, Global};
 
@@ -18,32 +16,16 @@ use std::alloc::{AllocError, Global};
 #[derive(Clone, Copy)]
 enum Form {
     Lines,
-    Csv,
-    Flexible,
     Json,
 }
 
 /// Texts, and the records that they are read into, each with a bar behind it, or what their refusal says.
-const TEXTS: [(Form, &str, &str); 17] = [
+const TEXTS: [(Form, &str, &str); 11] = [
     (Form::Lines, "", ""),
     (Form::Lines, "\n", "|"),
     (Form::Lines, "a", "a|"),
     (Form::Lines, "a\n", "a|"),
     (Form::Lines, "a\r\n\nb\rc\r\n", "a||b\rc|"),
-    (Form::Csv, "", ""),
-    (Form::Csv, "x,1\n\"y\nz\",2\n", "x,1\n|\"y\nz\",2\n|"),
-    (
-        Form::Csv,
-        "x,1\r\n\r\n \"y\",\"a\"\"\"",
-        "x,1\n|\" \"\"y\"\"\",\"a\"\"\"\n|",
-    ),
-    (Form::Csv, "x,1\ny,2\nz\n", "line 3: record 2 can't be read"),
-    (
-        Form::Csv,
-        "x\r\n\r\n\"y\r\n\"\r\nz,\r\n",
-        "line 5: record 2 can't be read",
-    ),
-    (Form::Flexible, "x,1\ny\n", "x,1\n|y\n|"),
     (Form::Json, "", ""),
     (
         Form::Json,
@@ -63,8 +45,6 @@ fn read(alloc: Global, form: Form, text: &[u8]) -> Result<PackedList, RecordsErr
             Ok(records) => Ok(records),
             Err(_) => Err(RecordsError::Memory),
         },
-        Form::Csv => csv_rows::records_of(alloc, text),
-        Form::Flexible => csv_rows::flexible_records_of(alloc, text),
         Form::Json => json_lines::records_of(alloc, text),
     }
 }
@@ -109,42 +89,6 @@ fn texts_are_read_or_memory_is_wanted(rt: HostRuntime) {
     }
 }
 
-/// A function whose answer is the item twice, or none for an item of no bytes.
-#[derive(Drop)]
-struct Twice {
-    alloc: Global,
-}
-
-impl Answer for Twice {
-    ghost answer = { λ _ _ item. if length item == 0 then None else Some (item ++ item) };
-
-    fn answer_of(&self, _number: u64, item: &[u8]) -> Result<Option<Item>, AllocError> {
-        if item.is_empty() {
-            return Ok(None);
-        }
-        let mut bytes = Vec::from_slice(self.alloc, item)?;
-        bytes.extend_from_slice(item)?;
-        Ok(Some(Item::from_vec(bytes)))
-    }
-}
-
-/// A check that refuses items of no bytes.
-#[derive(Drop)]
-struct NotEmpty {
-    class: ClassId,
-}
-
-impl Check for NotEmpty {
-    ghost refusal = { λ c item. if length item == 0 then Some c.class else None };
-
-    fn refusal_of(&self, item: &[u8]) -> Result<Option<ClassId>, AllocError> {
-        if item.is_empty() {
-            return Ok(Some(self.class));
-        }
-        Ok(None)
-    }
-}
-
 /// The note of a fault of class 3 at this record.
 fn note_of(number: u64) -> Note {
     Note {
@@ -153,12 +97,11 @@ fn note_of(number: u64) -> Note {
     }
 }
 
-/// Records from number 5 on, of which 6 is refused.
-fn a_reader(alloc: Global) -> Result<NotingReader<CheckedReader<NotEmpty>>, RecordsError> {
-    let check = NotEmpty {
-        class: ClassId::new(3),
-    };
-    let inner = CheckedReader::new(alloc, check, 5, records(alloc, &["a", "", "b"])?)?;
+/// Records from number 5 on, of which 6 can't be read.
+fn a_reader(alloc: Global) -> Result<NotingReader<TableReader>, RecordsError> {
+    let mut faults = FaultPlans::new(alloc);
+    faults.insert(6, FaultPlan::Bad(ClassId::new(3)))?;
+    let inner = table_reader(alloc, 5, records(alloc, &["a", "", "b"])?, faults)?;
     Ok(NotingReader {
         inner,
         notes: Notes::new(alloc),
@@ -166,13 +109,13 @@ fn a_reader(alloc: Global) -> Result<NotingReader<CheckedReader<NotEmpty>>, Reco
 }
 
 /// Whether the next record is these bytes, lent, and is then passed by.
-fn lends(reader: &mut NotingReader<CheckedReader<NotEmpty>>, bytes: &[u8]) -> bool {
+fn lends(reader: &mut NotingReader<TableReader>, bytes: &[u8]) -> bool {
     let number = reader.place();
     number < reader.end() && reader.record(number) == bytes && reader.pass_item() == Ok(())
 }
 
-/// Whether the record of this number is refused where the reader is opened at it.
-fn refuses(reader: &mut NotingReader<CheckedReader<NotEmpty>>, number: u64) -> bool {
+/// Whether the record of this number can't be read where the reader is opened at it.
+fn refuses(reader: &mut NotingReader<TableReader>, number: u64) -> bool {
     if number < reader.first() || number > reader.end() {
         return false;
     }
@@ -180,7 +123,7 @@ fn refuses(reader: &mut NotingReader<CheckedReader<NotEmpty>>, number: u64) -> b
     fault_of(reader.read_item()) == Some(fault())
 }
 
-/// Whether a refused record is passed by and noted, each time that it is read, and the records round it are read, or lent.
+/// Whether a record that can't be read is passed by and noted, each time that it is read, and the records round it are read, or lent.
 fn notes_each_read(alloc: Global) -> Result<bool, RecordsError> {
     let mut reader = a_reader(alloc)?;
     let before = holds(&reader.read_item(), b"a");
@@ -190,27 +133,25 @@ fn notes_each_read(alloc: Global) -> Result<bool, RecordsError> {
     Ok(before && refused && behind && noted && reader.notes.lost() == 0)
 }
 
-/// Whether a fault of a function's processor is noted, and its answer is the function's.
+/// Whether a fault of a processor is noted, and its answer is that of the one inside.
 fn notes_a_process_call(alloc: Global) -> Result<bool, AllocError> {
-    let inner = AnswerProcessor {
-        function: Twice { alloc },
-        faults: failing_once(alloc, ClassId::new(3))?,
-    };
+    let faults = failing_once(alloc, ClassId::new(3))?;
+    let prefix = Item::copy_of(alloc, b"=")?;
     let mut processor = NotingProcessor {
-        inner,
+        inner: PrefixProcessor::new(alloc, prefix, None, faults),
         notes: Notes::new(alloc),
     };
     let failed = fault_of(processor.process_item(1, b"b")) == Some(fault());
-    let answered = holds(&processor.process_item(1, b"b"), b"bb");
+    let answered = holds(&processor.process_item(1, b"b"), b"=b");
     let packed = packs(alloc, &mut processor);
     Ok(failed && answered && packed && processor.notes.kept() == [note_of(1)].as_slice())
 }
 
-/// Whether a function's processor packs its answer.
-fn packs(alloc: Global, processor: &mut NotingProcessor<AnswerProcessor<Twice>>) -> bool {
+/// Whether the processor packs its answer.
+fn packs(alloc: Global, processor: &mut NotingProcessor<PrefixProcessor>) -> bool {
     let mut results = PackedResults::new(alloc);
     let found = processor.pack_item(2, b"c", &mut results) == Ok(true);
-    found && results.len() == 1 && results.number(0) == 2 && results.text(0) == b"cc".as_slice()
+    found && results.len() == 1 && results.number(0) == 2 && results.text(0) == b"=c".as_slice()
 }
 
 /// Whether a write call that fails is noted with its numbers.
@@ -254,7 +195,7 @@ fn reads_many(alloc: Global) -> Result<bool, RecordsError> {
         text.extend_from_slice(b"1\n")?;
     }
     let mut all = true;
-    for form in [Form::Lines, Form::Csv, Form::Flexible, Form::Json] {
+    for form in [Form::Lines, Form::Json] {
         all = all && read(alloc, form, &text)?.len() == 1_000;
     }
     Ok(all)

@@ -1,7 +1,7 @@
 use Rattle.std.proofs.Common.{◌≡◌, ◌∙◌, ◌-◌, [], ap, arith, rules, slice_index_or, Some, None}
 use native.Mathlib.Numerals.{unary_clauses}
 use Rattle.std.specs.Arc.{arc_value}
-use Rattle.jb_ready.proofs.Refusals.{check-reads}
+use Rattle.bills.proofs.Refusals.{check-reads}
 use Rattle.bills.specs.Bills.{refusal_of}
 use Rattle.bills.proofs.reader.UsageReaderItemReader.read_item.Goals as goal
 
