@@ -21,7 +21,7 @@ use crate::onlooker::Onlooker;
 use crate::run::{Pause, run, taken_from};
 use jb_base::PackedList;
 use jb_durable::{Given, LastLife, Life, open_own, open_watched, stop_watched};
-use jb_records::{RecordFunction, RecordsStep};
+use jb_records::{RecordsStep, StepFunction};
 use jb_records_checkpoints::{Pace, checkpoints_have_results};
 use jb_store::closed;
 use sqlite::{Alter, Connection, FileStore, Options};
@@ -39,7 +39,7 @@ fn is_whole(pause: Pause) -> bool
 
 /// The run is taken up, and goes on for so many checkpoints.
 fn lived<
-    F: RecordFunction + Drop + 'static,
+    F: StepFunction + Drop + 'static,
     P: Pace,
     O: Onlooker,
     R: Threads + Wait + Sync,
@@ -80,7 +80,7 @@ fn lived<
 
 /// The same over files: the one place where a connection over files is handed to it.
 fn lived_over_files<
-    F: RecordFunction + Drop + 'static,
+    F: StepFunction + Drop + 'static,
     P: Pace,
     O: Onlooker,
     R: Threads + Wait + Sync,
@@ -111,7 +111,7 @@ fn lived_over_files<
 
 /// A life over disks that know what they were as it began.
 fn watched_life<
-    F: RecordFunction + Drop + 'static,
+    F: StepFunction + Drop + 'static,
     P: Pace,
     O: Onlooker,
     R: Threads + Wait + Sync,
@@ -148,7 +148,7 @@ fn watched_life<
 
 /// One life: the files are opened, the run is taken up and goes on for so many checkpoints, and the machine stops somewhere on the way.
 fn live_and_crash<
-    F: RecordFunction + Drop + 'static,
+    F: StepFunction + Drop + 'static,
     P: Pace,
     O: Onlooker,
     R: Threads + Wait + Sync,
@@ -176,7 +176,7 @@ fn live_and_crash<
 
 /// So many lives that end in a crash, and one that doesn't.
 fn through_crashes<
-    F: RecordFunction + Drop + 'static,
+    F: StepFunction + Drop + 'static,
     P: Pace,
     O: Onlooker,
     R: Threads + Wait + Sync,
@@ -232,7 +232,7 @@ fn through_crashes<
 /// that isn't one of checkpoints, and where two opens had written and were cut behind their recovery, with no life between them that had the
 /// files open.
 pub fn records_through_crashes<
-    F: RecordFunction + Drop + 'static,
+    F: StepFunction + Drop + 'static,
     P: Pace + Drop,
     O: Onlooker + Drop,
     R: Threads + Wait + Sync,

@@ -28,7 +28,7 @@ use crate::error::DurableError;
 use crate::onlooker::{Onlooker, progress_of};
 use jb_base::PackedList;
 use jb_collect::Status;
-use jb_records::{RecordFunction, RecordsRun, RecordsStep, Standing};
+use jb_records::{RecordsRun, RecordsStep, Standing, StepFunction};
 use jb_records_checkpoints::{
     Pace, Place, Stage, checkpoints_have_results, places_have_results, taken_up,
 };
@@ -73,7 +73,7 @@ impl DurableEnd {
 }
 
 /// The run as it stands behind the checkpoints of a database that was just opened, and how many these are.
-pub(crate) fn taken_from<F: RecordFunction + Drop, S: Alter>(
+pub(crate) fn taken_from<F: StepFunction + Drop, S: Alter>(
     alloc: Global,
     conn: &mut Connection<S>,
     step: &RecordsStep,
@@ -115,7 +115,7 @@ pub(crate) fn taken_from<F: RecordFunction + Drop, S: Alter>(
 }
 
 /// One checkpoint more, kept in the database; false where the run was whole.
-fn advance<F: RecordFunction + Drop + 'static, R: Threads + Wait + Sync, S: Alter>(
+fn advance<F: StepFunction + Drop + 'static, R: Threads + Wait + Sync, S: Alter>(
     rt: &R,
     alloc: Global,
     conn: &mut Connection<S>,
@@ -165,7 +165,7 @@ fn tell<F, O: Onlooker>(place: &Place<F>, records: usize, onlooker: &mut O) {
 
 /// So many checkpoints more, each kept before the next stretch begins, until the run is whole or a partition has failed.
 pub(crate) fn run<
-    F: RecordFunction + Drop + 'static,
+    F: StepFunction + Drop + 'static,
     P: Pace,
     O: Onlooker,
     R: Threads + Wait + Sync,
@@ -219,10 +219,7 @@ pub(crate) fn run<
 }
 
 /// How the run ended.
-fn ended<F: RecordFunction + Drop>(
-    place: Place<F>,
-    pause: Pause,
-) -> Result<DurableEnd, DurableError>
+fn ended<F: StepFunction + Drop>(place: Place<F>, pause: Pause) -> Result<DurableEnd, DurableError>
     ensures results { IfOk result (λ end. end.results.items ≡ (⟦<RecordsRun<F> as Standing>⟧.standing place.run).shares) }
     ensures rows { IfOk result (λ end. end.rows.items ≡ place.rows.items) }
     ensures settled { (pause ≡ Whole → place.stage ≡ Underway) → (pause ≡ Failing → place.stage ≡ Underway) → OnOk result (place.stage ≡ Underway) }
@@ -258,7 +255,7 @@ fn ended<F: RecordFunction + Drop>(
 /// `OtherJob` and `OtherRecords` where the checkpoints are of another run, and nothing is written; `Store` with what is wrong with the
 /// file; `Damaged` where a checkpoint's results are; `Step` with why the step can't be begun, or broke off; `TooLong`, `TooMany`, `Memory`.
 pub fn run_records_durably<
-    F: RecordFunction + Drop + 'static,
+    F: StepFunction + Drop + 'static,
     P: Pace + Drop,
     O: Onlooker + Drop,
     R: Threads + Wait + Sync,
@@ -268,25 +265,25 @@ pub fn run_records_durably<
     alloc: Global,
     conn: &mut Connection<S>,
     step: &RecordsStep,
-    function: F,
+    function: &Arc<F, Global>,
     records: &PackedList,
     pace: P,
     onlooker: O,
 ) -> Result<DurableEnd, DurableError>
     ensures all { HasCleanDisk (state S.Store conn.new) → IsJustOpened (state S.Store conn.old) → (all : List Kept) → ShowsList (state S.Store conn.old).now all
-        → IsRunSoFar (F.function function) step.now records.now all → IfOk result (λ end. end.status ≡ Completed → joined end.results.items ≡ all_results (F.function function) records.now) }
+        → IsRunSoFar (F.function (arc_value function.now)) step.now records.now all → IfOk result (λ end. end.status ≡ Completed → joined end.results.items ≡ all_results (F.function (arc_value function.now)) records.now) }
     ensures kept { HasCleanDisk (state S.Store conn.new) → IsJustOpened (state S.Store conn.old) → (all : List Kept) → ShowsList (state S.Store conn.old).now all
-        → IsRunSoFar (F.function function) step.now records.now all
-        → IfOk result (λ end. end.status ≡ Completed → (now : List Kept) × Keeps (state S.Store conn.new) now × IsWholeRun (F.function function) step.now records.now now) }
+        → IsRunSoFar (F.function (arc_value function.now)) step.now records.now all
+        → IfOk result (λ end. end.status ≡ Completed → (now : List Kept) × Keeps (state S.Store conn.new) now × IsWholeRun (F.function (arc_value function.now)) step.now records.now now) }
     ensures so_far { HasCleanDisk (state S.Store conn.new) → IsJustOpened (state S.Store conn.old) → (all : List Kept) → ShowsList (state S.Store conn.old).now all
-        → IsRunSoFar (F.function function) step.now records.now all → IfOk result (λ end. IsSoFar (F.function function) records.now end.rows.items end.results.items) }
+        → IsRunSoFar (F.function (arc_value function.now)) step.now records.now all → IfOk result (λ end. IsSoFar (F.function (arc_value function.now)) records.now end.rows.items end.results.items) }
     ensures status { IfOk result (λ end. (end.status ≡ Completed) ⊎ (end.status ≡ Failed)) }
     ensures told { IfOk result (λ end. end.status ≡ status_of end.rows.items false) }
     ensures again { HasCleanDisk (state S.Store conn.new) → IsJustOpened (state S.Store conn.old) → (all : List Kept) → ShowsList (state S.Store conn.old).now all
-        → IsWholeRun (F.function function) step.now records.now all
-        → IfOk result (λ end. (end.status ≡ Completed) × (joined end.results.items ≡ all_results (F.function function) records.now) × Keeps (state S.Store conn.new) all) }
+        → IsWholeRun (F.function (arc_value function.now)) step.now records.now all
+        → IfOk result (λ end. (end.status ≡ Completed) × (joined end.results.items ≡ all_results (F.function (arc_value function.now)) records.now) × Keeps (state S.Store conn.new) all) }
     ensures untouched { HasCleanDisk (state S.Store conn.new) → IsJustOpened (state S.Store conn.old) → (all : List Kept) → ShowsList (state S.Store conn.old).now all
-        → IsWholeRun (F.function function) step.now records.now all → (db : _) → (state S.Store conn.new).may_leave db → Has db all }
+        → IsWholeRun (F.function (arc_value function.now)) step.now records.now all → (db : _) → (state S.Store conn.new).may_leave db → Has db all }
     ensures own { HasCleanDisk (state S.Store conn.new) → IsJustOpened (state S.Store conn.old) → (all : List Kept) → ShowsList (state S.Store conn.old).now all
         → OnOk result (OtherRun step.now records.now all → ⊥) }
     ensures other_job { HasCleanDisk (state S.Store conn.new) → IsJustOpened (state S.Store conn.old) → (all : List Kept) → ShowsList (state S.Store conn.old).now all
@@ -294,20 +291,19 @@ pub fn run_records_durably<
     ensures other_records { HasCleanDisk (state S.Store conn.new) → IsJustOpened (state S.Store conn.old) → (all : List Kept) → ShowsList (state S.Store conn.old).now all
         → IfErr result (λ e. e ≡ OtherRecords → IsOverOthers step.now records.now all × Keeps (state S.Store conn.new) all) }
     ensures cause { HasCleanDisk (state S.Store conn.new) → IsJustOpened (state S.Store conn.old) → (all : List Kept) → ShowsList (state S.Store conn.old).now all
-        → IsRunSoFar (F.function function) step.now records.now all → IfErr result (IsCauseOfNoEnd (F.function function) step.now records.now (state S.Store conn.old) (state S.Store conn.new) all) }
+        → IsRunSoFar (F.function (arc_value function.now)) step.now records.now all → IfErr result (IsCauseOfNoEnd (F.function (arc_value function.now)) step.now records.now (state S.Store conn.old) (state S.Store conn.new) all) }
     ensures damaged { HasCleanDisk (state S.Store conn.new) → IsJustOpened (state S.Store conn.old) → (all : List Kept) → ShowsList (state S.Store conn.old).now all
         → IfErr result (λ e. e ≡ Damaged → IsDamaged all × Keeps (state S.Store conn.new) all) }
     ensures clean { doubt (state S.Store conn.old).is_clean ≤ doubt (state S.Store conn.new).is_clean }
     ensures crash { HasCleanDisk (state S.Store conn.new) → IsJustOpened (state S.Store conn.old) → (all : List Kept) → ShowsList (state S.Store conn.old).now all
-        → IsRunSoFar (F.function function) step.now records.now all
-        → (db : _) → (state S.Store conn.new).may_leave db → IsOfARun (IsRunSoFar (F.function function) step.now records.now) db }
+        → IsRunSoFar (F.function (arc_value function.now)) step.now records.now all
+        → (db : _) → (state S.Store conn.new).may_leave db → IsOfARun (IsRunSoFar (F.function (arc_value function.now)) step.now records.now) db }
 {
     checkpoints_have_results();
     places_have_results();
-    let function = Arc::new(alloc, function)?;
     let mut pace = pace;
     let mut onlooker = onlooker;
-    let (place, count) = taken_from(alloc, conn, step, &function, records)?;
+    let (place, count) = taken_from(alloc, conn, step, function, records)?;
     let (place, pause) = run(
         rt,
         alloc,

@@ -1,21 +1,22 @@
 //! A step over records whose checkpoints are kept in a file, whatever call of the disk a life ends at.
 
-ghost use Rattle.std.specs.Prelude.{[], ◌==◌, if◌then◌else◌, length, None, Some};
+ghost use Rattle.jb_durable_tests.specs.Same.{same_by};
+ghost use Rattle.jb_rows.specs.Author.{field_at};
 
 use crate::files::{crashed, failing, new_files};
 use crate::lives::{Life, Listing, last_says, lived};
-use jb_artifacts::Item;
 use jb_base::{ClassId, Name, PackedList, Rules};
 use jb_durable::LastLife;
 use jb_durable_records::{
     DurableEnd, DurableError, Nobody, Rounds, records_through_crashes, run_records_durably,
 };
-use jb_records::{RecordFunction, RecordsStep};
+use jb_records::RecordsStep;
+use jb_rows::{Outcome, Row as Fields, RowBuilder, RowFunction, Rows};
 use sqlite::{Alter, Connection, Files, Options};
 use sqlite_disk::{Crash, Memory};
 use std::alloc::{AllocError, Global};
 use std::process::Abort;
-use std::sync::Wait;
+use std::sync::{Arc, Wait};
 use std::test::*;
 use std::thread::Threads;
 
@@ -27,47 +28,30 @@ const WHOLE: &str = "Completed [97] [98, 99] [] [100] [101] ";
 
 /// The first checkpoint of that: the form of the step, and SHA-256 of the coding of the records.
 const FIRST: &str =
-    "{\"form\":2,\"step\":\"lines\",\"records\":5,\"partitions\":2,\"item-count\":1,\"rules\":{\"skippable\":[1],\"retryable\":[0,5],\"no-rollback\":[],\"skip-limit\":null,\"retry-limit\":7}}:[90, 154, 77, 146, 130, 101, 93, 224, 172, 252, 183, 242, 176, 158, 245, 252, 49, 151, 161, 203, 139, 114, 97, 12, 92, 181, 74, 30, 85, 244, 222, 143] ";
+    "{\"form\":2,\"step\":\"lines\",\"records\":5,\"partitions\":2,\"item-count\":1,\"rules\":{\"skippable\":[1],\"retryable\":[0,5],\"no-rollback\":[],\"skip-limit\":null,\"retry-limit\":7}}:[220, 205, 229, 186, 197, 235, 213, 122, 95, 81, 45, 78, 182, 134, 254, 120, 96, 159, 131, 37, 164, 14, 151, 144, 22, 1, 146, 105, 89, 141, 229, 210] ";
 
-/// Gives each record back. Those of three bytes can't be read.
+/// Gives each record's first field back. One of three bytes is refused, and a record without a field.
 #[derive(Drop)]
 struct Same {
-    alloc: Global,
     refused: ClassId,
 }
 
-impl RecordFunction for Same {
-    ghost function = { λ f. record {
-      refusal = λ item. if length item == 3 then Some f.refused else None;
-      answer = λ _ item. Some item;
-      tries = λ _ _. [];
-    } };
+impl RowFunction for Same {
+    ghost answer = { λ f fields. same_by f.refused (field_at fields 0) };
 
-    fn refusal_of(&self, item: &[u8]) -> Result<Option<ClassId>, AllocError> {
-        Ok(if item.len() == 3 {
-            Some(self.refused)
-        } else {
-            None
-        })
-    }
-
-    fn answer_of(&self, _number: u64, item: &[u8]) -> Result<Option<Item>, AllocError> {
-        Ok(Some(Item::copy_of(self.alloc, item)?))
-    }
-
-    fn tries_of(
-        &self,
-        alloc: Global,
-        _number: u64,
-        _item: &[u8],
-    ) -> Result<Vec<ClassId>, AllocError> {
-        Ok(Vec::new(alloc))
+    fn process(&self, row: &Fields, built: &mut RowBuilder) -> Result<Outcome, AllocError> {
+        match row.get(0) {
+            Some(field) if field.len() != 3 => {
+                built.push(field)?;
+                Ok(Outcome::Given)
+            }
+            _ => Ok(Outcome::Refused(self.refused)),
+        }
     }
 }
 
-fn gives_back(alloc: Global) -> Same {
+fn gives_back() -> Same {
     Same {
-        alloc,
         refused: ClassId::new(2),
     }
 }
@@ -91,13 +75,14 @@ fn step_of(alloc: Global, in_pairs: bool) -> Result<RecordsStep, AllocError> {
 
 /// Five records, of which the last one is this.
 fn records_of(alloc: Global, last: &[u8]) -> Result<PackedList, AllocError> {
-    let mut records = PackedList::new(alloc);
-    records.push(b"a")?;
-    records.push(b"bc")?;
-    records.push(b"")?;
-    records.push(b"d")?;
-    records.push(last)?;
-    Ok(records)
+    let mut records = Rows::new(alloc);
+    let mut record = RowBuilder::new(alloc);
+    for field in [b"a".as_slice(), b"bc", b"", b"d", last] {
+        record.clear();
+        record.push(field)?;
+        records.push(&record)?;
+    }
+    Ok(records.into_list())
 }
 
 /// The run in a life. It says its status and its results, or why it has no end.
@@ -139,16 +124,8 @@ fn run<R: Threads + Wait + Sync, S: Alter>(
     step: &RecordsStep,
     records: &PackedList,
 ) -> Result<DurableEnd, DurableError> {
-    run_records_durably(
-        rt,
-        alloc,
-        conn,
-        step,
-        gives_back(alloc),
-        records,
-        Rounds(1),
-        Nobody,
-    )
+    let function = Arc::new(alloc, gives_back())?;
+    run_records_durably(rt, alloc, conn, step, &function, records, Rounds(1), Nobody)
 }
 
 /// The status, and the results of all partitions.
@@ -157,7 +134,9 @@ fn text_of(alloc: Global, end: &DurableEnd) -> Result<String, AllocError> {
     let mut text = format!(in alloc; "{:?} ", end.status)?;
     for index in 0..all.len() {
         if let Some(result) = all.get(index) {
-            text.push_str(format!(in alloc; "{result:?} ")?.as_str())?;
+            let row = Fields::of(result);
+            let field = row.get(0).unwrap_or(b"");
+            text.push_str(format!(in alloc; "{field:?} ")?.as_str())?;
         }
     }
     Ok(text)
@@ -194,7 +173,7 @@ fn last_life<R: Threads + Wait + Sync, D: Crash + Drop>(
         files,
         Options::new(5),
         step,
-        gives_back(alloc),
+        gives_back(),
         records,
         Rounds(1),
         Nobody,

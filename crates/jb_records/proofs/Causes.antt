@@ -31,7 +31,7 @@ use Rattle.jb_records.specs.Causes.{HasSkippedTry, IsCauseOf, written_in}
 use Rattle.jb_records.specs.declared.error.RecordsStepError.{RecordsStepError}
 use Rattle.jb_records.specs.declared.error.RecordsStepError.TheVariants.{Memory, Records, Results, SkippedTry, Step}
 use Rattle.jb_records.specs.declared.step.RecordsStep.{RecordsStep}
-use Rattle.jb_records.specs.Function.{Function}
+use Rattle.jb_records.specs.Function.{Function, tries_of}
 use Rattle.jb_records.specs.Made.{even_partitions, step_record}
 use Rattle.jb_records.specs.Artifacts.{AreNeverSkipped, own_records, record_of}
 use Rattle.jb_records.specs.inside.Calls.{IsTryRefused, IsUnbegun, IsUnbegunBehind, HasNoEnd, IsUnprepared, IsUnpreparedFor, written_by}
@@ -163,10 +163,10 @@ others-refused step records saved earlier rows ranges e are (inr others) =
 -- ---- A FIRST TRY IS SKIPPED
 
 pub skipped-here : (f : Function) (rules : RulesRecord) (first : ℕ) (records : List (List ℕ)) (i : ℕ) (bytes : List ℕ) (classes : List ClassId) → i < length records → bytes ≡ slice_index_or records i []
-    → classes ≡ f.tries (first + i) bytes → (AreNeverSkipped rules classes → ⊥) → HasSkippedTry f rules first records
+    → classes ≡ tries_of f bytes → (AreNeverSkipped rules classes → ⊥) → HasSkippedTry f rules first records
 skipped-here f rules first records i bytes classes within is told skipped =
     let place : i ≡ first + i - first = omega arith in
-    let same : classes ≡ f.tries (first + i) (record_of first records (first + i)) = told ∙ ap (f.tries (first + i)) (is ∙ ap (λ n. slice_index_or records n []) place) in
+    let same : classes ≡ tries_of f (record_of first records (first + i)) = told ∙ ap (tries_of f) (is ∙ ap (λ n. slice_index_or records n []) place) in
     record { number = first + i; from = omega arith; to = omega (arith, within); skipped = λ are. skipped (subst (AreNeverSkipped rules) (sym same) are) }
 
 -- one of a partition's records is one of all
@@ -184,7 +184,7 @@ skipped-own f rules records row order below has =
       number = k;
       from = omega arith;
       to = omega (arith, to, long, order, below, from);
-      skipped = λ are. has.skipped (subst (λ bytes. AreNeverSkipped rules (f.tries k bytes)) (sym same) are);
+      skipped = λ are. has.skipped (subst (λ bytes. AreNeverSkipped rules (tries_of f bytes)) (sym same) are);
     }
 
 pub refused-own : (f : Function) (rules : RulesRecord) (records : List (List ℕ)) (row : Row) (e : RecordsStepError) → row.lo ≤ row.hi → row.hi ≤ length records → IsTryRefused f rules row.lo (own_records records row) e → IsTryRefused f rules 0 records e

@@ -9,51 +9,63 @@ use Rattle.jb_base.specs.declared.class.ClassId.{ClassId}
 use Rattle.jb_base.specs.declared.range.Range.{Range}
 use Rattle.jb_base.specs.Rules.{RulesRecord}
 use Rattle.jb_ready.specs.declared.notes.Note.{Note}
-use Rattle.jb_ready.proofs.Refusals.{check-decides}
+use Rattle.jb_rows.specs.Answers.{Answer, Filtered, Given, Refused}
 use Rattle.jb_rules.specs.declared.row.Row.{Row}
+use Rattle.jb_artifacts.specs.declared.faults.FaultPlan.{FaultPlan}
 use Rattle.jb_artifacts.specs.Faults.{live}
 use Rattle.jb_artifacts.specs.Meaning.{ArtifactsMeaning}
-use Rattle.jb_artifacts.specs.Reader.{record_at}
 use Rattle.jb_chunk.specs.Alone.{IsOnTheWay, IsRunOf}
-use Rattle.jb_chunk.specs.Attempt.{AttemptEnd, again_of, block_of, end_of, ending_by}
-use Rattle.jb_chunk.specs.Block.{count_of, entry, entry_by}
-use Rattle.jb_chunk.specs.Entries.{is_read_fault}
+use Rattle.jb_chunk.specs.Attempt.{AttemptEnd, again_of, block_of, end_of, ending_by, settled_at}
+use Rattle.jb_chunk.specs.Block.{count_of, entry, entry_by, settles, settling, skips_before, stops}
+use Rattle.jb_chunk.specs.Entries.{fault_in, is_fault, is_read_fault}
 use Rattle.jb_chunk.specs.Laws.{RepeatsAreRetries, TasksStandAtCheckpoints, WaysJoin}
 use Rattle.jb_chunk.specs.Standing.{IsReady, TaskState}
 use Rattle.jb_chunk.specs.declared.outcome.Outcome.{Outcome}
 use Rattle.jb_chunk.specs.declared.outcome.Outcome.TheVariants.{Committed, Rolled, Failed, NoMemory}
+use Rattle.jb_chunk.proofs.RecordRepeats.{unfound}
 use Rattle.jb_chunk.proofs.SettlingRecord.{numbers-split}
 use Rattle.jb_step.specs.Alone.{AreOnTheWay}
 use Rattle.jb_step.specs.Answers.{IsRunOfStep, StepRun, tasks_after, tasks_before}
 use Rattle.jb_step.specs.rounds.PlanLaws.{AreTasksOf, BeginsWithRows, BeginsWithTasks}
 use Rattle.jb_step.specs.preparing.Prepare.{DoFit}
 use Rattle.jb_step.specs.preparing.Setup.{IsSetup, Setup, first_tasks, fresh_rows, row_now, rows_now, unfinished}
-use Rattle.jb_records.specs.Function.{Function}
+use Rattle.jb_records.specs.Function.{Function, answer_for, refusal_in, refusal_of, result_in, result_of}
 use Rattle.jb_records.specs.Runs.{HasResults, PartsStay, ResultsGoOn}
 use Rattle.jb_records.specs.Shares.{IsSoFar}
 use Rattle.jb_records.specs.Skips.{AreCounted, AreSkipsCounted, NewRowsAreCounted, SkipsAreCounted, skip_by, skips_between}
 use Rattle.jb_records.specs.Steps.{AreArtifacts, BeginsAnew}
-use Rattle.jb_records.specs.Artifacts.{IsArtifactsOver, own_records, record_of}
-use Rattle.jb_records.proofs.Going.{Commits, HasBlock, all-written, repeated-task, repeats-have, same-task, way-on, whole_counts}
+use Rattle.jb_records.specs.Artifacts.{IsArtifactsOver, IsFaulted, IsNeverSkipped, own_records, record_of}
+use Rattle.jb_records.proofs.Going.{Commits, HasBlock, all-written, commit-none, entry-is, live-never, never, never-stops, repeated-task, repeats-have, same-task, way-on, whole_counts}
 use Rattle.jb_records.proofs.Joining.{own-record}
 use Rattle.jb_records.proofs.Skipping.{skips-none}
 use Rattle.jb_records.proofs.Steps.{HaveResults, all-begun}
 
 -- ---- A BLOCK
 
--- a record that can't be read is a read fault, and no other is
-fault-by : (refusal fault : Option ClassId) (answer : Option (List ℕ)) → is_read_fault (entry_by refusal fault answer) ≡ is_some refusal
-fault-by (Some class) fault answer = refl
-fault-by None (Some class) answer = refl
-fault-by None None answer = refl
+-- in a block that nothing settles, a record that is refused is a fault, and no other is
+given-by : (rules : RulesRecord) (row : Row) (skips : ℕ) (plan : FaultPlan) (fault : Option ClassId) (answer : Option (List ℕ)) → IsNeverSkipped rules plan → live plan ≡ fault
+    → stops rules row (fault_in (entry_by None fault answer)) skips ≡ false → is_fault (entry_by None fault answer) ≡ false
+given-by rules row skips plan None answer is e idle = refl
+given-by rules row skips plan (Some class) answer is e idle = absurd (never (sym (never-stops rules row class skips (live-never rules plan class is e)) ∙ idle))
 
-read-fault : (f : Function) (first : ℕ) (records : List (List ℕ)) (rules : RulesRecord) (w : ArtifactsMeaning) (k : ℕ) → IsArtifactsOver f rules first records w
-    → first ≤ k → k < first + length records → is_read_fault (entry w k) ≡ is_some (f.refusal (record_of first records k))
-unfolding entry
-read-fault f first records rules w k is from to =
+fault-by : (rules : RulesRecord) (row : Row) (skips : ℕ) (plan : FaultPlan) (a : Answer) → IsFaulted rules (refusal_in a) plan
+    → stops rules row (fault_in (entry_by None (live plan) (result_in a))) skips ≡ false → is_fault (entry_by None (live plan) (result_in a)) ≡ is_some (refusal_in a)
+fault-by rules row skips plan (Refused class) is idle = ap (λ p. is_fault (entry_by None (live p) None)) is
+fault-by rules row skips plan (Given fields) is idle = given-by rules row skips plan (live plan) (result_in (Given fields)) is refl idle
+fault-by rules row skips plan Filtered is idle = given-by rules row skips plan (live plan) None is refl idle
+
+entry-fault : (f : Function) (first : ℕ) (records : List (List ℕ)) (rules : RulesRecord) (row : Row) (w : ArtifactsMeaning) (k : ℕ) → IsArtifactsOver f rules first records w
+    → settles rules row w k ≡ false → is_fault (entry w k) ≡ is_some (refusal_of f (record_of first records k))
+unfolding settles
+entry-fault f first records rules row w k is idle =
     let own = record_of first records k in
-    let fault : live (w.reader.faults k) ≡ f.refusal own = ap live (is.reads k) ∙ check-decides f.refusal first records k own from to refl in
-    fault-by (live (w.reader.faults k)) (live (w.processor.faults k)) (w.processor.answer k (record_at w.reader k)) ∙ ap is_some fault
+    let same = entry-is f first records rules w k is in
+    ap is_fault same ∙ fault-by rules row (skips_before row w k) (w.processor.faults k) (answer_for f own) (is.faults k) (ap (λ e. stops rules row (fault_in e) (skips_before row w k)) (sym same) ∙ idle)
+
+-- and none is a fault of a read
+no-read : (fault : Option ClassId) (answer : Option (List ℕ)) → is_read_fault (entry_by None fault answer) ≡ false
+no-read None answer = refl
+no-read (Some class) answer = refl
 
 noted : (k : ℕ) (refusal : Option ClassId) → is_some refusal ≡ is_some (skip_by k refusal)
 noted k None = refl
@@ -71,26 +83,46 @@ counted-are p g (suc n) lo are =
     ∙ ap₂ (λ (b : Bool) (m : ℕ). cond b 1 0 + m) (are lo (omega arith) (omega arith)) rest
     ∙ one-more (g lo) (filter_map g (range_with_len (lo + 1) n))
 
-block-counted : (f : Function) (records : List (List ℕ)) (t : TaskState) (hi : ℕ) → HasResults f records t → hi ≤ t.row.hi → count_of is_read_fault t.artifacts t.row.at hi ≡ length (skips_between f records t.row.at hi)
+none-counted : (p : ℕ → Bool) (n lo : ℕ) → ((k : ℕ) → p k ≡ false) → count_by p (range_with_len lo n) ≡ 0
+none-counted p zero lo none = refl
+none-counted p (suc n) lo none =
+    sum_by-cons (λ k. cond (p k) 1 0) lo (range_with_len (lo + 1) n)
+    ∙ ap₂ (λ (b : Bool) (m : ℕ). cond b 1 0 + m) (none lo) (none-counted p n (lo + 1) none)
+
+reads-counted : (f : Function) (first : ℕ) (records : List (List ℕ)) (rules : RulesRecord) (w : ArtifactsMeaning) (lo hi : ℕ) → IsArtifactsOver f rules first records w → count_of is_read_fault w lo hi ≡ 0
 unfolding count_of
-block-counted f records t hi has last =
+reads-counted f first records rules w lo hi is =
+    none-counted (λ k. is_read_fault (entry w k)) (hi - lo) lo
+    (λ k. ap is_read_fault (entry-is f first records rules w k is) ∙ no-read (live (w.processor.faults k)) (result_of f (record_of first records k)))
+
+faults-counted : (f : Function) (records : List (List ℕ)) (t : TaskState) → HasResults f records t → (block_of t).hi ≤ t.row.hi → settled_at t ≡ None
+    → count_of is_fault t.artifacts t.row.at (block_of t).hi ≡ length (skips_between f records t.row.at (block_of t).hi)
+unfolding count_of settling
+faults-counted f records t has last none =
     let own = own_records records t.row in
     let above = has.from in
-    let served = has.served in
-    counted-are (λ k. is_read_fault (entry t.artifacts k)) (λ k. skip_by k (f.refusal (record_of 0 records k))) (hi - t.row.at) t.row.at
+    let hi = (block_of t).hi in
+    counted-are (λ k. is_fault (entry t.artifacts k)) (λ k. skip_by k (refusal_of f (record_of 0 records k))) (hi - t.row.at) t.row.at
     (λ k from to.
     let lo : t.row.lo ≤ k = omega (arith, above, from) in
     let inside : k < t.row.hi = omega (arith, last, from, to) in
-    let below : k < t.row.lo + length own = omega (arith, served, inside) in
-    read-fault f t.row.lo own t.rules t.artifacts k has.artifacts lo below
-    ∙ ap (λ (bytes : List ℕ). is_some (f.refusal bytes)) (own-record records t.row.lo t.row.hi k lo inside)
-    ∙ noted k (f.refusal (record_of 0 records k)))
+    entry-fault f t.row.lo own t.rules t.row t.artifacts k has.artifacts (unfound (settles t.rules t.row t.artifacts) (hi - t.row.at) t.row.at none k from to)
+    ∙ ap (λ (bytes : List ℕ). is_some (refusal_of f bytes)) (own-record records t.row.lo t.row.hi k lo inside)
+    ∙ noted k (refusal_of f (record_of 0 records k)))
+
+-- so the skips of processing are those of records that are refused
+block-counted : (f : Function) (records : List (List ℕ)) (t : TaskState) → HasResults f records t → (block_of t).hi ≤ t.row.hi → settled_at t ≡ None
+    → count_of is_fault t.artifacts t.row.at (block_of t).hi - count_of is_read_fault t.artifacts t.row.at (block_of t).hi ≡ length (skips_between f records t.row.at (block_of t).hi)
+block-counted f records t has last none =
+    let reads = reads-counted f t.row.lo (own_records records t.row) t.rules t.artifacts t.row.at (block_of t).hi has.artifacts in
+    let faults = faults-counted f records t has last none in
+    omega (arith, reads, faults)
 
 -- ---- ATTEMPT BY ATTEMPT
 
 skips-join : (f : Function) (records : List (List ℕ)) (lo at hi : ℕ) → lo ≤ at → at ≤ hi → skips_between f records lo at ++ skips_between f records at hi ≡ skips_between f records lo hi
 skips-join f records lo at hi from to =
-    let g : ℕ → Option Note = λ k. skip_by k (f.refusal (record_of 0 records k)) in
+    let g : ℕ → Option Note = λ k. skip_by k (refusal_of f (record_of 0 records k)) in
     let start : lo + (at - lo) ≡ at = omega (arith, from) in
     let whole : (at - lo) + (hi - at) ≡ hi - lo = omega (arith, from, to) in
     ap (λ a. filter_map g (range_with_len lo (at - lo)) ++ filter_map g (range_with_len a (hi - at))) (sym start)
@@ -100,10 +132,10 @@ skips-join f records lo at hi from to =
 
 -- what was counted between two checkpoints
 record Counts (f : Function) (records : List (List ℕ)) (row now : Row) : Type 0 where
-  pub counted : now.counts.read_skip ≡ row.counts.read_skip + length (skips_between f records row.at now.at)
+  pub counted : now.counts.process_skip ≡ row.counts.process_skip + length (skips_between f records row.at now.at)
   pub on : row.at ≤ now.at
 
-same-counts : (f : Function) (records : List (List ℕ)) (row now : Row) → now.at ≡ row.at → now.counts.read_skip ≡ row.counts.read_skip → Counts f records row now
+same-counts : (f : Function) (records : List (List ℕ)) (row now : Row) → now.at ≡ row.at → now.counts.process_skip ≡ row.counts.process_skip → Counts f records row now
 same-counts f records row now at same =
     let none : length (skips_between f records row.at now.at) ≡ 0 = ap (λ n. length (skips_between f records row.at n)) at ∙ ap length (skips-none f records row.at) in
     record { counted = omega (arith, same, none); on = omega (arith, at) }
@@ -123,7 +155,7 @@ attempt-counts f records t again (Committed delta) is block has =
     let commits = subst Commits (sym is) tt in
     let same : Committed (whole_counts t) ≡ Committed delta = sym (all-written t has.artifacts.writes commits) ∙ is in
     let whole : Counts f records t.row (ending_by t again (Committed (whole_counts t))).task.row = record {
-      counted = ap (λ n. t.row.counts.read_skip + n) (block-counted f records t (block_of t).hi has block.1);
+      counted = ap (λ n. t.row.counts.process_skip + n) (block-counted f records t has block.1 (commit-none t commits));
       on = omega (arith, lt);
     } in
     subst (λ (e : Outcome). Counts f records t.row (ending_by t again e).task.row) same whole

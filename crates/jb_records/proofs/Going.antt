@@ -1,6 +1,6 @@
 -- A partition's results, attempt by attempt.
 use Rattle.std.proofs.Common.{◌≡◌, ℕ, zero, suc, ◌+◌, ◌-◌, ◌≤◌, ◌<◌, ◌++◌, Bool, true, false, not, cond, List, [], ◌∷◌, length, take, Option, Some, None, is_some, refl, ap, sym, ◌∙◌, subst, arith}
-use Rattle.std.specs.Prelude.{◌==◌, ◌&&◌, nat_le, nat_lt}
+use Rattle.std.specs.Prelude.{◌==◌, ◌&&◌, nat_lt}
 use Rattle.std.specs.List.{filter_map, range_with_len, cons_option}
 use Rattle.std.proofs.lemmas.List.Elements.{filter_map-append}
 use Rattle.std.proofs.lemmas.Bool.Decides.{nat_tests}
@@ -33,11 +33,10 @@ use Rattle.jb_chunk.proofs.RecordRepeats.{unfound}
 use Rattle.jb_chunk.proofs.SettlingRecord.{numbers-split}
 use Rattle.jb_chunk.proofs.ArtifactsUsed.{read_end, write_plans, more_written, used-as}
 use Rattle.jb_chunk.proofs.WrittenResults.{take-front, whole-kept, whole-written}
-use Rattle.jb_ready.specs.Checks.{checked_plans, plan_by}
-use Rattle.jb_ready.proofs.Refusals.{check-decides}
-use Rattle.jb_records.specs.Function.{Function, result_by, result_of}
+use Rattle.jb_rows.specs.Answers.{Answer, Filtered, Given, Refused}
+use Rattle.jb_records.specs.Function.{Function, answer_for, refusal_in, refusal_of, result_in, result_of}
 use Rattle.jb_records.specs.Runs.{HasResults, IsSamePart, PartsStay, ResultsGoOn}
-use Rattle.jb_records.specs.Artifacts.{IsNeverSkipped, IsArtifactsOver, own_records, record_of, results_between}
+use Rattle.jb_records.specs.Artifacts.{IsArtifactsOver, IsFaulted, IsNeverSkipped, own_records, record_of, results_between}
 
 -- ---- FAULT PLANS THAT ARE USED
 
@@ -45,36 +44,35 @@ used-if : (P : FaultPlan → Type 0) (b : Bool) (plan : FaultPlan) → P plan �
 used-if P true plan was is = is
 used-if P false plan was is = was
 
--- a record that can't be read stays so
-checked-used : (refusal : Option ClassId) (inside : Bool) (plan : FaultPlan) → plan ≡ cond inside (plan_by refusal) Sound → used plan ≡ cond inside (plan_by refusal) Sound
-checked-used refusal false plan e = ap used e
-checked-used None true plan e = ap used e
-checked-used (Some class) true plan e = ap used e
-
 never-used : (rules : RulesRecord) (plan : FaultPlan) → IsNeverSkipped rules plan → IsNeverSkipped rules (used plan)
 never-used rules Sound is = is
 never-used rules (Bad class) is = is
 never-used rules (Shaky []) is = is
 never-used rules (Shaky (class ∷ later)) is = is.1
 
+-- a record that is refused stays so
+faulted-used : (rules : RulesRecord) (refusal : Option ClassId) (plan : FaultPlan) → IsFaulted rules refusal plan → IsFaulted rules refusal (used plan)
+faulted-used rules None plan is = never-used rules plan is
+faulted-used rules (Some class) plan is = ap used is
+
 sound-used : (plan : FaultPlan) → plan ≡ Sound → used plan ≡ Sound
 sound-used plan e = ap used e
 
 module _ (f : Function) (rules : RulesRecord) (first : ℕ) (records : List (List ℕ)) where
-  reads-by : (k : ℕ) (plan : FaultPlan) (b : Bool) → plan ≡ checked_plans f.refusal first records k → cond b (used plan) plan ≡ checked_plans f.refusal first records k
-  unfolding checked_plans
-  reads-by k plan b is =
-      used-if (λ p. p ≡ checked_plans f.refusal first records k) b plan is
-      (checked-used (f.refusal (record_of first records k)) (nat_le first k && nat_lt k (first + length records)) plan is)
+  -- when the processing of the partition's records fails
+  abbrev AreFaulted : FaultTable → Type 0
+  AreFaulted plans = (k : ℕ) → IsFaulted rules (refusal_of f (record_of first records k)) (plans k)
 
-  reads-used : (called : ℕ → Bool) (plans : FaultTable) (lo hi : ℕ) → ((k : ℕ) → plans k ≡ checked_plans f.refusal first records k)
-      → (k : ℕ) → used_between called plans lo hi k ≡ checked_plans f.refusal first records k
-  unfolding used_between
-  reads-used called plans lo hi is k = reads-by k (plans k) _ (is k)
+  faults-by : (k : ℕ) (b : Bool) (plan : FaultPlan) → IsFaulted rules (refusal_of f (record_of first records k)) plan → IsFaulted rules (refusal_of f (record_of first records k)) (cond b (used plan) plan)
+  faults-by k b plan is = used-if (IsFaulted rules (refusal_of f (record_of first records k))) b plan is (faulted-used rules (refusal_of f (record_of first records k)) plan is)
 
-  tries-used : (called : ℕ → Bool) (plans : FaultTable) (lo hi : ℕ) → ((k : ℕ) → IsNeverSkipped rules (plans k)) → (k : ℕ) → IsNeverSkipped rules (used_between called plans lo hi k)
+  reads-used : (called : ℕ → Bool) (plans : FaultTable) (lo hi : ℕ) → ((k : ℕ) → plans k ≡ Sound) → (k : ℕ) → used_between called plans lo hi k ≡ Sound
   unfolding used_between
-  tries-used called plans lo hi is k = used-if (IsNeverSkipped rules) _ (plans k) (is k) (never-used rules (plans k) (is k))
+  reads-used called plans lo hi is k = used-if (λ p. p ≡ Sound) _ (plans k) (is k) (sound-used (plans k) (is k))
+
+  faults-used : (called : ℕ → Bool) (plans : FaultTable) (lo hi : ℕ) → AreFaulted plans → AreFaulted (used_between called plans lo hi)
+  unfolding used_between
+  faults-used called plans lo hi is k = faults-by k _ (plans k) (is k)
 
   writes-used : (plans : FaultTable) (o : Option (ℕ × List ℕ)) → ((k : ℕ) → plans k ≡ Sound) → (k : ℕ) → used_for plans o k ≡ Sound
   unfolding used_at
@@ -93,7 +91,7 @@ module _ (f : Function) (rules : RulesRecord) (first : ℕ) (records : List (Lis
         records_are = is.records_are;
         reads = reads-used (λ _. true) t.artifacts.reader.faults t.row.at (read_end t (settled_at t)) is.reads;
         answers = is.answers;
-        tries = tries-used (λ k. not (is_live t.artifacts.reader.faults k)) t.artifacts.processor.faults t.row.at (read_end t (settled_at t)) is.tries;
+        faults = faults-used (λ k. not (is_live t.artifacts.reader.faults k)) t.artifacts.processor.faults t.row.at (read_end t (settled_at t)) is.faults;
         writes = write-plans t (settled_at t) is.writes;
       })
 
@@ -104,32 +102,32 @@ module _ (f : Function) (rules : RulesRecord) (first : ℕ) (records : List (Lis
     pub artifacts : IsArtifactsOver f rules first records now
     pub written : now.writer.written ≡ w.writer.written
 
-  reads-at : (plans : FaultTable) (n : ℕ) → ((k : ℕ) → plans k ≡ checked_plans f.refusal first records k) → (k : ℕ) → used_at plans n k ≡ checked_plans f.refusal first records k
+  reads-at : (plans : FaultTable) (n : ℕ) → ((k : ℕ) → plans k ≡ Sound) → (k : ℕ) → used_at plans n k ≡ Sound
   unfolding used_at
-  reads-at plans n is k = reads-by k (plans k) _ (is k)
+  reads-at plans n is k = used-if (λ p. p ≡ Sound) _ (plans k) (is k) (sound-used (plans k) (is k))
 
-  tries-at : (plans : FaultTable) (n : ℕ) → ((k : ℕ) → IsNeverSkipped rules (plans k)) → (k : ℕ) → IsNeverSkipped rules (used_at plans n k)
+  faults-at : (plans : FaultTable) (n : ℕ) → AreFaulted plans → AreFaulted (used_at plans n)
   unfolding used_at
-  tries-at plans n is k = used-if (IsNeverSkipped rules) _ (plans k) (is k) (never-used rules (plans k) (is k))
+  faults-at plans n is k = faults-by k _ (plans k) (is k)
 
   call-kept : (w : ArtifactsMeaning) (k : ℕ) (e : Entry) → IsArtifactsOver f rules first records w → IsKept w (called_again w k e)
   call-kept w k (ReadFault class) is = record {
-    artifacts = record { first_is = is.first_is; records_are = is.records_are; reads = reads-at w.reader.faults k is.reads; answers = is.answers; tries = is.tries; writes = is.writes };
+    artifacts = record { first_is = is.first_is; records_are = is.records_are; reads = reads-at w.reader.faults k is.reads; answers = is.answers; faults = is.faults; writes = is.writes };
     written = refl;
   }
   call-kept w k (ProcessFault class) is = record {
-    artifacts = record { first_is = is.first_is; records_are = is.records_are; reads = is.reads; answers = is.answers; tries = tries-at w.processor.faults k is.tries; writes = is.writes };
+    artifacts = record { first_is = is.first_is; records_are = is.records_are; reads = is.reads; answers = is.answers; faults = faults-at w.processor.faults k is.faults; writes = is.writes };
     written = refl;
   }
   call-kept w k (Processed answer) is = record {
-    artifacts = record { first_is = is.first_is; records_are = is.records_are; reads = is.reads; answers = is.answers; tries = tries-at w.processor.faults k is.tries; writes = is.writes };
+    artifacts = record { first_is = is.first_is; records_are = is.records_are; reads = is.reads; answers = is.answers; faults = faults-at w.processor.faults k is.faults; writes = is.writes };
     written = refl;
   }
 
   repeat-kept : (t : TaskState) (settled : Option ℕ) → IsArtifactsOver f rules first records t.artifacts → IsKept t.artifacts (repeated_artifacts t settled)
   repeat-kept t (Some k) is = call-kept t.artifacts k (entry t.artifacts k) is
   repeat-kept t None is = record {
-    artifacts = record { first_is = is.first_is; records_are = is.records_are; reads = is.reads; answers = is.answers; tries = is.tries; writes = write-plans t None is.writes };
+    artifacts = record { first_is = is.first_is; records_are = is.records_are; reads = is.reads; answers = is.answers; faults = is.faults; writes = write-plans t None is.writes };
     written = refl;
   }
 
@@ -152,7 +150,7 @@ module _ (f : Function) (rules : RulesRecord) (first : ℕ) (records : List (Lis
 
 -- ---- A RECORD THAT DOESN'T SETTLE ITS BLOCK
 
-never : true ≡ false → ⊥
+pub never : true ≡ false → ⊥
 never e = cc
 
 -- a fault that may not be skipped isn't
@@ -161,7 +159,7 @@ no-skip again retrying false = refl
 no-skip true retrying true = refl
 no-skip false retrying true = refl
 
-never-stops : (rules : RulesRecord) (row : Row) (class : ClassId) (skips : ℕ) → has_class rules.skippable class ≡ false → stops rules row (Some class) skips ≡ true
+pub never-stops : (rules : RulesRecord) (row : Row) (class : ClassId) (skips : ℕ) → has_class rules.skippable class ≡ false → stops rules row (Some class) skips ≡ true
 never-stops rules row class skips none =
     let again = has_class rules.no_rollback class in
     let retrying = nat_lt row.at row.redo in
@@ -176,7 +174,7 @@ some-same : (a b : ClassId) → Some a ≡ Some b → a ≡ b
 unfolding class-or
 some-same a b e = ap (class-or a) e
 
-live-never : (rules : RulesRecord) (plan : FaultPlan) (class : ClassId) → IsNeverSkipped rules plan → live plan ≡ Some class → has_class rules.skippable class ≡ false
+pub live-never : (rules : RulesRecord) (plan : FaultPlan) (class : ClassId) → IsNeverSkipped rules plan → live plan ≡ Some class → has_class rules.skippable class ≡ false
 live-never rules Sound class is e = absurd cc
 live-never rules (Bad c) class is e = ap (has_class rules.skippable) (sym (some-same c class e)) ∙ is
 live-never rules (Shaky []) class is e = absurd cc
@@ -188,23 +186,29 @@ text-by : (rules : RulesRecord) (row : Row) (skips : ℕ) (plan : FaultPlan) (fa
 text-by rules row skips plan None answer is e idle = refl
 text-by rules row skips plan (Some class) answer is e idle = absurd (never (sym (never-stops rules row class skips (live-never rules plan class is e)) ∙ idle))
 
-entry-by : (rules : RulesRecord) (row : Row) (skips : ℕ) (tries : FaultPlan) (refusal : Option ClassId) (answer : Option (List ℕ)) → IsNeverSkipped rules tries
-    → stops rules row (fault_in (entry_by refusal (live tries) answer)) skips ≡ false → text_in (entry_by refusal (live tries) answer) ≡ result_by refusal answer
-entry-by rules row skips tries (Some class) answer is idle = refl
-entry-by rules row skips tries None answer is idle = text-by rules row skips tries (live tries) answer is refl idle
+entry-by : (rules : RulesRecord) (row : Row) (skips : ℕ) (plan : FaultPlan) (a : Answer) → IsFaulted rules (refusal_in a) plan
+    → stops rules row (fault_in (entry_by None (live plan) (result_in a))) skips ≡ false → text_in (entry_by None (live plan) (result_in a)) ≡ result_in a
+entry-by rules row skips plan (Refused class) is idle = ap (λ p. text_in (entry_by None (live p) None)) is
+entry-by rules row skips plan (Given fields) is idle = text-by rules row skips plan (live plan) (result_in (Given fields)) is refl idle
+entry-by rules row skips plan Filtered is idle = text-by rules row skips plan (live plan) None is refl idle
+
+-- no read fails, and the function is called on the record of this number
+pub entry-is : (f : Function) (first : ℕ) (records : List (List ℕ)) (rules : RulesRecord) (w : ArtifactsMeaning) (k : ℕ) → IsArtifactsOver f rules first records w
+    → entry w k ≡ entry_by None (live (w.processor.faults k)) (result_of f (record_of first records k))
+unfolding entry
+entry-is f first records rules w k is =
+    let fault : live (w.reader.faults k) ≡ None = ap live (is.reads k) in
+    let answer = is.answers k (record_at w.reader k) in
+    λ i. entry_by (fault i) (live (w.processor.faults k)) (answer i)
 
 -- what is found of a record that doesn't settle its block is its result, if it has one
 entry-result : (f : Function) (first : ℕ) (records : List (List ℕ)) (rules : RulesRecord) (row : Row) (w : ArtifactsMeaning) (k : ℕ) → IsArtifactsOver f rules first records w
-    → first ≤ k → k < first + length records → settles rules row w k ≡ false → text_in (entry w k) ≡ result_of f k (record_of first records k)
-unfolding entry settles
-entry-result f first records rules row w k is from to idle =
+    → settles rules row w k ≡ false → text_in (entry w k) ≡ result_of f (record_of first records k)
+unfolding settles
+entry-result f first records rules row w k is idle =
     let own = record_of first records k in
-    let line : record_at w.reader k ≡ own = λ i. record_of (is.first_is i) (is.records_are i) k in
-    let fault : live (w.reader.faults k) ≡ f.refusal own = ap live (is.reads k) ∙ check-decides f.refusal first records k own from to refl in
-    let answer : w.processor.answer k (record_at w.reader k) ≡ f.answer k own = is.answers k (record_at w.reader k) ∙ ap (f.answer k) line in
-    let same : entry w k ≡ entry_by (f.refusal own) (live (w.processor.faults k)) (f.answer k own) =
-    λ i. entry_by (fault i) (live (w.processor.faults k)) (answer i) in
-    ap text_in same ∙ entry-by rules row (skips_before row w k) (w.processor.faults k) (f.refusal own) (f.answer k own) (is.tries k) (ap (λ e. stops rules row (fault_in e) (skips_before row w k)) (sym same) ∙ idle)
+    let same = entry-is f first records rules w k is in
+    ap text_in same ∙ entry-by rules row (skips_before row w k) (w.processor.faults k) (answer_for f own) (is.faults k) (ap (λ e. stops rules row (fault_in e) (skips_before row w k)) (sym same) ∙ idle)
 
 -- ---- A BLOCK THAT NOTHING SETTLED
 
@@ -219,19 +223,19 @@ texts-are w f (suc n) lo are =
     let rest = texts-are w f n (lo + 1) (λ k le lt. are k (omega (arith, le)) (omega (arith, lt))) in
     text-one lo (text_in (entry w lo)) _ _ rest ∙ ap (λ o. cons_option o (filter_map f (range_with_len (lo + 1) n))) (are lo (omega arith) (omega arith))
 
-block-results : (f : Function) (first : ℕ) (records : List (List ℕ)) (t : TaskState) → IsArtifactsOver f t.rules first records t.artifacts → first ≤ t.row.at → (block_of t).hi ≤ first + length records → settled_at t ≡ None
+block-results : (f : Function) (first : ℕ) (records : List (List ℕ)) (t : TaskState) → IsArtifactsOver f t.rules first records t.artifacts → settled_at t ≡ None
     → texts_of (results_of t) ≡ results_between f first records t.row.at (block_of t).hi
 unfolding results settling results_between
-block-results f first records t is above below none =
-    texts-are t.artifacts (λ k. result_of f k (record_of first records k)) ((block_of t).hi - t.row.at) t.row.at
-    (λ k from to. entry-result f first records t.rules t.row t.artifacts k is (omega (arith, above, from)) (omega (arith, below, from, to))
+block-results f first records t is none =
+    texts-are t.artifacts (λ k. result_of f (record_of first records k)) ((block_of t).hi - t.row.at) t.row.at
+    (λ k from to. entry-result f first records t.rules t.row t.artifacts k is
     (unfound (settles t.rules t.row t.artifacts) ((block_of t).hi - t.row.at) t.row.at none k from to))
 
 -- the results up to a checkpoint, and those from there on
 pub results-join : (f : Function) (first : ℕ) (records : List (List ℕ)) (lo at hi : ℕ) → lo ≤ at → at ≤ hi → results_between f first records lo at ++ results_between f first records at hi ≡ results_between f first records lo hi
 unfolding results_between
 results-join f first records lo at hi from to =
-    let g : ℕ → Option (List ℕ) = λ k. result_of f k (record_of first records k) in
+    let g : ℕ → Option (List ℕ) = λ k. result_of f (record_of first records k) in
     let start : lo + (at - lo) ≡ at = omega (arith, from) in
     let whole : (at - lo) + (hi - at) ≡ hi - lo = omega (arith, from, to) in
     ap (λ a. filter_map g (range_with_len lo (at - lo)) ++ filter_map g (range_with_len a (hi - at))) (sym start)
@@ -261,7 +265,7 @@ commit-by t None at e = at
 commit-by t (Some k) at e = absurd (fault-fails t (fault_at t (Some k)) (skips_at t (Some k)) (settling-stops t.rules t.row t.artifacts (block_of t).hi k at) e)
 
 -- nothing settled a block that is committed
-commit-none : (t : TaskState) → Commits (end_of t) → settled_at t ≡ None
+pub commit-none : (t : TaskState) → Commits (end_of t) → settled_at t ≡ None
 unfolding end_of
 commit-none t e = commit-by t (settled_at t) refl e
 
@@ -315,17 +319,14 @@ attempt-written f records t again none block has number =
     let own = own_records records t.row in
     let hi = (block_of t).hi in
     let lt = block.0 in
-    let last = block.1 in
     let from = has.from in
-    let served = has.served in
     let le : t.row.at ≤ (block_of t).hi = omega (arith, lt) in
-    let below : (block_of t).hi ≤ t.row.lo + length own = omega (arith, last, served) in
     record {
       artifacts = artifacts-opened f t.rules t.row.lo own t (ending_by t again (Committed (whole_counts t))).task.row has.artifacts;
       from = omega (arith, from, lt);
       served = has.served;
       results = written-behind t none has.artifacts.writes has.number
-          ∙ (λ i. has.results i ++ block-results f t.row.lo own t has.artifacts from below none i) ∙ results-join f t.row.lo own t.row.lo t.row.at hi from le;
+          ∙ (λ i. has.results i ++ block-results f t.row.lo own t has.artifacts none i) ∙ results-join f t.row.lo own t.row.lo t.row.at hi from le;
       number = number;
       whole = ends-at (hi == t.row.hi) hi t.row.hi refl;
     }

@@ -2,7 +2,7 @@
 use Rattle.std.proofs.Common.{◌≡◌, ℕ, zero, suc, ◌+◌, ◌-◌, ◌≤◌, ◌<◌, ◌++◌, List, [], ◌∷◌, Option, length, refl, ap, sym, ◌∙◌, arith}
 use Rattle.std.proofs.lemmas.List.{get_or-drop, get_or-take}
 use Rattle.std.specs.Prelude.{slice_index_or, take, drop}
-use Rattle.std.specs.List.{filter_map, range_with_len, cons_option, enumerate_from}
+use Rattle.std.specs.List.{filter_map, range_with_len, cons_option}
 use Rattle.jb_rules.specs.declared.row.Row.{Row}
 use Rattle.jb_records.specs.Function.{Function, all_results, result_of}
 use Rattle.jb_records.specs.Artifacts.{record_of, own_records, results_between}
@@ -23,12 +23,12 @@ record-later first k x xs from = let e : k - first ≡ suc (k - (first + 1)) = o
 record-here : (first : ℕ) (x : List ℕ) (xs : List (List ℕ)) → record_of first (x ∷ xs) first ≡ x
 record-here first x xs = let e : first - first ≡ 0 = omega arith in ap (λ i. slice_index_or (x ∷ xs) i []) e
 
-results-all : (f : Function) (first : ℕ) (xs : List (List ℕ)) → filter_map (λ k. result_of f k (record_of first xs k)) (range_with_len first (length xs)) ≡ filter_map (λ n. result_of f n.0 n.1) (enumerate_from first xs)
+results-all : (f : Function) (first : ℕ) (xs : List (List ℕ)) → filter_map (λ k. result_of f (record_of first xs k)) (range_with_len first (length xs)) ≡ filter_map (result_of f) xs
 results-all f first [] = refl
 results-all f first (x ∷ xs) =
-    ap (λ bytes. cons_option (result_of f first bytes) (filter_map (λ k. result_of f k (record_of first (x ∷ xs) k)) (range_with_len (first + 1) (length xs)))) (record-here first x xs)
-    ∙ ap (cons_option (result_of f first x)) (
-    same-on (λ k. result_of f k (record_of first (x ∷ xs) k)) (λ k. result_of f k (record_of (first + 1) xs k)) (length xs) (first + 1) (λ k from to. ap (result_of f k) (record-later first k x xs from))
+    ap (λ bytes. cons_option (result_of f bytes) (filter_map (λ k. result_of f (record_of first (x ∷ xs) k)) (range_with_len (first + 1) (length xs)))) (record-here first x xs)
+    ∙ ap (cons_option (result_of f x)) (
+    same-on (λ k. result_of f (record_of first (x ∷ xs) k)) (λ k. result_of f (record_of (first + 1) xs k)) (length xs) (first + 1) (λ k from to. ap (result_of f) (record-later first k x xs from))
     ∙ results-all f (first + 1) xs)
 
 -- a partition's records are those of all that have their numbers
@@ -42,9 +42,9 @@ share-whole : (f : Function) (records : List (List ℕ)) (row : Row) → row.at 
 unfolding results_between
 share-whole f records row whole order =
     let own = own_records records row in
-    ap (λ at. filter_map (λ k. result_of f k (record_of row.lo own k)) (range_with_len row.lo (at - row.lo))) whole
-    ∙ same-on (λ k. result_of f k (record_of row.lo own k)) (λ k. result_of f k (record_of 0 records k)) (row.hi - row.lo) row.lo
-    (λ k from to. ap (result_of f k) (own-record records row.lo row.hi k from (omega (arith, order, to))))
+    ap (λ at. filter_map (λ k. result_of f (record_of row.lo own k)) (range_with_len row.lo (at - row.lo))) whole
+    ∙ same-on (λ k. result_of f (record_of row.lo own k)) (λ k. result_of f (record_of 0 records k)) (row.hi - row.lo) row.lo
+    (λ k from to. ap (result_of f) (own-record records row.lo row.hi k from (omega (arith, order, to))))
 
 order-rises : (from to : ℕ) (rows : List Row) → AreRowsInOrder from to rows → from ≤ to
 order-rises from to [] order = omega (arith, order)
@@ -54,7 +54,7 @@ no-results : (f : Function) (records : List (List ℕ)) (from to : ℕ) → from
 unfolding results_between
 no-results f records from to same =
     let none : to - from ≡ 0 = omega (arith, same) in
-    ap (λ n. filter_map (λ k. result_of f k (record_of 0 records k)) (range_with_len from n)) (sym none)
+    ap (λ n. filter_map (λ k. result_of f (record_of 0 records k)) (range_with_len from n)) (sym none)
 
 shares-join : (f : Function) (records : List (List ℕ)) (from to : ℕ) (rows : List Row) (shares : List (List (List ℕ))) → AreRowsInOrder from to rows
     → AreShares f records rows shares → AreAtTheirEnds rows → joined shares ≡ results_between f 0 records from to
@@ -74,7 +74,7 @@ whole-is-all : (f : Function) (records : List (List ℕ)) → results_between f 
 unfolding results_between
 whole-is-all f records =
     let all : length records - 0 ≡ length records = omega arith in
-    ap (λ n. filter_map (λ k. result_of f k (record_of 0 records k)) (range_with_len 0 n)) all ∙ results-all f 0 records
+    ap (λ n. filter_map (λ k. result_of f (record_of 0 records k)) (range_with_len 0 n)) all ∙ results-all f 0 records
 
 pub shares-are-joined : SharesJoin
 shares-are-joined f records rows shares so-far whole = shares-join f records 0 (length records) rows shares so-far.order so-far.each whole ∙ whole-is-all f records

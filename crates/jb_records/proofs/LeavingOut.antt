@@ -1,20 +1,17 @@
 -- Which records have no result.
-use Rattle.std.proofs.Common.{◌≡◌, ℕ, suc, ◌+◌, not, cond, List, [], ◌∷◌, length, Option, Some, None, is_some, refl, arith}
-use Rattle.std.specs.Prelude.{◌&&◌, filter, is_none}
-use Rattle.std.specs.List.{cons_option, enumerate_from, filter_map}
-use Rattle.jb_base.specs.declared.class.ClassId.{ClassId}
-use Rattle.jb_records.specs.Function.{Function, OthersAreLeftOut, is_filtered_by, is_refused, result_by, result_of}
+use Rattle.std.proofs.Common.{◌≡◌, ℕ, suc, ◌+◌, cond, List, [], ◌∷◌, length, is_some, refl, arith}
+use Rattle.std.specs.Prelude.{filter}
+use Rattle.std.specs.List.{cons_option, filter_map}
+use Rattle.jb_rows.specs.Answers.{Answer, Filtered, Given, Refused}
+use Rattle.jb_records.specs.Function.{OthersAreLeftOut, answer_for, is_filtered, is_filtered_by, is_refused, refusal_in, result_in, result_of}
 
--- a record has a result, or can't be read, or is filtered
-one-more : (refusal : Option ClassId) (answer : Option (List ℕ)) (n : ℕ × List ℕ) (rs : List (List ℕ)) (xs ys : List (ℕ × List ℕ)) (m : ℕ) → length rs + length xs + length ys ≡ m
-    → length (cons_option (result_by refusal answer) rs) + length (cond (is_some refusal) (n ∷ xs) xs) + length (cond (not (is_some refusal) && is_none answer) (n ∷ ys) ys) ≡ suc m
-one-more (Some class) answer n rs xs ys m e = omega (arith, e)
-one-more None (Some text) n rs xs ys m e = omega (arith, e)
-one-more None None n rs xs ys m e = omega (arith, e)
-
-left-out-from : (f : Function) (k : ℕ) (records : List (List ℕ)) → length (filter_map (λ n. result_of f n.0 n.1) (enumerate_from k records)) + length (filter (is_refused f) (enumerate_from k records)) + length (filter (is_filtered_by f) (enumerate_from k records)) ≡ length records
-left-out-from f k [] = refl
-left-out-from f k (bytes ∷ records) = one-more (f.refusal bytes) (f.answer k bytes) (k, bytes) _ _ _ (length records) (left-out-from f (k + 1) records)
+-- a record has a result, or is refused, or is filtered
+one-more : (a : Answer) (bytes : List ℕ) (rs xs ys : List (List ℕ)) (m : ℕ) → length rs + length xs + length ys ≡ m
+    → length (cons_option (result_in a) rs) + length (cond (is_some (refusal_in a)) (bytes ∷ xs) xs) + length (cond (is_filtered_by a) (bytes ∷ ys) ys) ≡ suc m
+one-more (Refused class) bytes rs xs ys m e = omega (arith, e)
+one-more (Given fields) bytes rs xs ys m e = omega (arith, e)
+one-more Filtered bytes rs xs ys m e = omega (arith, e)
 
 pub others-left-out : OthersAreLeftOut
-others-left-out f records = left-out-from f 0 records
+others-left-out f [] = refl
+others-left-out f (bytes ∷ records) = one-more (answer_for f bytes) bytes (filter_map (result_of f) records) (filter (is_refused f) records) (filter (is_filtered f) records) (length records) (others-left-out f records)

@@ -12,6 +12,7 @@ mod Growing
 mod Joining
 mod Keeping
 mod LeavingOut
+mod Processing
 mod Putting
 mod Reaching
 mod Resuming

@@ -9,16 +9,16 @@ use Rattle.jb_rules.specs.declared.row.Row.{Row}
 use Rattle.jb_rules.specs.Rows.{skips_of}
 use Rattle.jb_records.specs.Artifacts.{record_of}
 use Rattle.jb_records.specs.Failures.{choice_for}
-use Rattle.jb_records.specs.Function.{Function}
+use Rattle.jb_records.specs.Function.{Function, refusal_of}
 use Rattle.jb_records.specs.Skips.{skip_by, skips_between}
 use Rattle.jb_records.specs.inside.Attempts.{IsPassed, IsReached}
 use Rattle.jb_records.proofs.Skipping.{skips-more}
 
 -- as many as before, and that of this record
 number-on : (f : Function) (records : List (List ℕ)) (lo i base skips past : ℕ) → skips ≡ base + length (skips_between f records lo (lo + i))
-    → past ≡ skips + length (option_to_list (skip_by (lo + i) (f.refusal (record_of 0 records (lo + i))))) → past ≡ base + length (skips_between f records lo (lo + (i + 1)))
+    → past ≡ skips + length (option_to_list (skip_by (lo + i) (refusal_of f (record_of 0 records (lo + i))))) → past ≡ base + length (skips_between f records lo (lo + (i + 1)))
 number-on f records lo i base skips past is more =
-    let one = option_to_list (skip_by (lo + i) (f.refusal (record_of 0 records (lo + i)))) in
+    let one = option_to_list (skip_by (lo + i) (refusal_of f (record_of 0 records (lo + i)))) in
     let before = skips_between f records lo (lo + i) in
     more
     ∙ ap (λ n. n + length one) is
@@ -29,10 +29,10 @@ number-on f records lo i base skips past is more =
 -- those before are skipped, and this one
 skipped-on : (f : Function) (own : RulesRecord) (records : List (List ℕ)) (row : Row) (number skips past k : ℕ) (class : ClassId)
     → IsReached f own records row number skips → IsPassed f own records row number skips past
-    → (k ≡ number) ⊎ (k < number) → row.at ≤ k → f.refusal (record_of 0 records k) ≡ Some class → choice_for f own records row k class ≡ Skip
+    → (k ≡ number) ⊎ (k < number) → row.at ≤ k → refusal_of f (record_of 0 records k) ≡ Some class → choice_for f own records row k class ≡ Skip
 skipped-on f own records row number skips past k class reached passed (inr below) from refused = reached.skipped k class from below refused
 skipped-on f own records row number skips past k class reached passed (inl last) from refused =
-    subst (λ n. f.refusal (record_of 0 records n) ≡ Some class → choice_for f own records row n class ≡ Skip) (sym last)
+    subst (λ n. refusal_of f (record_of 0 records n) ≡ Some class → choice_for f own records row n class ≡ Skip) (sym last)
     (λ said. subst (λ n. choice_at own row class n ≡ Skip) reached.number_of (passed.skipped class said)) refused
 
 pub reached-on : (f : Function) (own : RulesRecord) (records : List (List ℕ)) (row : Row) (i skips past : ℕ)

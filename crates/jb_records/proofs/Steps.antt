@@ -39,7 +39,7 @@ begun-task : (f : Function) (records : List (List ℕ)) (p item_count : ℕ) (ro
 begun-task f records p item_count row s w artifacts share ready =
     let cut : take row.written w.writer.written ≡ w.writer.written = ap (λ n. take n w.writer.written) (sym share.number) ∙ take-length w.writer.written in
     record {
-      artifacts = record { first_is = artifacts.first_is; records_are = artifacts.records_are; reads = artifacts.reads; answers = artifacts.answers; tries = artifacts.tries; writes = artifacts.writes };
+      artifacts = record { first_is = artifacts.first_is; records_are = artifacts.records_are; reads = artifacts.reads; answers = artifacts.answers; faults = artifacts.faults; writes = artifacts.writes };
       from = ready.sound.placed.at_from;
       served = subst (λ n. row.hi ≤ n) (λ i. artifacts.first_is i + length (artifacts.records_are i)) ready.fits.to;
       results = cut ∙ share.results;
@@ -168,7 +168,7 @@ no-results : (f : Function) (first : ℕ) (records : List (List ℕ)) (lo : ℕ)
 unfolding results_between
 no-results f first records lo =
     let none : lo - lo ≡ 0 = omega arith in
-    ap (λ n. filter_map (λ k. result_of f k (record_of first records k)) (range_with_len lo n)) none
+    ap (λ n. filter_map (λ k. result_of f (record_of first records k)) (range_with_len lo n)) none
 
 nothing : (share : List (List ℕ)) → length share ≡ 0 → share ≡ []
 nothing [] e = refl

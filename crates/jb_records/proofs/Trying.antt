@@ -7,12 +7,12 @@ use Rattle.jb_base.specs.declared.class.ClassId.{ClassId}
 use Rattle.jb_artifacts.specs.declared.faults.FaultPlan.{FaultPlan}
 use Rattle.jb_artifacts.specs.declared.faults.FaultPlan.TheVariants.{Shaky, Sound}
 use Rattle.jb_artifacts.specs.Faults.{FaultTable, with_plan}
-use Rattle.jb_records.specs.Function.{Function}
+use Rattle.jb_records.specs.Function.{Function, tries_of}
 use Rattle.jb_records.specs.Artifacts.{AreNeverSkipped, IsNeverSkipped, is_among, plan_of, record_of, tries_plan}
 
 -- the tries at the first `count` records
 abbrev pub tries-of : Function → (first : ℕ) → (records : List (List ℕ)) → (count : ℕ) → FaultTable
-tries-of f first records count k = cond (is_among first count k) (plan_of (f.tries k (record_of first records k))) Sound
+tries-of f first records count k = cond (is_among first count k) (plan_of (tries_of f (record_of first records k))) Sound
 
 none-among : (first k : ℕ) → is_among first 0 k ≡ false
 none-among first k = grind (arith, nat_tests)
@@ -31,11 +31,11 @@ is-number number k e = grind (arith, nat_tests)
 
 -- at first none fails
 pub no-tries : (f : Function) (first : ℕ) (records : List (List ℕ)) (k : ℕ) → Sound ≡ tries-of f first records 0 k
-no-tries f first records k = ap (λ b. cond b (plan_of (f.tries k (record_of first records k))) Sound) (sym (none-among first k))
+no-tries f first records k = ap (λ b. cond b (plan_of (tries_of f (record_of first records k))) Sound) (sym (none-among first k))
 
 -- nor any at the next record
 pub next-sound : (f : Function) (first : ℕ) (records : List (List ℕ)) (i : ℕ) → tries-of f first records i (first + i) ≡ Sound
-next-sound f first records i = ap (λ b. cond b (plan_of (f.tries (first + i) (record_of first records (first + i)))) Sound) (among-past first i)
+next-sound f first records i = ap (λ b. cond b (plan_of (tries_of f (record_of first records (first + i)))) Sound) (among-past first i)
 
 more-by : (first i k : ℕ) (plan here : FaultPlan) (same : Bool) → (k == first + i) ≡ same → ((k == first + i) ≡ true → plan ≡ here)
     → cond same plan (cond (is_among first i k) here Sound) ≡ cond (is_among first (i + 1) k) here Sound
@@ -43,19 +43,19 @@ more-by first i k plan here true e is = is e ∙ ap (λ b. cond b here Sound) (s
 more-by first i k plan here false e is = ap (λ b. cond b here Sound) (sym (among-before first i k e))
 
 its-plan : (f : Function) (first : ℕ) (records : List (List ℕ)) (i k : ℕ) (bytes : List ℕ) → bytes ≡ slice_index_or records i [] → (k == first + i) ≡ true
-    → f.tries (first + i) bytes ≡ f.tries k (record_of first records k)
+    → tries_of f bytes ≡ tries_of f (record_of first records k)
 its-plan f first records i k bytes is e =
     let at = is-number (first + i) k e in
     let place : i ≡ k - first = omega (arith, at) in
-    (λ j. f.tries (sym at j) (is j)) ∙ ap (λ n. f.tries k (slice_index_or records n [])) place
+    ap (tries_of f) (is ∙ ap (λ n. slice_index_or records n []) place)
 
 -- one record more
 pub one-more : (f : Function) (first : ℕ) (records : List (List ℕ)) (i : ℕ) (bytes : List ℕ) (classes : List ClassId) (plans now : FaultTable) → bytes ≡ slice_index_or records i []
-    → classes ≡ f.tries (first + i) bytes → ((k : ℕ) → now k ≡ with_plan plans (first + i) (plan_of classes) k) → ((k : ℕ) → plans k ≡ tries-of f first records i k)
+    → classes ≡ tries_of f bytes → ((k : ℕ) → now k ≡ with_plan plans (first + i) (plan_of classes) k) → ((k : ℕ) → plans k ≡ tries-of f first records i k)
     → (k : ℕ) → now k ≡ tries-of f first records (i + 1) k
 one-more f first records i bytes classes plans now is told put before k =
     put k ∙ ap (cond (k == first + i) (plan_of classes)) (before k)
-    ∙ more-by first i k (plan_of classes) (plan_of (f.tries k (record_of first records k))) (k == first + i) refl
+    ∙ more-by first i k (plan_of classes) (plan_of (tries_of f (record_of first records k))) (k == first + i) refl
     (λ e. ap plan_of (told ∙ its-plan f first records i k bytes is e))
 
 -- all of them

@@ -15,7 +15,7 @@ use Rattle.jb_saved.specs.SavedRows.{SavedRows}
 use Rattle.jb_records.specs.declared.error.RecordsStepError.{RecordsStepError}
 use Rattle.jb_records.specs.declared.error.RecordsStepError.TheVariants.{Memory, Records, Results, SkippedTry, Step}
 use Rattle.jb_records.specs.declared.step.RecordsStep.{RecordsStep}
-use Rattle.jb_records.specs.Function.{Function}
+use Rattle.jb_records.specs.Function.{Function, tries_of}
 use Rattle.jb_records.specs.Made.{even_partitions}
 use Rattle.jb_records.specs.Shares.{AreNumbered, joined}
 use Rattle.jb_records.specs.Artifacts.{AreNeverSkipped, record_of}
@@ -25,7 +25,7 @@ pub record HasSkippedTry (f : Function) (rules : RulesRecord) (first : ℕ) (rec
   pub number : ℕ
   pub from : first ≤ number
   pub to : number < first + length records
-  pub skipped : AreNeverSkipped rules (f.tries number (record_of first records number)) → ⊥
+  pub skipped : AreNeverSkipped rules (tries_of f (record_of first records number)) → ⊥
 
 -- how many results the rows say were written
 abbrev pub written_in : List Row → ℕ

@@ -1,5 +1,5 @@
 -- With which fault each failed partition failed.
-use Rattle.std.specs.Prelude.{ℕ, ◌≡◌, ◌+◌, ◌-◌, ◌≤◌, ◌<◌, ◌⊎◌, nat_eq, nat_lt, if◌then◌else◌, List, [], ◌∷◌, length, slice_get, Option, None, Some, Contains, IfSome, filter}
+use Rattle.std.specs.Prelude.{ℕ, ◌≡◌, ◌+◌, ◌-◌, ◌≤◌, ◌<◌, ◌⊎◌, nat_eq, if◌then◌else◌, List, [], ◌∷◌, length, slice_get, Option, None, Some, Contains, IfSome, filter}
 use Rattle.std.specs.List.{enumerate_from}
 use Rattle.jb_base.specs.Pairwise.{Pairwise}
 use Rattle.jb_base.specs.Rules.{RulesRecord}
@@ -13,7 +13,7 @@ use Rattle.jb_rules.specs.declared.row.Row.{Row}
 use Rattle.jb_rules.specs.Rows.{row_block, skips_of}
 use Rattle.jb_rules.specs.States.{is_failed}
 use Rattle.jb_records.specs.declared.failures.Failure.{Failure}
-use Rattle.jb_records.specs.Function.{Function}
+use Rattle.jb_records.specs.Function.{Function, refusal_of, tries_of}
 use Rattle.jb_records.specs.Artifacts.{record_of}
 use Rattle.jb_records.specs.Skips.{skips_between}
 
@@ -21,19 +21,19 @@ use Rattle.jb_records.specs.Skips.{skips_between}
 abbrev pub failed_rows : List Row → List (ℕ × Row)
 failed_rows rows = filter (λ n. is_failed n.1.state) (enumerate_from 0 rows)
 
--- the record can't be read, and this is the class of that; or it can, and a first try at it fails with this class
-abbrev pub IsFaultOf : Function → (number : ℕ) → (bytes : List ℕ) → ClassId → Type 0
-IsFaultOf f number bytes class = (f.refusal bytes ≡ Some class) ⊎ (f.refusal bytes ≡ None) × Contains (f.tries number bytes) class
+-- the record is refused, and this is the class of that; or it isn't, and a first try at it fails with this class
+abbrev pub IsFaultOf : Function → (bytes : List ℕ) → ClassId → Type 0
+IsFaultOf f bytes class = (refusal_of f bytes ≡ Some class) ⊎ (refusal_of f bytes ≡ None) × Contains (tries_of f bytes) class
 
 -- What becomes of a fault of this class at record `k`, in an attempt that begins where the row stands. The skips before it are those
--- of committed chunks, and those of the attempt's earlier records that can't be read: no fault of a first try is skipped.
+-- of committed chunks, and those of the attempt's earlier records that are refused: no fault of a first try is skipped.
 abbrev pub choice_for : Function → RulesRecord → (records : List (List ℕ)) → Row → (k : ℕ) → ClassId → Choice
 choice_for f rules records row k class = choice_at rules row class (skips_of row + length (skips_between f records row.at k))
 
--- each record from the row's next one to `end` - 1 that can't be read is skipped
+-- each record from the row's next one to `end` - 1 that is refused is skipped
 abbrev pub AreSkipped : Function → RulesRecord → (records : List (List ℕ)) → Row → (end : ℕ) → Type 0
 AreSkipped f rules records row end =
-    (k : ℕ) (class : ClassId) → row.at ≤ k → k < end → f.refusal (record_of 0 records k) ≡ Some class → choice_for f rules records row k class ≡ Skip
+    (k : ℕ) (class : ClassId) → row.at ≤ k → k < end → refusal_of f (record_of 0 records k) ≡ Some class → choice_for f rules records row k class ≡ Skip
 
 -- THE FAULT ENDED THE LAST ATTEMPT, which is one at the chunk where the row stands: the faults before it in this chunk are skipped, and
 -- by this one the partition fails
@@ -46,7 +46,7 @@ pub record EndsAttempt (f : Function) (rules : RulesRecord) (item_count : ℕ) (
 pub record IsFaultIn (f : Function) (rules : RulesRecord) (item_count : ℕ) (records : List (List ℕ)) (row : Row) (note : Note) : Type 0 where
   pub from : row.at ≤ note.number
   pub to : note.number < row.hi
-  pub fault : IsFaultOf f note.number (record_of 0 records note.number) note.class
+  pub fault : IsFaultOf f (record_of 0 records note.number) note.class
   pub ends : EndsAttempt f rules item_count records row note
 
 pub record IsFailure (f : Function) (rules : RulesRecord) (item_count : ℕ) (records : List (List ℕ)) (n : ℕ × Row) (failure : Failure) : Type 0 where
@@ -59,23 +59,11 @@ AreFailures f rules item_count records rows failures = Pairwise (IsFailure f rul
 
 -- ---- THE FAULT THAT WAS MET LAST
 
--- the last one of some notes
-abbrev pub last_of : List Note → Option Note
-last_of notes = slice_get notes (length notes - 1)
-
--- of two faults the one of the later record
-abbrev pub later_of : Option Note → Option Note → Option Note
-later_of None tried = tried
-later_of (Some read) None = Some read
-later_of (Some read) (Some tried) = if nat_lt read.number tried.number then Some tried else Some read
-
--- The last fault of a read, or that of a try, whichever is of the later record: a partition takes its records in their order. It isn't
--- known if a note was lost.
-abbrev pub last_fault : (reads tries : NotesOf Note) → Option Note
-last_fault reads tries = if nat_eq (reads.lost + tries.lost) 0 then later_of (last_of reads.kept) (last_of tries.kept) else None
+-- the last one of these notes, if none was lost
+abbrev pub last_fault : NotesOf Note → Option Note
+last_fault notes = if nat_eq notes.lost 0 then slice_get notes.kept (length notes.kept - 1) else None
 
 -- that of the partition of this number
-abbrev pub fault_noted : {A : Type 0} → List (ℕ × A) → (partition : ℕ) → (reads tries : A → NotesOf Note) → Option Note
-fault_noted [] partition reads tries = None
-fault_noted (a ∷ others) partition reads tries =
-    if nat_eq a.0 partition then last_fault (reads a.1) (tries a.1) else fault_noted others partition reads tries
+abbrev pub fault_noted : {A : Type 0} → List (ℕ × A) → (partition : ℕ) → (notes : A → NotesOf Note) → Option Note
+fault_noted [] partition notes = None
+fault_noted (a ∷ others) partition notes = if nat_eq a.0 partition then last_fault (notes a.1) else fault_noted others partition notes

@@ -10,29 +10,29 @@ use Rattle.jb_chunk.specs.Standing.{TaskState}
 use Rattle.jb_step.specs.Alone.{AreOnTheWay}
 use Rattle.jb_step.specs.preparing.Prepare.{DoFit}
 use Rattle.jb_step.specs.preparing.Setup.{IsSetup, Setup, first_tasks, fresh_rows, rows_now, unfinished}
-use Rattle.jb_records.specs.Function.{Function}
+use Rattle.jb_records.specs.Function.{Function, refusal_of}
 use Rattle.jb_records.specs.Shares.{IsSoFar}
 use Rattle.jb_records.specs.Steps.{AreArtifacts}
 use Rattle.jb_records.specs.Artifacts.{record_of}
 
--- the record of this number can't be read, with this class, if there is one
+-- the record of this number is refused, with this class, if there is one
 abbrev pub skip_by : (number : ℕ) → (refusal : Option ClassId) → Option Note
 skip_by number None = None
 skip_by number (Some class) = Some (record { number = number; class = class })
 
--- the records from number `lo` to `hi - 1` that can't be read, in order, each with the class of its fault
+-- the records from number `lo` to `hi - 1` that are refused, in order, each with the class of its fault
 abbrev pub skips_between : Function → (records : List (List ℕ)) → (lo hi : ℕ) → List Note
-skips_between f records lo hi = filter_map (λ k. skip_by k (f.refusal (record_of 0 records k))) (range_with_len lo (hi - lo))
+skips_between f records lo hi = filter_map (λ k. skip_by k (refusal_of f (record_of 0 records k))) (range_with_len lo (hi - lo))
 
--- THE SKIPPED RECORDS of a step: those before its partitions' checkpoints that can't be read
+-- THE SKIPPED RECORDS of a step: those before its partitions' checkpoints that are refused
 abbrev pub skipped_of : Function → (records : List (List ℕ)) → List Row → List Note
 skipped_of f records rows = flat_map (λ row. skips_between f records row.lo row.at) rows
 
 -- ---- AS MANY AS ARE COUNTED
 
--- the row counts as many records as skipped at their read
+-- the row counts as many records as skipped when they were processed
 abbrev pub AreSkipsCounted : Function → (records : List (List ℕ)) → Row → Type 0
-AreSkipsCounted f records row = row.counts.read_skip ≡ length (skips_between f records row.lo row.at)
+AreSkipsCounted f records row = row.counts.process_skip ≡ length (skips_between f records row.lo row.at)
 
 abbrev pub AreCounted : Function → (records : List (List ℕ)) → List Row → Type 0
 AreCounted f records rows = AllByRecursion (AreSkipsCounted f records) rows

@@ -12,15 +12,17 @@ ghost use Rattle.jb_records.specs.Steps.{AreFirstArtifacts, AreArtifactsOf};
 ghost use Rattle.jb_records.specs.Artifacts.{AreNeverSkipped, IsFirstArtifactsOver, IsNeverSkipped, own_records, plan_of, tries_plan};
 
 use crate::error::RecordsStepError;
-use crate::function::RecordFunction;
-use crate::shared::Shared;
+use crate::records_processor::RecordsProcessor;
+use crate::records_reader::RecordsReader;
+use crate::step_function::StepFunction;
 use jb_artifacts::{
     ArtifactsOf, CountCollector, FaultList, FaultPlan, FaultPlans, ListWriter, Meaning,
     PackedArtifacts,
 };
 use jb_base::{ClassId, PackedList, Rules};
 use jb_chunk::BoxedArtifacts;
-use jb_ready::{AnswerProcessor, CheckedReader, Notes, NotingProcessor, NotingReader};
+use jb_ready::{Notes, NotingProcessor};
+use jb_rows::{Row as Fields, RowBuilder};
 use jb_rules::Row;
 use jb_step::Prepared;
 use std::alloc::{AllocError, Global};
@@ -29,8 +31,8 @@ use std::sync::Arc;
 /// What a partition works with: its records are lent, and the results of a chunk packed. The faults that it meets are noted.
 pub type RecordsArtifacts<F> = BoxedArtifacts<
     PackedArtifacts<
-        NotingReader<CheckedReader<Shared<F>>>,
-        NotingProcessor<AnswerProcessor<Shared<F>>>,
+        RecordsReader,
+        NotingProcessor<RecordsProcessor<F>>,
         ListWriter,
         CountCollector,
     >,
@@ -62,7 +64,7 @@ fn put_tries(tries: &mut FaultPlans, number: u64, classes: Vec<ClassId>) -> Resu
 }
 
 /// The fault plans of the tries at these records, the first of which has the number `first`.
-fn tries_of<F: RecordFunction>(
+fn tries_of<F: StepFunction>(
     alloc: Global,
     function: &F,
     rules: &Rules,
@@ -77,7 +79,7 @@ fn tries_of<F: RecordFunction>(
     let mut tries = FaultPlans::new(alloc);
     for index in 0..records.len() {
         let number = first + index as u64;
-        let classes = function.tries_of(alloc, number, records.at(index))?;
+        let classes = function.tries_of(alloc, &Fields::of(records.at(index)))?;
         if !are_never_skipped(rules, &classes) {
             return Err(RecordsStepError::SkippedTry);
         }
@@ -96,7 +98,7 @@ pub(crate) fn copy_of(alloc: Global, list: &PackedList) -> Result<PackedList, Al
 }
 
 /// What the partition of this row works with, with the results that it has.
-fn artifacts_of<F: RecordFunction + Drop>(
+fn artifacts_of<F: StepFunction + Drop>(
     alloc: Global,
     function: &Arc<F, Global>,
     rules: &Rules,
@@ -111,20 +113,19 @@ fn artifacts_of<F: RecordFunction + Drop>(
 {
     let own = records.part(alloc, row.lo as usize, row.hi as usize)?;
     let tries = tries_of(alloc, &**function, rules, row.lo, &own)?;
-    let reader = match CheckedReader::new(alloc, Shared::of(function)?, row.lo, own) {
-        Ok(reader) => reader,
-        Err(_) => unreachable!(),
+    let own = Arc::new(alloc, own)?;
+    let processor = RecordsProcessor {
+        alloc,
+        function: Arc::try_clone(function)?,
+        first: row.lo,
+        records: Arc::try_clone(&own)?,
+        tries,
+        built: RowBuilder::new(alloc),
     };
     let inner = ArtifactsOf {
-        reader: NotingReader {
-            inner: reader,
-            notes: Notes::new(alloc),
-        },
+        reader: RecordsReader::new(alloc, row.lo, own),
         processor: NotingProcessor {
-            inner: AnswerProcessor {
-                function: Shared::of(function)?,
-                faults: tries,
-            },
+            inner: processor,
             notes: Notes::new(alloc),
         },
         writer: ListWriter::new(copy_of(alloc, results)?, FaultPlans::new(alloc)),
@@ -135,7 +136,7 @@ fn artifacts_of<F: RecordFunction + Drop>(
 }
 
 /// What these partitions work with, each with its share of the earlier results.
-fn artifacts_for<F: RecordFunction + Drop>(
+fn artifacts_for<F: StepFunction + Drop>(
     alloc: Global,
     function: &Arc<F, Global>,
     rules: &Rules,
@@ -164,7 +165,7 @@ fn artifacts_for<F: RecordFunction + Drop>(
 }
 
 /// What the unfinished partitions work with. Each has its share of the earlier results.
-pub(crate) fn all_artifacts<F: RecordFunction + Drop>(
+pub(crate) fn all_artifacts<F: StepFunction + Drop>(
     alloc: Global,
     function: &Arc<F, Global>,
     rules: &Rules,

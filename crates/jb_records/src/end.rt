@@ -9,9 +9,9 @@ ghost use Rattle.jb_records.specs.Skips.{skipped_of};
 
 use crate::error::RecordsStepError;
 use crate::failures::Failure;
-use crate::function::RecordFunction;
 use crate::shares::joined;
 use crate::skips::skipped_of;
+use crate::step_function::StepFunction;
 use jb_base::{Name, PackedList};
 use jb_collect::Status;
 use jb_ready::Note;
@@ -37,8 +37,8 @@ impl RecordsEnd {
     }
 
     /// The records that were skipped, this run's and those of an earlier one that it went on from: the records before the checkpoints
-    /// that this function, the run's, can't read, each with its number and the class of its fault.
-    pub fn skipped<F: RecordFunction>(
+    /// that this function, the run's, refuses, each with its number and the class of its fault.
+    pub fn skipped<F: StepFunction>(
         &self,
         alloc: Global,
         function: &F,

@@ -7,14 +7,16 @@ ghost use Rattle.jb_chunk.specs.Block.{choice_at};
 ghost use Rattle.jb_chunk.specs.Standing.{HasItemCount};
 ghost use Rattle.jb_rules.specs.Sound.{IsSoundRow};
 ghost use Rattle.jb_rules.specs.States.{is_failed};
-ghost use Rattle.jb_records.specs.Failures.{AreFailures, EndsAttempt, IsFailure, IsFaultIn, IsFaultOf, fault_noted, last_fault, later_of};
+ghost use Rattle.jb_records.specs.Failures.{AreFailures, EndsAttempt, IsFailure, IsFaultIn, IsFaultOf, fault_noted, last_fault};
 ghost use Rattle.jb_records.specs.inside.Attempts.{IsPassed, IsReached};
 
 use crate::artifacts::RecordsArtifacts;
-use crate::function::RecordFunction;
+use crate::refusals::refusal_of;
+use crate::step_function::StepFunction;
 use jb_artifacts::record_of;
 use jb_base::{ClassId, PackedList, Rules};
 use jb_ready::{Note, Notes};
+use jb_rows::{Row as Fields, RowBuilder};
 use jb_rules::{Choice, Row, decide};
 use std::alloc::{AllocError, Global};
 
@@ -27,57 +29,44 @@ pub struct Failure {
     pub fault: Option<Note>,
 }
 
-/// The one of the later record: a record that can't be read isn't tried, and an attempt goes to no record after the one that ends it.
-fn later_of(read: Option<Note>, tried: Option<Note>) -> Option<Note>
-    ensures { result ≡ later_of read tried }
+/// The fault that was noted last, if no note was lost.
+fn last_fault(notes: &Notes<Note>) -> Option<Note>
+    ensures { result ≡ last_fault notes.now }
 {
-    match (read, tried) {
-        (Some(read), Some(tried)) if read.number < tried.number => Some(tried),
-        (Some(read), _) => Some(read),
-        (None, tried) => tried,
-    }
-}
-
-/// The fault that was met last, by the notes of the reads and of the tries, if none of these was lost.
-fn last_fault(reads: &Notes<Note>, tries: &Notes<Note>) -> Option<Note>
-    ensures { result ≡ last_fault reads.now tries.now }
-{
-    if reads.lost() > 0 || tries.lost() > 0 {
+    if notes.lost() > 0 {
         return None;
     }
-    later_of(reads.kept().last().copied(), tries.kept().last().copied())
+    notes.kept().last().copied()
 }
 
 /// The fault that the partition of this number met last, if all of its faults were noted.
-fn noted_of<F: RecordFunction>(
+fn noted_of<F: StepFunction>(
     artifacts: &[(u32, RecordsArtifacts<F>)],
     partition: u32,
 ) -> Option<Note>
-    ensures { result ≡ fault_noted artifacts.now partition (λ a. a.inner.reader.notes) (λ a. a.inner.processor.notes) }
+    ensures { result ≡ fault_noted artifacts.now partition (λ a. a.inner.processor.notes) }
 {
     for one in artifacts {
         if one.0 == partition {
-            let own = &one.1.artifacts().inner;
-            return last_fault(&own.reader.notes, &own.processor.notes);
+            return last_fault(&one.1.artifacts().inner.processor.notes);
         }
     }
     None
 }
 
-/// The class of this record's fault: that with which it can't be read, or else this one, if a first try at it fails with it.
-fn fault_of<F: RecordFunction>(
+/// The class of this record's fault: that with which it is refused, or else this one, if a first try at it fails with it.
+fn fault_of<F: StepFunction>(
     alloc: Global,
     function: &F,
-    number: u64,
-    item: &[u8],
+    record: &[u8],
     class: ClassId,
 ) -> Result<Option<ClassId>, AllocError>
-    ensures { IfOk result (λ fault. IfSome fault (IsFaultOf (F.function function.now) number item.now)) }
+    ensures { IfOk result (λ fault. IfSome fault (IsFaultOf (F.function function.now) record.now)) }
 {
-    if let Some(refusal) = function.refusal_of(item)? {
+    if let Some(refusal) = refusal_of(function, record, &mut RowBuilder::new(alloc))? {
         return Ok(Some(refusal));
     }
-    let tries = function.tries_of(alloc, number, item)?;
+    let tries = function.tries_of(alloc, &Fields::of(record))?;
     if tries.contains(&class) {
         Ok(Some(class))
     } else {
@@ -92,18 +81,19 @@ fn choice_at(rules: &Rules, row: &Row, class: ClassId, skips: u64) -> Choice
     decide(rules, class, row.at < row.redo, skips, row.retries)
 }
 
-/// The skips up to this record, given those before it. None if the record can't be read and isn't skipped.
-fn skips_past<F: RecordFunction>(
+/// The skips up to this record, given those before it. None if the record is refused and isn't skipped.
+fn skips_past<F: StepFunction>(
     function: &F,
     rules: &Rules,
     records: &PackedList,
     row: &Row,
     number: u64,
+    built: &mut RowBuilder,
     skips: u64,
 ) -> Result<Option<u64>, AllocError>
     ensures { IfOk result (λ past. IfSome past (IsPassed (F.function function.now) rules.now records.now row.now number skips)) }
 {
-    let Some(class) = function.refusal_of(record_of(records, 0, number))? else {
+    let Some(class) = refusal_of(function, record_of(records, 0, number), built)? else {
         return Ok(Some(skips));
     };
     match choice_at(rules, row, class, skips) {
@@ -112,9 +102,10 @@ fn skips_past<F: RecordFunction>(
     }
 }
 
-/// The skips before this record in an attempt at the chunk where the row stands. None if an earlier record of the chunk can't be read and
-/// isn't skipped.
-fn skips_before<F: RecordFunction>(
+/// The skips before this record in an attempt at the chunk where the row stands. None if an earlier record of the chunk is refused and isn't
+/// skipped.
+fn skips_before<F: StepFunction>(
+    alloc: Global,
     function: &F,
     rules: &Rules,
     records: &PackedList,
@@ -124,10 +115,19 @@ fn skips_before<F: RecordFunction>(
     requires { IsSoundRow row.now }
     ensures { IfOk result (λ before. IfSome before (IsReached (F.function function.now) rules.now records.now row.now number)) }
 {
+    let mut built = RowBuilder::new(alloc);
     let mut skips = row.skips();
     let count = number.saturating_sub(row.at);
     for index in 0..count {
-        match skips_past(function, rules, records, row, row.at + index, skips)? {
+        match skips_past(
+            function,
+            rules,
+            records,
+            row,
+            row.at + index,
+            &mut built,
+            skips,
+        )? {
             Some(past) => skips = past,
             None => return Ok(None),
         }
@@ -136,7 +136,8 @@ fn skips_before<F: RecordFunction>(
 }
 
 /// Whether the partition's last attempt, at the chunk where its row stands, ended by this fault.
-fn ends_attempt<F: RecordFunction>(
+fn ends_attempt<F: StepFunction>(
+    alloc: Global,
     function: &F,
     rules: &Rules,
     item_count: u64,
@@ -151,14 +152,14 @@ fn ends_attempt<F: RecordFunction>(
     if !row.sound() || row.block(item_count).hi <= fault.number {
         return Ok(false);
     }
-    match skips_before(function, rules, records, row, fault.number)? {
+    match skips_before(alloc, function, rules, records, row, fault.number)? {
         Some(skips) => Ok(matches!(choice_at(rules, row, fault.class, skips), Choice::Fail)),
         None => Ok(false),
     }
 }
 
 /// The fault that was noted, if it is one of a record of this row that isn't committed, and ended the last attempt.
-fn fault_in<F: RecordFunction>(
+fn fault_in<F: StepFunction>(
     alloc: Global,
     function: &F,
     rules: &Rules,
@@ -176,12 +177,12 @@ fn fault_in<F: RecordFunction>(
     if number < row.at || row.hi <= number {
         return Ok(None);
     }
-    let item = record_of(records, 0, number);
-    let Some(class) = fault_of(alloc, function, number, item, class)? else {
+    let record = record_of(records, 0, number);
+    let Some(class) = fault_of(alloc, function, record, class)? else {
         return Ok(None);
     };
     let fault = Note { number, class };
-    if ends_attempt(function, rules, item_count, records, row, fault)? {
+    if ends_attempt(alloc, function, rules, item_count, records, row, fault)? {
         Ok(Some(fault))
     } else {
         Ok(None)
@@ -189,7 +190,7 @@ fn fault_in<F: RecordFunction>(
 }
 
 /// The failed ones of these partitions, the first of which has the number `partition`.
-fn failures_from<F: RecordFunction>(
+fn failures_from<F: StepFunction>(
     alloc: Global,
     function: &F,
     rules: &Rules,
@@ -233,7 +234,7 @@ fn failures_from<F: RecordFunction>(
 }
 
 /// The partitions that failed in a step with these rules and chunks of so many records, each with its fault.
-pub(crate) fn failures_of<F: RecordFunction>(
+pub(crate) fn failures_of<F: StepFunction>(
     alloc: Global,
     function: &F,
     rules: &Rules,

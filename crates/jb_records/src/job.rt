@@ -23,10 +23,10 @@ use crate::artifacts::{RecordsArtifacts, all_artifacts};
 use crate::end::RecordsEnd;
 use crate::error::RecordsStepError;
 use crate::failures::failures_of;
-use crate::function::RecordFunction;
 use crate::laws::{skips_are_counted, steps_keep_results};
 use crate::shares::{are_numbered, put_back, shares_of};
 use crate::step::RecordsStep;
+use crate::step_function::StepFunction;
 use jb_base::{MAX_RECORDS, Name, PackedList, Rules};
 use jb_chunk::Task;
 use jb_collect::{FaultlessAnalyzer, FaultlessReducer};
@@ -128,7 +128,7 @@ impl RecordsJob {
     /// # Errors
     /// `SkippedTry` where a first try is to fail with a class that the rules skip; `Step` with what broke the run off, and `Memory`.
     pub(crate) fn run<
-        F: RecordFunction + Drop + 'static,
+        F: StepFunction + Drop + 'static,
         L: Ledger + Send + Sync + 'static,
         R: Threads + Wait + Sync,
     >(

@@ -18,10 +18,10 @@ ghost use Rattle.jb_records.specs.inside.Kept.{IsKept};
 
 use crate::artifacts::{RecordsArtifacts, all_artifacts};
 use crate::error::RecordsStepError;
-use crate::function::RecordFunction;
 use crate::job::RecordsJob;
 use crate::shares::put_back;
 use crate::step::RecordsStep;
+use crate::step_function::StepFunction;
 use crate::stretch_end::numbered;
 use jb_artifacts::Meaning;
 use jb_base::PackedList;
@@ -53,7 +53,7 @@ pub struct RecordsRun<F> {
     ghost same_items: { prepared.item_count ≡ step.item_count },
 }
 
-impl<F: RecordFunction + Drop> Standing for RecordsRun<F> {
+impl<F: StepFunction + Drop> Standing for RecordsRun<F> {
     ghost standing = { λ run. record {
       step = run.step.id;
       records = run.count;
@@ -63,7 +63,7 @@ impl<F: RecordFunction + Drop> Standing for RecordsRun<F> {
     } };
 }
 
-impl<F: RecordFunction + Drop> RecordsRun<F> {
+impl<F: StepFunction + Drop> RecordsRun<F> {
     /// The run of a step that begins anew.
     ///
     /// # Errors

@@ -21,8 +21,8 @@ pub fn results_go_on()
 }
 
 /// So have all partitions of a step wherever its run leads them; those that begin anew have none; and those of all partitions
-/// that are finished are, one behind the other, the results of all records. Left out of these are the records that can't be
-/// read, and those that are filtered: all others have one.
+/// that are finished are, one behind the other, the results of all records. Left out of these are the records that are
+/// refused, and those that are filtered: all others have one.
 pub fn steps_keep_results()
     ensures kept { StepsKeepResults }
     ensures begun { NewStepsBegin }
@@ -33,8 +33,8 @@ pub fn steps_keep_results()
     plans_can_be_run();
 }
 
-/// Wherever a step's run ends, its rows count as many records as skipped at their read as can't be read before their checkpoints, if
-/// they did when it began; new rows do.
+/// Wherever a step's run ends, its rows count as many skips of processing as records before their checkpoints are refused, if they
+/// did when it began; new rows do.
 pub fn skips_are_counted()
     ensures counted { SkipsAreCounted }
     ensures begun { NewRowsAreCounted }

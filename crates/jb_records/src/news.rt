@@ -6,7 +6,7 @@ ghost use Rattle.jb_step.specs.Answers.{given_back};
 ghost use Rattle.jb_records.specs.inside.Kept.{news_from};
 
 use crate::artifacts::RecordsArtifacts;
-use crate::function::RecordFunction;
+use crate::step_function::StepFunction;
 use jb_artifacts::{ItemWriter, Meaning};
 use jb_base::{MAX_PARTITIONS, PackedList};
 use jb_step::Prepared;
@@ -46,7 +46,7 @@ fn written_from<W: ItemWriter>(
 }
 
 /// Puts what is new of each partition from number `partition` on behind `news`.
-fn push_news<F: RecordFunction + Drop>(
+fn push_news<F: StepFunction + Drop>(
     alloc: Global,
     partition: u64,
     told: &[u64],
@@ -72,7 +72,7 @@ fn push_news<F: RecordFunction + Drop>(
 }
 
 /// What is new of each partition: what its writer holds behind what was told of it.
-pub(crate) fn news_of<F: RecordFunction + Drop>(
+pub(crate) fn news_of<F: StepFunction + Drop>(
     alloc: Global,
     told: &[u64],
     artifacts: &[(u32, RecordsArtifacts<F>)],

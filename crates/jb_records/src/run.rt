@@ -16,9 +16,9 @@ ghost use Rattle.jb_records.specs.Skips.{AreCounted};
 
 use crate::end::RecordsEnd;
 use crate::error::RecordsStepError;
-use crate::function::RecordFunction;
 use crate::job::RecordsJob;
 use crate::step::RecordsStep;
+use crate::step_function::StepFunction;
 use jb_base::{MAX_PARTS, PackedList};
 use jb_step::read_saved;
 use std::alloc::Global;
@@ -36,13 +36,13 @@ pub struct Earlier<'a> {
 
 /// Runs a step over records, anew or from where a stopped run left it, for so many rounds at most; with none, to its end.
 /// Wherever it ends, each partition has the results of the records before its checkpoint, each once and in order; where it is
-/// completed, those of all records: a record that can't be read has none, and is left out where its class is skipped.
+/// completed, those of all records: a record that is refused has none, and is left out where its class is skipped.
 ///
 /// # Errors
 /// `Records` where there are more than 10,000,000; `Results` where the saved rows say otherwise how many results there are;
 /// `SkippedTry` where a first try is to fail with a class that the rules skip; `Step` with what is wrong with the partitions, the
 /// saved text or its rows, as that one ends past the last record, or with why the step has no end; and `Memory`.
-pub fn run_records<F: RecordFunction + Drop + 'static, R: Threads + Wait + Sync>(
+pub fn run_records<F: StepFunction + Drop + 'static, R: Threads + Wait + Sync>(
     rt: &R,
     alloc: Global,
     step: &RecordsStep,
@@ -93,7 +93,7 @@ pub(crate) fn begun(
 
 /// Runs the step over a desk of its own.
 fn run_on<
-    F: RecordFunction + Drop + 'static,
+    F: StepFunction + Drop + 'static,
     L: Ledger + Send + Sync + 'static,
     R: Threads + Wait + Sync,
 >(

@@ -9,7 +9,7 @@ ghost use Rattle.jb_records.specs.Shares.{AreNumbered, joined, newer_shares};
 
 use crate::artifacts::RecordsArtifacts;
 use crate::error::RecordsStepError;
-use crate::function::RecordFunction;
+use crate::step_function::StepFunction;
 use jb_artifacts::Meaning;
 use jb_base::{MAX_PARTITIONS, PackedList};
 use jb_rules::Row;
@@ -61,7 +61,7 @@ pub(crate) fn are_numbered(rows: &[Row], shares: &[PackedList]) -> bool
 }
 
 // Puts the results that came back in the places of their partitions.
-fn put_all<F: RecordFunction + Drop>(
+fn put_all<F: StepFunction + Drop>(
     artifacts: &mut Vec<(u32, RecordsArtifacts<F>)>,
     shares: &mut [PackedList],
 )
@@ -77,7 +77,7 @@ fn put_all<F: RecordFunction + Drop>(
 }
 
 /// The shares with the results that came back in the places of their partitions.
-pub(crate) fn put_back<F: RecordFunction + Drop>(
+pub(crate) fn put_back<F: StepFunction + Drop>(
     artifacts: Vec<(u32, RecordsArtifacts<F>)>,
     shares: Vec<PackedList>,
 ) -> Vec<PackedList>

@@ -22,7 +22,6 @@ ghost use Rattle.jb_records.specs.inside.Kept.{IsGoingOn, IsRanOver, IsRunBroken
 use crate::artifacts::RecordsArtifacts;
 use crate::error::RecordsStepError;
 use crate::failures::{Failure, failures_of};
-use crate::function::RecordFunction;
 use crate::job::prepared_for;
 use crate::kept::{RecordsRun, Standing};
 use crate::laws::stretches_go_on;
@@ -30,6 +29,7 @@ use crate::news::{news_of, told_of};
 use crate::shares::put_back;
 use crate::skips::skipped_of;
 use crate::step::RecordsStep;
+use crate::step_function::StepFunction;
 use crate::stretch_end::{parted, unnumbered};
 use jb_artifacts::Meaning;
 use jb_base::{MAX_PARTS, PackedList};
@@ -59,7 +59,7 @@ pub struct Stretch {
 
 impl Stretch {
     /// The records that were skipped up to its end, as `RecordsEnd::skipped` tells them.
-    pub fn skipped<F: RecordFunction>(
+    pub fn skipped<F: StepFunction>(
         &self,
         alloc: Global,
         function: &F,
@@ -73,7 +73,7 @@ impl Stretch {
 
 /// One run of the step over a desk of its own, for so many rounds at most.
 fn ran<
-    F: RecordFunction + Drop + 'static,
+    F: StepFunction + Drop + 'static,
     L: Ledger + Send + Sync + 'static,
     R: Threads + Wait + Sync,
 >(
@@ -102,7 +102,7 @@ fn ran<
 }
 
 /// The run as it goes on from these rows of its own, and their text.
-fn going_on<F: RecordFunction + Drop>(
+fn going_on<F: StepFunction + Drop>(
     alloc: Global,
     step: RecordsStep,
     count: u64,
@@ -133,7 +133,7 @@ fn going_on<F: RecordFunction + Drop>(
     Ok((run, text))
 }
 
-impl<F: RecordFunction + Drop + 'static> RecordsRun<F> {
+impl<F: StepFunction + Drop + 'static> RecordsRun<F> {
     /// Goes on for one stretch, of so many rounds at most; with none, to the end. A completed run is completed again, with nothing
     /// new. After a stretch that failed, the partitions that failed wait again, as at a restart.
     ///

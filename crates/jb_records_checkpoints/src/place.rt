@@ -16,7 +16,7 @@ use crate::coding::coding_of;
 use crate::error::CheckpointError;
 use jb_checkpoint::Checkpoint;
 use jb_collect::Status;
-use jb_records::{RecordFunction, RecordsRun, Standing};
+use jb_records::{RecordsRun, Standing, StepFunction};
 use jb_rules::Row;
 use std::alloc::Global;
 use std::sync::Wait;
@@ -72,7 +72,7 @@ impl<F: Drop> Place<F> {
 }
 
 /// One stretch more of the run, and its checkpoint.
-fn stretched<F: RecordFunction + Drop + 'static, R: Threads + Wait + Sync>(
+fn stretched<F: StepFunction + Drop + 'static, R: Threads + Wait + Sync>(
     rt: &R,
     alloc: Global,
     run: RecordsRun<F>,
@@ -96,7 +96,7 @@ fn stretched<F: RecordFunction + Drop + 'static, R: Threads + Wait + Sync>(
     Ok((place, Checkpoint { saved, results }))
 }
 
-impl<F: RecordFunction + Drop + 'static> Place<F> {
+impl<F: StepFunction + Drop + 'static> Place<F> {
     /// One checkpoint more: the first one, or that of a stretch of so many rounds at most; none where the run is whole and that is kept.
     pub fn go_on<R: Threads + Wait + Sync>(
         self,

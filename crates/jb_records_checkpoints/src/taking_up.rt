@@ -19,7 +19,7 @@ use crate::place::{Place, Stage};
 use crate::reading::read_into;
 use jb_base::PackedList;
 use jb_checkpoint::Checkpoint;
-use jb_records::{RecordFunction, RecordsRun, RecordsStep, Standing};
+use jb_records::{RecordsRun, RecordsStep, Standing, StepFunction};
 use jb_step::read_saved;
 use std::alloc::{AllocError, Global};
 use std::sync::Arc;
@@ -101,7 +101,7 @@ fn results_of(
 }
 
 /// Begins anew.
-fn begun<F: RecordFunction + Drop>(
+fn begun<F: StepFunction + Drop>(
     alloc: Global,
     step: &RecordsStep,
     function: &Arc<F, Global>,
@@ -124,7 +124,7 @@ fn begun<F: RecordFunction + Drop>(
 }
 
 /// Begins behind these checkpoints, the last of which is this one.
-fn behind<F: RecordFunction + Drop>(
+fn behind<F: StepFunction + Drop>(
     alloc: Global,
     step: &RecordsStep,
     function: &Arc<F, Global>,
@@ -166,7 +166,7 @@ fn behind<F: RecordFunction + Drop>(
 ///
 /// # Errors
 /// `OtherJob`, `OtherRecords`, `Damaged`, `Step` with why the run isn't begun, `TooLong`, and `Memory`.
-pub fn taken_up<F: RecordFunction + Drop>(
+pub fn taken_up<F: StepFunction + Drop>(
     alloc: Global,
     step: &RecordsStep,
     function: &Arc<F, Global>,

@@ -1,56 +1,55 @@
 //! Steps over records, each made of one function: how they end.
 
-ghost use Rattle.std.specs.Prelude.{◌==◌, ◌∷◌, [], None, Some, if◌then◌else◌, length};
+ghost use Rattle.jb_rows.specs.Author.{field_at};
+ghost use Rattle.jb_step_tests.specs.Letters.{late_by, letter_by};
 
 use crate::lines::{add_line, assert_text, number, rules, value};
-use jb_artifacts::Item;
 use jb_base::{ClassId, MAX_ITEM_COUNT, Name, PackedList};
 use jb_collect::Status;
 use jb_records::{
-    RecordFunction, RecordsEnd, RecordsRun, RecordsStep, RecordsStepError, run_records,
+    FirstTries, RecordsEnd, RecordsRun, RecordsStep, RecordsStepError, Shaky, StepFunction,
+    run_records,
 };
+use jb_rows::{Outcome, Row, RowBuilder, RowFunction, Rows};
 use std::alloc::{AllocError, Global};
 use std::sync::{Arc, Wait};
 use std::test::*;
 use std::thread::Threads;
 
-/// A record of no byte can't be read, the first try at one of two bytes fails, and its result is the record itself.
+/// A record without a field is refused, and the result of another is its first field.
 #[derive(Drop)]
 struct Letters {
-    alloc: Global,
     refused: ClassId,
-    late: ClassId,
 }
 
-impl RecordFunction for Letters {
-    ghost function = { λ f. record {
-      refusal = λ item. if length item == 0 then Some f.refused else None;
-      answer = λ _ item. Some item;
-      tries = λ _ item. if length item == 2 then f.late ∷ [] else [];
-    } };
+impl RowFunction for Letters {
+    ghost answer = { λ f fields. letter_by f.refused (field_at fields 0) };
 
-    fn refusal_of(&self, item: &[u8]) -> Result<Option<ClassId>, AllocError> {
-        Ok(if item.is_empty() {
-            Some(self.refused)
-        } else {
-            None
-        })
-    }
-
-    fn answer_of(&self, _number: u64, item: &[u8]) -> Result<Option<Item>, AllocError> {
-        Ok(Some(Item::copy_of(self.alloc, item)?))
-    }
-
-    fn tries_of(
-        &self,
-        alloc: Global,
-        _number: u64,
-        item: &[u8],
-    ) -> Result<Vec<ClassId>, AllocError> {
-        if item.len() == 2 {
-            return Vec::from_slice(alloc, &[self.late]);
+    fn process(&self, row: &Row, built: &mut RowBuilder) -> Result<Outcome, AllocError> {
+        match row.get(0) {
+            Some(field) => {
+                built.push(field)?;
+                Ok(Outcome::Given)
+            }
+            None => Ok(Outcome::Refused(self.refused)),
         }
-        Ok(Vec::new(alloc))
+    }
+}
+
+/// The first try at a record of two letters fails.
+#[derive(Drop)]
+struct Late {
+    class: ClassId,
+}
+
+impl FirstTries for Late {
+    ghost tries = { λ f fields. late_by f.class (field_at fields 0) };
+
+    fn tries_of(&self, alloc: Global, row: &Row) -> Result<Vec<ClassId>, AllocError> {
+        match row.get(0) {
+            Some(field) if field.len() == 2 => Vec::from_slice(alloc, &[self.class]),
+            _ => Ok(Vec::new(alloc)),
+        }
     }
 }
 
@@ -58,11 +57,11 @@ impl RecordFunction for Letters {
 ///
 /// In `records` each stands before a dot. Of the step, its item count, the sets of classes that are skipped, retried, and retried in place,
 /// and whether one fault alone is skipped; and the greatest number of rounds. Behind it stand, in one run, in stretches of one round, and in
-/// stretches of which the later ones go on from what was kept of the first: the status, the number of skipped
-/// reads, the results, each with a bar behind it, and the faults: the records that were skipped, each as NUMBER/CLASS, and the partitions
+/// stretches of which the later ones go on from what was kept of the first: the status, the number of
+/// skipped records, the results, each with a bar behind it, and the faults: the records that were skipped, each as NUMBER/CLASS, and the partitions
 /// that failed, each as PARTITION:NUMBER/CLASS; or why there is none. A stretch that fails is the last one.
 ///
-/// A record that can't be read, and a try that fails, each under several rules, and both in one chunk.
+/// A record that is refused, and a try that fails, each under several rules, and both in one chunk.
 const STEPS: &str = "> records=a.b.c.d. items=1
 Completed 0 a|b|c|d|
 Completed 0 a|b|c|d|
@@ -130,7 +129,7 @@ fn grow(told: &mut Vec<PackedList>, news: Vec<PackedList>) -> Result<(), AllocEr
 
 /// Runs the step in stretches of one round, so many at most, while it is only stopped: in memory, or from the second one on behind
 /// what was kept of the first. Answers the results of the run, or those that were told.
-fn in_stretches<F: RecordFunction + Drop + 'static, R: Threads + Wait + Sync>(
+fn in_stretches<F: StepFunction + Drop + 'static, R: Threads + Wait + Sync>(
     rt: &R,
     alloc: Global,
     step: &RecordsStep,
@@ -169,7 +168,9 @@ fn in_stretches<F: RecordFunction + Drop + 'static, R: Threads + Wait + Sync>(
 fn add_results(text: &mut String, alloc: Global, end: &RecordsEnd) -> Result<(), AllocError> {
     let all = end.all_results(alloc)?;
     for index in 0..all.len() {
-        text.push_str(String::from_utf8_lossy(alloc, all.at(index))?.as_str())?;
+        let result = Row::of(all.at(index));
+        let letters = result.get(0).unwrap_or(b"");
+        text.push_str(String::from_utf8_lossy(alloc, letters)?.as_str())?;
         text.push_str("|")?;
     }
     Ok(())
@@ -180,7 +181,7 @@ fn add_faults(
     text: &mut String,
     alloc: Global,
     end: &RecordsEnd,
-    function: &Letters,
+    function: &Shaky<Letters, Late>,
     records: &PackedList,
 ) -> Result<(), AllocError> {
     for skip in &end.skipped(alloc, function, records)? {
@@ -200,12 +201,12 @@ fn add_end(
     text: &mut String,
     alloc: Global,
     end: Result<RecordsEnd, RecordsStepError>,
-    function: &Letters,
+    function: &Shaky<Letters, Late>,
     records: &PackedList,
 ) -> Result<(), AllocError> {
     match end {
         Ok(end) => {
-            let skips = end.snapshot.totals.read_skip;
+            let skips = end.snapshot.totals.process_skip;
             text.push_str(&format!(in alloc; "{:?} {skips} ", end.status)?)?;
             add_results(text, alloc, &end)?;
             add_faults(text, alloc, &end, function, records)
@@ -215,11 +216,14 @@ fn add_end(
 }
 
 /// The function.
-fn new_letters(alloc: Global) -> Letters {
-    Letters {
-        alloc,
-        refused: ClassId::new(0),
-        late: ClassId::new(1),
+fn new_letters() -> Shaky<Letters, Late> {
+    Shaky {
+        function: Letters {
+            refused: ClassId::new(0),
+        },
+        tries: Late {
+            class: ClassId::new(1),
+        },
     }
 }
 
@@ -240,17 +244,22 @@ fn step_of(alloc: Global, line: &str) -> Result<RecordsStep, Fail> {
 
 /// The line's records.
 fn records_of(alloc: Global, line: &str) -> Result<PackedList, AllocError> {
-    let mut records = PackedList::new(alloc);
-    let mut record = Vec::new(alloc);
+    let mut records = Rows::new(alloc);
+    let mut record = RowBuilder::new(alloc);
+    let mut letters = Vec::new(alloc);
     for sign in value(line, "records").unwrap_or("").as_bytes() {
         if *sign == b'.' {
-            records.push(record.as_slice())?;
             record.clear();
+            if !letters.is_empty() {
+                record.push(letters.as_slice())?;
+            }
+            records.push(&record)?;
+            letters.clear();
         } else {
-            record.push(*sign)?;
+            letters.push(*sign)?;
         }
     }
-    Ok(records)
+    Ok(records.into_list())
 }
 
 /// Adds what comes of the line's step in stretches, in memory, or behind what was kept of the first.
@@ -263,7 +272,7 @@ fn add_stretches<R: Threads + Wait + Sync>(
     records: &PackedList,
     is_kept: bool,
 ) -> Result<(), AllocError> {
-    let function = Arc::new(alloc, new_letters(alloc))?;
+    let function = Arc::new(alloc, new_letters())?;
     let stretches = number(line, "rounds").unwrap_or(8);
     let end = in_stretches(rt, alloc, step, &function, records, stretches, is_kept);
     add_end(text, alloc, end, &*function, records)?;
@@ -280,8 +289,8 @@ fn add_told<R: Threads + Wait + Sync>(
     let step = step_of(alloc, line)?;
     let records = records_of(alloc, line)?;
     let rounds = number(line, "rounds");
-    let end = run_records(rt, alloc, &step, new_letters(alloc), &records, None, rounds);
-    add_end(text, alloc, end, &new_letters(alloc), &records)?;
+    let end = run_records(rt, alloc, &step, new_letters(), &records, None, rounds);
+    add_end(text, alloc, end, &new_letters(), &records)?;
     text.push_str("\n")?;
     add_stretches(text, rt, alloc, line, &step, &records, false)?;
     add_stretches(text, rt, alloc, line, &step, &records, true)?;

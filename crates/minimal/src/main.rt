@@ -2,22 +2,20 @@
 //! on with.
 #![tactic(auto)]
 
-ghost use Rattle.std.specs.Prelude.{◌==◌, [], None, Some, if◌then◌else◌, length, map};
-ghost use Rattle.std.specs.Char.{to_ascii_uppercase};
-ghost use Rattle.jb_base.specs.Classes.{class_of};
+ghost use Rattle.minimal.specs.Capitals.{capitals};
 
-use jb_artifacts::Item;
 use jb_base::{ClassId, DEFAULT_RETRY_LIMIT, Name, PackedList, Rules};
 use jb_collect::Status;
 use jb_ready::lines;
-use jb_records::{Earlier, RecordFunction, RecordsEnd, RecordsStep, RecordsStepError, run_records};
+use jb_records::{Earlier, RecordsEnd, RecordsStep, RecordsStepError, run_records};
+use jb_rows::{Outcome, Row, RowBuilder, RowFunction, Rows};
 use std::alloc::{AllocError, Global};
 use std::io::{self, Read, Write};
 use std::process::ExitCode;
 use std::sync::Wait;
 use std::thread::Threads;
 
-/// A line that can't be read, class 0, is skipped. No try fails, so nothing is retried.
+/// A line that is refused, class 0, is skipped. No try fails, so nothing is retried.
 const RULES: Rules = Rules {
     skippable: 1,
     retryable: 0,
@@ -26,40 +24,38 @@ const RULES: Rules = Rules {
     retry_limit: DEFAULT_RETRY_LIMIT,
 };
 
-/// A line in capitals. A blank one can't be read.
+/// A line in capitals. A blank one is refused.
 #[derive(Drop)]
 struct Capitals {
     alloc: Global,
 }
 
-impl RecordFunction for Capitals {
-    ghost function = { λ _. record {
-      refusal = λ line. if length line == 0 then Some (class_of 0) else None;
-      answer = λ _ line. Some (map to_ascii_uppercase line);
-      tries = λ _ _. [];
-    } };
+impl RowFunction for Capitals {
+    ghost answer = { λ _. capitals };
 
-    fn refusal_of(&self, line: &[u8]) -> Result<Option<ClassId>, AllocError> {
-        Ok(if line.is_empty() {
-            Some(ClassId::new(0))
-        } else {
-            None
-        })
+    fn process(&self, line: &Row, built: &mut RowBuilder) -> Result<Outcome, AllocError> {
+        match line.get(0) {
+            Some(text) if !text.is_empty() => {
+                let text = text.to_ascii_uppercase(self.alloc)?;
+                built.push(text.as_slice())?;
+                Ok(Outcome::Given)
+            }
+            _ => Ok(Outcome::Refused(ClassId::new(0))),
+        }
     }
+}
 
-    fn answer_of(&self, _number: u64, line: &[u8]) -> Result<Option<Item>, AllocError> {
-        let line = line.to_ascii_uppercase(self.alloc)?;
-        Ok(Some(Item::from_vec(line)))
+/// The lines of a text, each a record of one field.
+fn lines_of(alloc: Global, text: &[u8]) -> Result<Rows, AllocError> {
+    let lines = lines::records_of(alloc, text)?;
+    let mut rows = Rows::new(alloc);
+    let mut row = RowBuilder::new(alloc);
+    for index in 0..lines.len() {
+        row.clear();
+        row.push(lines.at(index))?;
+        rows.push(&row)?;
     }
-
-    fn tries_of(
-        &self,
-        alloc: Global,
-        _number: u64,
-        _line: &[u8],
-    ) -> Result<Vec<ClassId>, AllocError> {
-        Ok(Vec::new(alloc))
-    }
+    Ok(rows)
 }
 
 /// Runs the step for one round, and goes on from what it saved, as another process could from two files.
@@ -100,15 +96,16 @@ fn main(rt: HostRuntime) -> io::Result<ExitCode> {
     let alloc = rt.alloc();
     let mut text = Vec::new(alloc);
     rt.stdin().read_to_end(&mut text)?;
-    let lines = lines::records_of(alloc, &text)?;
-    let end = match run(&rt, alloc, &lines) {
+    let rows = lines_of(alloc, &text)?;
+    let lines = rows.as_list();
+    let end = match run(&rt, alloc, lines) {
         Ok(end) => end,
         Err(error) => {
             eprintln!(rt; "{error}")?;
             return Ok(ExitCode::from(3));
         }
     };
-    for skip in &end.skipped(alloc, &Capitals { alloc }, &lines)? {
+    for skip in &end.skipped(alloc, &Capitals { alloc }, lines)? {
         eprintln!(rt;
             "line {} is skipped, by class {}",
             skip.number,
@@ -128,8 +125,10 @@ fn main(rt: HostRuntime) -> io::Result<ExitCode> {
     let results = end.all_results(alloc)?;
     let mut out = rt.stdout();
     for index in 0..results.len() {
-        out.write_all(results.at(index))?;
-        out.write_all(b"\n")?;
+        if let Some(line) = Row::of(results.at(index)).get(0) {
+            out.write_all(line)?;
+            out.write_all(b"\n")?;
+        }
     }
     Ok(ExitCode::from(if end.status == Status::Completed {
         0

@@ -8,5 +8,5 @@ abbrev pub ghosts-watched_life : goal.ghosts-watched_life
 ghosts-watched_life g a = record {
   was_clean = clean_now g.D.Disk a.files;
   could_leave = left_now g.D.Disk a.files;
-  is_so_far = IsRunSoFar (g.F.RecordFunction.function (arc_value a.function.now)) a.step.now a.records.now;
+  is_so_far = IsRunSoFar (g.F.StepFunction.function (arc_value a.function.now)) a.step.now a.records.now;
 }

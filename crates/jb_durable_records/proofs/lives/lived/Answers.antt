@@ -6,7 +6,7 @@ use Rattle.jb_durable_records.proofs.lives.lived.Goals as goal
 
 pub returns-clause-done : goal.returns-clause-done
 returns-clause-done g c clean opened all has so done =
-    let f = g.F.RecordFunction.function (arc_value c.args.function.now) in
+    let f = g.F.StepFunction.function (arc_value c.args.function.now) in
     let early : HasCleanDisk (state g.S.Store c.taken_from.new.conn) = omega (arith, clean, c.run.ensures.clean) in
     let rest = c.in_ok-place.ensures.rests early opened all (c.taken_from.ensures.shown opened all has) so in
     let after = c.in_ok-pause.ensures.kept clean f c.args.step.now c.args.records.now all rest in
@@ -14,7 +14,7 @@ returns-clause-done g c clean opened all has so done =
 
 pub returns-clause-crash : goal.returns-clause-crash
 returns-clause-crash g c clean opened all has so db may =
-    let f = g.F.RecordFunction.function (arc_value c.args.function.now) in
+    let f = g.F.StepFunction.function (arc_value c.args.function.now) in
     let early : HasCleanDisk (state g.S.Store c.taken_from.new.conn) = omega (arith, clean, c.run.ensures.clean) in
     let rest = c.in_ok-place.ensures.rests early opened all (c.taken_from.ensures.shown opened all has) so in
     c.run.ensures.crash clean f c.args.step.now c.args.records.now all rest db may
@@ -24,7 +24,7 @@ returns-in_err-place-clause-crash g c clean opened all has so db may = c.taken_f
 
 pub returns-in_err-pause-clause-crash : goal.returns-in_err-pause-clause-crash
 returns-in_err-pause-clause-crash g c clean opened all has so db may =
-    let f = g.F.RecordFunction.function (arc_value c.args.function.now) in
+    let f = g.F.StepFunction.function (arc_value c.args.function.now) in
     let early : HasCleanDisk (state g.S.Store c.taken_from.new.conn) = omega (arith, clean, c.run.ensures.clean) in
     let rest = c.in_ok-place.ensures.rests early opened all (c.taken_from.ensures.shown opened all has) so in
     c.run.ensures.crash clean f c.args.step.now c.args.records.now all rest db may

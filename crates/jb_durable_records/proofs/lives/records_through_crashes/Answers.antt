@@ -12,7 +12,7 @@ use Rattle.jb_durable_records.proofs.lives.records_through_crashes.Goals as goal
 
 pub returns : goal.returns
 returns g c =
-    let F = g.F.RecordFunction.function in
+    let F = g.F.StepFunction.function in
     let step = c.args.step.now in
     let records = c.args.records.now in
     let e : arc_value c.in-Ok.function ≡ c.args.function = c.in-Ok.ensures.ok in

@@ -17,12 +17,12 @@ pub lives-init : goal.lives-init
 lives-init g c = record {
   log = c.requires.log;
   db = c.requires.db;
-  stands = λ clean begun. begins (IsRunSoFar (g.F.RecordFunction.function (arc_value c.args.function.now)) c.args.step.now c.args.records.now) c.args.files begun;
+  stands = λ clean begun. begins (IsRunSoFar (g.F.StepFunction.function (arc_value c.args.function.now)) c.args.step.now c.args.records.now) c.args.files begun;
 }
 
 pub lives-preserved : goal.lives-preserved
 lives-preserved g c =
-    let so_far = IsRunSoFar (g.F.RecordFunction.function (arc_value c.args.function.now)) c.args.step.now c.args.records.now in
+    let so_far = IsRunSoFar (g.F.StepFunction.function (arc_value c.args.function.now)) c.args.step.now c.args.records.now in
     let life = c.in_ok-life.life in
     let over = c.in_ok-life.ensures in
     record {
@@ -36,7 +36,7 @@ lives-preserved g c =
 pub returns-in-Ok-lived_over_files : goal.returns-in-Ok-lived_over_files
 returns-in-Ok-lived_over_files g c = record {
   whole = λ clean begun done.
-      let f = g.F.RecordFunction.function (arc_value c.args.function.now) in
+      let f = g.F.StepFunction.function (arc_value c.args.function.now) in
       let step = c.args.step.now in
       let records = c.args.records.now in
       let left = c.lives.left in

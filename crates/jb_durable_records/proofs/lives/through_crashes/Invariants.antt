@@ -8,7 +8,7 @@ use Rattle.jb_durable_records.proofs.lives.through_crashes.Given as goal
 
 abbrev pub invariant-lives : goal.invariant-lives
 invariant-lives g l =
-    let so_far = IsRunSoFar (g.F.RecordFunction.function (arc_value l.function)) l.step l.records in
+    let so_far = IsRunSoFar (g.F.StepFunction.function (arc_value l.function)) l.step l.records in
     record {
       log : IsTrue (g.D.Disk.is_usable l.left.log);
       db : IsTrue (g.D.Disk.is_usable l.left.db);

@@ -14,7 +14,7 @@ use Rattle.jb_durable_records.proofs.run.run.Given as goal
 -- the connection keeps the checkpoints so far, and the run stands behind them
 abbrev pub invariant-stretches : goal.invariant-stretches
 invariant-stretches g l =
-    let standing = (run_of.ghosts g.row.F g.F.RecordFunction g.F.RecordFunction-dict g.F.Destruct-dict).standing in
+    let standing = (run_of.ghosts g.row.F g.F.StepFunction g.F.StepFunction-dict g.F.Destruct-dict).standing in
     record {
       clean : doubt (state g.S.Store l.fn.conn).is_clean ≤ doubt (state g.S.Store l.conn).is_clean;
       rests : HasCleanDisk (state g.S.Store l.conn) → (f : Function) (step : RecordsStep) (over : List (List ℕ)) (all : List Kept)

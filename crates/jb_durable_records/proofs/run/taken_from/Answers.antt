@@ -21,7 +21,7 @@ use Rattle.jb_durable_records.proofs.run.taken_from.Goals as goal
 
 pub returns-clause-rests : goal.returns-clause-rests
 returns-clause-rests g c clean opened all shows so =
-    let f = g.F.RecordFunction.function (arc_value c.args.function.now) in
+    let f = g.F.StepFunction.function (arc_value c.args.function.now) in
     let step = c.args.step.now in
     let records = c.args.records.now in
     let s = state g.S.Store c.begin.new.conn in
@@ -123,23 +123,23 @@ found g c clean opened all shows = ap (map kept) c.deref.ensures.value ∙ c.in_
 -- why they aren't taken up
 refused : (g : _) (c : goal.After-drop-done-in_err-place g) → HasCleanDisk (state g.S.Store c.begin.new.conn) → IsJustOpened (state g.S.Store c.args.conn.now)
     → (all : List Kept) → ShowsList (state g.S.Store c.args.conn.now).now all
-    → IsUntaken (g.F.RecordFunction.function (arc_value c.args.function.now)) c.args.step.now c.args.records.now (state g.S.Store c.args.conn.now) (state g.S.Store c.begin.new.conn) all (durable_refusal c.in_err-place.field-0.0)
+    → IsUntaken (g.F.StepFunction.function (arc_value c.args.function.now)) c.args.step.now c.args.records.now (state g.S.Store c.args.conn.now) (state g.S.Store c.begin.new.conn) all (durable_refusal c.in_err-place.field-0.0)
 refused g c clean opened all shows =
     let e = c.in_err-place.field-0.0 in
-    untaken_for (g.F.RecordFunction.function (arc_value c.args.function.now)) c.args.step.now c.args.records.now (state g.S.Store c.args.conn.now) (state g.S.Store c.begin.new.conn) all e
-    (subst (λ (l : List Kept). IsTakenCause (g.F.RecordFunction.function (arc_value c.args.function.now)) c.args.step.now c.args.records.now l e) (found g c clean opened all shows) c.in_err-place.ensures.cause)
+    untaken_for (g.F.StepFunction.function (arc_value c.args.function.now)) c.args.step.now c.args.records.now (state g.S.Store c.args.conn.now) (state g.S.Store c.begin.new.conn) all e
+    (subst (λ (l : List Kept). IsTakenCause (g.F.StepFunction.function (arc_value c.args.function.now)) c.args.step.now c.args.records.now l e) (found g c clean opened all shows) c.in_err-place.ensures.cause)
 
 -- what that says of them, and that they are kept
 kept_untaken : (g : _) (c : goal.After-drop-done-in_err-place g) → HasCleanDisk (state g.S.Store c.begin.new.conn) → IsJustOpened (state g.S.Store c.args.conn.now)
     → (all : List Kept) → ShowsList (state g.S.Store c.args.conn.now).now all → (name : DurableError)
     → IfErr c.from_residual-in_err-place.result (λ x. x ≡ name
-    → IsUntaken (g.F.RecordFunction.function (arc_value c.args.function.now)) c.args.step.now c.args.records.now (state g.S.Store c.args.conn.now) (state g.S.Store c.begin.new.conn) all name
+    → IsUntaken (g.F.StepFunction.function (arc_value c.args.function.now)) c.args.step.now c.args.records.now (state g.S.Store c.args.conn.now) (state g.S.Store c.begin.new.conn) all name
     × Keeps (state g.S.Store c.begin.new.conn) all)
 kept_untaken g c clean opened all shows name =
     let keeps = subst (λ (l : List Kept). Keeps (state g.S.Store c.begin.new.conn) l) (c.in_ok-done.ensures.listed clean opened all shows) (c.in_ok-done.ensures.begun clean opened).0 in
     handed_on c.from_residual-in_err-place.result (durable_refusal c.in_err-place.field-0.0) _ c.from_residual-in_err-place.ensures.1
     (λ is. (
-      subst (IsUntaken (g.F.RecordFunction.function (arc_value c.args.function.now)) c.args.step.now c.args.records.now (state g.S.Store c.args.conn.now) (state g.S.Store c.begin.new.conn) all) is
+      subst (IsUntaken (g.F.StepFunction.function (arc_value c.args.function.now)) c.args.step.now c.args.records.now (state g.S.Store c.args.conn.now) (state g.S.Store c.begin.new.conn) all) is
           (refused g c clean opened all shows),
       keeps,
     ))

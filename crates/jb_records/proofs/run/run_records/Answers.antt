@@ -9,23 +9,23 @@ returns-clause-run g c =
 
 pub returns-clause-so_far : goal.returns-clause-so_far
 returns-clause-so_far g c none =
-    IfOk-weaker c.run_on.result _ _ (λ end goes. goes c.in_ok-job.ensures.begun.begun.setup (c.in_ok-job.ensures.new none (g.F.RecordFunction.function c.args.function))) c.run_on.ensures.so_far
+    IfOk-weaker c.run_on.result _ _ (λ end goes. goes c.in_ok-job.ensures.begun.begun.setup (c.in_ok-job.ensures.new none (g.F.StepFunction.function c.args.function))) c.run_on.ensures.so_far
 
 pub returns-clause-counted : goal.returns-clause-counted
 returns-clause-counted g c none =
-    IfOk-weaker c.run_on.result _ _ (λ end goes. goes c.in_ok-job.ensures.begun.begun.setup (c.in_ok-job.ensures.new none (g.F.RecordFunction.function c.args.function)) (c.in_ok-job.ensures.counted none (g.F.RecordFunction.function c.args.function))) c.run_on.ensures.counted
+    IfOk-weaker c.run_on.result _ _ (λ end goes. goes c.in_ok-job.ensures.begun.begun.setup (c.in_ok-job.ensures.new none (g.F.StepFunction.function c.args.function)) (c.in_ok-job.ensures.counted none (g.F.StepFunction.function c.args.function))) c.run_on.ensures.counted
 
 pub returns-clause-all : goal.returns-clause-all
 returns-clause-all g c none =
-    IfOk-weaker c.run_on.result _ _ (λ end goes. goes c.in_ok-job.ensures.begun.begun.setup (c.in_ok-job.ensures.new none (g.F.RecordFunction.function c.args.function))) c.run_on.ensures.whole
+    IfOk-weaker c.run_on.result _ _ (λ end goes. goes c.in_ok-job.ensures.begun.begun.setup (c.in_ok-job.ensures.new none (g.F.StepFunction.function c.args.function))) c.run_on.ensures.whole
 
 pub returns-clause-goes_on : goal.returns-clause-goes_on
 returns-clause-goes_on g c =
-    behind _ _ c.args.earlier (g.F.RecordFunction.function c.args.function) c.in_ok-job.ensures.goes_on (λ so. IfOk-weaker c.run_on.result _ _ (λ end goes. goes c.in_ok-job.ensures.begun.begun.setup so) c.run_on.ensures.so_far)
+    behind _ _ c.args.earlier (g.F.StepFunction.function c.args.function) c.in_ok-job.ensures.goes_on (λ so. IfOk-weaker c.run_on.result _ _ (λ end goes. goes c.in_ok-job.ensures.begun.begun.setup so) c.run_on.ensures.so_far)
 
 pub returns-clause-goes_on_whole : goal.returns-clause-goes_on_whole
 returns-clause-goes_on_whole g c =
-    behind _ _ c.args.earlier (g.F.RecordFunction.function c.args.function) c.in_ok-job.ensures.goes_on (λ so. IfOk-weaker c.run_on.result _ _ (λ end goes. goes c.in_ok-job.ensures.begun.begun.setup so) c.run_on.ensures.whole)
+    behind _ _ c.args.earlier (g.F.StepFunction.function c.args.function) c.in_ok-job.ensures.goes_on (λ so. IfOk-weaker c.run_on.result _ _ (λ end goes. goes c.in_ok-job.ensures.begun.begun.setup so) c.run_on.ensures.whole)
 
 pub run_on-requires-clause-can : goal.run_on-requires-clause-can
 run_on-requires-clause-can g c κs within = can-begin _ _ _ _ _ _ c.in_ok-job.ensures.begun.begun

@@ -18,7 +18,7 @@ use Rattle.jb_records_checkpoints.proofs.taking_up.behind.Goals as goal
 
 pub returns-clause-underway : goal.returns-clause-underway
 returns-clause-underway g c first of all =
-    let f = g.F.RecordFunction.function (arc_value c.args.function.now) in
+    let f = g.F.StepFunction.function (arc_value c.args.function.now) in
     let step = c.args.step.now in
     let records = c.args.records.now in
     let xs = c.args.later.now in
@@ -57,7 +57,7 @@ returns-clause-told g c =
 
 pub returns-clause-done : goal.returns-clause-done
 returns-clause-done g c first whole =
-    let f = g.F.RecordFunction.function (arc_value c.args.function.now) in
+    let f = g.F.StepFunction.function (arc_value c.args.function.now) in
     let step = c.args.step.now in
     let records = c.args.records.now in
     let xs = c.args.later.now in
@@ -80,7 +80,7 @@ returns-clause-done g c first whole =
 
 pub returns-in_err-held-clause-cause : goal.returns-in_err-held-clause-cause
 returns-in_err-held-clause-cause g c first =
-    let f = g.F.RecordFunction.function (arc_value c.args.function.now) in
+    let f = g.F.StepFunction.function (arc_value c.args.function.now) in
     let step = c.args.step.now in
     let records = c.args.records.now in
     let xs = c.args.later.now in
@@ -93,7 +93,7 @@ returns-in_err-held-clause-cause g c first =
 
 pub returns-in_err-results-clause-cause : goal.returns-in_err-results-clause-cause
 returns-in_err-results-clause-cause g c first =
-    let f = g.F.RecordFunction.function (arc_value c.args.function.now) in
+    let f = g.F.StepFunction.function (arc_value c.args.function.now) in
     let xs = c.args.later.now in
     let last = c.args.last.now in
     let later = map kept xs in
@@ -116,7 +116,7 @@ returns-in_err-results-clause-cause g c first =
 
 pub returns-in_err-run-clause-cause : goal.returns-in_err-run-clause-cause
 returns-in_err-run-clause-cause g c first =
-    let f = g.F.RecordFunction.function (arc_value c.args.function.now) in
+    let f = g.F.StepFunction.function (arc_value c.args.function.now) in
     let step = c.args.step.now in
     let records = c.args.records.now in
     let xs = c.args.later.now in
@@ -136,7 +136,7 @@ returns-in_err-run-clause-cause g c first =
 
 pub returns-in_err-rows-clause-cause : goal.returns-in_err-rows-clause-cause
 returns-in_err-rows-clause-cause g c first =
-    let f = g.F.RecordFunction.function (arc_value c.args.function.now) in
+    let f = g.F.StepFunction.function (arc_value c.args.function.now) in
     handed_on c.from_residual-in_err-rows.result Memory (IsTakenCause f c.args.step.now c.args.records.now (first ∷ map kept c.args.later.now)) c.from_residual-in_err-rows.ensures.1 tt
 
 -- ---- none of these is a refusal of another run's

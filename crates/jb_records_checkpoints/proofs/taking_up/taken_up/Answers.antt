@@ -26,7 +26,7 @@ returns-in_err-own-clause-own g c = IfOk-from_err c.from_residual.result _ c.fro
 
 pub returns-in_err-own-clause-cause : goal.returns-in_err-own-clause-cause
 returns-in_err-own-clause-cause g c =
-    let f = g.F.RecordFunction.function (arc_value c.args.function.now) in
+    let f = g.F.StepFunction.function (arc_value c.args.function.now) in
     let all = map kept c.args.done.now in
     let e = c.in_err-own.field-0.0 in
     handed_on c.from_residual.result e (IsTakenCause f c.args.step.now c.args.records.now all) c.from_residual.ensures.1 (own_cause f c.args.step.now c.args.records.now all e c.in_err-own.ensures.cause)
@@ -41,7 +41,7 @@ returns-in_err-own-clause-other_records g c = handed_on c.from_residual.result c
 
 pub returns-in_default-clause-stands : goal.returns-in_default-clause-stands
 returns-in_default-clause-stands g c so =
-    let f = g.F.RecordFunction.function (arc_value c.args.function.now) in
+    let f = g.F.StepFunction.function (arc_value c.args.function.now) in
     let none = none_done c.args.done.now c.in_default.ensures.cases in
     both_ok c.begun.result _ _ _ (λ place at stage. stands_as f c.args.step.now c.args.records.now (Blank c.in_ok-own.own) place.stage _ _ _ (sym stage) (none, c.in_ok-own.ensures.of, at))
     c.begun.ensures.behind c.begun.ensures.stage
@@ -51,12 +51,12 @@ returns-in_default-clause-told g c = c.begun.ensures.told
 
 pub returns-in_default-clause-done : goal.returns-in_default-clause-done
 returns-in_default-clause-done g c whole =
-    let f = g.F.RecordFunction.function (arc_value c.args.function.now) in
+    let f = g.F.StepFunction.function (arc_value c.args.function.now) in
     absurd (subst (IsWholeRun f c.args.step.now c.args.records.now) (none_done c.args.done.now c.in_default.ensures.cases) whole)
 
 pub returns-in_default-clause-own : goal.returns-in_default-clause-own
 returns-in_default-clause-own g c =
-    let f = g.F.RecordFunction.function (arc_value c.args.function.now) in
+    let f = g.F.StepFunction.function (arc_value c.args.function.now) in
     on_ok c.begun.result _ (none_other f c.args.step.now c.args.records.now _ (none_done c.args.done.now c.in_default.ensures.cases))
 
 pub returns-in_default-clause-other_job : goal.returns-in_default-clause-other_job
@@ -67,7 +67,7 @@ returns-in_default-clause-other_records g c = never_records c.begun.result _ c.b
 
 pub returns-in_default-clause-cause : goal.returns-in_default-clause-cause
 returns-in_default-clause-cause g c =
-    let f = g.F.RecordFunction.function (arc_value c.args.function.now) in
+    let f = g.F.StepFunction.function (arc_value c.args.function.now) in
     let none = none_done c.args.done.now c.in_default.ensures.cases in
     IfErr-weaker c.begun.result _ _ (λ e why. none_kept f c.args.step.now c.args.records.now _ e none why) c.begun.ensures.cause
 
@@ -87,7 +87,7 @@ returns-in_err-refuse_others-clause-own g c = IfOk-from_err c.from_residual-in_e
 
 pub returns-in_err-refuse_others-clause-cause : goal.returns-in_err-refuse_others-clause-cause
 returns-in_err-refuse_others-clause-cause g c =
-    let f = g.F.RecordFunction.function (arc_value c.args.function.now) in
+    let f = g.F.StepFunction.function (arc_value c.args.function.now) in
     let all = map kept c.args.done.now in
     let e = c.in_err-refuse_others.field-0.0 in
     handed_on c.from_residual-in_err-refuse_others.result e (IsTakenCause f c.args.step.now c.args.records.now all) c.from_residual-in_err-refuse_others.ensures.1
@@ -95,17 +95,17 @@ returns-in_err-refuse_others-clause-cause g c =
 
 pub returns-in_err-refuse_others-clause-other_job : goal.returns-in_err-refuse_others-clause-other_job
 returns-in_err-refuse_others-clause-other_job g c =
-    as_job (g.F.RecordFunction.function (arc_value c.args.function.now)) c.args.step.now c.args.records.now c.from_residual-in_err-refuse_others.result _ (returns-in_err-refuse_others-clause-cause g c)
+    as_job (g.F.StepFunction.function (arc_value c.args.function.now)) c.args.step.now c.args.records.now c.from_residual-in_err-refuse_others.result _ (returns-in_err-refuse_others-clause-cause g c)
 
 pub returns-in_err-refuse_others-clause-other_records : goal.returns-in_err-refuse_others-clause-other_records
 returns-in_err-refuse_others-clause-other_records g c =
-    as_records (g.F.RecordFunction.function (arc_value c.args.function.now)) c.args.step.now c.args.records.now c.from_residual-in_err-refuse_others.result _ (returns-in_err-refuse_others-clause-cause g c)
+    as_records (g.F.StepFunction.function (arc_value c.args.function.now)) c.args.step.now c.args.records.now c.from_residual-in_err-refuse_others.result _ (returns-in_err-refuse_others-clause-cause g c)
 
 -- ---- the first one alone is kept
 
 pub returns-in-None-clause-stands : goal.returns-in-None-clause-stands
 returns-in-None-clause-stands g c so =
-    let f = g.F.RecordFunction.function (arc_value c.args.function.now) in
+    let f = g.F.StepFunction.function (arc_value c.args.function.now) in
     let step = c.args.step.now in
     let records = c.args.records.now in
     let first = c.in-Some.first.now in
@@ -120,7 +120,7 @@ returns-in-None-clause-told g c = c.begun-in-None.ensures.told
 
 pub returns-in-None-clause-own : goal.returns-in-None-clause-own
 returns-in-None-clause-own g c =
-    let f = g.F.RecordFunction.function (arc_value c.args.function.now) in
+    let f = g.F.StepFunction.function (arc_value c.args.function.now) in
     let of = own_first f c.args.step.now c.args.records.now (kept c.in-Some.first.now) (kept c.in_ok-own.own) c.in_ok-refuse_others.ensures.own c.in_ok-own.ensures.of in
     on_ok c.begun-in-None.result _ (not_other f c.args.step.now c.args.records.now _ (kept c.in-Some.first.now) _ (ap (map kept) c.in-Some.ensures.cases.0) of)
 
@@ -132,14 +132,14 @@ returns-in-None-clause-other_records g c = never_records c.begun-in-None.result 
 
 pub returns-in-None-clause-cause : goal.returns-in-None-clause-cause
 returns-in-None-clause-cause g c =
-    let f = g.F.RecordFunction.function (arc_value c.args.function.now) in
+    let f = g.F.StepFunction.function (arc_value c.args.function.now) in
     let first = c.in-Some.first.now in
     let alone = ap (map kept) c.in-Some.ensures.cases.0 ∙ ap (λ l. kept first ∷ map kept l) (no_last c.in-Some.later.now (sym c.in-None.ensures.value)) in
     IfErr-weaker c.begun-in-None.result _ _ (λ e why. first_kept f c.args.step.now c.args.records.now _ (kept first) e alone why) c.begun-in-None.ensures.cause
 
 pub returns-in-None-clause-done : goal.returns-in-None-clause-done
 returns-in-None-clause-done g c whole =
-    let f = g.F.RecordFunction.function (arc_value c.args.function.now) in
+    let f = g.F.StepFunction.function (arc_value c.args.function.now) in
     let all = c.in-Some.ensures.cases.0 in
     let alone = ap (map kept) all ∙ ap (λ l. kept c.in-Some.first.now ∷ map kept l) (no_last c.in-Some.later.now (sym c.in-None.ensures.value)) in
     absurd (never_whole f c.args.step.now c.args.records.now (map kept c.args.done.now) (kept c.in-Some.first.now) alone whole)
@@ -148,7 +148,7 @@ returns-in-None-clause-done g c whole =
 
 pub returns-clause-stands : goal.returns-clause-stands
 returns-clause-stands g c so =
-    let f = g.F.RecordFunction.function (arc_value c.args.function.now) in
+    let f = g.F.StepFunction.function (arc_value c.args.function.now) in
     let step = c.args.step.now in
     let records = c.args.records.now in
     let all = c.in-Some.ensures.cases.0 in
@@ -158,13 +158,13 @@ returns-clause-stands g c so =
 
 pub returns-clause-done : goal.returns-clause-done
 returns-clause-done g c whole =
-    let f = g.F.RecordFunction.function (arc_value c.args.function.now) in
+    let f = g.F.StepFunction.function (arc_value c.args.function.now) in
     let all = c.in-Some.ensures.cases.0 in
     c.behind.ensures.done (kept c.in-Some.first.now) (subst (IsWholeRun f c.args.step.now c.args.records.now) (ap (map kept) all) whole)
 
 pub returns-clause-cause : goal.returns-clause-cause
 returns-clause-cause g c =
-    let f = g.F.RecordFunction.function (arc_value c.args.function.now) in
+    let f = g.F.StepFunction.function (arc_value c.args.function.now) in
     let all = c.in-Some.ensures.cases.0 in
     subst (λ (l : List Kept). IfErr c.behind.result (IsTakenCause f c.args.step.now c.args.records.now l)) (sym (ap (map kept) all)) (c.behind.ensures.cause (kept c.in-Some.first.now))
 
@@ -173,7 +173,7 @@ returns-clause-told g c = c.behind.ensures.told
 
 pub returns-clause-own : goal.returns-clause-own
 returns-clause-own g c =
-    let f = g.F.RecordFunction.function (arc_value c.args.function.now) in
+    let f = g.F.StepFunction.function (arc_value c.args.function.now) in
     let of = own_first f c.args.step.now c.args.records.now (kept c.in-Some.first.now) (kept c.in_ok-own.own) c.in_ok-refuse_others.ensures.own c.in_ok-own.ensures.of in
     on_ok c.behind.result _ (not_other f c.args.step.now c.args.records.now _ (kept c.in-Some.first.now) _ (ap (map kept) c.in-Some.ensures.cases.0) of)
 

@@ -1,0 +1,7 @@
+use Rattle.std.proofs.Common.{◌∙◌, Some, ap, refl}
+use Rattle.std.specs.Arc.{arc_value}
+use Rattle.jb_records.proofs.Processing.{reads-on}
+use Rattle.jb_records.proofs.records_reader.RecordsReaderItemReader.read_item.Goals as goal
+
+pub returns-clause-answered : goal.returns-clause-answered
+returns-clause-answered c below = (refl, ap Some (c.in_ok-item.ensures ∙ c.record.ensures), reads-on c.args.self.now.first c.args.self.now.place (arc_value c.args.self.now.records))
