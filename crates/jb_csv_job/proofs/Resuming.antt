@@ -9,7 +9,7 @@ use Rattle.csv.specs.declared.parser.Config.{Config}
 use Rattle.sqlite.specs.Tree.{Trees}
 use Rattle.jb_checkpoint.specs.Checkpoints.{Kept}
 use Rattle.jb_csv_job.specs.Done.{IsInput}
-use Rattle.jb_csv_job.specs.Job.{JobRecord, step_function}
+use Rattle.jb_csv_job.specs.Job.{JobRecord}
 use Rattle.jb_csv_job.specs.Kept.{IsJobSoFar}
 use Rattle.jb_durable.specs.Files.{IsOfARun}
 use Rattle.jb_records.specs.Function.{Function}
@@ -64,14 +64,14 @@ module _ (job : JobRecord) (text : Option (List ℕ)) (header records : List Fie
   rows-read bytes is = (known text (λ b. (header ≡ copied_header job.options b) × AreRowsOf job.options b records) bytes is read).1
 
   -- what the file keeps is of the records that were read, and of this step
-  own-run : (all : List Kept) → IsJobSoFar job text all → IsRunSoFar (step_function job) step (map packed records) all
+  own-run : (all : List Kept) → IsJobSoFar job text all → IsRunSoFar job.function step (map packed records) all
   own-run all so =
       let same = same-rows job.options so.bytes so.records records so.read (rows-read so.bytes so.known) in
       let form = ap (form_of so.step) (length-map so.records packed) ∙ so.same ∙ sym (of_form (length so.records)) ∙ ap (form_of step) (sym (length-map so.records packed)) in
-      subst (λ rs. IsRunSoFar (step_function job) step (map packed rs) all) same (same-form (step_function job) so.step step (map packed so.records) all form so.so_far)
+      subst (λ rs. IsRunSoFar job.function step (map packed rs) all) same (same-form job.function so.step step (map packed so.records) all form so.so_far)
 
   -- and so is what a crash leaves of it
-  job-left : (bytes : List ℕ) (db : Trees) → text ≡ Some bytes → IsOfARun (IsRunSoFar (step_function job) step (map packed records)) db → IsOfARun (IsJobSoFar job text) db
+  job-left : (bytes : List ℕ) (db : Trees) → text ≡ Some bytes → IsOfARun (IsRunSoFar job.function step (map packed records)) db → IsOfARun (IsJobSoFar job text) db
   job-left bytes db is left = (
     left.0,
     left.1,
@@ -88,9 +88,9 @@ module _ (job : JobRecord) (text : Option (List ℕ)) (header records : List Fie
 
   -- both, of the packed records as a list
   pub kept-of : (list : List (List ℕ)) → list ≡ map packed records
-      → ((all : List Kept) → IsJobSoFar job text all → IsRunSoFar (step_function job) step list all)
-      × ((bytes : List ℕ) (db : Trees) → text ≡ Some bytes → IsOfARun (IsRunSoFar (step_function job) step list) db → IsOfARun (IsJobSoFar job text) db)
+      → ((all : List Kept) → IsJobSoFar job text all → IsRunSoFar job.function step list all)
+      × ((bytes : List ℕ) (db : Trees) → text ≡ Some bytes → IsOfARun (IsRunSoFar job.function step list) db → IsOfARun (IsJobSoFar job text) db)
   kept-of list is = (
-    λ all so. subst (λ l. IsRunSoFar (step_function job) step l all) (sym is) (own-run all so),
-    λ bytes db known left. job-left bytes db known (subst (λ l. IsOfARun (IsRunSoFar (step_function job) step l) db) is left),
+    λ all so. subst (λ l. IsRunSoFar job.function step l all) (sym is) (own-run all so),
+    λ bytes db known left. job-left bytes db known (subst (λ l. IsOfARun (IsRunSoFar job.function step l) db) is left),
   )

@@ -1,14 +1,15 @@
--- What a job over CSV writes.
+-- What a job over CSV answers and writes.
 use Rattle.std.specs.Prelude.{ℕ, ◌≡◌, ◌++◌, List, Option, IfSome, false, map}
 use Rattle.std.specs.Io.KnownBytes.{Appends}
 use Rattle.jb_collect.specs.declared.calls.Status.{Status}
 use Rattle.jb_collect.specs.declared.calls.Status.TheVariants as status
-use Rattle.jb_csv_job.specs.Job.{JobRecord, step_function}
+use Rattle.jb_csv_job.specs.Job.{JobRecord}
+use Rattle.jb_csv_job.specs.declared.job_rows.JobRows.{JobRows}
 use Rattle.jb_records.specs.Shares.{IsSoFar, joined}
 use Rattle.jb_rows.specs.Answers.{all_results}
 use Rattle.jb_rows.specs.Fields.{Fields, fields_in, packed}
-use Rattle.jb_rows.specs.Streams.{csv_rows}
-use Rattle.jb_rows.specs.Texts.{AreRowsOf, copied_header}
+use Rattle.jb_rows.specs.Streams.{csv_rows, kept_header}
+use Rattle.jb_rows.specs.Texts.{AreRowsOf, copied_by, copied_header}
 use Rattle.jb_rules.specs.declared.row.Row.{Row}
 use Rattle.jb_step.specs.Statuses.{status_of}
 
@@ -16,13 +17,14 @@ use Rattle.jb_step.specs.Statuses.{status_of}
 abbrev pub IsInput : JobRecord → (text : Option (List ℕ)) → (header records : List Fields) → Type 0
 IsInput job text header records = IfSome text (λ bytes. (header ≡ copied_header job.options bytes) × AreRowsOf job.options bytes records)
 
--- WHAT WAS WRITTEN IS THE HEADER ROW, IF IT IS COPIED, AND THE RESULTS OF ALL RECORDS THAT WERE READ, each a line, once and in order. Where
--- the bytes of a stream aren't known, nothing is said of them.
-pub record IsJobDone (job : JobRecord) (text old new : Option (List ℕ)) : Type 0 where
-  pub header : List Fields
+-- ---- AS ROWS
+
+-- THE RESULTS OF ALL RECORDS THAT WERE READ, once and in order, after the header row, if it is copied. Where the bytes of a stream aren't
+-- known, nothing is said of them.
+pub record AreAllResults (job : JobRecord) (text : Option (List ℕ)) (header results : List Fields) : Type 0 where
   pub records : List Fields
   pub read : IsInput job text header records
-  pub written : Appends old new (csv_rows job.options.delimiter (header ++ all_results job.answer records))
+  pub results_are : results ≡ all_results job.function.answer records
 
 -- the exit status: 0 for COMPLETED, 1 for FAILED, 2 where it was stopped
 abbrev pub exit_status : Status → ℕ
@@ -31,14 +33,36 @@ exit_status status.Failed = 1
 exit_status status.Stopped = 2
 exit_status status.Started = 2
 
--- So far as the step is, that is the results of each partition's records before its checkpoint, one partition behind the other; and the
+-- So far as the step is, these are the results of each partition's records before its checkpoint, one partition after the other; and the
 -- exit status is of the status of these rows.
-pub record IsDoneSoFar (job : JobRecord) (text old new : Option (List ℕ)) (status : ℕ) : Type 0 where
-  pub header : List Fields
+pub record AreResultsSoFar (job : JobRecord) (text : Option (List ℕ)) (header results : List Fields) (status : ℕ) : Type 0 where
   pub records : List Fields
   pub rows : List Row
   pub shares : List (List (List ℕ))
   pub read : IsInput job text header records
-  pub so_far : IsSoFar (step_function job) (map packed records) rows shares
-  pub written : Appends old new (csv_rows job.options.delimiter (header ++ map fields_in (joined shares)))
+  pub so_far : IsSoFar job.function (map packed records) rows shares
+  pub results_are : results ≡ map fields_in (joined shares)
   pub told : status ≡ exit_status (status_of rows false)
+
+-- the header row to copy that an answer in rows has, and its results
+abbrev pub header_in : {R : Type 0} → JobRecord → JobRows R → List Fields
+header_in job rows = copied_by job.options.header (kept_header rows.reader)
+
+abbrev pub results_in : {R : Type 0} → JobRows R → List Fields
+results_in rows = map fields_in rows.results
+
+-- ---- WRITTEN
+
+-- WHAT WAS WRITTEN IS THE HEADER ROW, IF IT IS COPIED, AND THE RESULTS OF ALL RECORDS THAT WERE READ, each a line, once and in order
+pub record IsJobDone (job : JobRecord) (text old new : Option (List ℕ)) : Type 0 where
+  pub header : List Fields
+  pub results : List Fields
+  pub all : AreAllResults job text header results
+  pub written : Appends old new (csv_rows job.options.delimiter (header ++ results))
+
+-- so far as the step is, those of each partition's records before its checkpoint
+pub record IsDoneSoFar (job : JobRecord) (text old new : Option (List ℕ)) (status : ℕ) : Type 0 where
+  pub header : List Fields
+  pub results : List Fields
+  pub so_far : AreResultsSoFar job text header results status
+  pub written : Appends old new (csv_rows job.options.delimiter (header ++ results))

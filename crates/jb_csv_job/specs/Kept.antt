@@ -4,7 +4,7 @@ use Rattle.sqlite.specs.State.{HasCleanDisk, State}
 use Rattle.jb_checkpoint.specs.Checkpoints.{Kept}
 use Rattle.jb_checkpoint_table.specs.Checkpoints.{ShowsList}
 use Rattle.jb_checkpoint_table.specs.Connections.{IsJustOpened}
-use Rattle.jb_csv_job.specs.Job.{JobRecord, step_function}
+use Rattle.jb_csv_job.specs.Job.{JobRecord}
 use Rattle.jb_records.specs.declared.step.RecordsStep.{RecordsStep}
 use Rattle.jb_records_checkpoints.specs.Checkpoints.{IsRunSoFar, form_of}
 use Rattle.jb_rows.specs.Fields.{Fields, packed}
@@ -19,7 +19,7 @@ pub record IsJobSoFar (job : JobRecord) (text : Option (List ℕ)) (all : List K
   pub read : AreRowsOf job.options bytes records
   pub step : RecordsStep
   pub same : form_of step (length records) ≡ job.form (length records)
-  pub so_far : IsRunSoFar (step_function job) step (map packed records) all
+  pub so_far : IsRunSoFar job.function step (map packed records) all
 
 -- THE JOB IS TAKEN UP behind these checkpoints of it: a connection that was just opened shows them, and its disk is clean to the end
 pub record IsTakenUp (job : JobRecord) (text : Option (List ℕ)) (before after : State) (all : List Kept) : Type 0 where

@@ -10,7 +10,7 @@ ghost use Rattle.jb_base.specs.Limits.{max_threads_asked};
 ghost use Rattle.jb_checkpoint.specs.Checkpoints.{Kept};
 ghost use Rattle.jb_checkpoint_table.specs.Checkpoints.{Has};
 ghost use Rattle.jb_csv_job.specs.Done.{IsDoneSoFar, IsJobDone};
-ghost use Rattle.jb_csv_job.specs.Job.{job_record, no_tries};
+ghost use Rattle.jb_csv_job.specs.Job.{job_record};
 ghost use Rattle.jb_csv_job.specs.Kept.{IsJobSoFar};
 ghost use Rattle.jb_durable.specs.Files.{IsOfARun};
 ghost use Rattle.jb_store.specs.Files.{HoldsWhole};
@@ -20,7 +20,7 @@ use crate::failure::Failure;
 use crate::job::CsvJob;
 use crate::opening::words_of;
 use crate::run::run_csv_job;
-use jb_rows::RowFunction;
+use jb_records::StepFunction;
 use jb_store::{closed, connect};
 use sqlite::{FileFrom, Files, Start, Wary};
 use sqlite_disk::Disk;
@@ -44,7 +44,7 @@ impl Host for HostRuntime {
 /// `run_csv_job` over the file at a path, which is made if there is none; and its files, which are shut again. `Err` only if the file
 /// isn't taken.
 pub fn run_job_at<
-    F: RowFunction + Drop + 'static,
+    F: StepFunction + Drop + 'static,
     T: Threads + Wait + Clock + Eprint + Host + Copy + Send + Sync + 'static,
     S: Start,
     R: Read + Drop,
@@ -63,19 +63,19 @@ pub fn run_job_at<
 
     // Of a file that held checkpoints of the job, none among them: with status 0 the results of all records are written.
     ensures all { IfOk result (λ r. AreClean ⟦<FileFrom<S> as Disk>⟧ r.0.log r.0.db → (db : Trees) (all : List Kept) → HoldsDatabase (image_at S.Start) db → Has db all
-        → IsJobSoFar (job_record job.now (F.answer function) no_tries) (R.remaining from) all
-        → IfOk r.1 (λ done. done.0 ≡ 0 → IsJobDone (job_record job.now (F.answer function) no_tries) (R.remaining from) (W.contents to) (W.contents done.1))) }
+        → IsJobSoFar (job_record job.now (F.function function)) (R.remaining from) all
+        → IfOk r.1 (λ done. done.0 ≡ 0 → IsJobDone (job_record job.now (F.function function)) (R.remaining from) (W.contents to) (W.contents done.1))) }
 
     // With any status those so far are.
     ensures so_far { IfOk result (λ r. AreClean ⟦<FileFrom<S> as Disk>⟧ r.0.log r.0.db → (db : Trees) (all : List Kept) → HoldsDatabase (image_at S.Start) db → Has db all
-        → IsJobSoFar (job_record job.now (F.answer function) no_tries) (R.remaining from) all
-        → IfOk r.1 (λ done. IsDoneSoFar (job_record job.now (F.answer function) no_tries) (R.remaining from) (W.contents to) (W.contents done.1) done.0)) }
+        → IsJobSoFar (job_record job.now (F.function function)) (R.remaining from) all
+        → IfOk r.1 (λ done. IsDoneSoFar (job_record job.now (F.function function)) (R.remaining from) (W.contents to) (W.contents done.1) done.0)) }
 
     // Whatever a crash leaves of the files then holds such checkpoints again.
     ensures crash { IfOk result (λ r. AreClean ⟦<FileFrom<S> as Disk>⟧ r.0.log r.0.db → (db : Trees) (all : List Kept) → HoldsDatabase (image_at S.Start) db → Has db all
-        → IsJobSoFar (job_record job.now (F.answer function) no_tries) (R.remaining from) all
+        → IsJobSoFar (job_record job.now (F.function function)) (R.remaining from) all
         → (image : Image) → outcomes ⟦<FileFrom<S> as Disk>⟧ r.0.log r.0.db image
-        → ∥ ((left : Trees) × HoldsWhole image left × IsOfARun (IsJobSoFar (job_record job.now (F.answer function) no_tries) (R.remaining from)) left) ∥₁) }
+        → ∥ ((left : Trees) × HoldsWhole image left × IsOfARun (IsJobSoFar (job_record job.now (F.function function)) (R.remaining from)) left) ∥₁) }
 {
     let host = rt.host();
     let mut conn = connect(host, path, start)?;
@@ -96,7 +96,7 @@ pub fn run_job_at<
 /// FILE, and writes the results on standard output. Gives the exit status: 0 for COMPLETED, 1 for FAILED, and 3 if there is no answer, which
 /// a line on standard error explains.
 pub fn run_job<
-    F: RowFunction + Drop + 'static,
+    F: StepFunction + Drop + 'static,
     T: Threads + Wait + Clock + Eprint + Host + Copy + Send + Sync + 'static,
 >(rt: &T, job: &CsvJob, function: F) -> ExitCode {
     exit_code(rt, job, answer_of(rt, job, function))
@@ -104,7 +104,7 @@ pub fn run_job<
 
 /// The answer of the job that the command line asks for.
 fn answer_of<
-    F: RowFunction + Drop + 'static,
+    F: StepFunction + Drop + 'static,
     T: Threads + Wait + Clock + Eprint + Host + Copy + Send + Sync + 'static,
 >(rt: &T, job: &CsvJob, function: F) -> Result<(u8, Stdout), Failure> {
     let host = rt.host();

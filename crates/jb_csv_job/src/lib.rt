@@ -5,17 +5,15 @@
 //! - `opening`: the words of the command line, and the file that they name.
 //! - `reading`: the records of a stream. `writing`: its results to a stream. `progress`: how far the step is; `reporting`: which records are
 //!   skipped or fail, by the names of `fault_class`.
-//! - `on_packed`: the function, as the step takes it. `first_tries`: first tries that fail, as a simulation has them.
-//! - `run`: the run. `failure`: why there is no answer. `exit`: the exit status.
+//! - `run`: the run, to rows (`job_rows`) or to a stream. `failure`: why there is no answer. `exit`: the exit status.
 #![tactic(auto)]
 
 mod exit;
 mod failure;
 mod fault_class;
-mod first_tries;
 mod job;
 mod job_main;
-mod on_packed;
+mod job_rows;
 mod opening;
 mod progress;
 mod reading;
@@ -27,9 +25,9 @@ mod writing;
 pub use exit::exit_code;
 pub use failure::{Failure, FailureText};
 pub use fault_class::{Fate, FaultClass};
-pub use first_tries::{FirstTries, NoTries};
 pub use jb_store::closed;
 pub use job::CsvJob;
 pub use job_main::{Host, run_job, run_job_at};
+pub use job_rows::JobRows;
 pub use opening::{Asked, opened};
-pub use run::{run_csv_job, run_csv_job_with_tries};
+pub use run::{run_csv_job, run_to_rows};

@@ -3,12 +3,13 @@
 use crate::fault_class::{Fate, FaultClass, fate_of, name_of};
 use crate::job::CsvJob;
 use jb_base::{ClassId, PackedList};
-use jb_rows::{Outcome, Row as Fields, RowBuilder, RowFunction};
+use jb_records::StepFunction;
+use jb_rows::{Outcome, Row as Fields, RowBuilder};
 use jb_rules::Row;
 use std::alloc::Global;
 
 /// The class of the fault with which a record is refused, if it is.
-fn refusal_of<F: RowFunction>(
+fn refusal_of<F: StepFunction>(
     function: &F,
     records: &PackedList,
     number: u64,
@@ -22,21 +23,36 @@ fn refusal_of<F: RowFunction>(
     }
 }
 
+/// The line in which the record of this number begins, the first line being 1. One that isn't known is 0.
+fn line_of(lines: &[u64], number: u64) -> u64 {
+    lines.get(number as usize).copied().unwrap_or(0)
+}
+
+/// How many records the row counts as skipped. One that an earlier version wrote has its own in READ_SKIP.
+fn skips_in(row: &Row) -> u64 {
+    row.counts.process_skip.saturating_add(row.counts.read_skip)
+}
+
 /// Says which records before a partition's checkpoint were skipped.
-fn tell_skips<F: RowFunction, T: Eprint>(
+fn tell_skips<F: StepFunction, T: Eprint>(
     rt: &T,
     classes: &[FaultClass],
     function: &F,
     records: &PackedList,
+    lines: &[u64],
     row: &Row,
     built: &mut RowBuilder,
 ) {
-    if row.counts.read_skip == 0 {
+    if skips_in(row) == 0 {
         return;
     }
     for number in row.lo..row.at {
         if let Some(class) = refusal_of(function, records, number, built) {
-            let _told = eprintln!(rt; "record {number} is skipped: {}", name_of(classes, class));
+            let _told = eprintln!(rt;
+                "record {number} (line {}) is skipped: {}",
+                line_of(lines, number),
+                name_of(classes, class)
+            );
         }
     }
 }
@@ -51,19 +67,24 @@ fn is_skipped(job: &CsvJob, class: ClassId, skips: u64) -> bool {
 }
 
 /// Says which record ended a partition: the first from its checkpoint on that is refused and not skipped.
-fn tell_failure<F: RowFunction, T: Eprint>(
+fn tell_failure<F: StepFunction, T: Eprint>(
     rt: &T,
     job: &CsvJob,
     function: &F,
     records: &PackedList,
+    lines: &[u64],
     row: &Row,
     built: &mut RowBuilder,
 ) {
-    let mut skips = row.counts.read_skip;
+    let mut skips = skips_in(row);
     for number in row.at..row.hi {
         if let Some(class) = refusal_of(function, records, number, built) {
             if !is_skipped(job, class, skips) {
-                let _told = eprintln!(rt; "record {number} fails: {}", name_of(job.classes, class));
+                let _told = eprintln!(rt;
+                    "record {number} (line {}) fails: {}",
+                    line_of(lines, number),
+                    name_of(job.classes, class)
+                );
                 return;
             }
             skips = skips.saturating_add(1);
@@ -75,21 +96,22 @@ fn tell_failure<F: RowFunction, T: Eprint>(
     );
 }
 
-/// Says on standard error which records were skipped and which ended their partition, each with its number, the first being 0, and the name
-/// of its class.
-pub(crate) fn report<F: RowFunction, T: Eprint>(
+/// Says on standard error which records were skipped and which ended their partition, each with its number, the first being 0, the line in
+/// which it begins, the first being 1, and the name of its class.
+pub(crate) fn report<F: StepFunction, T: Eprint>(
     rt: &T,
     alloc: Global,
     job: &CsvJob,
     function: &F,
     records: &PackedList,
+    lines: &[u64],
     rows: &[Row],
 ) {
     let mut built = RowBuilder::new(alloc);
     for row in rows {
-        tell_skips(rt, job.classes, function, records, row, &mut built);
+        tell_skips(rt, job.classes, function, records, lines, row, &mut built);
         if row.state.is_failed() {
-            tell_failure(rt, job, function, records, row, &mut built);
+            tell_failure(rt, job, function, records, lines, row, &mut built);
         }
     }
 }

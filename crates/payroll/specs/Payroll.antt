@@ -26,7 +26,7 @@ abbrev pub payroll_options : RowsOptions
 payroll_options = record { input = input.Csv; delimiter = 44; longest = 1048576; header = header.None }
 
 abbrev pub payroll : JobRecord
-payroll = record { answer = pay_slip; tries = sheet_tries; options = payroll_options; form = payroll_form }
+payroll = record { function = record { answer = pay_slip; tries = sheet_tries }; options = payroll_options; form = payroll_form }
 
 -- ---- WHAT IS KEPT AND WRITTEN
 

@@ -5,7 +5,8 @@ ghost use Rattle.payroll.specs.Sheets.{broken_class, pay_slip, sheet_tries, unst
 
 use crate::sheet::{is_shaky, named_pay};
 use jb_base::ClassId;
-use jb_csv_job::{Fate, FaultClass, FirstTries};
+use jb_csv_job::{Fate, FaultClass};
+use jb_records::FirstTries;
 use jb_rows::{Outcome, Row, RowBuilder, RowFunction};
 use std::alloc::{AllocError, Global};
 

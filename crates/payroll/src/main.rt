@@ -21,7 +21,8 @@ mod sheet;
 
 use clerk::{BadDay, CLASSES, Clerk};
 use jb_base::DEFAULT_RETRY_LIMIT;
-use jb_csv_job::{CsvJob, Failure, closed, exit_code, opened, run_csv_job_with_tries};
+use jb_csv_job::{CsvJob, Failure, closed, exit_code, opened, run_csv_job};
+use jb_records::Shaky;
 use jb_rows::RowsOptions;
 use sqlite::{Alter, Connection};
 use std::alloc::Global;
@@ -69,7 +70,11 @@ fn answer<
     ensures crash { (all : List Kept) → IsTakenUp payroll (R.remaining from) (state S.Store conn.old) (state S.Store conn.new) all
         → (db : _) → (state S.Store conn.new).may_leave db → IsOfARun (IsPayrollSoFar (R.remaining from)) db }
 {
-    run_csv_job_with_tries(rt, alloc, &JOB, threads, Clerk, BadDay, conn, from, to)
+    let clerk = Shaky {
+        function: Clerk,
+        tries: BadDay,
+    };
+    run_csv_job(rt, alloc, &JOB, threads, clerk, conn, from, to)
 }
 
 fn main(rt: HostRuntime) -> ExitCode {
