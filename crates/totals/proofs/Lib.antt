@@ -1,0 +1,4 @@
+pub mod ByName
+pub mod ListOfPrices
+pub mod OneMore
+pub mod Payments

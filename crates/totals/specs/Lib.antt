@@ -1,0 +1,5 @@
+pub mod Amounts
+pub mod Job
+pub mod Prices
+pub mod Sales
+pub mod Totals
