@@ -1,12 +1,14 @@
 #!/usr/bin/env python3
-"""The payroll beside plain programs that do the same: one in Rust over its crate `csv`, two in Python over its module `csv`.
+"""The payroll beside programs that do the same: its step in memory, one in Rust over its crate `csv`, two in Python over its module `csv`.
 
     bench/job.py [--sheets N] [--program PATH] [--plain] [--runs N] [--folder PATH]
 
 Each reads N time sheets (1,000,000 if it isn't given), lines as `N0,37,4512`, and writes their pay slips. `payroll` runs on one thread and
-on four, with its checkpoints in a file; it is the gate's, or the one that PAYROLL or --program names. `plain Rust` (job/main.rs) and
-`Python` (job/plain.py) run on one thread, and keep nothing. `Python, kept` (job/kept.py) keeps each second's work in a file by `sqlite3`,
-as `payroll` does. First their pay slips are compared, of the time sheets and of the payroll's stored run; where they differ, the script ends.
+on four, with its checkpoints in a file; it is the gate's, or the one that PAYROLL or --program names. `unkept` is the same step of the same
+function in memory, and keeps nothing; programs.py proves and builds it, unless BENCH_BUILT names a folder that has it. `plain Rust`
+(job/main.rs) and `Python` (job/plain.py) run on one thread, and keep nothing. `Python, kept` (job/kept.py) keeps each second's work in a file
+by `sqlite3`, as `payroll` does. First their pay slips are compared, of the time sheets and of the payroll's stored run; where they differ, the
+script ends.
 
 | Column | What it has |
 |---|---|
@@ -19,7 +21,7 @@ as `payroll` does. First their pay slips are compared, of the time sheets and of
 The two sizes are a twentieth and a tenth of N, up to 50,000 and 100,000; for Python up to 10,000 and 20,000, which callgrind slows down most.
 Under callgrind a program works for more seconds, so a little more of its checkpoints is counted.
 
---plain leaves `payroll` out. --folder says where the files are: on another disk a checkpoint takes another time. The table is Markdown, as
+--plain leaves `payroll` and `unkept` out. --folder says where the files are: on another disk a checkpoint takes another time. The table is Markdown, as
 docs/SCALING.md has it. The plain program in Rust needs `cargo` and Debian's librust-csv-dev; the counts need valgrind. No number here
 decides the gate.
 """
@@ -35,6 +37,7 @@ import tempfile
 import time
 
 import csv_program
+import programs
 from durable import PAYROLL
 from measure import BENCH, TOP, instructions, measure
 
@@ -82,14 +85,19 @@ def plain_rust(room):
     return program
 
 
+def on_threads(name, program, is_kept):
+    for threads in (1, 4):
+        yield Job(f"{name}, {threads} thread{'s' if threads > 1 else ''}", [program, str(threads)], is_kept)
+
+
 def jobs_of(asked, room):
     if lacking := csv_program.lacking():
         sys.exit(f"the plain program in Rust needs {lacking}, which isn't here")
     if not asked.plain:
         if not os.access(asked.program, os.X_OK):
             sys.exit(f"no program {asked.program}: tools/build-program payroll builds it")
-        for threads in (1, 4):
-            yield Job(f"`payroll`, {threads} thread{'s' if threads > 1 else ''}", [os.path.abspath(asked.program), str(threads)], True)
+        yield from on_threads("`payroll`", os.path.abspath(asked.program), True)
+        yield from on_threads("`unkept`", programs.build("unkept", os.path.join(room, "unkept")), False)
     python = [sys.executable, "-B"]
     yield Job("plain Rust", [plain_rust(room)])
     yield Job("Python", [*python, os.path.join(BENCH, "job/plain.py")], most_counted=MOST_COUNTED_OF_PYTHON)

@@ -29,7 +29,7 @@ def sheet(chance, number):
     name, hours, rate = f"n{number}", chance.randint(0, 200), chance.randint(1, 9_999)
     kind = chance.random()
     if kind < 0.04:
-        return f"{name},forty,{rate}", None  # can't be read: skipped
+        return f"{name},forty,{rate}", None  # it has no pay slip: skipped
     if kind < 0.06:
         return f"{name},{hours}", None
     if kind < 0.14 and number // CALM % 2 == 0:

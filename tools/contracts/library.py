@@ -37,6 +37,8 @@ class Library:
         importing = [*self.imports.values(), *(each.imports for source in self.sources.values() for each in [source, *source.impls])]
         for imports in importing:
             for module, name in imports.values():
+                if not name and module in self.imports:  # a file of definitions under another name
+                    continue
                 module, name = self.passed_on(module, name or "x")
                 if module.partition(".")[0] in crates and not self.imported(module, name):
                     yield f"{module}.{name}"
