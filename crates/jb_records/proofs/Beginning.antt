@@ -5,6 +5,7 @@ use Rattle.std.specs.Prelude.{◌==◌, IsTrue, nat_eq, slice_get}
 use Rattle.std.specs.List.{enumerate_from, zip}
 use Rattle.jb_base.specs.Pairwise.{Pairwise}
 use Rattle.jb_base.specs.Rules.{RulesRecord}
+use Rattle.jb_base.specs.declared.range.Range.{Range}
 use Rattle.jb_artifacts.specs.Meaning.{ArtifactsMeaning}
 use Rattle.jb_job.specs.Reading.{tree_of}
 use Rattle.jb_rules.specs.declared.row.Row.{Row}
@@ -17,7 +18,8 @@ use Rattle.jb_saved.specs.Reading.{answer_of}
 use Rattle.jb_saved.specs.SavedRows.{SavedRows}
 use Rattle.jb_step.specs.preparing.Setup.{IsSetup, Setup, needs, unfinished}
 use Rattle.jb_records.specs.declared.step.RecordsStep.{RecordsStep}
-use Rattle.jb_records.specs.Function.{Function}
+use Rattle.jb_records.specs.Following.{FollowRules, ranges_of}
+use Rattle.jb_records.specs.Function.{Function, IsSteady}
 use Rattle.jb_records.specs.Shares.{AreNumbered, AreAtTheirEnds, IsSoFar, newer_share, newer_shares}
 use Rattle.jb_records.specs.Steps.{AreFirstArtifacts, AreArtifacts}
 use Rattle.jb_records.specs.Stretches.{GoesBy, RunState, StandsOver, numbers_in, artifacts_in}
@@ -98,15 +100,22 @@ kept-first f rules records step setup shares ns ws s named zipped ruled are step
 
 -- ---- WHERE IT STANDS
 
-pub kept-stands : (f : Function) (records : List (List ℕ)) (step : List ℕ) (setup : Setup) (shares : List (List (List ℕ))) (s : RunState) → IsKept f records step setup shares s → IsSetup setup → IsSoFar f records setup.rows shares → StandsOver f records s
-kept-stands f records step setup shares s kept is so = record {
+pub kept-stands : (f : Function) (records : List (List ℕ)) (step : List ℕ) (setup : Setup) (shares : List (List (List ℕ))) (s : RunState) → IsKept f records step setup shares s → IsSetup setup → IsSoFar f records setup.rows shares
+    → (IsSteady f → FollowRules f setup.rules records setup.rows) → StandsOver f records s
+kept-stands f records step setup shares s kept is so follow = record {
   number = kept.number;
   setup = subst IsSetup (sym kept.setup_is) is;
   so_far = subst (IsSoFar f records s.setup.rows) (sym kept.shares_are) (subst (λ (x : Setup). IsSoFar f records x.rows shares) (sym kept.setup_is) so);
   partitions = kept.partitions ∙ sym (ap (λ (x : Setup). needs x.rows) kept.setup_is);
   artifacts = subst (λ (xs : List (List (List ℕ))). AreArtifacts f s.setup.rules records xs (unfinished s.setup.rows) (artifacts_in s.artifacts)) (sym kept.shares_are)
       (subst (λ (x : Setup). AreArtifacts f x.rules records shares (unfinished x.rows) (artifacts_in s.artifacts)) (sym kept.setup_is) kept.artifacts);
+  follows = λ steady. subst (λ (x : Setup). FollowRules f x.rules records x.rows) (sym kept.setup_is) (follow steady);
 }
+
+-- with the ranges that it was prepared for
+pub kept-ranges : (f : Function) (records : List (List ℕ)) (step : List ℕ) (setup : Setup) (shares : List (List (List ℕ))) (s : RunState) (ranges : List Range) → IsKept f records step setup shares s → ranges_of setup.rows ≡ ranges
+    → ranges_of s.setup.rows ≡ ranges
+kept-ranges f records step setup shares s ranges kept are = ap (λ (x : Setup). ranges_of x.rows) kept.setup_is ∙ are
 
 -- by the rules of the step that it was prepared for
 pub goes-by : (f : Function) (records : List (List ℕ)) (id : List ℕ) (step : RecordsStep) (setup : Setup) (shares : List (List (List ℕ))) (s : RunState) → IsKept f records id setup shares s
@@ -117,12 +126,16 @@ goes-by f records id step setup shares s kept ruled counted = record {
 }
 
 -- behind the rows of a text
-pub behind-stands : (f : Function) (records : List (List ℕ)) (step text : List ℕ) (own held : SavedRows) (setup : Setup) (shares given : List (List (List ℕ))) (s : RunState) → IsKept f records step setup shares s → IsSetup setup
-    → setup.rows ≡ rows_restarted own → shares ≡ given → answer_of (tree_of text) ≡ Ok own → answer_of (tree_of text) ≡ Ok held → IsSoFar f records held.rows given → StandsOver f records s
-behind-stands f records step text own held setup shares given s kept is rows same read other so =
-    let mine = subst (λ (h : SavedRows). IsSoFar f records h.rows given) (same-held (answer_of (tree_of text)) held own other read) so in
+pub behind-stands : (f : Function) (records : List (List ℕ)) (step text : List ℕ) (own held : SavedRows) (setup : Setup) (shares given : List (List (List ℕ))) (s : RunState) → (rules : RulesRecord) → IsKept f records step setup shares s → IsSetup setup
+    → setup.rows ≡ rows_restarted own → setup.rules ≡ rules → shares ≡ given → answer_of (tree_of text) ≡ Ok own → answer_of (tree_of text) ≡ Ok held → IsSoFar f records held.rows given
+    → (IsSteady f → FollowRules f rules records (rows_restarted held)) → StandsOver f records s
+behind-stands f records step text own held setup shares given s rules kept is rows ruled same read other so follow =
+    let one = same-held (answer_of (tree_of text)) held own other read in
+    let mine = subst (λ (h : SavedRows). IsSoFar f records h.rows given) one so in
     let again = subst (λ (rs : List Row). IsSoFar f records rs given) (sym rows) (so-far-again f records own given mine) in
     kept-stands f records step setup shares s kept is (subst (IsSoFar f records setup.rows) (sym same) again)
+    (λ steady. subst (λ (rs : List Row). FollowRules f setup.rules records rs) (sym rows)
+    (subst (λ (r : RulesRecord). FollowRules f r records (rows_restarted own)) (sym ruled) (subst (λ (h : SavedRows). FollowRules f rules records (rows_restarted h)) one (follow steady))))
 
 -- ---- WHETHER IT IS WHOLE
 

@@ -1,7 +1,7 @@
 -- As many records are counted as skipped as can't be read.
-use Rattle.std.proofs.Common.{◌≡◌, ℕ, zero, suc, ◌+◌, ◌-◌, ◌≤◌, ◌<◌, ◌++◌, Bool, true, false, cond, List, [], ◌∷◌, length, map, Option, None, Some, is_some, refl, ap, ap₂, sym, subst, ◌∙◌, arith}
-use Rattle.std.specs.Prelude.{nat_eq, slice_get}
-use Rattle.std.specs.List.{cons_option, count_by, enumerate_from, filter_map, range_with_len}
+use Rattle.std.proofs.Common.{◌≡◌, ℕ, zero, suc, ◌+◌, ◌-◌, ◌≤◌, ◌<◌, ◌++◌, Bool, false, cond, List, [], ◌∷◌, length, Option, None, Some, is_some, refl, ap, ap₂, sym, subst, ◌∙◌, arith}
+use Rattle.std.specs.Prelude.{slice_get}
+use Rattle.std.specs.List.{cons_option, count_by, filter_map, range_with_len}
 use Rattle.std.proofs.lemmas.List.{length-append}
 use Rattle.std.proofs.lemmas.List.Elements.{filter_map-append}
 use Rattle.std.proofs.lemmas.List.Sums.{sum_by-cons}
@@ -28,13 +28,14 @@ use Rattle.jb_step.specs.Alone.{AreOnTheWay}
 use Rattle.jb_step.specs.Answers.{IsRunOfStep, StepRun, tasks_after, tasks_before}
 use Rattle.jb_step.specs.rounds.PlanLaws.{AreTasksOf, BeginsWithRows, BeginsWithTasks}
 use Rattle.jb_step.specs.preparing.Prepare.{DoFit}
-use Rattle.jb_step.specs.preparing.Setup.{IsSetup, Setup, first_tasks, fresh_rows, row_now, rows_now, unfinished}
+use Rattle.jb_step.specs.preparing.Setup.{IsSetup, Setup, first_tasks, fresh_rows, rows_now, unfinished}
 use Rattle.jb_records.specs.Function.{Function, answer_for, refusal_in, refusal_of, result_in, result_of}
 use Rattle.jb_records.specs.Runs.{HasResults, PartsStay, ResultsGoOn}
 use Rattle.jb_records.specs.Shares.{IsSoFar}
 use Rattle.jb_records.specs.Skips.{AreCounted, AreSkipsCounted, NewRowsAreCounted, SkipsAreCounted, skip_by, skips_between}
 use Rattle.jb_records.specs.Steps.{AreArtifacts, BeginsAnew}
 use Rattle.jb_records.specs.Artifacts.{IsArtifactsOver, IsFaulted, IsNeverSkipped, own_records, record_of}
+use Rattle.jb_records.proofs.EachRow.{Stays, TasksStay, rows-stay}
 use Rattle.jb_records.proofs.Going.{Commits, HasBlock, all-written, commit-none, entry-is, live-never, never, never-stops, repeated-task, repeats-have, same-task, way-on, whole_counts}
 use Rattle.jb_records.proofs.Joining.{own-record}
 use Rattle.jb_records.proofs.Skipping.{skips-none}
@@ -67,7 +68,7 @@ no-read : (fault : Option ClassId) (answer : Option (List ℕ)) → is_read_faul
 no-read None answer = refl
 no-read (Some class) answer = refl
 
-noted : (k : ℕ) (refusal : Option ClassId) → is_some refusal ≡ is_some (skip_by k refusal)
+pub noted : (k : ℕ) (refusal : Option ClassId) → is_some refusal ≡ is_some (skip_by k refusal)
 noted k None = refl
 noted k (Some class) = refl
 
@@ -75,7 +76,7 @@ one-more : (o : Option Note) (xs : List Note) → cond (is_some o) 1 0 + length 
 one-more None xs = omega arith
 one-more (Some note) xs = omega arith
 
-counted-are : (p : ℕ → Bool) (g : ℕ → Option Note) (n lo : ℕ) → ((k : ℕ) → lo ≤ k → k < lo + n → p k ≡ is_some (g k)) → count_by p (range_with_len lo n) ≡ length (filter_map g (range_with_len lo n))
+pub counted-are : (p : ℕ → Bool) (g : ℕ → Option Note) (n lo : ℕ) → ((k : ℕ) → lo ≤ k → k < lo + n → p k ≡ is_some (g k)) → count_by p (range_with_len lo n) ≡ length (filter_map g (range_with_len lo n))
 counted-are p g zero lo are = refl
 counted-are p g (suc n) lo are =
     let rest = counted-are p g n (lo + 1) (λ k from to. are k (omega (arith, from)) (omega (arith, to))) in
@@ -89,7 +90,7 @@ none-counted p (suc n) lo none =
     sum_by-cons (λ k. cond (p k) 1 0) lo (range_with_len (lo + 1) n)
     ∙ ap₂ (λ (b : Bool) (m : ℕ). cond b 1 0 + m) (none lo) (none-counted p n (lo + 1) none)
 
-reads-counted : (f : Function) (first : ℕ) (records : List (List ℕ)) (rules : RulesRecord) (w : ArtifactsMeaning) (lo hi : ℕ) → IsArtifactsOver f rules first records w → count_of is_read_fault w lo hi ≡ 0
+pub reads-counted : (f : Function) (first : ℕ) (records : List (List ℕ)) (rules : RulesRecord) (w : ArtifactsMeaning) (lo hi : ℕ) → IsArtifactsOver f rules first records w → count_of is_read_fault w lo hi ≡ 0
 unfolding count_of
 reads-counted f first records rules w lo hi is =
     none-counted (λ k. is_read_fault (entry w k)) (hi - lo) lo
@@ -111,7 +112,7 @@ faults-counted f records t has last none =
     ∙ noted k (refusal_of f (record_of 0 records k)))
 
 -- so the skips of processing are those of records that are refused
-block-counted : (f : Function) (records : List (List ℕ)) (t : TaskState) → HasResults f records t → (block_of t).hi ≤ t.row.hi → settled_at t ≡ None
+pub block-counted : (f : Function) (records : List (List ℕ)) (t : TaskState) → HasResults f records t → (block_of t).hi ≤ t.row.hi → settled_at t ≡ None
     → count_of is_fault t.artifacts t.row.at (block_of t).hi - count_of is_read_fault t.artifacts t.row.at (block_of t).hi ≡ length (skips_between f records t.row.at (block_of t).hi)
 block-counted f records t has last none =
     let reads = reads-counted f t.row.lo (own_records records t.row) t.rules t.artifacts t.row.at (block_of t).hi has.artifacts in
@@ -120,7 +121,7 @@ block-counted f records t has last none =
 
 -- ---- ATTEMPT BY ATTEMPT
 
-skips-join : (f : Function) (records : List (List ℕ)) (lo at hi : ℕ) → lo ≤ at → at ≤ hi → skips_between f records lo at ++ skips_between f records at hi ≡ skips_between f records lo hi
+pub skips-join : (f : Function) (records : List (List ℕ)) (lo at hi : ℕ) → lo ≤ at → at ≤ hi → skips_between f records lo at ++ skips_between f records at hi ≡ skips_between f records lo hi
 skips-join f records lo at hi from to =
     let g : ℕ → Option Note = λ k. skip_by k (refusal_of f (record_of 0 records k)) in
     let start : lo + (at - lo) ≡ at = omega (arith, from) in
@@ -180,10 +181,7 @@ run-counts stand join law goes f records start ready begun (e ∷ es) t s way ru
 -- ---- THE PARTITIONS OF A STEP
 
 -- a row that is counted is still so
-abbrev Stays : Function → List (List ℕ) → Row → Row → Type 0
-Stays f records row now = AreSkipsCounted f records row → AreSkipsCounted f records now
-
-task-stays : (f : Function) (records : List (List ℕ)) (t x : TaskState) → t.row.lo ≤ t.row.at → x.row.lo ≡ t.row.lo → Counts f records t.row x.row → Stays f records t.row x.row
+task-stays : (f : Function) (records : List (List ℕ)) (t x : TaskState) → t.row.lo ≤ t.row.at → x.row.lo ≡ t.row.lo → Counts f records t.row x.row → Stays (AreSkipsCounted f records) t.row x.row
 task-stays f records t x from lo more is =
     let on = more.on in
     let one = more.counted in
@@ -191,30 +189,14 @@ task-stays f records t x from lo more is =
     let same = ap (λ n. length (skips_between f records n x.row.at)) lo in
     omega (arith, is, one, all, same)
 
-stays-by : (f : Function) (records : List (List ℕ)) (b : Bool) (first now row other : Row) → Stays f records first now → Stays f records row other → Stays f records (cond b first row) (cond b now other)
-stays-by f records true first now row other is others = is
-stays-by f records false first now row other is others = others
-
-abbrev TasksStay : Function → List (List ℕ) → List TaskState → List TaskState → Type 0
-TasksStay f records ts now = (p : ℕ) (row : Row) → Stays f records (row_now ts p row) (row_now now p row)
-
 tasks-stay : TasksStandAtCheckpoints → WaysJoin → RepeatsAreRetries → ResultsGoOn → PartsStay → (f : Function) (records : List (List ℕ)) (s : Setup) (ts now : List TaskState)
-    → AreTasksOf s ts → HaveResults f records ts → AreOnTheWay ts now → TasksStay f records ts now
-tasks-stay stand join law goes parts f records s [] [] ready have ways p row = λ is. is
-tasks-stay stand join law goes parts f records s [] (x ∷ xs) ready have ways p row = absurd ways
-tasks-stay stand join law goes parts f records s (t ∷ ts) [] ready have ways p row = absurd ways
-tasks-stay stand join law goes parts f records s (t ∷ ts) (x ∷ xs) ready have ways p row =
-    let same = parts t x ways.0 in
+    → AreTasksOf s ts → HaveResults f records ts → AreOnTheWay ts now → TasksStay (AreSkipsCounted f records) ts now
+tasks-stay stand join law goes parts f records s [] [] ready have ways = tt
+tasks-stay stand join law goes parts f records s [] (x ∷ xs) ready have ways = absurd ways
+tasks-stay stand join law goes parts f records s (t ∷ ts) [] ready have ways = absurd ways
+tasks-stay stand join law goes parts f records s (t ∷ ts) (x ∷ xs) ready have ways =
     let more = run-counts stand join law goes f records t ready.0.0 have.0 ways.0.attempts t x (record { attempts = []; run = refl }) ways.0.run in
-    let here = task-stays f records t x have.0.from same.lo more in
-    let later = tasks-stay stand join law goes parts f records s ts xs ready.1 have.1 ways.1 p row in
-    let both = stays-by f records (nat_eq t.partition p) t.row x.row (row_now ts p row) (row_now xs p row) here later in
-    subst (λ q. Stays f records (cond (nat_eq t.partition p) t.row (row_now ts p row)) (cond (nat_eq q p) x.row (row_now xs p row))) (sym same.partition) both
-
-rows-stay : (f : Function) (records : List (List ℕ)) (ts now : List TaskState) (k : ℕ) (rows : List Row) → TasksStay f records ts now
-    → AreCounted f records (map (λ n. row_now ts n.0 n.1) (enumerate_from k rows)) → AreCounted f records (map (λ n. row_now now n.0 n.1) (enumerate_from k rows))
-rows-stay f records ts now k [] stay are = tt
-rows-stay f records ts now k (row ∷ rows) stay are = (stay k row are.0, rows-stay f records ts now (k + 1) rows stay are.1)
+    (task-stays f records t x have.0.from (parts t x ways.0).lo more, tasks-stay stand join law goes parts f records s ts xs ready.1 have.1 ways.1)
 
 pub skips-counted : TasksStandAtCheckpoints → WaysJoin → RepeatsAreRetries → ResultsGoOn → PartsStay → BeginsWithTasks → BeginsWithRows → SkipsAreCounted
 skips-counted stand join law goes parts begins same f records shares s artifacts ends is fit are ways so-far counted =
@@ -222,7 +204,7 @@ skips-counted stand join law goes parts begins same f records shares s artifacts
     let ts = first_tasks s artifacts in
     let begun = all-begun f records shares s 0 s.rows shares artifacts so-far.each (λ i share get. let e : i ≡ 0 + i = omega arith in subst (λ m. slice_get shares m ≡ Some share) e get) are ready in
     let stay = tasks-stay stand join law goes parts f records s ts ends ready begun ways in
-    rows-stay f records ts ends 0 s.rows stay (subst (AreCounted f records) (sym (same s artifacts fit)) counted)
+    rows-stay (AreSkipsCounted f records) parts ts ends 0 s.rows ways stay (subst (AreCounted f records) (sym (same s artifacts fit)) counted)
 
 -- ---- A STEP THAT BEGINS ANEW
 

@@ -34,9 +34,9 @@ use Rattle.jb_chunk.proofs.SettlingRecord.{numbers-split}
 use Rattle.jb_chunk.proofs.ArtifactsUsed.{read_end, write_plans, more_written, used-as}
 use Rattle.jb_chunk.proofs.WrittenResults.{take-front, whole-kept, whole-written}
 use Rattle.jb_rows.specs.Answers.{Answer, Filtered, Given, Refused}
-use Rattle.jb_records.specs.Function.{Function, answer_for, refusal_in, refusal_of, result_in, result_of}
+use Rattle.jb_records.specs.Function.{Function, IsSteady, answer_for, refusal_in, refusal_of, result_in, result_of}
 use Rattle.jb_records.specs.Runs.{HasResults, IsSamePart, PartsStay, ResultsGoOn}
-use Rattle.jb_records.specs.Artifacts.{IsArtifactsOver, IsFaulted, IsNeverSkipped, own_records, record_of, results_between}
+use Rattle.jb_records.specs.Artifacts.{IsArtifactsOver, IsFaulted, IsNeverSkipped, faulted_by, own_records, record_of, results_between}
 
 -- ---- FAULT PLANS THAT ARE USED
 
@@ -55,6 +55,11 @@ faulted-used : (rules : RulesRecord) (refusal : Option ClassId) (plan : FaultPla
 faulted-used rules None plan is = never-used rules plan is
 faulted-used rules (Some class) plan is = ap used is
 
+-- and one that is sound, or refused, stays so
+steady-used : (refusal : Option ClassId) → used (faulted_by refusal Sound) ≡ faulted_by refusal Sound
+steady-used None = refl
+steady-used (Some class) = refl
+
 sound-used : (plan : FaultPlan) → plan ≡ Sound → used plan ≡ Sound
 sound-used plan e = ap used e
 
@@ -66,6 +71,13 @@ module _ (f : Function) (rules : RulesRecord) (first : ℕ) (records : List (Lis
   faults-by : (k : ℕ) (b : Bool) (plan : FaultPlan) → IsFaulted rules (refusal_of f (record_of first records k)) plan → IsFaulted rules (refusal_of f (record_of first records k)) (cond b (used plan) plan)
   faults-by k b plan is = used-if (IsFaulted rules (refusal_of f (record_of first records k))) b plan is (faulted-used rules (refusal_of f (record_of first records k)) plan is)
 
+  -- of a steady function none fails but by its refusal
+  abbrev AreSteady : FaultTable → Type 0
+  AreSteady plans = IsSteady f → (k : ℕ) → plans k ≡ faulted_by (refusal_of f (record_of first records k)) Sound
+
+  steady-by : (k : ℕ) (b : Bool) (plan : FaultPlan) → plan ≡ faulted_by (refusal_of f (record_of first records k)) Sound → cond b (used plan) plan ≡ faulted_by (refusal_of f (record_of first records k)) Sound
+  steady-by k b plan is = used-if (λ p. p ≡ faulted_by (refusal_of f (record_of first records k)) Sound) b plan is (ap used is ∙ steady-used (refusal_of f (record_of first records k)))
+
   reads-used : (called : ℕ → Bool) (plans : FaultTable) (lo hi : ℕ) → ((k : ℕ) → plans k ≡ Sound) → (k : ℕ) → used_between called plans lo hi k ≡ Sound
   unfolding used_between
   reads-used called plans lo hi is k = used-if (λ p. p ≡ Sound) _ (plans k) (is k) (sound-used (plans k) (is k))
@@ -73,6 +85,10 @@ module _ (f : Function) (rules : RulesRecord) (first : ℕ) (records : List (Lis
   faults-used : (called : ℕ → Bool) (plans : FaultTable) (lo hi : ℕ) → AreFaulted plans → AreFaulted (used_between called plans lo hi)
   unfolding used_between
   faults-used called plans lo hi is k = faults-by k _ (plans k) (is k)
+
+  steady-between : (called : ℕ → Bool) (plans : FaultTable) (lo hi : ℕ) → AreSteady plans → AreSteady (used_between called plans lo hi)
+  unfolding used_between
+  steady-between called plans lo hi is steady k = steady-by k _ (plans k) (is steady k)
 
   writes-used : (plans : FaultTable) (o : Option (ℕ × List ℕ)) → ((k : ℕ) → plans k ≡ Sound) → (k : ℕ) → used_for plans o k ≡ Sound
   unfolding used_at
@@ -92,6 +108,7 @@ module _ (f : Function) (rules : RulesRecord) (first : ℕ) (records : List (Lis
         reads = reads-used (λ _. true) t.artifacts.reader.faults t.row.at (read_end t (settled_at t)) is.reads;
         answers = is.answers;
         faults = faults-used (λ k. not (is_live t.artifacts.reader.faults k)) t.artifacts.processor.faults t.row.at (read_end t (settled_at t)) is.faults;
+        steady = steady-between (λ k. not (is_live t.artifacts.reader.faults k)) t.artifacts.processor.faults t.row.at (read_end t (settled_at t)) is.steady;
         writes = write-plans t (settled_at t) is.writes;
       })
 
@@ -110,24 +127,28 @@ module _ (f : Function) (rules : RulesRecord) (first : ℕ) (records : List (Lis
   unfolding used_at
   faults-at plans n is k = faults-by k _ (plans k) (is k)
 
+  steady-at : (plans : FaultTable) (n : ℕ) → AreSteady plans → AreSteady (used_at plans n)
+  unfolding used_at
+  steady-at plans n is steady k = steady-by k _ (plans k) (is steady k)
+
   call-kept : (w : ArtifactsMeaning) (k : ℕ) (e : Entry) → IsArtifactsOver f rules first records w → IsKept w (called_again w k e)
   call-kept w k (ReadFault class) is = record {
-    artifacts = record { first_is = is.first_is; records_are = is.records_are; reads = reads-at w.reader.faults k is.reads; answers = is.answers; faults = is.faults; writes = is.writes };
+    artifacts = record { first_is = is.first_is; records_are = is.records_are; reads = reads-at w.reader.faults k is.reads; answers = is.answers; faults = is.faults; steady = is.steady; writes = is.writes };
     written = refl;
   }
   call-kept w k (ProcessFault class) is = record {
-    artifacts = record { first_is = is.first_is; records_are = is.records_are; reads = is.reads; answers = is.answers; faults = faults-at w.processor.faults k is.faults; writes = is.writes };
+    artifacts = record { first_is = is.first_is; records_are = is.records_are; reads = is.reads; answers = is.answers; faults = faults-at w.processor.faults k is.faults; steady = steady-at w.processor.faults k is.steady; writes = is.writes };
     written = refl;
   }
   call-kept w k (Processed answer) is = record {
-    artifacts = record { first_is = is.first_is; records_are = is.records_are; reads = is.reads; answers = is.answers; faults = faults-at w.processor.faults k is.faults; writes = is.writes };
+    artifacts = record { first_is = is.first_is; records_are = is.records_are; reads = is.reads; answers = is.answers; faults = faults-at w.processor.faults k is.faults; steady = steady-at w.processor.faults k is.steady; writes = is.writes };
     written = refl;
   }
 
   repeat-kept : (t : TaskState) (settled : Option ℕ) → IsArtifactsOver f rules first records t.artifacts → IsKept t.artifacts (repeated_artifacts t settled)
   repeat-kept t (Some k) is = call-kept t.artifacts k (entry t.artifacts k) is
   repeat-kept t None is = record {
-    artifacts = record { first_is = is.first_is; records_are = is.records_are; reads = is.reads; answers = is.answers; faults = is.faults; writes = write-plans t None is.writes };
+    artifacts = record { first_is = is.first_is; records_are = is.records_are; reads = is.reads; answers = is.answers; faults = is.faults; steady = is.steady; writes = write-plans t None is.writes };
     written = refl;
   }
 
@@ -274,7 +295,7 @@ sound-failing : (plans : FaultTable) (rs : Numbered) → ((k : ℕ) → plans k 
 sound-failing plans [] is = refl
 sound-failing plans (r ∷ rs) is = ap (λ (p : FaultPlan). cond (is_some (live p)) (Some r) (failing plans rs)) (is r.0) ∙ sound-failing plans rs is
 
-sound-write : (t : TaskState) → ((k : ℕ) → t.artifacts.writer.faults k ≡ Sound) → write_fault t.artifacts.writer (results_of t) ≡ None
+pub sound-write : (t : TaskState) → ((k : ℕ) → t.artifacts.writer.faults k ≡ Sound) → write_fault t.artifacts.writer (results_of t) ≡ None
 sound-write t is = ap (fault_of t.artifacts.writer.faults) (sound-failing t.artifacts.writer.faults (results_of t) is)
 
 -- all that is committed is written

@@ -1,5 +1,5 @@
 -- The fault plans of a reader and of a processor of records, call by call.
-use Rattle.std.proofs.Common.{◌≡◌, ◌+◌, ℕ, List, Bool, subst, true, false, cond, Option, Some, None, refl, ap, sym, ◌∙◌, arith}
+use Rattle.std.proofs.Common.{◌≡◌, ◌+◌, ℕ, List, [], length, Bool, subst, true, false, cond, Option, Some, None, refl, ap, sym, ◌∙◌, arith}
 use Rattle.std.proofs.Math.Path.{fun_ext}
 use Rattle.std.specs.Prelude.{◌==◌, Result, Ok, Err}
 use Rattle.std.proofs.lemmas.Bool.Decides.{nat_tests}
@@ -13,12 +13,12 @@ use Rattle.jb_artifacts.specs.Faults.{FaultTable, live, used, used_at}
 use Rattle.jb_artifacts.specs.Reader.{Reader, after_read}
 use Rattle.jb_artifacts.specs.Processor.{Processor, after_process, process_fault}
 use Rattle.jb_rows.specs.Answers.{answered}
-use Rattle.jb_rows.specs.Fields.{Fields}
+use Rattle.jb_rows.specs.Fields.{Fields, fields_in}
 use Rattle.jb_rows.specs.declared.row_function.Outcome.{Outcome}
 use Rattle.jb_artifacts.specs.Meaning.{ArtifactsMeaning}
 use Rattle.jb_base.specs.Rules.{RulesRecord}
-use Rattle.jb_records.specs.Artifacts.{IsFaulted, IsFirstArtifactsOver, IsNeverSkipped, faulted_by, record_of, tries_plan}
-use Rattle.jb_records.specs.Function.{Function, answer_for, refusal_in, refusal_of, result_in, result_of}
+use Rattle.jb_records.specs.Artifacts.{IsFaulted, IsFirstArtifactsOver, IsNeverSkipped, faulted_by, is_among, plan_of, record_of, tries_plan}
+use Rattle.jb_records.specs.Function.{Function, IsSteady, answer_for, refusal_in, refusal_of, result_in, result_of, tries_of}
 use Rattle.jb_records.specs.inside.Processing.{IsSettled, Strikes, given_by}
 
 -- ---- READS
@@ -119,6 +119,15 @@ faulted : (rules : RulesRecord) (refusal : Option ClassId) (plan : FaultPlan) �
 faulted rules None plan is = is
 faulted rules (Some class) plan is = refl
 
+-- no try of a steady function fails
+none-by : (b : Bool) (classes : List ClassId) → classes ≡ [] → cond b (plan_of classes) Sound ≡ Sound
+none-by true classes none = ap plan_of none
+none-by false classes none = refl
+
+none-tried : (f : Function) (first : ℕ) (records : List (List ℕ)) (k : ℕ) → IsSteady f → tries_plan f first records k ≡ Sound
+unfolding tries_plan
+none-tried f first records k steady = none-by (is_among first (length records) k) (tries_of f (record_of first records k)) (steady (fields_in (record_of first records k)))
+
 pub over : (f : Function) (rules : RulesRecord) (first : ℕ) (records : List (List ℕ)) (tries : FaultTable) → ((k : ℕ) → tries k ≡ tries_plan f first records k) → ((k : ℕ) → IsNeverSkipped rules (tries k))
     → (w : ArtifactsMeaning) → w.reader.first ≡ first → w.reader.records ≡ records → ((k : ℕ) → w.reader.faults k ≡ Sound) → w.processor ≡ processor_with f first records tries → ((k : ℕ) → w.writer.faults k ≡ Sound)
     → IsFirstArtifactsOver f rules first records w
@@ -130,6 +139,7 @@ over f rules first records tries are never w first_is records_are reads processo
         reads = reads;
         answers = λ k item. ap (λ (p : Processor). p.answer k item) processor;
         faults = λ k. subst (IsFaulted rules (refusal_of f (record_of first records k))) (sym (plans k)) (faulted rules (refusal_of f (record_of first records k)) (tries k) (never k));
+        steady = λ steady k. plans k ∙ ap (faulted_by (refusal_of f (record_of first records k))) (are k ∙ none-tried f first records k steady);
         writes = writes;
       };
       first_tries = λ k. plans k ∙ ap (faulted_by (refusal_of f (record_of first records k))) (are k);

@@ -39,7 +39,7 @@ begun-task : (f : Function) (records : List (List ℕ)) (p item_count : ℕ) (ro
 begun-task f records p item_count row s w artifacts share ready =
     let cut : take row.written w.writer.written ≡ w.writer.written = ap (λ n. take n w.writer.written) (sym share.number) ∙ take-length w.writer.written in
     record {
-      artifacts = record { first_is = artifacts.first_is; records_are = artifacts.records_are; reads = artifacts.reads; answers = artifacts.answers; faults = artifacts.faults; writes = artifacts.writes };
+      artifacts = record { first_is = artifacts.first_is; records_are = artifacts.records_are; reads = artifacts.reads; answers = artifacts.answers; faults = artifacts.faults; steady = artifacts.steady; writes = artifacts.writes };
       from = ready.sound.placed.at_from;
       served = subst (λ n. row.hi ≤ n) (λ i. artifacts.first_is i + length (artifacts.records_are i)) ready.fits.to;
       results = cut ∙ share.results;
@@ -121,7 +121,7 @@ newer-all f records now k (row ∷ rows) (share ∷ shares) have are = (newer-is
 
 -- ---- THE RANGES STAY IN THEIR ORDER
 
-record IsSameRange (row other : Row) : Type 0 where
+pub record IsSameRange (row other : Row) : Type 0 where
   pub lo : other.lo ≡ row.lo
   pub hi : other.hi ≡ row.hi
 
@@ -129,7 +129,7 @@ range-by : (b : Bool) (first now row other : Row) → IsSameRange first now → 
 range-by true first now row other is others = is
 range-by false first now row other is others = others
 
-range-kept : PartsStay → (ts now : List TaskState) (p : ℕ) (row : Row) → AreOnTheWay ts now → IsSameRange (row_now ts p row) (row_now now p row)
+pub range-kept : PartsStay → (ts now : List TaskState) (p : ℕ) (row : Row) → AreOnTheWay ts now → IsSameRange (row_now ts p row) (row_now now p row)
 range-kept law [] [] p row ways = record { lo = refl; hi = refl }
 range-kept law [] (x ∷ xs) p row ways = absurd ways
 range-kept law (t ∷ ts) [] p row ways = absurd ways

@@ -15,7 +15,9 @@ use Rattle.jb_saved.specs.SavedRows.{SavedRows}
 use Rattle.jb_step.specs.Answers.{artifacts_of, tasks_left}
 use Rattle.jb_step.specs.rounds.PlanLaws.{AreTasksOf, BeginsWithRows, BeginsWithTasks}
 use Rattle.jb_step.specs.preparing.Setup.{Setup, first_tasks, needs, rows_now, unfinished}
-use Rattle.jb_records.specs.Function.{Function}
+use Rattle.jb_records.specs.Following.{FollowRules, ranges_of}
+use Rattle.jb_records.specs.FollowingLaws.{RaisedRulesFollow, RangesStay, RulesAreKept}
+use Rattle.jb_records.specs.Function.{Function, IsSteady}
 use Rattle.jb_records.specs.Runs.{PartsStay, ResultsGoOn}
 use Rattle.jb_records.specs.Shares.{AreRowsInOrder, IsSoFar, newer_shares}
 use Rattle.jb_records.specs.Steps.{AreArtifacts, StepsKeepResults}
@@ -24,6 +26,7 @@ use Rattle.jb_records.specs.inside.Calls.{CanBeginOver}
 use Rattle.jb_records.specs.inside.Kept.{IsGoingOn, IsRanOver, RowsAreSaved, StretchesGoOn, ArtifactsFit, is_done, is_left, news_from}
 use Rattle.jb_records.proofs.Ahead.{GoAhead, IsAhead, rows-ahead}
 use Rattle.jb_records.proofs.Calling.{artifacts-fit}
+use Rattle.jb_records.proofs.Following.{same-raised}
 use Rattle.jb_records.proofs.Growing.{grown-all, news-length}
 use Rattle.jb_records.proofs.Keeping.{AreDone, all-done, newer-again, newer-parts, artifacts-kept}
 use Rattle.jb_records.proofs.Resuming.{numbered-so, so-far-again}
@@ -79,7 +82,8 @@ none-past from to (row ∷ rows) order =
 
 -- ---- A STRETCH
 
-module _ (going : ResultsGoOn) (parts : PartsStay) (begins : BeginsWithTasks) (same : BeginsWithRows) (kept : StepsKeepResults) (ahead : GoAhead) where
+module _ (going : ResultsGoOn) (parts : PartsStay) (begins : BeginsWithTasks) (same : BeginsWithRows) (kept : StepsKeepResults) (ahead : GoAhead)
+    (ruled : RulesAreKept) (raised : RaisedRulesFollow) (rangesare : RangesStay) where
   module _ (f : Function) (records : List (List ℕ)) (before : RunState) (rounds : Option ℕ) (snapshot : Snapshot) (left : List (ℕ × ArtifactsMeaning))
       (stands : StandsOver f records before) (ran : IsRanOver before.setup (artifacts_in before.artifacts) rounds snapshot left) where
     abbrev first : List TaskState
@@ -103,6 +107,11 @@ module _ (going : ResultsGoOn) (parts : PartsStay) (begins : BeginsWithTasks) (s
         subst (λ (rows : List Row). IsSoFar f records rows (newer_shares left before.shares)) (sym ran.rows)
         (subst (λ (ls : List (ℕ × ArtifactsMeaning)). IsSoFar f records (rows_now before.setup.rows now) (newer_shares ls before.shares)) (sym ran.came_back)
         (kept f records before.shares before.setup (artifacts_in before.artifacts) now stands.setup ran.fit stands.artifacts ran.ways stands.so_far))
+
+    follow : IsSteady f → FollowRules f before.setup.rules records snapshot.rows.items
+    follow steady =
+        subst (FollowRules f before.setup.rules records) (sym ran.rows)
+        (ruled f records before.shares before.setup (artifacts_in before.artifacts) now steady stands.setup ran.fit stands.artifacts ran.ways stands.so_far (stands.follows steady))
 
     done : AreDone f records before.setup snapshot.rows.items now
     done = all-done f records before.setup snapshot.rows.items left first (first-ruled before.setup (unfinished before.setup.rows) (artifacts_in before.artifacts)) have
@@ -164,6 +173,9 @@ module _ (going : ResultsGoOn) (parts : PartsStay) (begins : BeginsWithTasks) (s
         artifacts = subst (λ (ws : List (ℕ × ArtifactsMeaning)). AreArtifacts f after.setup.rules records after.shares (unfinished after.setup.rows) (artifacts_in ws)) (sym on.artifacts_are)
             (subst (λ (rs : List Row). AreArtifacts f after.setup.rules records after.shares (unfinished rs) (artifacts_in (filter (is_left rows) left))) (sym on.rows_are)
             (subst (λ (rules : RulesRecord). AreArtifacts f rules records after.shares (unfinished (rows_restarted held-rows)) (artifacts_in (filter (is_left rows) left))) (sym on.rules_are) kept-artifacts.1));
+        follows = λ steady. subst (λ (rs : List Row). FollowRules f after.setup.rules records rs) (sym on.rows_are)
+            (subst (λ (rules : RulesRecord). FollowRules f rules records (rows_restarted held-rows)) (sym on.rules_are)
+            (raised f before.setup.rules before.setup.rules records held-rows (same-raised before.setup.rules) (follow steady)));
       }
 
       gone-on : HasGoneOn f records before after rows (news_from 0 (map (λ row. row.written) before.setup.rows) left)
@@ -174,6 +186,8 @@ module _ (going : ResultsGoOn) (parts : PartsStay) (begins : BeginsWithTasks) (s
             ∙ ap (λ (ls : List (ℕ × ArtifactsMeaning)). grown before.shares (news_from 0 (map (λ row. row.written) before.setup.rows) ls)) (sym ran.came_back);
         number = news-length 0 (map (λ row. row.written) before.setup.rows) left ∙ length-told before.setup.rows ∙ sym (same-length before.setup.rows rows aheads);
         same = same-length before.setup.rows rows aheads;
+        ranges = ap ranges_of ran.rows ∙ rangesare before.setup (artifacts_in before.artifacts) now stands.setup ran.fit ran.ways;
+        follows = follow;
         stands = stands-now;
       }
         where

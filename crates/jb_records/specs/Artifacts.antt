@@ -8,7 +8,7 @@ use Rattle.jb_artifacts.specs.declared.faults.FaultPlan.TheVariants.{Sound, Bad,
 use Rattle.jb_artifacts.specs.Meaning.{ArtifactsMeaning}
 use Rattle.jb_rules.specs.Decide.{has_class}
 use Rattle.jb_rules.specs.declared.row.Row.{Row}
-use Rattle.jb_records.specs.Function.{Function, refusal_of, result_of, tries_of}
+use Rattle.jb_records.specs.Function.{Function, IsSteady, refusal_of, result_of, tries_of}
 
 -- the record of a number, of those from `first` on
 abbrev pub record_of : (first : ℕ) → (records : List (List ℕ)) → ℕ → List ℕ
@@ -54,13 +54,14 @@ IsFaulted rules None plan = IsNeverSkipped rules plan
 IsFaulted rules (Some class) plan = plan ≡ Bad class
 
 -- Its reader has these records, from the number `first` on, and no read fails. A record's answer is the function's, and one that is refused
--- fails each time that it is processed; no fault of a try is skipped, and no write fails.
+-- fails each time that it is processed; no fault of a try is skipped, and a steady function has none; no write fails.
 pub record IsArtifactsOver (f : Function) (rules : RulesRecord) (first : ℕ) (records : List (List ℕ)) (w : ArtifactsMeaning) : Type 0 where
   pub first_is : w.reader.first ≡ first
   pub records_are : w.reader.records ≡ records
   pub reads : (k : ℕ) → w.reader.faults k ≡ Sound
   pub answers : (k : ℕ) (item : List ℕ) → w.processor.answer k item ≡ result_of f (record_of first records k)
   pub faults : (k : ℕ) → IsFaulted rules (refusal_of f (record_of first records k)) (w.processor.faults k)
+  pub steady : IsSteady f → (k : ℕ) → w.processor.faults k ≡ faulted_by (refusal_of f (record_of first records k)) Sound
   pub writes : (k : ℕ) → w.writer.faults k ≡ Sound
 
 -- what it begins with: the same, and the first tries at its records fail as the function says

@@ -1,8 +1,11 @@
 -- What a run takes over from an earlier one.
 use Rattle.std.specs.Prelude.{ℕ, ◌≡◌, List, Option, Some, Ok}
+use Rattle.jb_base.specs.Rules.{RulesRecord}
 use Rattle.jb_job.specs.Reading.{tree_of}
+use Rattle.jb_saved.specs.GoingOn.{rows_restarted}
 use Rattle.jb_saved.specs.Reading.{answer_of}
 use Rattle.jb_saved.specs.SavedRows.{SavedRows}
+use Rattle.jb_records.specs.Following.{FollowRules}
 use Rattle.jb_records.specs.Function.{Function}
 use Rattle.jb_records.specs.Shares.{IsSoFar, joined}
 
@@ -22,3 +25,9 @@ pub record IsOfStoppedRun (f : Function) (records : List (List ℕ)) (text : Lis
   pub shares : List (List (List ℕ))
   pub so_far : IsSoFar f records held.rows shares
   pub results : joined shares ≡ earlier
+
+-- the rows of this text follow these rules, once the failed ones wait again
+pub record FollowAgain (f : Function) (rules : RulesRecord) (records : List (List ℕ)) (text : List ℕ) : Type 0 where
+  pub held : SavedRows
+  pub read : answer_of (tree_of text) ≡ Ok held
+  pub follow : FollowRules f rules records (rows_restarted held)

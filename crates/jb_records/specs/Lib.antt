@@ -1,6 +1,8 @@
 pub mod Causes
 pub mod Earlier
 pub mod Failures
+pub mod Following
+pub mod FollowingLaws
 pub mod Function
 pub mod Made
 pub mod Refusals

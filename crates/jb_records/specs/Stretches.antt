@@ -17,7 +17,8 @@ use Rattle.jb_step.specs.restarts.StepRuns.{IsAnswered}
 use Rattle.jb_records.specs.declared.error.RecordsStepError.{RecordsStepError}
 use Rattle.jb_records.specs.declared.error.RecordsStepError.TheVariants.{Memory, Step}
 use Rattle.jb_records.specs.declared.step.RecordsStep.{RecordsStep}
-use Rattle.jb_records.specs.Function.{Function}
+use Rattle.jb_records.specs.Following.{FollowRules, ranges_of}
+use Rattle.jb_records.specs.Function.{Function, IsSteady}
 use Rattle.jb_records.specs.Shares.{AreNumbered, AreAtTheirEnds, IsSoFar, joined}
 use Rattle.jb_records.specs.Steps.{AreArtifacts}
 
@@ -40,13 +41,14 @@ abbrev pub artifacts_in : List (ℕ × ArtifactsMeaning) → List ArtifactsMeani
 artifacts_in artifacts = map (λ a. a.1) artifacts
 
 -- THE RUN STANDS OVER THESE RECORDS: it is as far as its rows say, and each unfinished partition works with its own records, its
--- share in its writer
+-- share in its writer. Of a function of which no try fails, its rows follow the rules
 pub record StandsOver (f : Function) (records : List (List ℕ)) (s : RunState) : Type 0 where
   pub number : s.records ≡ length records
   pub setup : IsSetup s.setup
   pub so_far : IsSoFar f records s.setup.rows s.shares
   pub partitions : numbers_in s.artifacts ≡ needs s.setup.rows
   pub artifacts : AreArtifacts f s.setup.rules records s.shares (unfinished s.setup.rows) (artifacts_in s.artifacts)
+  pub follows : IsSteady f → FollowRules f s.setup.rules records s.setup.rows
 
 -- ---- HOW IT BEGINS
 
@@ -78,12 +80,14 @@ abbrev pub grown : (shares news : List (List (List ℕ))) → List (List (List �
 grown shares news = map (λ n. n.0 ++ n.1) (zip shares news)
 
 -- THE STRETCH WENT ON: these rows and the shares now are so far; the shares now are those before, each with what is new of it behind;
--- and the run stands there
+-- the partitions keep their ranges, and the rows follow the rules; and the run stands there
 pub record HasGoneOn (f : Function) (records : List (List ℕ)) (before after : RunState) (rows : List Row) (news : List (List (List ℕ))) : Type 0 where
   pub so_far : IsSoFar f records rows after.shares
   pub shares_are : after.shares ≡ grown before.shares news
   pub number : length news ≡ length rows
   pub same : length rows ≡ length before.setup.rows
+  pub ranges : ranges_of rows ≡ ranges_of before.setup.rows
+  pub follows : IsSteady f → FollowRules f before.setup.rules records rows
   pub stands : StandsOver f records after
 
 -- what was run: `run_step` says it of this setup and these artifacts, its `Headline` among it; and the next stretch goes on from the

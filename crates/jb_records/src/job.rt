@@ -11,7 +11,9 @@ ghost use Rattle.jb_step.specs.preparing.Setup.{IsSetup};
 ghost use Rattle.jb_step.specs.Statuses.{status_of};
 ghost use Rattle.jb_records.specs.Earlier.{IsStoppedRun};
 ghost use Rattle.jb_records.specs.Failures.{AreFailures};
-ghost use Rattle.jb_records.specs.Function.{Function, all_results};
+ghost use Rattle.jb_records.specs.Following.{FollowRules};
+ghost use Rattle.jb_records.specs.Function.{Function, IsSteady, all_results};
+ghost use Rattle.jb_records.specs.inside.Following.{EndsOver, IsAnew};
 ghost use Rattle.jb_records.specs.inside.Calls.{CanBeginOver, IsUnbegun, IsUnbegunWith, HasNoEnd, IsUnprepared, IsUnpreparedFor};
 ghost use Rattle.jb_records.specs.Made.{IsStepBegun, IsRunMade, even_partitions, step_record};
 ghost use Rattle.jb_saved.specs.GoingOn.{rows_restarted};
@@ -23,7 +25,7 @@ use crate::artifacts::{RecordsArtifacts, all_artifacts};
 use crate::end::RecordsEnd;
 use crate::error::RecordsStepError;
 use crate::failures::failures_of;
-use crate::laws::{skips_are_counted, steps_keep_results};
+use crate::laws::{rules_are_kept, skips_are_counted, steps_keep_results};
 use crate::shares::{are_numbered, put_back, shares_of};
 use crate::step::RecordsStep;
 use crate::step_function::StepFunction;
@@ -69,12 +71,13 @@ impl RecordsJob {
         ensures why { IfErr result (IsUnbegun step.now (length records.now) saved (length earlier.now)) }
         ensures begun { IfOk result (λ job. IsStepBegun step.now (length records.now) saved earlier.now job.prepared job.results.items) }
         ensures few { OnOk result (length records.now ≤ max_records) }
-        ensures new { saved ≡ None → IfOk result (λ job. (f : Function) → IsSoFar f records.now job.prepared.rows job.results.items) }
-        ensures counted { saved ≡ None → IfOk result (λ job. (f : Function) → AreCounted f records.now job.prepared.rows) }
+        ensures new { saved ≡ None → IfOk result (λ job. (f : Function) → IsAnew f step.now records.now job.prepared job.results.items) }
+        ensures resumed { IfSome saved (λ held. IfOk result (λ job. job.prepared.rows ≡ rows_restarted held)) }
         ensures goes_on { IfOk result (λ job. (f : Function) → IsStoppedRun f records.now saved earlier.now → IsSoFar f records.now job.prepared.rows job.results.items) }
     {
         steps_keep_results();
         skips_are_counted();
+        rules_are_kept();
         let mut reducer = FaultlessReducer::new(alloc);
         let count = records.len() as u64;
         let prepared = prepared_for(alloc, step, count, &mut reducer, saved)?;
@@ -151,9 +154,13 @@ impl RecordsJob {
             joined end.results.items ≡ all_results (F.function function) records.now) }
         ensures counted { IfOk result (λ end. IsSetup self.prepared → IsSoFar (F.function function) records.now self.prepared.rows self.results.items →
             AreCounted (F.function function) records.now self.prepared.rows → AreCounted (F.function function) records.now end.snapshot.rows.items) }
+        ensures by_rules { IfOk result (λ end. IsSteady (F.function function) → IsSetup self.prepared → IsSoFar (F.function function) records.now self.prepared.rows self.results.items →
+            FollowRules (F.function function) self.prepared.rules records.now self.prepared.rows →
+            EndsOver (F.function function) self.prepared.rules records.now self.prepared.rows end.snapshot.rows.items end.status) }
     {
         steps_keep_results();
         skips_are_counted();
+        rules_are_kept();
         let RecordsJob {
             prepared,
             results,

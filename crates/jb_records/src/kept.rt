@@ -5,11 +5,14 @@ ghost use Rattle.std.specs.Arc.{arc_value};
 ghost use Rattle.jb_base.specs.Limits.{max_partitions, max_records};
 ghost use Rattle.jb_job.specs.Reading.{tree_of};
 ghost use Rattle.jb_plan.specs.Plans.{IsRunnable};
+ghost use Rattle.jb_saved.specs.GoingOn.{rows_restarted};
 ghost use Rattle.jb_saved.specs.Reading.{answer_of};
 ghost use Rattle.jb_saved.specs.SavedRows.{SavedRows};
 ghost use Rattle.jb_step.specs.Answers.{given_back};
 ghost use Rattle.jb_step.specs.preparing.Setup.{IsSetup};
 ghost use Rattle.jb_records.specs.Causes.{IsCauseBehind, IsCauseOf};
+ghost use Rattle.jb_records.specs.Following.{FollowRules, ranges_of};
+ghost use Rattle.jb_records.specs.Function.{IsSteady};
 ghost use Rattle.jb_records.specs.Made.{even_partitions};
 ghost use Rattle.jb_records.specs.Shares.{AreAtTheirEnds, IsSoFar, newer_shares};
 ghost use Rattle.jb_records.specs.Stretches.{BeginsBehind, BeginsEmpty, GoesBy, RunState, StandsOver};
@@ -78,6 +81,7 @@ impl<F: StepFunction + Drop> RecordsRun<F> {
         ensures stands { IfOk result (λ run. StandsOver (F.function (arc_value function.now)) records.now (⟦<RecordsRun<F> as Standing>⟧.standing run)) }
         ensures by { IfOk result (λ run. GoesBy step.now (⟦<RecordsRun<F> as Standing>⟧.standing run)) }
         ensures anew { IfOk result (λ run. BeginsEmpty step.now.id (⟦<RecordsRun<F> as Standing>⟧.standing run)) }
+        ensures ranges { IfOk result (λ run. ranges_of (⟦<RecordsRun<F> as Standing>⟧.standing run).setup.rows ≡ (even_partitions step.now (length records.now)).ranges) }
     {
         let job = RecordsJob::begin(alloc, step, records, None, &PackedList::new(alloc))?;
         RecordsRun::over(alloc, step, function, records, job)
@@ -100,6 +104,7 @@ impl<F: StepFunction + Drop> RecordsRun<F> {
         ensures by { IfOk result (λ run. GoesBy step.now (⟦<RecordsRun<F> as Standing>⟧.standing run)) }
         ensures behind { IfOk result (λ run. BeginsBehind step.now.id saved.now results.items (⟦<RecordsRun<F> as Standing>⟧.standing run)) }
         ensures stands { IfOk result (λ run. (held : SavedRows) → answer_of (tree_of saved.now) ≡ Ok held → IsSoFar (F.function (arc_value function.now)) records.now held.rows results.items →
+            (IsSteady (F.function (arc_value function.now)) → FollowRules (F.function (arc_value function.now)) step.now.rules records.now (rows_restarted held)) →
             StandsOver (F.function (arc_value function.now)) records.now (⟦<RecordsRun<F> as Standing>⟧.standing run)) }
     {
         let held = read_saved(alloc, saved)?;

@@ -1,5 +1,6 @@
 //! What comes of the attempts of a step over records. Nothing is done here: the clauses are the laws.
 
+ghost use Rattle.jb_records.specs.FollowingLaws.{FailedRowsDont, FaultsAreOfItems, FinishedRowsPass, NewRowsFollow, RaisedRulesFollow, RangesStay, RestartsKeepRanges, RulesAreKept, StoppedRowsDont, StopsAreOne};
 ghost use Rattle.jb_records.specs.Function.{OthersAreLeftOut};
 ghost use Rattle.jb_records.specs.Runs.{PartsStay, ResultsGoOn};
 ghost use Rattle.jb_records.specs.Shares.{NewStepsBegin, SharesJoin};
@@ -8,6 +9,7 @@ ghost use Rattle.jb_records.specs.Steps.{StepsKeepResults};
 ghost use Rattle.jb_records.specs.inside.Kept.{RowsAreSaved, StretchesGoOn, ArtifactsFit};
 
 use jb_chunk::{attempts_are_steps, runs_lead_to_an_end, tasks_stand_at_checkpoints};
+use jb_slices::choices_are_the_rules;
 use jb_step::plans_can_be_run;
 
 /// Wherever its attempts lead, a partition has the results of the records before its checkpoint: each once, in order.
@@ -46,6 +48,28 @@ pub fn skips_are_counted()
     plans_can_be_run();
 }
 
+/// Wherever a step's run ends, its rows follow its rules, if no try of its function fails and they did when it began; new rows do. Finished
+/// rows pass, and failed ones don't: each by one record. By raised limits they still follow, once the failed ones wait again. A partition keeps its range.
+pub fn rules_are_kept()
+    ensures kept { RulesAreKept }
+    ensures begun { NewRowsFollow }
+    ensures finished { FinishedRowsPass }
+    ensures failed { FailedRowsDont }
+    ensures one { StopsAreOne }
+    ensures stopped { StoppedRowsDont }
+    ensures raised { RaisedRulesFollow }
+    ensures items { FaultsAreOfItems }
+    ensures ranges { RangesStay }
+    ensures restarted { RestartsKeepRanges }
+{
+    choices_are_the_rules();
+    tasks_stand_at_checkpoints();
+    runs_lead_to_an_end();
+    attempts_are_steps();
+    results_go_on();
+    plans_can_be_run();
+}
+
 /// A run that stays in memory goes on from stretch to stretch: what came back of its partitions serves the next one, and its shares
 /// grow.
 pub(crate) fn stretches_go_on()
@@ -59,4 +83,5 @@ pub(crate) fn stretches_go_on()
     results_go_on();
     plans_can_be_run();
     steps_keep_results();
+    rules_are_kept();
 }

@@ -6,7 +6,8 @@
 //!   `news`: what is new in it.
 //! - `step`: how it runs its records. `artifacts`: what its partitions work with, with `records_reader` and
 //!   `records_processor`. `shares`: the results of each.
-//! - `refusals`: whether a record is refused; `skips`: which records were skipped, and `failures`: with which fault each failed partition failed.
+//! - `refusals`: whether a record is refused; `skips`: which records were skipped, and `failures`: with which fault each failed partition failed; `stops`: by which
+//!   record one fails.
 //! - `laws`: what comes of it. `error`: why it has no end.
 #![tactic(auto)]
 
@@ -27,6 +28,7 @@ mod shares;
 mod skips;
 mod step;
 mod step_function;
+mod stops;
 mod stretch;
 mod stretch_end;
 
@@ -35,8 +37,9 @@ pub use error::RecordsStepError;
 pub use failures::Failure;
 pub use first_tries::{FirstTries, Shaky};
 pub use kept::{RecordsRun, Standing};
-pub use laws::{results_go_on, skips_are_counted, steps_keep_results};
+pub use laws::{results_go_on, rules_are_kept, skips_are_counted, steps_keep_results};
 pub use run::{Earlier, run_records};
 pub use step::RecordsStep;
 pub use step_function::StepFunction;
+pub use stops::stop_of;
 pub use stretch::Stretch;

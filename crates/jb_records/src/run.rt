@@ -2,14 +2,16 @@
 
 ghost use Rattle.std.specs.Prelude.{◌≡◌, false, length, option_map, None, IfErr, IfOk, IfSome};
 ghost use Rattle.jb_base.specs.Limits.{max_parts};
-ghost use Rattle.jb_collect.specs.declared.calls.Status.TheVariants.{Completed};
+ghost use Rattle.jb_collect.specs.declared.calls.Status.TheVariants.{Completed, Failed};
 ghost use Rattle.jb_step.specs.preparing.Setup.{IsSetup};
 ghost use Rattle.jb_step.specs.Statuses.{status_of};
-ghost use Rattle.jb_records.specs.Earlier.{IsOfStoppedRun};
+ghost use Rattle.jb_records.specs.Earlier.{FollowAgain, IsOfStoppedRun};
 ghost use Rattle.jb_records.specs.Failures.{AreFailures};
-ghost use Rattle.jb_records.specs.Function.{Function, all_results};
+ghost use Rattle.jb_records.specs.Following.{EndsByRules, FollowRules, StepPasses};
+ghost use Rattle.jb_records.specs.Function.{Function, IsSteady, all_results};
 ghost use Rattle.jb_records.specs.Causes.{IsCauseOf};
 ghost use Rattle.jb_records.specs.inside.Calls.{CanBeginOver, IsUnbegunBehind, HasNoEnd};
+ghost use Rattle.jb_records.specs.inside.Following.{EndsOver, GoesOnByRules, IsAnew};
 ghost use Rattle.jb_records.specs.Made.{IsBegunBehind, IsRecordsRun, IsRunMade};
 ghost use Rattle.jb_records.specs.Shares.{IsSoFar, joined};
 ghost use Rattle.jb_records.specs.Skips.{AreCounted};
@@ -38,6 +40,9 @@ pub struct Earlier<'a> {
 /// Wherever it ends, each partition has the results of the records before its checkpoint, each once and in order; where it is
 /// completed, those of all records: a record that is refused has none, and is left out where its class is skipped.
 ///
+/// If no try of the function fails, a step that began anew is COMPLETED only where its rules let the refusals of each partition's records
+/// pass, and FAILED only where of some partition they don't.
+///
 /// # Errors
 /// `Records` where there are more than 10,000,000; `Results` where the saved rows say otherwise how many results there are;
 /// `SkippedTry` where a first try is to fail with a class that the rules skip; `Step` with what is wrong with the partitions, the
@@ -56,12 +61,18 @@ pub fn run_records<F: StepFunction + Drop + 'static, R: Threads + Wait + Sync>(
     ensures status { IfOk result (λ end. end.status ≡ status_of end.snapshot.rows.items false) }
     ensures failures { IfOk result (λ end. AreFailures (F.function function) step.now.rules step.now.item_count records.now end.snapshot.rows.items end.failures.items) }
     ensures counted { earlier.entry ≡ None → IfOk result (λ end. AreCounted (F.function function) records.now end.snapshot.rows.items) }
+    ensures follows { earlier.entry ≡ None → IsSteady (F.function function) → IfOk result (λ end. FollowRules (F.function function) step.now.rules records.now end.snapshot.rows.items) }
+    ensures completed { earlier.entry ≡ None → IsSteady (F.function function) → IfOk result (λ end. end.status ≡ Completed → StepPasses (F.function function) step.now records.now) }
+    ensures failed { earlier.entry ≡ None → IsSteady (F.function function) → IfOk result (λ end. end.status ≡ Failed → StepPasses (F.function function) step.now records.now → ⊥) }
     ensures so_far { earlier.entry ≡ None → IfOk result (λ end. IsSoFar (F.function function) records.now end.snapshot.rows.items end.results.items) }
     ensures all { earlier.entry ≡ None → IfOk result (λ end. end.status ≡ Completed → joined end.results.items ≡ all_results (F.function function) records.now) }
     ensures goes_on { IfSome earlier.entry (λ e. IsOfStoppedRun (F.function function) records.now e.saved.now e.results.now →
         IfOk result (λ end. IsSoFar (F.function function) records.now end.snapshot.rows.items end.results.items)) }
     ensures goes_on_whole { IfSome earlier.entry (λ e. IsOfStoppedRun (F.function function) records.now e.saved.now e.results.now →
         IfOk result (λ end. end.status ≡ Completed → joined end.results.items ≡ all_results (F.function function) records.now)) }
+    ensures goes_on_by_rules { IfSome earlier.entry (λ e. IsOfStoppedRun (F.function function) records.now e.saved.now e.results.now × IsSteady (F.function function) ×
+        FollowAgain (F.function function) step.now.rules records.now e.saved.now →
+        IfOk result (λ end. EndsByRules (F.function function) step.now.rules records.now end.snapshot.rows.items end.status)) }
 {
     let job = begun(alloc, step, records, &earlier)?;
     let blank = Blank::new(MAX_PARTS);
@@ -77,10 +88,12 @@ pub(crate) fn begun(
 ) -> Result<RecordsJob, RecordsStepError>
     ensures why { IfErr result (IsUnbegunBehind step.now (length records.now) (option_map (λ e. (e.saved.now, e.results.now)) earlier.now)) }
     ensures begun { IfOk result (λ job. IsBegunBehind step.now (length records.now) (option_map (λ e. (e.saved.now, e.results.now)) earlier.now) job.prepared job.results.items) }
-    ensures new { earlier.now ≡ None → IfOk result (λ job. (f : Function) → IsSoFar f records.now job.prepared.rows job.results.items) }
-    ensures counted { earlier.now ≡ None → IfOk result (λ job. (f : Function) → AreCounted f records.now job.prepared.rows) }
+    ensures new { earlier.now ≡ None → IfOk result (λ job. (f : Function) → IsAnew f step.now records.now job.prepared job.results.items) }
     ensures goes_on { IfSome earlier.now (λ e. IfOk result (λ job. (f : Function) → IsOfStoppedRun f records.now e.saved.now e.results.now →
         IsSoFar f records.now job.prepared.rows job.results.items)) }
+    ensures goes_on_by_rules { IfSome earlier.now (λ e. IfOk result (λ job. (f : Function) →
+        IsOfStoppedRun f records.now e.saved.now e.results.now × IsSteady f × FollowAgain f step.now.rules records.now e.saved.now →
+        GoesOnByRules f step.now.rules records.now job.prepared job.results.items)) }
 {
     match earlier {
         None => RecordsJob::begin(alloc, step, records, None, &PackedList::new(alloc)),
@@ -119,6 +132,9 @@ fn run_on<
         joined end.results.items ≡ all_results (F.function function) records.now) }
     ensures counted { IfOk result (λ end. IsSetup job.prepared → IsSoFar (F.function function) records.now job.prepared.rows job.results.items →
         AreCounted (F.function function) records.now job.prepared.rows → AreCounted (F.function function) records.now end.snapshot.rows.items) }
+    ensures by_rules { IfOk result (λ end. IsSteady (F.function function) → IsSetup job.prepared → IsSoFar (F.function function) records.now job.prepared.rows job.results.items →
+        FollowRules (F.function function) job.prepared.rules records.now job.prepared.rows →
+        EndsOver (F.function function) job.prepared.rules records.now job.prepared.rows end.snapshot.rows.items end.status) }
 {
     let desk = job.prepared.desk::<L>(alloc, blank)?;
     job.run(rt, alloc, &desk, function, records, rounds)

@@ -4,11 +4,11 @@ ghost use Rattle.jb_rows.specs.Author.{field_at};
 ghost use Rattle.jb_step_tests.specs.Letters.{late_by, letter_by};
 
 use crate::lines::{add_line, assert_text, number, rules, value};
-use jb_base::{ClassId, MAX_ITEM_COUNT, Name, PackedList};
+use jb_base::{ClassId, MAX_ITEM_COUNT, Name, PackedList, Rules};
 use jb_collect::Status;
 use jb_records::{
     FirstTries, RecordsEnd, RecordsRun, RecordsStep, RecordsStepError, Shaky, StepFunction,
-    run_records,
+    run_records, stop_of,
 };
 use jb_rows::{Outcome, Row, RowBuilder, RowFunction, Rows};
 use std::alloc::{AllocError, Global};
@@ -59,7 +59,8 @@ impl FirstTries for Late {
 /// and whether one fault alone is skipped; and the greatest number of rounds. Behind it stand, in one run, in stretches of one round, and in
 /// stretches of which the later ones go on from what was kept of the first: the status, the number of
 /// skipped records, the results, each with a bar behind it, and the faults: the records that were skipped, each as NUMBER/CLASS, and the partitions
-/// that failed, each as PARTITION:NUMBER/CLASS; or why there is none. A stretch that fails is the last one.
+/// that failed, each as PARTITION:NUMBER/CLASS; and the records by whose refusals partitions fail, each as !NUMBER/CLASS; or why there is
+/// none. A stretch that fails is the last one.
 ///
 /// A record that is refused, and a try that fails, each under several rules, and both in one chunk.
 const STEPS: &str = "> records=a.b.c.d. items=1
@@ -71,37 +72,37 @@ Stopped 0 a|c|
 Stopped 0 a|c|
 Stopped 0 a|c|
 > records=a..c.d. items=1
-Failed 0 a|c|d| 0:1/0
-Failed 0 a|c|d| 0:1/0
-Failed 0 a|c|d| 0:1/0
+Failed 0 a|c|d| 0:1/0 !1/0
+Failed 0 a|c|d| 0:1/0 !1/0
+Failed 0 a|c|d| 0:1/0 !1/0
 > records=..c.d. items=1 skippable=1
 Completed 2 c|d| 0/0 1/0
 Completed 2 c|d| 0/0 1/0
 Completed 2 c|d| 0/0 1/0
 > records=..c.d. items=2 skippable=1 one-skip
-Failed 0 c|d| 0:1/0
-Failed 0 c|d| 0:1/0
-Failed 0 c|d| 0:1/0
+Failed 0 c|d| 0:1/0 !1/0
+Failed 0 c|d| 0:1/0 !1/0
+Failed 0 c|d| 0:1/0 !1/0
 > records=.aa.c.d. items=2 skippable=1
 Failed 0 c|d| 0:1/1
 Failed 0 c|d| 0:1/1
 Failed 0 c|d| 0:1/1
 > records=aa..c.d. items=2 retryable=2 in-place=2
-Failed 0 c|d| 0:1/0
-Failed 0 c|d| 0:1/0
-Failed 0 c|d| 0:1/0
+Failed 0 c|d| 0:1/0 !1/0
+Failed 0 c|d| 0:1/0 !1/0
+Failed 0 c|d| 0:1/0 !1/0
 > records=..c.d. items=2 skippable=1 retryable=1 one-skip
-Failed 1 c|d| 0/0 0:1/0
-Failed 1 c|d| 0/0 0:1/0
-Failed 1 c|d| 0/0 0:1/0
+Failed 1 c|d| 0/0 0:1/0 !1/0
+Failed 1 c|d| 0/0 0:1/0 !1/0
+Failed 1 c|d| 0/0 0:1/0 !1/0
 > records=.a.c.d. items=2 retryable=1 in-place=1
-Failed 0 c|d| 0:0/0
-Failed 0 c|d| 0:0/0
-Failed 0 c|d| 0:0/0
+Failed 0 c|d| 0:0/0 !0/0
+Failed 0 c|d| 0:0/0 !0/0
+Failed 0 c|d| 0:0/0 !0/0
 > records=.a..b.c.d.e.f. items=2 skippable=1 one-skip
-Failed 1 a|c|d|e|f| 0/0 0:2/0
-Failed 1 a|c|d|e|f| 0/0 0:2/0
-Failed 1 a|c|d|e|f| 0/0 0:2/0
+Failed 1 a|c|d|e|f| 0/0 0:2/0 !2/0
+Failed 1 a|c|d|e|f| 0/0 0:2/0 !2/0
+Failed 1 a|c|d|e|f| 0/0 0:2/0 !2/0
 > records=aa.b.c.d. items=1
 Failed 0 c|d| 0:0/1
 Failed 0 c| 0:0/1
@@ -176,12 +177,13 @@ fn add_results(text: &mut String, alloc: Global, end: &RecordsEnd) -> Result<(),
     Ok(())
 }
 
-/// Adds the records that were skipped, and the partitions that failed.
+/// Adds the records that were skipped, the partitions that failed, and the records by whose refusals partitions fail.
 fn add_faults(
     text: &mut String,
     alloc: Global,
     end: &RecordsEnd,
     function: &Shaky<Letters, Late>,
+    rules: &Rules,
     records: &PackedList,
 ) -> Result<(), AllocError> {
     for skip in &end.skipped(alloc, function, records)? {
@@ -193,6 +195,11 @@ fn add_faults(
             text.push_str(&format!(in alloc; "{}/{}", fault.number, fault.class.number())?)?;
         }
     }
+    for row in end.snapshot.rows.iter() {
+        if let Some(stop) = stop_of(alloc, function, rules, records, row)? {
+            text.push_str(&format!(in alloc; " !{}/{}", stop.number, stop.class.number())?)?;
+        }
+    }
     Ok(())
 }
 
@@ -202,6 +209,7 @@ fn add_end(
     alloc: Global,
     end: Result<RecordsEnd, RecordsStepError>,
     function: &Shaky<Letters, Late>,
+    rules: &Rules,
     records: &PackedList,
 ) -> Result<(), AllocError> {
     match end {
@@ -209,7 +217,7 @@ fn add_end(
             let skips = end.snapshot.totals.process_skip;
             text.push_str(&format!(in alloc; "{:?} {skips} ", end.status)?)?;
             add_results(text, alloc, &end)?;
-            add_faults(text, alloc, &end, function, records)
+            add_faults(text, alloc, &end, function, rules, records)
         }
         Err(error) => text.push_str(&format!(in alloc; "{error:?}")?),
     }
@@ -275,7 +283,7 @@ fn add_stretches<R: Threads + Wait + Sync>(
     let function = Arc::new(alloc, new_letters())?;
     let stretches = number(line, "rounds").unwrap_or(8);
     let end = in_stretches(rt, alloc, step, &function, records, stretches, is_kept);
-    add_end(text, alloc, end, &*function, records)?;
+    add_end(text, alloc, end, &*function, &step.rules, records)?;
     text.push_str("\n")
 }
 
@@ -290,7 +298,7 @@ fn add_told<R: Threads + Wait + Sync>(
     let records = records_of(alloc, line)?;
     let rounds = number(line, "rounds");
     let end = run_records(rt, alloc, &step, new_letters(), &records, None, rounds);
-    add_end(text, alloc, end, &new_letters(), &records)?;
+    add_end(text, alloc, end, &new_letters(), &step.rules, &records)?;
     text.push_str("\n")?;
     add_stretches(text, rt, alloc, line, &step, &records, false)?;
     add_stretches(text, rt, alloc, line, &step, &records, true)?;

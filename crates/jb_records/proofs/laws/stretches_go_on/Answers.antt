@@ -6,8 +6,9 @@ pub returns : goal.returns
 returns c =
     let ahead = go-ahead c.tasks_stand_at_checkpoints.ensures c.runs_lead_to_an_end.ensures.join c.attempts_are_steps.ensures.repeats in
     let going = c.results_go_on.ensures in
-    let plans = c.plans_can_be_run.ensures in record {
+    let plans = c.plans_can_be_run.ensures in
+    let rules = c.rules_are_kept.ensures in record {
       fit = artifacts-do-fit;
-      saved = rows-are-saved going.results going.part plans.tasks plans.rows c.steps_keep_results.ensures.kept ahead;
-      on = stretches-on going.results going.part plans.tasks plans.rows c.steps_keep_results.ensures.kept ahead;
+      saved = rows-are-saved going.results going.part plans.tasks plans.rows c.steps_keep_results.ensures.kept ahead rules.kept rules.raised rules.ranges;
+      on = stretches-on going.results going.part plans.tasks plans.rows c.steps_keep_results.ensures.kept ahead rules.kept rules.raised rules.ranges;
     }

@@ -3,6 +3,7 @@ use Rattle.jb_step.specs.preparing.Prepare.{IsPreparation}
 use Rattle.jb_records.specs.Made.{even_partitions, step_record}
 use Rattle.jb_records.specs.Steps.{BeginsAnew}
 use Rattle.jb_records.proofs.Counting.{anew-counted}
+use Rattle.jb_records.proofs.Following.{anew-follow, begun-ranges}
 use Rattle.jb_records.proofs.Resuming.{going-on}
 use Rattle.jb_records.proofs.Steps.{begun-anew}
 use Rattle.jb_records.proofs.Causes.{handed-on, opened-rows, others-refused}
@@ -11,10 +12,13 @@ use Rattle.jb_records.proofs.job.RecordsJob.begin.Goals as goal
 pub returns-clause-new : goal.returns-clause-new
 returns-clause-new c none f =
     let prepared = c.in_ok-prepared.prepared in
-    begun-anew c.steps_keep_results.ensures.begun f c.args.records.now prepared _ (subst (λ n. BeginsAnew n prepared) c.len-count.ensures (c.in_ok-prepared.ensures.new none)) c.in_ok-results.ensures.numbered
-
-pub returns-clause-counted : goal.returns-clause-counted
-returns-clause-counted c none f = anew-counted c.skips_are_counted.ensures.begun f c.args.records.now _ c.in_ok-prepared.prepared (c.in_ok-prepared.ensures.new none)
+    let anew = c.in_ok-prepared.ensures.new none in
+    record {
+      so_far = begun-anew c.steps_keep_results.ensures.begun f c.args.records.now prepared _ (subst (λ n. BeginsAnew n prepared) c.len-count.ensures anew) c.in_ok-results.ensures.numbered;
+      counted = anew-counted c.skips_are_counted.ensures.begun f c.args.records.now _ prepared anew;
+      follows = anew-follow c.rules_are_kept.ensures.begun f prepared.rules c.args.records.now _ prepared anew;
+      ranges = begun-ranges c.args.step.now _ c.args.saved prepared none (subst (λ n. IsPreparation (step_record c.args.step.now) n (Ok (even_partitions c.args.step.now n)) c.args.saved prepared) c.len-count.ensures c.in_ok-prepared.ensures.prepared);
+    }
 
 pub returns-clause-goes_on : goal.returns-clause-goes_on
 returns-clause-goes_on c f stopped =

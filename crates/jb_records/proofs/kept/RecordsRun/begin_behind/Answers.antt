@@ -28,5 +28,5 @@ returns-clause-behind g c =
 
 pub returns-clause-stands : goal.returns-clause-stands
 returns-clause-stands g c =
-    IfOk-weaker c.over.result _ _ (λ run kept held read so. behind-stands _ c.args.records.now _ c.args.saved.now c.in_ok-held.held held _ _ c.args.results.items _ kept c.in_ok-job.ensures.begun.setup c.in_ok-job.ensures.rows c.in_ok-job.ensures.results
-    c.in_ok-held.ensures read so) c.over.ensures.kept
+    IfOk-weaker c.over.result _ _ (λ run kept held read so follow. behind-stands _ c.args.records.now _ c.args.saved.now c.in_ok-held.held held _ _ c.args.results.items _ c.args.step.now.rules kept c.in_ok-job.ensures.begun.setup c.in_ok-job.ensures.rows
+    c.in_ok-job.ensures.begun.prepared.rules c.in_ok-job.ensures.results c.in_ok-held.ensures read so follow) c.over.ensures.kept

@@ -1,0 +1,31 @@
+-- How a step begins and ends by its rules.
+use Rattle.std.specs.Prelude.{ℕ, ◌≡◌, List, length}
+use Rattle.jb_base.specs.Rules.{RulesRecord}
+use Rattle.jb_collect.specs.declared.calls.Status.{Status}
+use Rattle.jb_rules.specs.declared.row.Row.{Row}
+use Rattle.jb_step.specs.preparing.Setup.{Setup}
+use Rattle.jb_records.specs.declared.step.RecordsStep.{RecordsStep}
+use Rattle.jb_records.specs.Following.{EndsByRules, FollowRules, ranges_of}
+use Rattle.jb_records.specs.Function.{Function, IsSteady}
+use Rattle.jb_records.specs.Made.{even_partitions}
+use Rattle.jb_records.specs.Shares.{IsSoFar}
+use Rattle.jb_records.specs.Skips.{AreCounted}
+
+-- anew: it is so far, with the even ranges of all records, its rows count their skips and follow its rules
+pub record IsAnew (f : Function) (step : RecordsStep) (records : List (List ℕ)) (s : Setup) (shares : List (List (List ℕ))) : Type 0 where
+  pub so_far : IsSoFar f records s.rows shares
+  pub counted : AreCounted f records s.rows
+  pub follows : FollowRules f s.rules records s.rows
+  pub ranges : ranges_of s.rows ≡ (even_partitions step (length records)).ranges
+
+-- behind an earlier run
+pub record GoesOnByRules (f : Function) (rules : RulesRecord) (records : List (List ℕ)) (s : Setup) (shares : List (List (List ℕ))) : Type 0 where
+  pub steady : IsSteady f
+  pub so_far : IsSoFar f records s.rows shares
+  pub rules_are : s.rules ≡ rules
+  pub follows : FollowRules f s.rules records s.rows
+
+-- by the rules, and its partitions keep their ranges
+pub record EndsOver (f : Function) (rules : RulesRecord) (records : List (List ℕ)) (before rows : List Row) (status : Status) : Type 0 where
+  pub by_rules : EndsByRules f rules records rows status
+  pub ranges : ranges_of rows ≡ ranges_of before

@@ -1,0 +1,81 @@
+-- Faults of items, one after the other.
+use Rattle.std.proofs.Common.{◌≡◌, ℕ, zero, suc, ◌+◌, ◌≤◌, List, [], ◌∷◌, ◌++◌, length, take, drop, refl, ap, sym, ◌∙◌, arith, length-append, subst}
+use Rattle.std.specs.Prelude.{None, Some, Option, MatchOption, ⊤, true}
+use Rattle.std.specs.List.{AllByRecursion, cons_option}
+use Rattle.std.proofs.lemmas.List.{take-append-drop}
+use Rattle.std.proofs.lemmas.List.Elements.{filter_map-append}
+use Rattle.jb_base.specs.Rules.{RulesRecord}
+use Rattle.jb_base.specs.declared.class.ClassId.{ClassId}
+use Rattle.jb_rules.specs.Decide.{has_class}
+use Rattle.jb_slices.specs.Function.{Fault, Function, ItemsPass, Pass, all_results, fault_and, fault_classes, faults_from, refusal_of, result_of}
+
+pub results-append : (f : Function) (xs ys : List (List ℕ)) → all_results f (xs ++ ys) ≡ all_results f xs ++ all_results f ys
+results-append f xs ys = filter_map-append (result_of f) xs ys
+
+pub classes-append : (f : Function) (xs ys : List (List ℕ)) → fault_classes f (xs ++ ys) ≡ fault_classes f xs ++ fault_classes f ys
+classes-append f xs ys = filter_map-append (refusal_of f) xs ys
+
+-- ---- with their numbers
+
+and-append : (number : ℕ) (refusal : Option ClassId) (later more : List Fault) → fault_and number refusal later ++ more ≡ fault_and number refusal (later ++ more)
+and-append number None later more = refl
+and-append number (Some class) later more = refl
+
+pub faults-split : (f : Function) (first k second : ℕ) (items : List (List ℕ)) → first + k ≡ second
+    → faults_from f first (take k items) ++ faults_from f second (drop k items) ≡ faults_from f first items
+faults-split f first zero second items e = let same : second ≡ first = omega (arith, e) in ap (λ (n : ℕ). faults_from f n items) same
+faults-split f first (suc k) second [] e = refl
+faults-split f first (suc k) second (item ∷ items) e =
+    and-append first (refusal_of f item) (faults_from f (suc first) (take k items)) (faults_from f second (drop k items))
+    ∙ ap (fault_and first (refusal_of f item)) (faults-split f (suc first) k second items (omega (arith, e)))
+
+count-by : (number : ℕ) (refusal : Option ClassId) (later : List Fault) (classes : List ClassId) → length later ≡ length classes
+    → length (fault_and number refusal later) ≡ length (cons_option refusal classes)
+count-by number None later classes e = e
+count-by number (Some class) later classes e = ap suc e
+
+pub faults-count : (f : Function) (first : ℕ) (items : List (List ℕ)) → length (faults_from f first items) ≡ length (fault_classes f items)
+faults-count f first [] = refl
+faults-count f first (item ∷ items) = count-by first (refusal_of f item) (faults_from f (suc first) items) (fault_classes f items) (faults-count f (suc first) items)
+
+-- ---- limits
+
+pub few-less : (limit : Option ℕ) (m n : ℕ) → m ≤ n → MatchOption limit ⊤ (λ l. n ≤ l) → MatchOption limit ⊤ (λ l. m ≤ l)
+few-less None m n less few = tt
+few-less (Some l) m n less few = omega (arith, less, few)
+
+few-none : (limit : Option ℕ) → MatchOption limit ⊤ (λ l. 0 ≤ l)
+few-none None = tt
+few-none (Some l) = omega arith
+
+pub pass-none : (rules : RulesRecord) → Pass rules []
+pass-none rules = record { skippable = tt; few = few-none rules.skip_limit }
+
+-- ---- fronts
+
+all-front : (rules : RulesRecord) (xs ys : List ClassId) → AllByRecursion (λ class. has_class rules.skippable class ≡ true) (xs ++ ys)
+    → AllByRecursion (λ class. has_class rules.skippable class ≡ true) xs
+all-front rules [] ys all = tt
+all-front rules (x ∷ xs) ys all = (all.0, all-front rules xs ys all.1)
+
+classes-fewer : (xs ys : List ClassId) → length xs ≤ length (xs ++ ys)
+classes-fewer xs ys = let e = length-append xs ys in omega (arith, e)
+
+pub pass-front : (rules : RulesRecord) (xs ys : List ClassId) → Pass rules (xs ++ ys) → Pass rules xs
+pass-front rules xs ys pass = record {
+  skippable = all-front rules xs ys pass.skippable;
+  few = few-less rules.skip_limit (length xs) (length (xs ++ ys)) (classes-fewer xs ys) pass.few;
+}
+
+classes-split : (f : Function) (n : ℕ) (items : List (List ℕ)) → fault_classes f items ≡ fault_classes f (take n items) ++ fault_classes f (drop n items)
+classes-split f n items = ap (fault_classes f) (sym (take-append-drop n items)) ∙ classes-append f (take n items) (drop n items)
+
+pub items-pass-front : (f : Function) (rules : RulesRecord) (n : ℕ) (items : List (List ℕ)) → ItemsPass f rules items → ItemsPass f rules (take n items)
+items-pass-front f rules n items pass =
+    pass-front rules (fault_classes f (take n items)) (fault_classes f (drop n items)) (subst (λ (classes : List ClassId). Pass rules classes) (classes-split f n items) pass)
+
+pub fewer-classes : (f : Function) (n : ℕ) (items : List (List ℕ)) → length (fault_classes f (take n items)) ≤ length (fault_classes f items)
+fewer-classes f n items =
+    let e = ap length (classes-split f n items) in
+    let few = classes-fewer (fault_classes f (take n items)) (fault_classes f (drop n items)) in
+    omega (arith, e, few)

@@ -1,0 +1,16 @@
+pub mod Lists
+pub mod Faults
+pub mod Following
+pub mod Telling
+pub mod Having
+pub mod Raising
+pub mod Passing
+pub mod Naming
+pub mod Seams
+pub mod Jobs
+pub mod Ending
+pub mod Apart
+pub mod Covering
+pub mod Deciding
+pub mod Examples
+pub mod Lasting

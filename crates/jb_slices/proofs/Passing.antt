@@ -1,0 +1,149 @@
+-- What the rules decide of a slice.
+use Rattle.std.proofs.Common.{◌≡◌, ℕ, zero, suc, ◌+◌, ◌-◌, ◌<◌, ◌≤◌, List, [], ◌∷◌, length, take, drop, true, refl, ap, sym, ◌∙◌, arith, subst, ◌⊎◌, inl, inr}
+use Rattle.std.specs.Prelude.{None, Some, Option, slice_index_or}
+use Rattle.jb_base.specs.Rules.{RulesRecord}
+use Rattle.jb_base.specs.declared.class.ClassId.{ClassId}
+use Rattle.jb_base.specs.declared.range.Range.{Range}
+use Rattle.jb_mapper.specs.EvenCover.{even_ranges}
+use Rattle.jb_slices.specs.Checkpoint.{Begins, Checkpoint, GoesOn, Progress}
+use Rattle.jb_slices.specs.Function.{Fault, Function, ItemsPass, refusal_of}
+use Rattle.jb_slices.specs.Job.{Job, Limits, first_of, rules_of}
+use Rattle.jb_slices.specs.Partitions.{AreFinished, ArePartitionsSoFar, HasFailed, IsStop, ranges_of}
+use Rattle.jb_slices.specs.Passing.{RangesPass, SlicePasses}
+use Rattle.jb_slices.specs.Slice.{Follow, Functions, IsNext, IsPlaceSoFar, IsSliceSoFar, Place, led, next, place_of, start}
+use Rattle.jb_slices.specs.SliceLaws.{FailedSlicesDont, StopsAreOne, WholeSlicesPass}
+use Rattle.jb_slices.proofs.Faults.{items-pass-front, pass-none}
+use Rattle.jb_slices.proofs.Having.{own-whole}
+use Rattle.jb_slices.proofs.Lists.{drop-nil, take-less, take-nil}
+use Rattle.jb_slices.proofs.Raising.{slice}
+
+-- ---- ranges
+
+pub ranges-none : (f : Function) (rules : RulesRecord) (from : ℕ) (items : List (List ℕ)) (ranges : List Range) → items ≡ [] → RangesPass f rules from items ranges
+ranges-none f rules from items [] none = tt
+ranges-none f rules from items (range ∷ ranges) none = (
+  subst (λ (xs : List (List ℕ)). ItemsPass f rules xs) (sym (take-nil (range.hi - from) items none)) (pass-none rules),
+  ranges-none f rules range.hi (drop (range.hi - from) items) ranges (drop-nil (range.hi - from) items none),
+)
+
+finished-pass : (f : Function) (rules : RulesRecord) (first from : ℕ) (items : List (List ℕ)) (ps : List Progress)
+    → ArePartitionsSoFar f rules first from items ps → AreFinished ps → RangesPass f rules from items (ranges_of ps)
+finished-pass f rules first from items [] parts finished = tt
+finished-pass f rules first from items (p ∷ ps) parts finished = (
+  subst (λ (xs : List (List ℕ)). ItemsPass f rules xs) (own-whole p from items parts.0 (parts.2.finished finished.0)) parts.2.passed,
+  finished-pass f rules first p.row.hi (drop (p.row.hi - from) items) ps parts.3 finished.1,
+)
+
+failed-dont : (f : Function) (rules : RulesRecord) (first from : ℕ) (items : List (List ℕ)) (ps : List Progress)
+    → ArePartitionsSoFar f rules first from items ps → HasFailed ps → RangesPass f rules from items (ranges_of ps) → ⊥
+failed-dont f rules first from items [] parts failed pass = failed
+failed-dont f rules first from items (p ∷ ps) parts failed pass =
+    let own = take (p.row.hi - from) items in
+    elim failed [
+      | inl here ↦ (let stop = (parts.2.failed here).2 in stop.fails (items-pass-front f rules (suc stop.before) own pass.0))
+      | inr later ↦ failed-dont f rules first p.row.hi (drop (p.row.hi - from) items) ps parts.3 later pass.1
+    ]
+
+no-items : (f : Function) (rules : RulesRecord) (first : ℕ) (items : List (List ℕ)) (ps : List Progress) → ps ≡ []
+    → ArePartitionsSoFar f rules first 0 items ps → items ≡ []
+no-items f rules first items [] none parts = parts
+no-items f rules first items (p ∷ ps) none parts = cc
+
+-- ---- where checkpoints lead
+
+pub record IsStanding (job : Job) (functions : Functions) (number : ℕ) (items : List (List ℕ)) (at : Place) : Type 0 where
+  pub begun : at.begun ≡ true
+  pub ranges : ranges_of at.partitions ≡ even_ranges (length items) job.partitions
+  pub so_far : IsPlaceSoFar job functions number items at
+
+-- no interval is kept, or the last one
+abbrev pub HasStood : Job → Functions → (number : ℕ) → (items : List (List ℕ)) → Place → Type 0
+HasStood job functions number items at = (at.partitions ≡ []) ⊎ IsStanding job functions number items at
+
+stood-next : (job : Job) (functions : Functions) (number : ℕ) (items : List (List ℕ)) (at : Place) (c : Checkpoint)
+    → IsNext job functions number items at c → HasStood job functions number items (next at c)
+stood-next job functions number items at (Begins header) fits = inl refl
+stood-next job functions number items at (GoesOn i) fits = inr (record { begun = fits.begun; ranges = fits.ranges; so_far = fits.so_far })
+
+stood-led : (job : Job) (functions : Functions) (number : ℕ) (items : List (List ℕ)) (at : Place) (cs : List Checkpoint)
+    → HasStood job functions number items at → Follow job functions number items at cs → HasStood job functions number items (led at cs)
+stood-led job functions number items at [] stood follow = stood
+stood-led job functions number items at (c ∷ cs) stood follow =
+    stood-led job functions number items (next at c) cs (stood-next job functions number items at c follow.0) follow.1
+
+pub stood : (job : Job) (functions : Functions) (number : ℕ) (items : List (List ℕ)) (all : List Checkpoint)
+    → IsSliceSoFar job functions number items all → HasStood job functions number items (place_of all)
+stood job functions number items all so-far = stood-led job functions number items start all (inl refl) so-far
+
+pub whole : WholeSlicesPass
+whole job functions limits number items all w =
+    let at = place_of all in
+    let f = functions at.stamp in
+    let rules = rules_of job at.limits in
+    let first = first_of job number in
+    let ranges = even_ranges (length items) job.partitions in
+    slice job at.limits limits f items w.raised (elim (stood job functions number items all w.so_far) [
+      | inl none ↦ ranges-none f rules 0 items ranges (no-items f rules first items at.partitions none w.partitions)
+      | inr standing ↦ subst (λ (rs : List Range). RangesPass f rules 0 items rs) standing.ranges (finished-pass f rules first 0 items at.partitions w.partitions w.finished)
+    ])
+
+-- a failed slice has an interval
+pub stands : (job : Job) (functions : Functions) (number : ℕ) (items : List (List ℕ)) (all : List Checkpoint)
+    → IsSliceSoFar job functions number items all → HasFailed (place_of all).partitions → IsStanding job functions number items (place_of all)
+stands job functions number items all so-far failed =
+    elim (stood job functions number items all so-far) [
+      | inl none ↦ absurd (subst (λ (ps : List Progress). HasFailed ps) none failed)
+      | inr standing ↦ standing
+    ]
+
+pub failed : FailedSlicesDont
+failed job functions limits number items all w pass =
+    let at = place_of all in
+    let f = functions at.stamp in
+    let standing = stands job functions number items all w.so_far w.failed in
+    let here : SlicePasses job at.limits f items = subst (λ (l : Limits). SlicePasses job l f items) (sym w.limits_are) pass in
+    failed-dont f (rules_of job at.limits) (first_of job number) 0 items at.partitions standing.so_far w.failed
+    (subst (λ (rs : List Range). RangesPass f (rules_of job at.limits) 0 items rs) (sym standing.ranges) here)
+
+-- ---- one fault
+
+-- which of them is less
+pub order : (a b : ℕ) → (a < b) ⊎ ((a ≡ b) ⊎ (b < a))
+order zero zero = inr (inl refl)
+order zero (suc b) = inl (omega arith)
+order (suc a) zero = inr (inr (omega arith))
+order (suc a) (suc b) = elim (order a b) [
+  | inl less ↦ inl (omega (arith, less))
+  | inr more ↦ elim more [ inl same ↦ inr (inl (ap suc same)) | inr less ↦ inr (inr (omega (arith, less))) ]
+]
+
+not-earlier : (f : Function) (rules : RulesRecord) (first : ℕ) (own : List (List ℕ)) (fault other : Fault) → (s : IsStop f rules first own fault) → (t : IsStop f rules first own other)
+    → s.before < t.before → ⊥
+not-earlier f rules first own fault other s t less =
+    let few : suc s.before ≤ t.before = omega (arith, less) in
+    s.fails (subst (λ (xs : List (List ℕ)). ItemsPass f rules xs) (take-less (suc s.before) t.before own few) (items-pass-front f rules (suc s.before) (take t.before own) t.passed))
+
+abbrev class-or : ClassId → Option ClassId → ClassId
+class-or class None = class
+class-or class (Some other) = other
+
+some-one : (a b : ClassId) → Some a ≡ Some b → a ≡ b
+some-one a b e = ap (class-or a) e
+
+alike : (f : Function) (rules : RulesRecord) (first : ℕ) (own : List (List ℕ)) (fault other : Fault) → (s : IsStop f rules first own fault) → (t : IsStop f rules first own other)
+    → s.before ≡ t.before → fault ≡ other
+alike f rules first own fault other s t e =
+    let number : fault.number ≡ other.number = s.number ∙ ap (λ (n : ℕ). first + n) e ∙ sym t.number in
+    let class : fault.class ≡ other.class =
+    some-one fault.class other.class (sym s.class ∙ ap (λ (n : ℕ). refusal_of f (slice_index_or own n [])) e ∙ t.class) in
+    ap (λ (n : ℕ). record fault { number = n }) number ∙ ap (λ (c : ClassId). record other { class = c }) class
+
+pub one-stop : StopsAreOne
+one-stop f rules first own fault other s t =
+    elim (order s.before t.before) [
+      | inl less ↦ absurd (not-earlier f rules first own fault other s t less)
+      | inr more ↦ elim more [
+        | inl same ↦ alike f rules first own fault other s t same
+        | inr less ↦ absurd (not-earlier f rules first own other fault t s less)
+      ]
+    ]

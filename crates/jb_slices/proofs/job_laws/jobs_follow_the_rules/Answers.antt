@@ -1,0 +1,6 @@
+use Rattle.jb_slices.proofs.Jobs.{completed, failed}
+use Rattle.jb_slices.proofs.Ending.{either}
+use Rattle.jb_slices.proofs.job_laws.jobs_follow_the_rules.Goals as goal
+
+pub returns : goal.returns
+returns c = record { completed = completed; failed = failed; either = either }

@@ -1,0 +1,16 @@
+pub mod Function
+pub mod Job
+pub mod Checkpoint
+pub mod Partitions
+pub mod Slice
+pub mod Folder
+pub mod Passing
+pub mod Parts
+pub mod Failures
+pub mod Refusals
+pub mod SliceLaws
+pub mod JobLaws
+pub mod LimitLaws
+pub mod PartLaws
+pub mod Deciding
+pub mod Example

@@ -1,0 +1,64 @@
+-- What comes of a slice's checkpoints.
+use Rattle.std.specs.Prelude.{ℕ, ◌≡◌, List, [], ◌∷◌, ◌++◌}
+use Rattle.jb_base.specs.Rules.{RulesRecord}
+use Rattle.jb_slices.specs.Checkpoint.{Begins, Checkpoint, Header, digest_of, header_of}
+use Rattle.jb_slices.specs.Function.{Fault, Function, all_results, faults_from}
+use Rattle.jb_slices.specs.Job.{Job, Limits, first_of}
+use Rattle.jb_slices.specs.Partitions.{IsStop}
+use Rattle.jb_slices.specs.Passing.{SlicePasses}
+use Rattle.jb_slices.specs.Slice.{Functions, IsNext, IsSliceFailed, IsSliceSoFar, IsSliceWhole, place_of, results_in, skips_in, stamp_of}
+
+-- THE LAW: a whole slice has the results of all its items, by the function with its stamp, each once and in order
+abbrev pub WholeSlicesHaveAll : Type 0
+WholeSlicesHaveAll =
+    (job : Job) (functions : Functions) (limits : Limits) (number : ℕ) (items : List (List ℕ)) (all : List Checkpoint)
+    → IsSliceWhole job functions limits number items all → results_in all ≡ all_results (functions (stamp_of all)) items
+
+-- THE LAW: and the faults of all its items, which it skipped
+abbrev pub WholeSlicesHaveSkips : Type 0
+WholeSlicesHaveSkips =
+    (job : Job) (functions : Functions) (limits : Limits) (number : ℕ) (items : List (List ℕ)) (all : List Checkpoint)
+    → IsSliceWhole job functions limits number items all → skips_in all ≡ faults_from (functions (stamp_of all)) (first_of job number) items
+
+-- THE LAW: one checkpoint more that may follow is again a slice so far
+abbrev pub OneMoreFollows : Type 0
+OneMoreFollows =
+    (job : Job) (functions : Functions) (number : ℕ) (items : List (List ℕ)) (all : List Checkpoint) (c : Checkpoint)
+    → IsSliceSoFar job functions number items all → IsNext job functions number items (place_of all) c → IsSliceSoFar job functions number items (all ++ c ∷ [])
+
+-- THE LAW: so is a front of its checkpoints, which is what a crash leaves
+abbrev pub FrontsAreSoFar : Type 0
+FrontsAreSoFar =
+    (job : Job) (functions : Functions) (number : ℕ) (items : List (List ℕ)) (all more : List Checkpoint)
+    → IsSliceSoFar job functions number items (all ++ more) → IsSliceSoFar job functions number items all
+
+-- THE LAW: the first checkpoint is a header, and says whose it is, and of which items
+abbrev pub HeadersTell : Type 0
+HeadersTell =
+    (job : Job) (functions : Functions) (number : ℕ) (items : List (List ℕ)) (c : Checkpoint) (cs : List Checkpoint)
+    → IsSliceSoFar job functions number items (c ∷ cs) → (header : Header) × (c ≡ Begins header) × (header ≡ header_of job header.limits header.stamp number items)
+
+-- THE LAW: so two slices with one header are of one job, under one number, with one digest
+abbrev pub SlicesAreTold : Type 0
+SlicesAreTold =
+    (job other : Job) (functions others : Functions) (number m : ℕ) (items texts : List (List ℕ)) (c : Checkpoint) (cs ds : List Checkpoint)
+    → IsSliceSoFar job functions number items (c ∷ cs) → IsSliceSoFar other others m texts (c ∷ ds)
+    → (job ≡ other) × (number ≡ m) × (digest_of items ≡ digest_of texts)
+
+-- THE LAW: in a whole slice the items of each partition pass
+abbrev pub WholeSlicesPass : Type 0
+WholeSlicesPass =
+    (job : Job) (functions : Functions) (limits : Limits) (number : ℕ) (items : List (List ℕ)) (all : List Checkpoint)
+    → IsSliceWhole job functions limits number items all → SlicePasses job limits (functions (stamp_of all)) items
+
+-- THE LAW: and in a failed one those of some partition don't
+abbrev pub FailedSlicesDont : Type 0
+FailedSlicesDont =
+    (job : Job) (functions : Functions) (limits : Limits) (number : ℕ) (items : List (List ℕ)) (all : List Checkpoint)
+    → IsSliceFailed job functions limits number items all → SlicePasses job limits (functions (stamp_of all)) items → ⊥
+
+-- THE LAW: there is one fault at most by which a partition fails
+abbrev pub StopsAreOne : Type 0
+StopsAreOne =
+    (f : Function) (rules : RulesRecord) (first : ℕ) (own : List (List ℕ)) (fault other : Fault)
+    → IsStop f rules first own fault → IsStop f rules first own other → fault ≡ other

@@ -1,0 +1,33 @@
+//! What comes of a job's checkpoints. Nothing is done here: the clauses are the laws.
+
+ghost use Rattle.jb_slices.specs.JobLaws.{EndedJobsAreEither, FailedJobsDont, LastSlicesAreOne, LaterItemsDontMatter, SlicesAreApart, WholeJobsHaveAll, WholeJobsHaveSkips, WholeJobsPass, WholeSlicesAreAFront};
+
+/// A whole job has the results of all items, each once and in order, and the faults that it skipped. Those of its first whole slices are a
+/// front of the results.
+pub fn jobs_have_results()
+    ensures all { WholeJobsHaveAll }
+    ensures skips { WholeJobsHaveSkips }
+    ensures front { WholeSlicesAreAFront }
+{}
+
+/// One slice at most is the last one.
+pub fn one_slice_is_last()
+    ensures { LastSlicesAreOne }
+{}
+
+/// A job completes only where its items pass the rules, and fails only where they don't; once it has ended it is the one or the other.
+pub fn jobs_follow_the_rules()
+    ensures completed { WholeJobsPass }
+    ensures failed { FailedJobsDont }
+    ensures either { EndedJobsAreEither }
+{}
+
+/// What is done to one slice's list leaves those of the others.
+pub fn slices_are_apart()
+    ensures { SlicesAreApart }
+{}
+
+/// Items of slices that haven't begun may change.
+pub fn later_items_dont_matter()
+    ensures { LaterItemsDontMatter }
+{}

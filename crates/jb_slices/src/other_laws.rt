@@ -1,0 +1,39 @@
+//! Raised limits, parts, and the rule of faults. Nothing is done here: the clauses are the laws.
+
+ghost use Rattle.jb_slices.specs.Deciding.{FailsDont, RetriesEnd, SkipsPass};
+ghost use Rattle.jb_slices.specs.Example.{SomeAreSoFar, SomeAreWhole, SomeFail};
+ghost use Rattle.jb_slices.specs.LimitLaws.{PartsMakeAnIdentity, RaisedJobsStayWhole, RaisedLimitsPass, RaisedLimitsPassAll};
+ghost use Rattle.jb_slices.specs.PartLaws.{CollectsAreJobs, EachIsInAPart, PartsAreApart};
+
+/// What passed still passes by raised limits, and a whole job stays whole.
+pub fn raised_limits_keep()
+    ensures each { RaisedLimitsPass }
+    ensures all { RaisedLimitsPassAll }
+    ensures whole { RaisedJobsStayWhole }
+{}
+
+/// Jobs that have each part of their identity in common are one.
+pub fn identities_have_parts()
+    ensures { PartsMakeAnIdentity }
+{}
+
+/// Each slice is in one part, and a collect is a job.
+pub fn parts_cover()
+    ensures apart { PartsAreApart }
+    ensures each { EachIsInAPart }
+    ensures collect { CollectsAreJobs }
+{}
+
+/// What becomes of faults one by one is what the rules let pass of them all.
+pub fn choices_are_the_rules()
+    ensures skip { SkipsPass }
+    ensures fail { FailsDont }
+    ensures end { RetriesEnd }
+{}
+
+/// There are such checkpoints: those of a whole job, of one that failed, and of one that goes on though a slice failed.
+pub fn some_are_there()
+    ensures whole { SomeAreWhole }
+    ensures failed { SomeFail }
+    ensures so_far { SomeAreSoFar }
+{}

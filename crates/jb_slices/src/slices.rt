@@ -1,0 +1,24 @@
+//! Which slices a job has.
+
+ghost use Rattle.std.specs.Prelude.{ℕ, suc, ◌≡◌, ◌<◌, List, length};
+ghost use Rattle.std.specs.Bool.{MatchBool};
+ghost use Rattle.jb_slices.specs.Job.{HasSlice, IsLastSlice, Job, slice_at};
+
+/// Whether a slice of so many items is the last one of its job, which has `slice_length` items in each other slice. If it isn't, there is a
+/// next one.
+#[must_use]
+pub fn is_last_slice(items: u64, slice_length: u64) -> bool
+    ensures last { (job : Job) (all : List (List ℕ)) (number : ℕ) → job.slice_length ≡ slice_length → HasSlice job all number
+        → length (slice_at job all number) ≡ items → MatchBool result (IsLastSlice job all number) (HasSlice job all (suc number)) }
+{
+    items < slice_length
+}
+
+/// The number of the last slice of a job over so many items, the first slice being 0.
+#[must_use]
+pub fn last_slice(items: u64, slice_length: u64) -> u64
+    requires some { 0 < slice_length }
+    ensures last { (job : Job) (all : List (List ℕ)) → job.slice_length ≡ slice_length → length all ≡ items → IsLastSlice job all result }
+{
+    items / slice_length
+}
