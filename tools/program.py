@@ -38,6 +38,19 @@ class Program:
         """The libraries of a crate that are crates of the repository."""
         return [library for library in self.libraries[crate] if library in self.libraries]
 
+    def all_below(self, crate):
+        """The crates of the repository that a crate stands on, directly or by others."""
+        below = set(self.own_below(crate))
+        return below.union(*map(self.all_below, below))
+
+    def files_of(self, crate):
+        """The paths of a crate's sources."""
+        paths = []
+        for folder, folders, files in os.walk(self.top / "crates" / crate):
+            folders[:] = [one for one in folders if one not in ("out", "must-fail")]
+            paths += [os.path.join(folder, file) for file in files if file.endswith((".rt", ".antt"))]
+        return paths
+
     def kit_below(self, crate):
         """The libraries of a crate that are the kit's."""
         return ["std", *[library for library in self.libraries[crate] if library not in self.libraries]]
@@ -46,9 +59,7 @@ class Program:
         """The paths of what the program is made of: the sources of the needed crates, and what the crates stand on."""
         paths = [str(self.top / "crates.txt"), str(self.top / "HANDLES")]
         for name in self.needed:
-            for folder, folders, files in os.walk(self.top / "crates" / name):
-                folders[:] = [one for one in folders if one not in ("out", "must-fail")]
-                paths += [os.path.join(folder, file) for file in files if file.endswith((".rt", ".antt"))]
+            paths += self.files_of(name)
         return sorted(paths)
 
     def digest(self):

@@ -1,3 +1,4 @@
+pub mod Begun
 pub mod CallsInPart
 pub mod Growing
 pub mod Hearing

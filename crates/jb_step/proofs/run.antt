@@ -1,4 +1,6 @@
 pub mod Adding
+pub mod Breaking
+pub mod Ending
 pub mod Leading
 pub mod Rounding
 pub mod SingleSlot

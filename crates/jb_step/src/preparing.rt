@@ -54,20 +54,41 @@ pub fn prepare(
     ensures mapper { mapping mapper.new ≡ mapping mapper.old }
 {
     match reducer.begin() {
+        Ok(()) => prepare_begun(alloc, step, records, mapper, reducer, saved),
         Err(ArtifactError::Fault(class)) => Err(StepError::Reducer(class)),
         Err(ArtifactError::Memory) => Err(StepError::Memory),
-        Ok(()) => match planned(alloc, step, records, mapper, saved) {
-            Ok((prepared, overrides)) => {
-                if overrides {
-                    discard(prepared, reducer)
-                } else {
-                    Ok(prepared)
-                }
+    }
+}
+
+// The same, once the reducer has begun.
+fn prepare_begun(
+    alloc: Global,
+    step: &Step,
+    records: u64,
+    mapper: &mut dyn PartitionMapper,
+    reducer: &mut dyn Reducer,
+    saved: Option<Saved>,
+) -> Result<Prepared, StepError>
+    requires { records ≤ max_records }
+    ensures prepared { IfOk result (λ prepared. IsPreparation step.now records (mapping mapper.old records) saved prepared) }
+    ensures setup { IfOk result (λ prepared. IsSetup prepared) }
+    ensures refused { IfErr result (λ error. IsPrepareRefusal step.now records (mapping mapper.old records) saved (well act.Begin ∷ since (reduced reducer.old) (reduced reducer.new)) error) }
+    ensures calls { AreCallsBefore (overrides_by (mapping mapper.old records) saved) result (well act.Begin ∷ since (reduced reducer.old) (reduced reducer.new)) }
+    ensures overridden { IfOk result (λ prepared. IsOverridden (mapping mapper.old records) saved (well act.Begin ∷ since (reduced reducer.old) (reduced reducer.new)) prepared) }
+    ensures grew { Grew (reduced reducer.old) (reduced reducer.new) }
+    ensures mapper { mapping mapper.new ≡ mapping mapper.old }
+{
+    match planned(alloc, step, records, mapper, saved) {
+        Ok((prepared, overrides)) => {
+            if overrides {
+                discard(prepared, reducer)
+            } else {
+                Ok(prepared)
             }
-            Err(error) => match undo(reducer) {
-                Ok(_) => Err(error),
-                Err(_) => Err(StepError::Memory),
-            },
+        }
+        Err(error) => match undo(reducer) {
+            Ok(_) => Err(error),
+            Err(_) => Err(StepError::Memory),
         },
     }
 }

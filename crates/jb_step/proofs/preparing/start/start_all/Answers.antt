@@ -9,7 +9,7 @@ use Rattle.jb_step.specs.inside.preparing.Starting.{tasks_from}
 use Rattle.jb_step.specs.rounds.PlanLaws.{IsTaskTable}
 use Rattle.jb_step.proofs.plans.Holding.{begins_with_table}
 use Rattle.jb_step.proofs.table.Putting.{in-places}
-use Rattle.jb_step.proofs.beginning.Opening.{all-started, begun-at, fit-at}
+use Rattle.jb_step.proofs.beginning.Opening.{all-started, begun-at, fit-at, one-more}
 use Rattle.jb_step.proofs.preparing.start.start_all.Goals as goal
 
 -- the rows are all gone through
@@ -44,3 +44,9 @@ start_row-requires-clause-fit g c κs bounds =
 pub start_row-requires-clause-begun : goal.start_row-requires-clause-begun
 start_row-requires-clause-begun g c κs bounds =
     begun-at c.begun_rows-rows.result.now c.loop-row.row-index _ c.loop-row-test.true c.begun_rows-rows.ensures.begun
+
+pub loop-row-preserved : goal.loop-row-preserved
+loop-row-preserved g c =
+    let more = one-more c.args.prepared.now c.begun_rows-rows.result.now c.loop-row.row-index _ _ _ _ _ _ _ _ c.loop-row-test.true c.loop-row.invariant.0 c.in_ok-start_row.ensures.length
+    c.loop-row.invariant.2 c.loop-row.invariant.3 c.in_ok-start_row.ensures.fit c.in_ok-start_row.ensures.tasks in
+    (more.long_is, c.in_ok-start_row.ensures.placed, more.fit, more.so_far)

@@ -8,6 +8,7 @@ use Rattle.jb_step.specs.inside.rounds.SoFar.{IsRunOfStepSoFar, at_first}
 use Rattle.jb_step.specs.inside.callbacks.Telling.{moment}
 use Rattle.jb_step.specs.rounds.PlanLaws.{IsTaskTable}
 use Rattle.jb_step.proofs.Heading.{headline-of}
+use Rattle.jb_step.proofs.calls.Growing.{grew-more}
 use Rattle.jb_step.proofs.run.Stepping.{IsLeft, run-is, way-is, heard-fault}
 use Rattle.jb_step.proofs.rounds.runner.RoundRunner.run_tasks.Goals as goal
 
@@ -72,3 +73,21 @@ pub returns-clause-status : goal.returns-clause-status
 returns-clause-status g c =
     let same = heard-fault c.laws_below.ensures (run-of g c) (fault g c) (left g c) in
     c.status_now-status.ensures ∙ ap₂ status_of c.as_slice-3.ensures.value (c.is_some.ensures ∙ same)
+
+pub returns-clause-grew : goal.returns-clause-grew
+returns-clause-grew g c = grew-more _ _ _ (grew-more _ _ _ c.tell_first.ensures.grew c.run_rounds.ensures.grew) c.tell_last.ensures.grew
+
+pub returns-in_err-ran-clause-grew : goal.returns-in_err-ran-clause-grew
+returns-in_err-ran-clause-grew g c = grew-more _ _ _ c.tell_first.ensures.grew c.run_rounds.ensures.grew
+
+pub returns-in_err-ran-2-clause-grew : goal.returns-in_err-ran-2-clause-grew
+returns-in_err-ran-2-clause-grew g c = grew-more _ _ _ (grew-more _ _ _ c.tell_first.ensures.grew c.run_rounds.ensures.grew) c.tell_last.ensures.grew
+
+pub returns-in_err-snapshot-clause-grew : goal.returns-in_err-snapshot-clause-grew
+returns-in_err-snapshot-clause-grew g c = grew-more _ _ _ (grew-more _ _ _ c.tell_first.ensures.grew c.run_rounds.ensures.grew) c.tell_last.ensures.grew
+
+pub returns-then-not-are_numbers-clause-grew : goal.returns-then-not-are_numbers-clause-grew
+returns-then-not-are_numbers-clause-grew g c = grew-more _ _ _ (grew-more _ _ _ c.tell_first.ensures.grew c.run_rounds.ensures.grew) c.tell_last.ensures.grew
+
+pub returns-in_err-artifacts-clause-grew : goal.returns-in_err-artifacts-clause-grew
+returns-in_err-artifacts-clause-grew g c = grew-more _ _ _ (grew-more _ _ _ c.tell_first.ensures.grew c.run_rounds.ensures.grew) c.tell_last.ensures.grew
