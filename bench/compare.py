@@ -1,7 +1,7 @@
 #!/usr/bin/env python3
 """`batchrun` beside Python's `json` and beside a plain program, on the same documents and in one run.
 
-    bench/compare.py [--threads | --large] [--records N] [--runs N]
+    bench/compare.py [--threads | --large | --bytes] [--records N] [--runs N]
 
 `plain` is the program of the folder plain/, whose head says what it leaves out; it is built here by `rustc`, and its outputs are
 compared with those of `batchrun`. `python3` reads a document of records into a tree by its module `json` and writes that tree again,
@@ -17,6 +17,8 @@ about ten times as long.
 With --threads both programs run the documents of short records, in chunks of 10 to 10,000, and that of faulty ones, on 1 to 64 threads:
 `batchrun` moves its threads between partitions at their checkpoints, the plain program's pool takes partitions whole. A cell is `cpu / wall` in
 seconds, the least of some runs of each, and below the table stands for each program where four threads took less wall time than one.
+
+With --bytes the records have 4,096 bytes of one kind, and a cell is instructions for one byte of the document.
 
 With --large both run, once, documents of 10,000,000 records with as many faults, and a cell is `cpu s, peak MB`; a document has some 300 MB.
 """
@@ -51,6 +53,7 @@ CASES = (
     ("{:,} of 28 bytes, 1 in 50 faulty, chunks of 100, 64 partitions", "run", MILLION, records_of(documents.faulty, 100)),
     ("the same, the shaky ones repeated in place", "run", MILLION, records_of(documents.in_place, 100)),
     ("{:,} of 1,000 bytes, chunks of 1,000, 8 partitions", "run", 3 * MILLION // 10, records_of(documents.wide, 1_000)),
+    ("{:,} of 30 bytes, 20 of them not ASCII, chunks of 1,000, 8 partitions", "run", MILLION, records_of(documents.foreign, 1_000)),
     ("{:,} of ten bytes, restarted half-way, chunks of 100, 64 partitions", "restart", MILLION, records_of(documents.half_done, 100)),
     ("the same, restarted when 99 of 100 were done", "restart", MILLION, records_of(documents.half_done, 100, 99)),
     ("plan of {:,} slots, 4,096 partitions on 63 threads", "plan", 8_192_000, plan_of(4_096, 63)),
@@ -147,10 +150,38 @@ def print_large(plain, room):
         print(f"| {name} ({os.path.getsize(path) // 1_000_000} MB of document) | {' | '.join(f'{cpu:.1f}, {peak:,.0f}' for *_, cpu, peak in taken)} |", flush=True)
 
 
+# Kinds of bytes: what each is called, and its characters.
+KINDS = (
+    ("ASCII", "x"),
+    ("control characters, six bytes each in a document", "\1"),
+    ("line feeds, two bytes each", "\n"),
+    ("quotes and backslashes, two bytes each", '"\\'),
+    ("a quote behind each letter", 'x"'),
+    ("characters of two bytes", "é"),
+    ("of three bytes", "€"),
+    ("of four bytes", "😀"),
+    ("a control character behind each of two bytes", "é\1"),
+)
+
+
+def print_kinds(plain, room):
+    print("| 4,096 bytes of | `batchrun`: instructions for one byte of the document | `plain`: the same |\n|---|---|---|")
+    commands = [PROGRAM, "run"], [plain, "run"]
+    small, large = (os.path.join(room, f"{records}.json") for records in (200, 600))
+    for name, characters in KINDS:
+        for path, records in ((small, 200), (large, 600)):
+            documents.write(path, documents.of_kind, records, characters)
+        in_a_process(compare, "run", *commands, large)
+        length = os.path.getsize(large) - os.path.getsize(small)
+        each = ((instructions(command, large) - instructions(command, small)) / length for command in commands)
+        print(f"| {name} | {' | '.join(f'{it:.1f}' for it in each)} |", flush=True)
+
+
 def main():
     parser = argparse.ArgumentParser(description=__doc__, formatter_class=argparse.RawDescriptionHelpFormatter)
     parser.add_argument("--threads", action="store_true")
     parser.add_argument("--large", action="store_true")
+    parser.add_argument("--bytes", action="store_true")
     parser.add_argument("--records", type=int, default=MILLION)
     parser.add_argument("--runs", type=int, default=3)
     options = parser.parse_args()
@@ -158,6 +189,9 @@ def main():
     if options.threads:
         with tempfile.TemporaryDirectory() as room:
             return print_threads(plain_program(room), options, room)
+    if options.bytes:
+        with tempfile.TemporaryDirectory() as room:
+            return print_kinds(plain_program(room), room)
     if options.large:
         with tempfile.TemporaryDirectory() as room:
             return print_large(plain_program(room), room)

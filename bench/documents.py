@@ -37,6 +37,16 @@ def wide(records, item_count):
     return job([f"{place:010d}" * 100 for place in range(records)], even(records, 8), item_count)
 
 
+def foreign(records, item_count):
+    """Records of 30 bytes, of which two in three are of letters that aren't ASCII."""
+    return job([f"{place:010d}" + "äöüßéñçøåž" for place in range(records)], even(records, 8), item_count)
+
+
+def of_kind(records, characters):
+    """Records of 4,096 bytes, or nearly so many, of these characters."""
+    return job([characters * (4_096 // len(characters.encode()))] * records, even(records, 8), 1_000)
+
+
 def faulty(records, item_count):
     """Pay slips of about 28 bytes with a prefix, of which 1 in 100 is shaky and 1 in 100 bad when it is processed."""
     texts = [f"{place:08d};{place % 977} h;{place % 3131}.{place % 100:02d} EUR" for place in range(records)]
@@ -111,4 +121,4 @@ def write(path, make, *given):
 
 def write_here(path, make, *given):
     with open(path, "w", encoding="utf-8") as file:
-        json.dump(make(*given), file)
+        json.dump(make(*given), file, ensure_ascii=False)

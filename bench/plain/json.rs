@@ -1,7 +1,8 @@
 //! JSON as a tree over its text: what the documents and the answers of `batchrun` need of it. Numbers are whole and below 2^64. A text
-//! without escapes is a part of the document.
+//! without escapes is a part of the document. Lists of texts that come out as they were are no trees: `Texts`.
 
 use std::borrow::Cow;
+use std::mem;
 
 pub enum Tree<'a> {
     /// `true`, `false` or `null`: which one, nothing here asks for.
@@ -10,6 +11,27 @@ pub enum Tree<'a> {
     Text(Cow<'a, str>),
     List(Vec<Tree<'a>>),
     Object(Vec<(Cow<'a, str>, Tree<'a>)>),
+    /// Of a member `outputs`, which is a list of lists of texts.
+    Texts(Vec<Texts>),
+}
+
+/// Texts as they are written: what stands between the brackets of a list.
+#[derive(Default)]
+pub struct Texts {
+    pub text: String,
+    pub count: usize,
+}
+
+impl Texts {
+    /// Writes a text, which is given in parts, behind the others.
+    pub fn push<const PARTS: usize>(&mut self, parts: [&str; PARTS]) {
+        self.text.push_str(if self.count == 0 { "\"" } else { ",\"" });
+        for part in parts {
+            write_plain(&mut self.text, part);
+        }
+        self.text.push('"');
+        self.count += 1;
+    }
 }
 
 impl<'a> Tree<'a> {
@@ -17,6 +39,21 @@ impl<'a> Tree<'a> {
     pub fn get(&self, name: &str) -> Option<&Tree<'a>> {
         match self {
             Tree::Object(members) => members.iter().find(|(key, _)| key == name).map(|(_, value)| value),
+            _ => None,
+        }
+    }
+
+    pub fn get_mut(&mut self, name: &str) -> Option<&mut Tree<'a>> {
+        match self {
+            Tree::Object(members) => members.iter_mut().find(|(key, _)| key == name).map(|(_, value)| value),
+            _ => None,
+        }
+    }
+
+    /// Takes the lists of texts out of the member of an object.
+    pub fn take_texts(&mut self, name: &str) -> Option<Vec<Texts>> {
+        match self.get_mut(name)? {
+            Tree::Texts(lists) => Some(mem::take(lists)),
             _ => None,
         }
     }
@@ -100,18 +137,36 @@ impl<'a> Reader<'a> {
         self.text[begin..self.at].parse().ok().map(Tree::Number)
     }
 
-    fn elements(&mut self) -> Option<Tree<'a>> {
+    /// Passes a list over, whose elements `element` reads.
+    fn each(&mut self, mut element: impl FnMut(&mut Self) -> Option<()>) -> Option<()> {
         self.take(b'[')?;
-        let mut elements = Vec::new();
         if self.take(b']').is_some() {
-            return Some(Tree::List(elements));
+            return Some(());
         }
         loop {
-            elements.push(self.value()?);
+            element(self)?;
             if self.take(b',').is_none() {
-                return self.take(b']').map(|()| Tree::List(elements));
+                return self.take(b']');
             }
         }
+    }
+
+    fn elements(&mut self) -> Option<Tree<'a>> {
+        let mut elements = Vec::new();
+        self.each(|reader| reader.value().map(|element| elements.push(element)))?;
+        Some(Tree::List(elements))
+    }
+
+    fn texts(&mut self) -> Option<Texts> {
+        let mut texts = Texts::default();
+        self.each(|reader| reader.string().map(|text| texts.push([&text])))?;
+        Some(texts)
+    }
+
+    fn lists_of_texts(&mut self) -> Option<Tree<'a>> {
+        let mut lists = Vec::new();
+        self.each(|reader| reader.texts().map(|texts| lists.push(texts)))?;
+        Some(Tree::Texts(lists))
     }
 
     fn members(&mut self) -> Option<Tree<'a>> {
@@ -124,7 +179,8 @@ impl<'a> Reader<'a> {
             self.skip_blanks();
             let name = self.string()?;
             self.take(b':')?;
-            members.push((name, self.value()?));
+            let value = if name == "outputs" { self.lists_of_texts()? } else { self.value()? };
+            members.push((name, value));
             if self.take(b',').is_none() {
                 return self.take(b'}').map(|()| Tree::Object(members));
             }
@@ -220,19 +276,25 @@ pub fn write_plain(to: &mut String, text: &str) {
         let length = plain_length(rest);
         to.push_str(&rest[..length]);
         let Some(special) = rest.as_bytes().get(length) else { return };
-        write_escape(to, char::from(*special));
+        write_escape(to, *special);
         rest = &rest[length + 1..];
     }
 }
 
-fn write_escape(to: &mut String, c: char) {
-    match c {
-        '\u{8}' => to.push_str("\\b"),
-        '\u{c}' => to.push_str("\\f"),
-        '\n' => to.push_str("\\n"),
-        '\r' => to.push_str("\\r"),
-        '\t' => to.push_str("\\t"),
-        '"' | '\\' => to.extend(['\\', c]),
-        _ => to.push_str(&format!("\\u{:04x}", u32::from(c))),
-    }
+/// Writes a quote, a backslash or a control character.
+fn write_escape(to: &mut String, special: u8) {
+    let short = match special {
+        b'"' | b'\\' => special,
+        8 => b'b',
+        12 => b'f',
+        b'\n' => b'n',
+        b'\r' => b'r',
+        b'\t' => b't',
+        _ => {
+            to.push_str(if special < 16 { "\\u000" } else { "\\u001" });
+            return to.push(char::from(b"0123456789abcdef"[usize::from(special % 16)]));
+        }
+    };
+    to.push('\\');
+    to.push(char::from(short));
 }

@@ -2,18 +2,21 @@
 //!
 //! It reads the document into a tree that borrows its texts, runs each partition's chunks, and prints the outputs of each partition and
 //! what a collector told of its commits; or it prints the plan. It is written as one would ship it, to measure against. A partition's
-//! results are written, as the report has them, into one buffer of its own. With more than one thread in the document's plan, a pool of so
-//! many takes the partitions in turn, each to its end. What it leaves out: it checks nothing of a document but that it is JSON, has one step,
-//! and no limits, listeners, analyzer or reducer; it makes no plan for the chunks that it runs; it knows faults of processing alone, in their
-//! order, `bad` ones, which are skipped, and `shaky` ones, which are retried after a rollback, record by record, or in place; it keeps no counts but that of
-//! results written, and no history. It looks for the faults of a chunk before it makes the results, so that nothing has to be undone. Where
-//! something isn't as it expects, it ends with status 1 and says nothing.
+//! results are written, as the report has them, into one buffer of its own; those that a restart's document has of it go there as they are
+//! read. With more than one thread in the document's plan, a pool of so many takes the partitions in turn, each to its end. What it leaves
+//! out: it checks nothing of a document but that it is JSON, has one step, and no limits, listeners, analyzer or reducer; it makes no plan
+//! for the chunks that it runs; it knows faults of processing alone, in their order, `bad` ones, which are skipped, and `shaky` ones, which
+//! are retried after a rollback, record by record, or in place; it keeps no counts but that of results written, and no history. It looks
+//! for the faults of a chunk before it makes the results, so that nothing has to be undone. Where something isn't as it expects, it ends
+//! with status 1 and says nothing.
 
 mod json;
+mod number;
+mod plan;
 
-use json::{Tree, read, write_plain};
-use std::fmt::Write as _;
-use std::io::{BufWriter, Read, Write};
+use json::{Texts, Tree, read};
+use number::write_number;
+use std::io::{Read, Write};
 use std::mem;
 use std::process::ExitCode;
 use std::sync::Mutex;
@@ -39,53 +42,49 @@ struct Partition {
     at: usize,
     end: usize,
     faults: Vec<Fault>,
-    /// What is written, between the brackets of the report's list.
-    outputs: String,
-    written: usize,
-    heard: String,
+    outputs: Texts,
+    /// What stands between the brackets of the report's list.
+    heard: Vec<u8>,
 }
 
 impl Partition {
-    fn new(at: usize, end: usize) -> Partition {
-        Partition { at, end, faults: Vec::new(), outputs: String::new(), written: 0, heard: String::new() }
+    fn new(at: usize, end: usize, outputs: Texts) -> Partition {
+        Partition { at, end, faults: Vec::new(), outputs, heard: Vec::new() }
     }
 
-    /// Writes the parts of a text as a result.
-    fn write(&mut self, parts: [&str; 2]) {
-        self.outputs.push_str(if self.written == 0 { "\"" } else { ",\"" });
-        for part in parts {
-            write_plain(&mut self.outputs, part);
-        }
-        self.outputs.push('"');
-        self.written += 1;
+    /// Notes what a collector tells of a commit, without the end of its text.
+    fn hear(&mut self, place: usize) {
+        self.heard.push(b'"');
+        write_number(&mut self.heard, place as u64);
+        self.heard.push(b':');
+        write_number(&mut self.heard, self.at as u64);
+        self.heard.push(b':');
+        write_number(&mut self.heard, self.outputs.count as u64);
     }
 }
 
 /// The ranges of a plan, or of a step without one.
 fn fresh(plan: Option<&Tree>, records: usize) -> Option<Vec<Partition>> {
-    let Some(ranges) = plan.and_then(|it| it.get("ranges")) else { return Some(vec![Partition::new(0, records)]) };
+    let Some(ranges) = plan.and_then(|it| it.get("ranges")) else { return Some(vec![Partition::new(0, records, Texts::default())]) };
     ranges
         .list()
         .iter()
         .map(|range| {
             let [at, end] = range.list() else { return None };
-            Some(Partition::new(number(at)?, number(end)?))
+            Some(Partition::new(number(at)?, number(end)?, Texts::default()))
         })
         .collect()
 }
 
-/// The partitions of a stopped run: a row has its checkpoint behind its range, a writer its outputs.
-fn resumed(resume: &Tree) -> Option<Vec<Partition>> {
+/// The partitions of a stopped run: a row has its checkpoint behind its range, a writer its outputs, which are taken.
+fn resumed(resume: &mut Tree) -> Option<Vec<Partition>> {
+    let outputs = resume.take_texts("outputs")?;
     let rows = resume.get("saved")?.get("rows")?.list();
     rows.iter()
-        .zip(resume.get("outputs")?.list())
+        .zip(outputs)
         .map(|(row, outputs)| {
             let row = row.list();
-            let mut partition = Partition::new(number(row.get(2)?)?, number(row.get(1)?)?);
-            for text in outputs.list() {
-                partition.write(["", text.text()?]);
-            }
-            Some(partition)
+            Some(Partition::new(number(row.get(2)?)?, number(row.get(1)?)?, outputs))
         })
         .collect()
 }
@@ -131,7 +130,7 @@ fn write_chunk(step: &Step, partition: &mut Partition, end: usize, faults: std::
         }
         let item = step.records[record].text()?;
         if !step.drop.is_some_and(|drop| item.starts_with(drop)) {
-            partition.write([step.prefix, item]);
+            partition.outputs.push([step.prefix, item]);
         }
     }
     partition.at = end;
@@ -154,9 +153,12 @@ fn run_partition(step: &Step, place: usize, partition: &mut Partition) -> Option
         }
         write_chunk(step, partition, end, fault..fault + count)?;
         fault += count;
-        write!(partition.heard, "\"{place}:{end}:{}\",", partition.written).ok()?;
+        partition.hear(place);
+        partition.heard.extend(b"\",");
     }
-    write!(partition.heard, "\"{place}:{}:{}:end\",\"COMPLETED\"", partition.at, partition.written).ok()
+    partition.hear(place);
+    partition.heard.extend(b":end\",\"COMPLETED\"");
+    Some(())
 }
 
 /// Takes partitions in turn, until all are taken or one isn't as expected.
@@ -181,16 +183,20 @@ fn run_all(step: &Step, partitions: &mut [Partition]) -> Option<()> {
     })
 }
 
-fn write_lists<'a>(to: &mut impl Write, lists: impl Iterator<Item = &'a String>) -> Option<()> {
+fn write_lists<'a>(to: &mut impl Write, lists: impl Iterator<Item = &'a [u8]>) -> Option<()> {
     for (place, list) in lists.enumerate() {
         to.write_all(if place == 0 { b"[" } else { b",[" }).ok()?;
-        to.write_all(list.as_bytes()).ok()?;
+        to.write_all(list).ok()?;
         to.write_all(b"]").ok()?;
     }
     Some(())
 }
 
-fn run(document: &Tree) -> Option<()> {
+fn run(document: &mut Tree) -> Option<()> {
+    let resumed = match document.get_mut("resume") {
+        Some(resume) => Some(resumed(resume)?),
+        None => None,
+    };
     let ([job_step], [data]) = (document.get("job")?.get("step")?.list(), document.get("data")?.list()) else { return None };
     let plan = job_step.get("partition").and_then(|it| it.get("plan"));
     let step = Step {
@@ -200,8 +206,8 @@ fn run(document: &Tree) -> Option<()> {
         item_count: number(job_step.get("chunk")?.get("item-count")?)?,
         threads: plan.and_then(|it| number(it.get("threads")?)).unwrap_or(1),
     };
-    let mut partitions = match document.get("resume") {
-        Some(resume) => resumed(resume)?,
+    let mut partitions = match resumed {
+        Some(partitions) => partitions,
         None => fresh(plan, step.records.len())?,
     };
     let faults = data.get("faults").and_then(|it| it.get("process")).map_or(&[][..], Tree::list);
@@ -210,76 +216,19 @@ fn run(document: &Tree) -> Option<()> {
     run_all(&step, &mut partitions)?;
     let mut out = std::io::stdout().lock();
     out.write_all(b"{\"heard\":[").ok()?;
-    write_lists(&mut out, partitions.iter().map(|it| &it.heard))?;
+    write_lists(&mut out, partitions.iter().map(|it| it.heard.as_slice()))?;
     out.write_all(b"],\"outputs\":[").ok()?;
-    write_lists(&mut out, partitions.iter().map(|it| &it.outputs))?;
+    write_lists(&mut out, partitions.iter().map(|it| it.outputs.text.as_bytes()))?;
     out.write_all(b"]}\n").ok()
-}
-
-/// The partition and the chunk at a place of all partitions' chunks in a row, which is cut into lanes of so many rounds. It is looked
-/// for from the partition `near` on. A partition that a cut divides runs its part behind the cut first.
-fn slot_at(ends: &[u64], counts: &[u64], rounds: u64, place: u64, near: &mut usize) -> Option<(usize, u64)> {
-    if place >= *ends.last()? {
-        return None;
-    }
-    while ends[*near] <= place {
-        *near += 1;
-    }
-    let (end, start) = (ends[*near], ends[*near] - counts[*near]);
-    let cut = (start / rounds + 1) * rounds;
-    let chunk = if cut >= end {
-        place - start
-    } else if place >= cut {
-        place - cut
-    } else {
-        (end - cut) + (place - start)
-    };
-    Some((*near, chunk))
-}
-
-/// McNaughton's wrap-around: the chunks of all partitions in a row, cut into lanes as long as the plan has rounds.
-fn plan(document: &Tree) -> Option<()> {
-    let counts: Vec<u64> = document.get("counts")?.list().iter().map(Tree::number).collect::<Option<_>>()?;
-    let threads = document.get("threads")?.number()?;
-    let ends: Vec<u64> = counts.iter().scan(0, |sum, count| { *sum += count; Some(*sum) }).collect();
-    let total = ends.last().copied().unwrap_or(0);
-    let longest = counts.iter().copied().max().unwrap_or(0);
-    let rounds = longest.max(total.div_ceil(threads));
-    let mut out = BufWriter::with_capacity(65_536, std::io::stdout().lock());
-    if total == 0 {
-        writeln!(out, "rounds 0 Nothing").ok()?;
-    } else if total.div_ceil(threads) >= longest {
-        writeln!(out, "rounds {rounds} FullLoad").ok()?;
-    } else {
-        writeln!(out, "rounds {rounds} Longest({})", counts.iter().position(|count| *count == longest)?).ok()?;
-    }
-    let mut near = vec![0; threads as usize];
-    for lane in 1..near.len() {
-        near[lane] = ends.partition_point(|end| *end <= lane as u64 * rounds).min(counts.len().saturating_sub(1));
-    }
-    let mut line = String::new();
-    for round in 0..rounds {
-        line.clear();
-        write!(line, "{round}:").ok()?;
-        for (lane, near) in near.iter_mut().enumerate() {
-            match slot_at(&ends, &counts, rounds, lane as u64 * rounds + round, near) {
-                Some((partition, chunk)) => write!(line, " {partition}.{chunk}").ok()?,
-                None => line.push_str(" -"),
-            }
-        }
-        line.push('\n');
-        out.write_all(line.as_bytes()).ok()?;
-    }
-    out.flush().ok()
 }
 
 fn main() -> ExitCode {
     let word = std::env::args().nth(1).unwrap_or_default();
     let mut text = String::new();
-    let ran = std::io::stdin().read_to_string(&mut text).ok().and_then(|_| read(&text)).and_then(|document| {
+    let ran = std::io::stdin().read_to_string(&mut text).ok().and_then(|_| read(&text)).and_then(|mut document| {
         let ran = match word.as_str() {
-            "run" | "restart" => run(&document),
-            "plan" => plan(&document),
+            "run" | "restart" => run(&mut document),
+            "plan" => plan::plan(&document),
             _ => None,
         };
         // The system takes the memory back as a whole.
