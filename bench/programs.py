@@ -25,12 +25,12 @@ class Program:
 
 ROUND = ("jb_base", "jb_rules", "jb_artifacts", "jb_chunk", "jb_cert", "jb_repo", "jb_workers")
 STEP = ("jb_base", "jb_job", "jb_plan", "jb_rules", "jb_mapper", "jb_artifacts", "jb_chunk", "jb_repo", "jb_workers", "jb_collect", "jb_step")
-RECORDS = ("jb_base", "jb_rows", "jb_collect", "jb_records", "jb_csv_job", "csv")
+RECORDS = ("jb_base", "jb_rows", "jb_answers", "jb_collect", "jb_records", "csv")
 PAYROLL = ("src/clerk.rt", "src/sheet.rt", "specs/Sheets.antt")
 SAVED = b'{"rows":[[0,39000,12345,12400,37,12100,12340,12100,131,41,5,140,100,0,12,"waiting"]],"step":"pay","version":2}\n'
 
 PROGRAMS = {
-    "checkpoint": Program(("jb_store", "sqlite", "sqlite_disk"), ("first.db", "1", "1")),
+    "checkpoint": Program(("jb_slice_file", "sqlite", "sqlite_disk"), ("first.db", "1", "1")),
     "events": Program(("jb_base", "jb_cert", "jb_repo", "jb_rules"), given=b"1\n"),
     "rounds": Program(ROUND, ("pool", "1", "2", "10", "10"), shared=("working.rt.in",)),
     "saved": Program(("jb_saved",), ("write", "1"), SAVED),

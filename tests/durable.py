@@ -13,9 +13,9 @@ import checkpoints
 
 PAYROLL = TOP / "crates" / "payroll" / "out" / "payroll"
 JOB_STATUS = TOP / "tools" / "job-status"
-TABLE = "CREATE TABLE checkpoint (number INTEGER PRIMARY KEY, saved TEXT NOT NULL, results BLOB NOT NULL) STRICT"
+TABLE = "CREATE TABLE checkpoint (number INTEGER PRIMARY KEY, saved TEXT NOT NULL, results BLOB NOT NULL, link BLOB NOT NULL) STRICT"
 LONGEST = 120  # seconds of a life
-NAMED = re.compile(rb"[A-Z][A-Za-z]+(\([A-Za-z()]+\))?: [^\n]+\n")  # the line of a refusal, on standard error
+NAMED = re.compile(rb"[A-Z][A-Za-z]+(\([A-Za-z0-9()]+\))?: [^\n]+\n")  # the line of a refusal, on standard error
 THREADS = [0, 1, 2, 3, 4, 8, 64]
 CALM = 200  # time sheets of which no first try fails, so that whole chunks are committed; among as many others some fail
 LENGTHS = [254, 255, 256, 509, 510, 511]  # of names, in bytes: round those at which a size takes one byte more
@@ -86,14 +86,14 @@ def told(done):
 
 
 def kept_in(file):
-    """The checkpoints of a copy of both files: (number, saved, results). None where there is no file, or no table in it yet."""
+    """The checkpoints of a copy of both files: (number, saved, results, link). None where there is no file, or no table in it yet."""
     try:
         with checkpoints.refusing(file), checkpoints.opened(str(file)) as base:
             if base.execute("PRAGMA integrity_check").fetchall() != [("ok",)]:
                 raise checkpoints.Refused("Damaged", f"{file} isn't sound")
             if base.execute("SELECT count(*) FROM sqlite_master").fetchone() == (0,):
                 return []
-            return base.execute("SELECT number, saved, results FROM checkpoint ORDER BY number").fetchall()
+            return base.execute("SELECT number, saved, results, link FROM checkpoint ORDER BY number").fetchall()
     except checkpoints.Refused as refused:
         if refused.name in ("NoFile", "Empty"):
             return []
@@ -119,7 +119,7 @@ def faults_of(file, before):
 
 def has_results(run, kept):
     """Whether each partition has as many results, over all checkpoints, as its row has written, and each is a packed record."""
-    news = [checkpoints.news_of(coded, run.form.partitions) for _, _, coded in kept[1:]]
+    news = [checkpoints.news_of(coded, run.form.partitions) for _, _, coded, _ in kept[1:]]
     if None in news or any(checkpoints.fields_in(packed) is None for new in news for results in new for packed in results):
         return False
     return [row.written for row in run.rows] == [sum(len(new[place]) for new in news) for place in range(run.form.partitions)]

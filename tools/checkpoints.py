@@ -1,9 +1,10 @@
-"""The checkpoints that a durable run keeps in a SQLite file: a copy of both of its files, which is taken while a run may hold them, the form
-of the step, its rows and the results; docs/FORMATS.md, "Checkpoints in a file", describes them."""
+"""The checkpoints that a durable run keeps in a SQLite file: a copy of both of its files, which is taken while a run may hold them, the chain
+of their links, the form of the step, its rows and the results; docs/FORMATS.md, "Checkpoints in a file", describes them."""
 import contextlib
 import dataclasses
 import fcntl
 import glob
+import hashlib
 import os
 import shutil
 import sqlite3
@@ -19,12 +20,13 @@ LOG = "-wal"  # behind the file's name
 LOG_HEAD = 32  # bytes; they change whenever the log begins anew
 MAGIC, PAGE = b"SQLite format 3\0", 4_096  # a database's first bytes, of which the very first is written last; and its first page
 COPIES = 100  # tries, until the file was the same before and behind one
-COLUMNS = [("number", "INTEGER", 0, None, 1, 0), ("saved", "TEXT", 1, None, 0, 0), ("results", "BLOB", 1, None, 0, 0)]
+COLUMNS = [("number", "INTEGER", 0, None, 1, 0), ("saved", "TEXT", 1, None, 0, 0), ("results", "BLOB", 1, None, 0, 0), ("link", "BLOB", 1, None, 0, 0)]
 FORM_NUMBERS = {"records": (0, limits.RECORDS), "partitions": (1, limits.PARTITIONS_ASKED), "item-count": (1, limits.ITEM_COUNT)}
 FORM_KEYS = {"form", "step", *FORM_NUMBERS, "rules"}
 FORM = 2  # the version of the form
 CLASS_LISTS = ("skippable", "retryable", "no-rollback")
 DIGEST = 32  # bytes
+NO_LINK = bytes(DIGEST)  # before the first checkpoint
 REFUSED, NO_ANSWER = 3, 4  # exit statuses: the file isn't such a one; it can't be read
 
 
@@ -168,7 +170,20 @@ def check_table(base, path):
     columns = base.execute("SELECT name, type, \"notnull\", dflt_value, pk, hidden FROM pragma_table_xinfo('checkpoint')").fetchall()
     is_strict = base.execute("SELECT strict FROM pragma_table_list('checkpoint')").fetchall() == [(1,)]
     is_ours = names == ["checkpoint"] and columns == COLUMNS and is_strict
-    checked(is_ours, "Version", f"{path} has a table of checkpoints in another form: another version's")
+    checked(is_ours, "Version", f"{path} has a table of checkpoints in another form: finish it by the program that made it, or delete it and begin anew")
+
+
+def link_of(before, number, saved, results):
+    """The link of a checkpoint, whose text and results are bytes: a digest over the link before it and all that its row has."""
+    return hashlib.sha256(before + struct.pack("<QQ", number, len(saved)) + saved + results).digest()
+
+
+def check_chain(base, path):
+    """Each checkpoint's link is the one that it must have behind those before it."""
+    before = NO_LINK
+    for number, saved, results, link in base.execute("SELECT number, CAST(saved AS BLOB), results, link FROM checkpoint ORDER BY number"):
+        before = link_of(before, number, saved, results)
+        checked(link == before, "Altered", f"checkpoint {number} of {path} was changed: its digest is another one")
 
 
 def count_of(base, path):
@@ -239,6 +254,7 @@ def run_in(base, path):
     """What a connection to a copy of the file keeps."""
     check_table(base, path)
     count = count_of(base, path)
+    check_chain(base, path)
     form = form_of(base)
     if count == 1:
         return Run(form, count, fresh_rows(form))

@@ -1,5 +1,5 @@
 -- What was read of the stream.
-use Rattle.std.proofs.Common.{◌≡◌, ℕ, List, [], Option, Some}
+use Rattle.std.proofs.Common.{◌≡◌, ℕ, List, [], Option}
 use Rattle.std.specs.Prelude.{IfSome}
 use Rattle.jb_csv_job.specs.Done.{IsInput}
 use Rattle.jb_csv_job.specs.Job.{JobRecord}

@@ -1,4 +1,4 @@
 mod Input
 mod Packed
 mod Resuming
-mod Written
+mod TakenUp

@@ -1,5 +1,5 @@
 -- A run that goes on from what its file keeps.
-use Rattle.std.proofs.Common.{◌≡◌, ℕ, List, [], ◌∷◌, ◌++◌, map, length, Option, Some, None, ap, sym, subst, ◌∙◌, refl}
+use Rattle.std.proofs.Common.{◌≡◌, ℕ, List, [], ◌∷◌, ◌++◌, map, length, Option, Some, None, inl, inr, ap, sym, subst, ◌∙◌, refl}
 use Rattle.std.proofs.lemmas.List.{append_cancel_left, length-map}
 use Rattle.csv.specs.Machine.{Read, next_record}
 use Rattle.csv.specs.Reading.{Reached, strip_bom}
@@ -7,14 +7,16 @@ use Rattle.csv.specs.declared.parser.State.TheVariants as st
 use Rattle.csv.specs.declared.parser.State.{State}
 use Rattle.csv.specs.declared.parser.Config.{Config}
 use Rattle.sqlite.specs.Tree.{Trees}
-use Rattle.jb_checkpoint.specs.Checkpoints.{Kept}
-use Rattle.jb_csv_job.specs.Done.{IsInput}
+use Rattle.jb_slice_file.specs.Kept.{Kept}
+use Rattle.jb_csv_job.specs.Done.{IsInput, JobPasses}
 use Rattle.jb_csv_job.specs.Job.{JobRecord}
 use Rattle.jb_csv_job.specs.Kept.{IsJobSoFar}
-use Rattle.jb_durable.specs.Files.{IsOfARun}
+use Rattle.jb_slice_file.specs.Files.{IsOfARun}
+use Rattle.jb_mapper.specs.EvenCover.{even_ranges}
+use Rattle.jb_records.specs.Following.{FollowRules, RangesPass, StepPasses}
 use Rattle.jb_records.specs.Function.{Function}
 use Rattle.jb_records.specs.declared.step.RecordsStep.{RecordsStep}
-use Rattle.jb_records_checkpoints.specs.Checkpoints.{IsRunSoFar, form_of}
+use Rattle.jb_records_checkpoints.specs.Checkpoints.{AreStretches, IsRunSoFar, form_of}
 use Rattle.jb_records_checkpoints.specs.Form.{Form, form_text}
 use Rattle.jb_rows.specs.Fields.{Fields, packed}
 use Rattle.jb_rows.proofs.Lines.{known}
@@ -55,9 +57,29 @@ same-rows options text rows others are were =
 
 -- ---- STEPS OF ONE FORM HAVE THE SAME RUNS
 
+module _ (f : Function) (step other : RecordsStep) (records : List (List ℕ)) (same : form_of step (length records) ≡ form_of other (length records)) where
+  same-stretches : (later : List Kept) → AreStretches f step records later → AreStretches f other records later
+  same-stretches later all = record {
+    before = all.before;
+    last = all.last;
+    last_is = all.last_is;
+    held = all.held;
+    read = all.read;
+    news = all.news;
+    coded = all.coded;
+    so_far = all.so_far;
+    by_step = record {
+      ranges = all.by_step.ranges ∙ ap (λ (form : Form). even_ranges (length records) form.partitions) same;
+      follows = λ steady. subst (λ (form : Form). FollowRules f form.rules records all.held.rows) same (all.by_step.follows steady);
+    };
+  }
+
 same-form : (f : Function) (step other : RecordsStep) (records : List (List ℕ)) (all : List Kept) → form_of step (length records) ≡ form_of other (length records) → IsRunSoFar f step records all → IsRunSoFar f other records all
 same-form f step other records [] same is = is
-same-form f step other records (first ∷ later) same is = (record { form = is.0.form ∙ ap form_text same; digest = is.0.digest }, is.1)
+same-form f step other records (first ∷ later) same is = (
+  record { form = is.0.form ∙ ap form_text same; digest = is.0.digest },
+  elim is.1 [ inl none ↦ inl none | inr all ↦ inr (same-stretches f step other records same later all) ],
+)
 
 module _ (job : JobRecord) (text : Option (List ℕ)) (header records : List Fields) (step : RecordsStep) (read : IsInput job text header records) (of_form : (number : ℕ) → form_of step number ≡ job.form number) where
   rows-read : (bytes : List ℕ) → text ≡ Some bytes → AreRowsOf job.options bytes records
@@ -69,6 +91,20 @@ module _ (job : JobRecord) (text : Option (List ℕ)) (header records : List Fie
       let same = same-rows job.options so.bytes so.records records so.read (rows-read so.bytes so.known) in
       let form = ap (form_of so.step) (length-map so.records packed) ∙ so.same ∙ sym (of_form (length so.records)) ∙ ap (form_of step) (sym (length-map so.records packed)) in
       subst (λ rs. IsRunSoFar job.function step (map packed rs) all) same (same-form job.function so.step step (map packed so.records) all form so.so_far)
+
+  -- the records of the step pass exactly where those of the job do
+  abbrev by_form : Form → Type 0
+  by_form form = RangesPass job.function form.rules (map packed records) (even_ranges (length records) form.partitions)
+
+  abbrev by_number : ℕ → Type 0
+  by_number number = RangesPass job.function step.rules (map packed records) (even_ranges number step.partitions)
+
+  pub step-passes : (list : List (List ℕ)) → list ≡ map packed records → StepPasses job.function step list → JobPasses job records
+  step-passes list is passes = subst by_form (of_form (length records)) (subst by_number (length-map records packed) (subst (StepPasses job.function step) is passes))
+
+  pub job-passes : (list : List (List ℕ)) → list ≡ map packed records → JobPasses job records → StepPasses job.function step list
+  job-passes list is passes =
+      subst (StepPasses job.function step) (sym is) (subst by_number (sym (length-map records packed)) (subst by_form (sym (of_form (length records))) passes))
 
   -- and so is what a crash leaves of it
   job-left : (bytes : List ℕ) (db : Trees) → text ≡ Some bytes → IsOfARun (IsRunSoFar job.function step (map packed records)) db → IsOfARun (IsJobSoFar job text) db

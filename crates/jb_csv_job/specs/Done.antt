@@ -1,11 +1,14 @@
 -- What a job over CSV answers and writes.
-use Rattle.std.specs.Prelude.{ℕ, ◌≡◌, ◌++◌, List, Option, IfSome, false, map}
+use Rattle.std.specs.Prelude.{ℕ, ◌≡◌, ◌++◌, List, Option, IfSome, false, length, map}
 use Rattle.std.specs.Io.KnownBytes.{Appends}
-use Rattle.jb_collect.specs.declared.calls.Status.{Status}
-use Rattle.jb_collect.specs.declared.calls.Status.TheVariants as status
+use Rattle.jb_answers.specs.Statuses.{exit_status}
 use Rattle.jb_csv_job.specs.Job.{JobRecord}
 use Rattle.jb_csv_job.specs.declared.job_rows.JobRows.{JobRows}
+use Rattle.jb_mapper.specs.EvenCover.{even_ranges}
+use Rattle.jb_records.specs.Following.{FollowRules, RangesPass}
+use Rattle.jb_records.specs.Function.{IsSteady}
 use Rattle.jb_records.specs.Shares.{IsSoFar, joined}
+use Rattle.jb_records_checkpoints.specs.Work.{HaveEnded}
 use Rattle.jb_rows.specs.Answers.{all_results}
 use Rattle.jb_rows.specs.Fields.{Fields, fields_in, packed}
 use Rattle.jb_rows.specs.Streams.{csv_rows, kept_header}
@@ -26,15 +29,18 @@ pub record AreAllResults (job : JobRecord) (text : Option (List ℕ)) (header re
   pub read : IsInput job text header records
   pub results_are : results ≡ all_results job.function.answer records
 
--- the exit status: 0 for COMPLETED, 1 for FAILED, 2 where it was stopped
-abbrev pub exit_status : Status → ℕ
-exit_status status.Completed = 0
-exit_status status.Failed = 1
-exit_status status.Stopped = 2
-exit_status status.Started = 2
+-- the job's rules let the records of each partition pass: the partitions are the even ranges of all records, and no run is named
+abbrev pub JobPasses : JobRecord → (records : List Fields) → Type 0
+JobPasses job records = RangesPass job.function (job.form (length records)).rules (map packed records) (even_ranges (length records) (job.form (length records)).partitions)
 
--- So far as the step is, these are the results of each partition's records before its checkpoint, one partition after the other; and the
--- exit status is of the status of these rows.
+-- THE EXIT STATUS IS 0 EXACTLY WHERE THEY PASS, AND 1 EXACTLY WHERE THEY DON'T
+pub record IsByRules (job : JobRecord) (records : List Fields) (status : ℕ) : Type 0 where
+  pub passes : status ≡ 0 → JobPasses job records
+  pub fails : status ≡ 1 → JobPasses job records → ⊥
+
+-- So far as the step is, these are the results of each partition's records before its checkpoint, one partition after the other. The exit
+-- status is of the status of these rows, of which each has ended. If no try of the job's function fails, the rows count the records that are
+-- skipped, each has failed by the record that the job's rules don't let pass, and the status is by these rules.
 pub record AreResultsSoFar (job : JobRecord) (text : Option (List ℕ)) (header results : List Fields) (status : ℕ) : Type 0 where
   pub records : List Fields
   pub rows : List Row
@@ -43,6 +49,9 @@ pub record AreResultsSoFar (job : JobRecord) (text : Option (List ℕ)) (header 
   pub so_far : IsSoFar job.function (map packed records) rows shares
   pub results_are : results ≡ map fields_in (joined shares)
   pub told : status ≡ exit_status (status_of rows false)
+  pub ended : HaveEnded rows
+  pub follows : IsSteady job.function → FollowRules job.function (job.form (length records)).rules (map packed records) rows
+  pub by_rules : IsSteady job.function → IsByRules job records status
 
 -- the header row to copy that an answer in rows has, and its results
 abbrev pub header_in : {R : Type 0} → JobRecord → JobRows R → List Fields

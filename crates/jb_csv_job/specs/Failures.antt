@@ -7,8 +7,8 @@ use Rattle.jb_durable_records.specs.declared.error.DurableError.TheVariants as r
 use Rattle.jb_records.specs.declared.error.RecordsStepError.TheVariants as step
 use Rattle.jb_rows.specs.declared.rows_error.RowsError.{RowsError}
 use Rattle.jb_rows.specs.declared.rows_error.RowsError.TheVariants as rows
-use Rattle.jb_checkpoint_table.specs.declared.error.StoreError.{StoreError}
-use Rattle.jb_checkpoint_table.specs.declared.error.StoreError.TheVariants as store
+use Rattle.jb_slice_file.specs.declared.error.StoreError.{StoreError}
+use Rattle.jb_slice_file.specs.declared.error.StoreError.TheVariants as store
 
 -- why the file isn't taken, and why the run over such records has no end; nothing is said here of the texts of faults that come from below
 abbrev pub file_text : StoreError → Option (List ℕ)

@@ -1,7 +1,7 @@
 -- What a job over CSV is.
 use Rattle.std.specs.Prelude.{ℕ}
 use Rattle.jb_base.specs.Rules.{RulesRecord}
-use Rattle.jb_csv_job.specs.Classes.{is_retried, is_skipped, set_by}
+use Rattle.jb_answers.specs.Classes.{is_retried, is_skipped, set_by}
 use Rattle.jb_csv_job.specs.declared.job.CsvJob.{CsvJob}
 use Rattle.jb_records.specs.Function.{Function}
 use Rattle.jb_records_checkpoints.specs.Form.{Form}

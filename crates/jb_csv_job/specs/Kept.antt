@@ -1,9 +1,9 @@
 -- What the file of a job over CSV keeps.
 use Rattle.std.specs.Prelude.{ℕ, ◌≡◌, List, Option, Some, length, map}
 use Rattle.sqlite.specs.State.{HasCleanDisk, State}
-use Rattle.jb_checkpoint.specs.Checkpoints.{Kept}
-use Rattle.jb_checkpoint_table.specs.Checkpoints.{ShowsList}
-use Rattle.jb_checkpoint_table.specs.Connections.{IsJustOpened}
+use Rattle.jb_slice_file.specs.Kept.{Kept}
+use Rattle.jb_slice_file.specs.Rows.{ShowsList}
+use Rattle.jb_slice_file.specs.Connections.{IsJustOpened}
 use Rattle.jb_csv_job.specs.Job.{JobRecord}
 use Rattle.jb_records.specs.declared.step.RecordsStep.{RecordsStep}
 use Rattle.jb_records_checkpoints.specs.Checkpoints.{IsRunSoFar, form_of}

@@ -1,4 +1,3 @@
-pub mod Classes
 pub mod Done
 pub mod Failures
 pub mod Job

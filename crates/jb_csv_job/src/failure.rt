@@ -7,7 +7,7 @@ ghost use Rattle.jb_csv_job.specs.declared.failure.Failure.TheVariants.{File, Me
 use jb_durable_records::DurableError;
 use jb_records::RecordsStepError;
 use jb_rows::RowsError;
-use jb_store::StoreError;
+use jb_slice_file::StoreError;
 use std::alloc::{AllocError, AllocFailed};
 use std::{fmt, io};
 use thiserror::Error;

@@ -3,14 +3,13 @@
 //!
 //! - `job_main`: all of a job's `main`. `job`: what the job is called, and how it runs. `step`: its step.
 //! - `opening`: the words of the command line, and the file that they name.
-//! - `reading`: the records of a stream. `writing`: its results to a stream. `progress`: how far the step is; `reporting`: which records are
-//!   skipped or fail, by the names of `fault_class`.
+//! - `reading`: the records of a stream. `progress`: how far the step is; `reporting`: which records are skipped or fail, by the names of
+//!   their classes.
 //! - `run`: the run, to rows (`job_rows`) or to a stream. `failure`: why there is no answer. `exit`: the exit status.
 #![tactic(auto)]
 
 mod exit;
 mod failure;
-mod fault_class;
 mod job;
 mod job_main;
 mod job_rows;
@@ -20,12 +19,11 @@ mod reading;
 mod reporting;
 mod run;
 mod step;
-mod writing;
 
 pub use exit::exit_code;
 pub use failure::{Failure, FailureText};
-pub use fault_class::{Fate, FaultClass};
-pub use jb_store::closed;
+pub use jb_answers::{Fate, FaultClass};
+pub use jb_slice_file::closed;
 pub use job::CsvJob;
 pub use job_main::{Host, run_job, run_job_at};
 pub use job_rows::JobRows;

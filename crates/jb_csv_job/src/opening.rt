@@ -2,15 +2,15 @@
 
 ghost use Rattle.std.specs.Prelude.{◌≤◌, IfOk};
 ghost use Rattle.jb_base.specs.Limits.{max_threads};
-ghost use Rattle.jb_checkpoint_table.specs.Checkpoints.{Has, ShowsList};
-ghost use Rattle.jb_checkpoint_table.specs.Connections.{IsJustOpened};
+ghost use Rattle.jb_slice_file.specs.Rows.{Has, ShowsList};
+ghost use Rattle.jb_slice_file.specs.Connections.{IsJustOpened};
 ghost use Rattle.sqlite.specs.Files.{HoldsDatabase, file_state};
 ghost use Rattle.sqlite.specs.State.{HasCleanDisk};
 ghost use Rattle.sqlite_wal.specs.Files.{image_at};
 
 use crate::failure::Failure;
 use jb_base::MAX_THREADS;
-use jb_store::connect;
+use jb_slice_file::connect;
 use sqlite::{Connection, FileFrom, FileStore, Start, Wary};
 use std::env;
 

@@ -1,9 +1,8 @@
 //! Which records are skipped, and which end their partition.
 
-use crate::fault_class::{Fate, FaultClass, fate_of, name_of};
-use crate::job::CsvJob;
-use jb_base::{ClassId, PackedList};
-use jb_records::StepFunction;
+use jb_answers::{FaultClass, name_of};
+use jb_base::{ClassId, PackedList, Rules};
+use jb_records::{StepFunction, stop_of};
 use jb_rows::{Outcome, Row as Fields, RowBuilder};
 use jb_rules::Row;
 use std::alloc::Global;
@@ -57,38 +56,25 @@ fn tell_skips<F: StepFunction, T: Eprint>(
     }
 }
 
-/// Whether a fault of this class is skipped after so many skips.
-fn is_skipped(job: &CsvJob, class: ClassId, skips: u64) -> bool {
-    let has_room = match job.skip_limit {
-        Some(limit) => skips < limit,
-        None => true,
-    };
-    has_room && fate_of(job.classes, class) == Fate::Skipped
-}
-
-/// Says which record ended a partition: the first from its checkpoint on that is refused and not skipped.
+/// Says which record ended a partition: the first from its checkpoint on that is refused and that the rules don't let pass.
 fn tell_failure<F: StepFunction, T: Eprint>(
     rt: &T,
-    job: &CsvJob,
+    alloc: Global,
+    classes: &[FaultClass],
+    rules: &Rules,
     function: &F,
     records: &PackedList,
     lines: &[u64],
     row: &Row,
-    built: &mut RowBuilder,
 ) {
-    let mut skips = skips_in(row);
-    for number in row.at..row.hi {
-        if let Some(class) = refusal_of(function, records, number, built) {
-            if !is_skipped(job, class, skips) {
-                let _told = eprintln!(rt;
-                    "record {number} (line {}) fails: {}",
-                    line_of(lines, number),
-                    name_of(job.classes, class)
-                );
-                return;
-            }
-            skips = skips.saturating_add(1);
-        }
+    if let Ok(Some(stop)) = stop_of(alloc, function, rules, records, row) {
+        let _told = eprintln!(rt;
+            "record {} (line {}) fails: {}",
+            stop.number,
+            line_of(lines, stop.number),
+            name_of(classes, stop.class)
+        );
+        return;
     }
     let _told = eprintln!(rt;
         "a partition fails at record {} or after it: a limit is reached",
@@ -101,7 +87,8 @@ fn tell_failure<F: StepFunction, T: Eprint>(
 pub(crate) fn report<F: StepFunction, T: Eprint>(
     rt: &T,
     alloc: Global,
-    job: &CsvJob,
+    classes: &[FaultClass],
+    rules: &Rules,
     function: &F,
     records: &PackedList,
     lines: &[u64],
@@ -109,9 +96,9 @@ pub(crate) fn report<F: StepFunction, T: Eprint>(
 ) {
     let mut built = RowBuilder::new(alloc);
     for row in rows {
-        tell_skips(rt, job.classes, function, records, lines, row, &mut built);
+        tell_skips(rt, classes, function, records, lines, row, &mut built);
         if row.state.is_failed() {
-            tell_failure(rt, job, function, records, lines, row, &mut built);
+            tell_failure(rt, alloc, classes, rules, function, records, lines, row);
         }
     }
 }

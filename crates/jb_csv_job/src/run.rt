@@ -4,11 +4,11 @@ ghost use Rattle.std.specs.Prelude.{◌≡◌, ◌≤◌, ◌⊎◌, List, IfOk}
 ghost use Rattle.sqlite.specs.Held.{state};
 ghost use Rattle.sqlite_trees.specs.View.{doubt};
 ghost use Rattle.jb_base.specs.Limits.{max_threads_asked};
-ghost use Rattle.jb_checkpoint.specs.Checkpoints.{Kept};
-ghost use Rattle.jb_csv_job.specs.Done.{AreAllResults, AreResultsSoFar, IsDoneSoFar, IsJobDone, exit_status, header_in, results_in};
+ghost use Rattle.jb_slice_file.specs.Kept.{Kept};
+ghost use Rattle.jb_csv_job.specs.Done.{AreAllResults, AreResultsSoFar, IsDoneSoFar, IsJobDone, header_in, results_in};
 ghost use Rattle.jb_csv_job.specs.Job.{job_record};
 ghost use Rattle.jb_csv_job.specs.Kept.{IsJobSoFar, IsTakenUp};
-ghost use Rattle.jb_durable.specs.Files.{IsOfARun};
+ghost use Rattle.jb_slice_file.specs.Files.{IsOfARun};
 
 use crate::failure::Failure;
 use crate::job::CsvJob;
@@ -17,29 +17,17 @@ use crate::progress::Told;
 use crate::reading::records_in;
 use crate::reporting::report;
 use crate::step::step_of;
-use crate::writing::write_results;
-use jb_collect::Status;
+use jb_answers::{status_of, write_results};
 use jb_durable_records::{ASecond, run_records_durably};
 use jb_records::StepFunction;
 use jb_rows::RowsReader;
-use jb_store::opened_leaves_its_list;
+use jb_slice_file::opened_leaves_its_list;
 use sqlite::{Alter, Connection};
 use std::alloc::Global;
 use std::io::{Read, Write};
 use std::sync::{Arc, Wait};
 use std::thread::Threads;
 use std::time::Clock;
-
-/// The exit status.
-fn status_of(status: Status) -> u8
-    ensures { result ≡ exit_status status }
-{
-    match status {
-        Status::Completed => 0,
-        Status::Failed => 1,
-        Status::Stopped | Status::Started => 2,
-    }
-}
 
 /// Reads the records, and runs the step from the last checkpoint that the connection has to its end. Gives the results, and the exit
 /// status, 0 or 1. After each checkpoint, about a second's work, it says on standard error how far it is; and at the end which records are
@@ -101,7 +89,16 @@ pub fn run_to_rows<
     )?;
     let results = end.all_results(alloc)?;
     let lines = reader.lines();
-    report(rt, alloc, job, &*function, rows.as_list(), lines, &end.rows);
+    report(
+        rt,
+        alloc,
+        job.classes,
+        &step.rules,
+        &*function,
+        rows.as_list(),
+        lines,
+        &end.rows,
+    );
     Ok(JobRows {
         status: status_of(end.status),
         reader,

@@ -5,8 +5,8 @@ ghost use Rattle.jb_base.specs.Limits.{max_threads_asked};
 ghost use Rattle.jb_csv_job.specs.Job.{job_form, job_rules};
 ghost use Rattle.jb_records_checkpoints.specs.Checkpoints.{form_of};
 
-use crate::fault_class::sets_of;
 use crate::job::CsvJob;
+use jb_answers::sets_of;
 use jb_base::{Name, Rules};
 use jb_records::RecordsStep;
 use std::alloc::{AllocError, Global};

@@ -4,8 +4,9 @@ use Rattle.sqlite_disk.specs.Disk.{MoreFaults}
 use Rattle.sqlite.specs.State.{State}
 use Rattle.jb_records.specs.declared.step.RecordsStep.{RecordsStep}
 use Rattle.jb_records.specs.Function.{Function}
-use Rattle.jb_checkpoint.specs.Checkpoints.{Kept}
-use Rattle.jb_checkpoint_table.specs.declared.error.StoreError.{StoreError}
+use Rattle.jb_slice_file.specs.Kept.{Kept}
+use Rattle.jb_slice_file.specs.declared.error.StoreError.{StoreError}
+use Rattle.jb_slice_file.specs.declared.error.StoreError.TheVariants as named
 use Rattle.jb_records_checkpoints.specs.declared.error.CheckpointError.{CheckpointError}
 use Rattle.jb_records_checkpoints.specs.declared.error.CheckpointError.TheVariants as refusal
 use Rattle.jb_records_checkpoints.specs.Checkpoints.{IsRunSoFar}
@@ -13,7 +14,7 @@ use Rattle.jb_records_checkpoints.specs.Refusals.{IsOfAStretch, IsStretchCause, 
 use Rattle.jb_durable_records.specs.declared.error.DurableError.{DurableError}
 use Rattle.jb_durable_records.specs.declared.error.DurableError.TheVariants.{Damaged, Memory, OtherJob, OtherRecords, Step, Store, TooLong, TooMany}
 use Rattle.jb_durable_records.proofs.Filing.{by_length, since}
-use Rattle.jb_durable_records.specs.Refusals.{HasALongOne, IsCauseOfNoEnd, IsGoneCause, IsOfThisRun, IsUntaken, durable_refusal}
+use Rattle.jb_durable_records.specs.Refusals.{HasALongOne, IsCauseOfNoEnd, IsGoneCause, IsOfThisRun, IsUntaken, durable_refusal, store_refusal}
 
 module _ (f : Function) (step : RecordsStep) (records : List (List ℕ)) where
   -- a refusal for what the checkpoints are
@@ -80,11 +81,28 @@ of_a_stretch (refusal.Step why) own = (λ is. let none : ⊥ = cc in none, λ is
 of_a_stretch refusal.Memory own = (λ is. let none : ⊥ = cc in none, λ is. let none : ⊥ = cc in none, λ is. let none : ⊥ = cc in none)
 
 -- nor is that the file doesn't take a checkpoint, or has no number for it, or that there was no memory
-pub store_of_a_stretch : (e : StoreError) → IsOfThisRun (Store e)
-store_of_a_stretch e = (λ is. let none : ⊥ = cc in none, λ is. let none : ⊥ = cc in none, λ is. let none : ⊥ = cc in none)
+store_alone : (e : StoreError) → IsOfThisRun (Store e)
+store_alone e = (λ is. let none : ⊥ = cc in none, λ is. let none : ⊥ = cc in none, λ is. let none : ⊥ = cc in none)
 
 pub many_of_a_stretch : IsOfThisRun TooMany
 many_of_a_stretch = (λ is. let none : ⊥ = cc in none, λ is. let none : ⊥ = cc in none, λ is. let none : ⊥ = cc in none)
+
+pub store_of_a_stretch : (e : StoreError) → IsOfThisRun (store_refusal e)
+store_of_a_stretch named.Foreign = store_alone named.Foreign
+store_of_a_stretch named.Version = store_alone named.Version
+store_of_a_stretch named.Gap = store_alone named.Gap
+store_of_a_stretch (named.Altered number) = store_alone (named.Altered number)
+store_of_a_stretch named.Busy = store_alone named.Busy
+store_of_a_stretch named.CannotOpen = store_alone named.CannotOpen
+store_of_a_stretch named.Damaged = store_alone named.Damaged
+store_of_a_stretch named.Full = store_alone named.Full
+store_of_a_stretch named.Disk = store_alone named.Disk
+store_of_a_stretch named.Shut = store_alone named.Shut
+store_of_a_stretch named.TooLong = store_alone named.TooLong
+store_of_a_stretch named.Taken = store_alone named.Taken
+store_of_a_stretch named.TooMany = many_of_a_stretch
+store_of_a_stretch named.Memory = store_alone named.Memory
+store_of_a_stretch (named.Sql e) = store_alone (named.Sql e)
 
 pub memory_of_a_stretch : IsOfThisRun Memory
 memory_of_a_stretch = (λ is. let none : ⊥ = cc in none, λ is. let none : ⊥ = cc in none, λ is. let none : ⊥ = cc in none)

@@ -1,55 +1,63 @@
 -- Why a file doesn't list its checkpoints, or doesn't take one more.
-use Rattle.std.proofs.Common.{ℕ, ◌≡◌, ◌⊎◌, ◌≤◌, ◌+◌, ◌++◌, inl, inr, Bool, true, false, true≢false, IsTrue, List, [], ◌∷◌, length, refl, sym, ◌∙◌, arith}
+use Rattle.std.proofs.Common.{ℕ, ◌≡◌, ◌⊎◌, ◌≤◌, ◌+◌, ◌-◌, ◌^◌, ◌++◌, inl, inr, Bool, true, false, true≢false, IsTrue, List, [], ◌∷◌, length, refl, sym, ◌∙◌, arith}
 use Rattle.sqlite_disk.specs.Disk.{MoreFaults}
 use Rattle.sqlite.specs.State.{State}
 use Rattle.jb_records.specs.declared.step.RecordsStep.{RecordsStep}
 use Rattle.jb_records.specs.Function.{Function}
-use Rattle.jb_checkpoint_table.specs.Checkpoints.{HasNumber, IsTooLong}
-use Rattle.jb_checkpoint.specs.Checkpoints.{Kept}
-use Rattle.jb_checkpoint_table.specs.Errors.{IsCaused, IsOfTheList, IsOpenCause}
-use Rattle.jb_checkpoint_table.specs.declared.error.StoreError.{StoreError}
-use Rattle.jb_checkpoint_table.specs.declared.error.StoreError.TheVariants as named
+use Rattle.jb_slice_file.specs.ListEnd.{IsEndOf, count_of}
+use Rattle.jb_slice_file.specs.Rows.{HasNumber, IsTooLong}
+use Rattle.jb_slice_file.specs.declared.list_end.ListEnd.{ListEnd}
+use Rattle.jb_slice_file.specs.Kept.{Kept}
+use Rattle.jb_slice_file.specs.Errors.{IsCaused, IsOfTheList, IsOpenCause}
+use Rattle.jb_slice_file.specs.declared.error.StoreError.{StoreError}
+use Rattle.jb_slice_file.specs.declared.error.StoreError.TheVariants as named
 use Rattle.jb_records_checkpoints.specs.Checkpoints.{IsRunSoFar}
-use Rattle.jb_durable_records.specs.Refusals.{HasALongOne, IsFileCause}
+use Rattle.jb_durable_records.specs.Refusals.{HasALongOne, IsFileCause, IsGoneCause, IsUntaken, store_refusal}
 
 -- where its list isn't taken
-pub unlisted : (old new : State) (e : StoreError) → (IsOfTheList e → ⊥) → IsOpenCause old new e → IsFileCause old new ⊥ e
-unlisted old new named.Foreign never c = never (inl refl)
-unlisted old new named.Version never c = never (inr (inl refl))
-unlisted old new named.Gap never c = never (inr (inr refl))
-unlisted old new named.Busy never c = c
-unlisted old new named.CannotOpen never c = c
-unlisted old new named.Damaged never c = c
-unlisted old new named.Full never c = c
-unlisted old new named.Disk never c = c
-unlisted old new named.Shut never c = inr c
-unlisted old new named.TooLong never c = c
-unlisted old new named.Taken never c = c
-unlisted old new named.Memory never c = tt
-unlisted old new (named.Sql e) never c = tt
+pub unlisted : (f : Function) (step : RecordsStep) (records : List (List ℕ)) (old new : State) (all : List Kept) (e : StoreError) → (IsOfTheList e → ⊥) → IsOpenCause old new e
+    → IsUntaken f step records old new all (store_refusal e)
+unlisted f step records old new all named.Foreign never c = never (inl refl)
+unlisted f step records old new all named.Version never c = never (inr (inl refl))
+unlisted f step records old new all named.Gap never c = never (inr (inr (inl refl)))
+unlisted f step records old new all (named.Altered number) never c = never (inr (inr (inr (number, refl))))
+unlisted f step records old new all named.Busy never c = c
+unlisted f step records old new all named.CannotOpen never c = c
+unlisted f step records old new all named.Damaged never c = c
+unlisted f step records old new all named.Full never c = c
+unlisted f step records old new all named.Disk never c = c
+unlisted f step records old new all named.Shut never c = inr c
+unlisted f step records old new all named.TooLong never c = c
+unlisted f step records old new all named.Taken never c = c
+unlisted f step records old new all named.TooMany never c = absurd c
+unlisted f step records old new all named.Memory never c = tt
+unlisted f step records old new all (named.Sql e) never c = tt
 
 -- where it doesn't take the next one
-pub untaken : (f : Function) (step : RecordsStep) (records : List (List ℕ)) (old new : State) (all : List Kept) (next : Kept) (number : ℕ) → number ≡ length all + 1 → IsRunSoFar f step records (all ++ next ∷ [])
-    → (e : StoreError) → IsCaused old new (HasNumber all number) (IsTooLong next) e → IsFileCause old new (HasALongOne f step records) e
-untaken f step records old new all next number is so named.Foreign c = c
-untaken f step records old new all next number is so named.Version c = c
-untaken f step records old new all next number is so named.Gap c = c
-untaken f step records old new all next number is so named.Busy c = c
-untaken f step records old new all next number is so named.CannotOpen c = c
-untaken f step records old new all next number is so named.Damaged c = c
-untaken f step records old new all next number is so named.Full c = c
-untaken f step records old new all next number is so named.Disk c = c
-untaken f step records old new all next number is so named.Shut c = inl c
-untaken f step records old new all next number is so named.TooLong c = record { before = all; next = next; so_far = so; long = c }
-untaken f step records old new all next number is so named.Taken c = omega (arith, is, c.1)
-untaken f step records old new all next number is so named.Memory c = tt
-untaken f step records old new all next number is so (named.Sql e) c = tt
+pub untaken : (f : Function) (step : RecordsStep) (records : List (List ℕ)) (old new : State) (all : List Kept) (next : Kept) (end : ListEnd) → IsEndOf end all → IsRunSoFar f step records all
+    → IsRunSoFar f step records (all ++ next ∷ []) → (e : StoreError) → IsCaused old new (HasNumber all (count_of end + 1)) (IsTooLong next) (2 ^ 32 - 1 ≤ count_of end) e → IsGoneCause f step records old new (store_refusal e)
+untaken f step records old new all next end is whole so named.Foreign c = c
+untaken f step records old new all next end is whole so named.Version c = c
+untaken f step records old new all next end is whole so named.Gap c = c
+untaken f step records old new all next end is whole so (named.Altered number) c = c
+untaken f step records old new all next end is whole so named.Busy c = c
+untaken f step records old new all next end is whole so named.CannotOpen c = c
+untaken f step records old new all next end is whole so named.Damaged c = c
+untaken f step records old new all next end is whole so named.Full c = c
+untaken f step records old new all next end is whole so named.Disk c = c
+untaken f step records old new all next end is whole so named.Shut c = inl c
+untaken f step records old new all next end is whole so named.TooLong c = record { before = all; next = next; so_far = so; long = c }
+untaken f step records old new all next end is whole so named.Taken c = let count = is.count in omega (arith, count, c.1)
+untaken f step records old new all next end is whole so named.TooMany c = let count = is.count in record { all = all; so_far = whole; full = omega (arith, count, c) }
+untaken f step records old new all next end is whole so named.Memory c = tt
+untaken f step records old new all next end is whole so (named.Sql e) c = tt
 
 -- a file that lists is one that takes
 pub by_length : (P : Type 0) (old new : State) (e : StoreError) → IsFileCause old new ⊥ e → IsFileCause old new P e
 by_length P old new named.Foreign c = c
 by_length P old new named.Version c = c
 by_length P old new named.Gap c = c
+by_length P old new (named.Altered number) c = c
 by_length P old new named.Busy c = c
 by_length P old new named.CannotOpen c = c
 by_length P old new named.Damaged c = c
@@ -58,6 +66,7 @@ by_length P old new named.Disk c = c
 by_length P old new named.Shut c = c
 by_length P old new named.TooLong c = absurd c
 by_length P old new named.Taken c = c
+by_length P old new named.TooMany c = c
 by_length P old new named.Memory c = tt
 by_length P old new (named.Sql e) c = tt
 
@@ -76,6 +85,7 @@ module _ (old mid new : State) (before : old.faults ≤ mid.faults) (after : mid
   since P named.Foreign c = c
   since P named.Version c = c
   since P named.Gap c = c
+  since P (named.Altered number) c = c
   since P named.Busy c = c
   since P named.CannotOpen c = c
   since P named.Damaged c = omega (arith, before, c)
@@ -85,6 +95,7 @@ module _ (old mid new : State) (before : old.faults ≤ mid.faults) (after : mid
   since P named.Shut (inr more) = inr (omega (arith, before, more))
   since P named.TooLong c = c
   since P named.Taken c = c
+  since P named.TooMany c = c
   since P named.Memory c = tt
   since P (named.Sql e) c = tt
 

@@ -5,10 +5,10 @@ use Rattle.sqlite.specs.State.{State}
 use Rattle.jb_records.specs.declared.step.RecordsStep.{RecordsStep}
 use Rattle.jb_records.specs.Function.{Function}
 use Rattle.jb_records.specs.Stretches.{IsBrokenOff}
-use Rattle.jb_checkpoint.specs.Checkpoints.{Kept}
-use Rattle.jb_checkpoint_table.specs.Checkpoints.{IsTooLong}
-use Rattle.jb_checkpoint_table.specs.declared.error.StoreError.{StoreError}
-use Rattle.jb_checkpoint_table.specs.declared.error.StoreError.TheVariants as store
+use Rattle.jb_slice_file.specs.Kept.{Kept}
+use Rattle.jb_slice_file.specs.Rows.{IsTooLong}
+use Rattle.jb_slice_file.specs.declared.error.StoreError.{StoreError}
+use Rattle.jb_slice_file.specs.declared.error.StoreError.TheVariants as store
 use Rattle.jb_records_checkpoints.specs.declared.error.CheckpointError.{CheckpointError}
 use Rattle.jb_records_checkpoints.specs.declared.error.CheckpointError.TheVariants as refusal
 use Rattle.jb_records_checkpoints.specs.Checkpoints.{IsRunSoFar}
@@ -26,6 +26,11 @@ durable_refusal refusal.TooLong = TooLong
 durable_refusal (refusal.Step fault) = Step fault
 durable_refusal refusal.Memory = Memory
 
+-- and one of the file
+abbrev pub store_refusal : StoreError → DurableError
+store_refusal store.TooMany = TooMany
+store_refusal e = Store e
+
 -- a refusal that isn't one of another run's checkpoints, nor of checkpoints that are damaged
 abbrev pub IsOfThisRun : DurableError → Type 0
 IsOfThisRun e = (e ≢ OtherJob) × (e ≢ OtherRecords) × (e ≢ Damaged)
@@ -38,6 +43,7 @@ abbrev pub IsFileCause : State → State → (is_too_long : Type 0) → StoreErr
 IsFileCause old new is_too_long store.Foreign = ⊥
 IsFileCause old new is_too_long store.Version = ⊥
 IsFileCause old new is_too_long store.Gap = ⊥
+IsFileCause old new is_too_long (store.Altered number) = ⊥
 IsFileCause old new is_too_long store.Busy = ⊥
 IsFileCause old new is_too_long store.CannotOpen = ⊥
 IsFileCause old new is_too_long store.Damaged = MoreFaults old.faults new.faults
@@ -46,6 +52,7 @@ IsFileCause old new is_too_long store.Disk = MoreFaults old.faults new.faults
 IsFileCause old new is_too_long store.Shut = (old.is_open ≡ false) ⊎ MoreFaults old.faults new.faults
 IsFileCause old new is_too_long store.TooLong = is_too_long
 IsFileCause old new is_too_long store.Taken = ⊥
+IsFileCause old new is_too_long store.TooMany = ⊥
 IsFileCause old new is_too_long store.Memory = ⊤
 IsFileCause old new is_too_long (store.Sql e) = ⊤
 

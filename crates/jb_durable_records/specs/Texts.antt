@@ -1,6 +1,6 @@
 -- How the errors of a run over a file are printed; nothing is said here of the texts of faults that come from SQLite or from a step.
 use Rattle.std.specs.Prelude.{ℕ, List, Option, Some, None, codes}
-use Rattle.jb_checkpoint_table.specs.Texts.{store_error_text}
+use Rattle.jb_slice_file.specs.Texts.{store_error_text}
 use Rattle.jb_durable_records.specs.declared.error.DurableError.{DurableError}
 use Rattle.jb_durable_records.specs.declared.error.DurableError.TheVariants.{Store, OtherJob, OtherRecords, Damaged, TooLong, Step, TooMany, Memory}
 

@@ -1,13 +1,13 @@
 //! Why a step over records has no end in its file.
 
 ghost use Rattle.std.specs.Prelude.{◌≡◌};
-ghost use Rattle.jb_durable_records.specs.Refusals.{durable_refusal};
+ghost use Rattle.jb_durable_records.specs.Refusals.{durable_refusal, store_refusal};
 ghost use Rattle.jb_durable_records.specs.Texts.{durable_error_text};
-ghost use Rattle.jb_durable_records.specs.declared.error.DurableError.TheVariants.{Memory, Store};
+ghost use Rattle.jb_durable_records.specs.declared.error.DurableError.TheVariants.{Memory};
 
 use jb_records::RecordsStepError;
 use jb_records_checkpoints::CheckpointError;
-use jb_store::StoreError;
+use jb_slice_file::StoreError;
 use std::alloc::{AllocError, AllocFailed};
 use std::fmt;
 use thiserror::Error;
@@ -15,7 +15,7 @@ use thiserror::Error;
 /// Why a step over records has no end in its file. What is kept stays: a next life goes on from it.
 #[derive(Clone, Copy, Debug, PartialEq, Eq, Error)]
 pub enum DurableError {
-    /// The file. After `Foreign`, `Version` and `Gap` it is as it was.
+    /// The file. After `Foreign`, `Version`, `Gap` and `Altered` it is as it was.
     Store(StoreError),
     /// The checkpoints are of a step of another form, or of another number of records. Nothing was written.
     OtherJob,
@@ -69,10 +69,13 @@ impl<T: Drop> From<AllocFailed<T>> for DurableError {
 }
 
 impl From<StoreError> for DurableError {
-    ghost from_gives = { λ error e. e ≡ Store error };
+    ghost from_gives = { λ error e. e ≡ store_refusal error };
 
     fn from(error: StoreError) -> DurableError {
-        DurableError::Store(error)
+        match error {
+            StoreError::TooMany => DurableError::TooMany,
+            _ => DurableError::Store(error),
+        }
     }
 }
 

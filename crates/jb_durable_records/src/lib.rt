@@ -13,6 +13,6 @@ pub use error::DurableError;
 pub use jb_records_checkpoints::{
     ASecond, CodingError, Pace, Rounds, checkpoints_have_results, coding_of, read_into,
 };
-pub use lives::records_through_crashes;
+pub use lives::{LastLife, records_through_crashes};
 pub use onlooker::{Nobody, Onlooker, Progress};
 pub use run::{DurableEnd, run_records_durably};

@@ -1,18 +1,17 @@
 //! Lives of a process that runs a step over records, each ended by a crash, and the last one.
 
-ghost use Rattle.std.specs.Prelude.{◌≡◌, ◌≤◌, List, drop, IfOk, IfSome, IsTrue};
+ghost use Rattle.std.specs.Prelude.{◌≡◌, ◌≤◌, List, drop, length, IfOk, IfSome, IsTrue};
 ghost use Rattle.std.specs.Arc.{arc_value};
 ghost use Rattle.sqlite.specs.Files.{file_state};
 ghost use Rattle.sqlite.specs.Held.{state};
 ghost use Rattle.sqlite.specs.State.{HasCleanDisk};
 ghost use Rattle.sqlite_trees.specs.View.{doubt};
-ghost use Rattle.jb_checkpoint_table.specs.Checkpoints.{Has};
-ghost use Rattle.jb_checkpoint.specs.Checkpoints.{Kept};
-ghost use Rattle.jb_checkpoint_table.specs.Connections.{IsJustOpened, Keeps};
-ghost use Rattle.jb_durable.specs.Files.{HoldsRunOrNone, IsOfARun, Leaves};
-ghost use Rattle.jb_durable.specs.Lives.{IsLifeOver};
-ghost use Rattle.jb_durable.specs.Watching.{AreGiven};
-ghost use Rattle.jb_durable.specs.Works.{IsSame};
+ghost use Rattle.jb_slice_file.specs.Rows.{Has};
+ghost use Rattle.jb_slice_file.specs.Kept.{Kept};
+ghost use Rattle.jb_slice_file.specs.Connections.{IsJustOpened, Keeps};
+ghost use Rattle.jb_slice_file.specs.Files.{HoldsRunOrNone, IsOfARun, Leaves};
+ghost use Rattle.jb_slice_file.specs.Lives.{IsLifeOver};
+ghost use Rattle.jb_slice_file.specs.Watching.{AreGiven, IsSame};
 ghost use Rattle.jb_records_checkpoints.specs.Checkpoints.{HaveAllResults, IsRunSoFar, IsWholeRun};
 ghost use Rattle.jb_durable_records.specs.declared.run.Pause.TheVariants.{Whole};
 
@@ -20,16 +19,25 @@ use crate::error::DurableError;
 use crate::onlooker::Onlooker;
 use crate::run::{Pause, run, taken_from};
 use jb_base::PackedList;
-use jb_durable::{Given, LastLife, Life, open_own, open_watched, stop_watched};
 use jb_records::{RecordsStep, StepFunction};
 use jb_records_checkpoints::{Pace, checkpoints_have_results};
-use jb_store::closed;
+use jb_slice_file::{Given, Life, closed, open_own, open_watched, stop_watched};
 use sqlite::{Alter, Connection, FileStore, Options};
 use sqlite_disk::{Crash, Disk, Files};
 use std::alloc::Global;
 use std::marker::Brand;
 use std::sync::{Arc, Wait};
 use std::thread::Threads;
+
+/// The life that doesn't end in a crash.
+#[derive(Drop)]
+pub struct LastLife<D: Disk> {
+    pub conn: Connection<FileStore<D>>,
+    /// The run is whole.
+    pub is_done: bool,
+    /// So many lives ended in a crash before it.
+    pub crashes: usize,
+}
 
 fn is_whole(pause: Pause) -> bool
     ensures { IsTrue result → pause ≡ Whole }
@@ -63,13 +71,13 @@ fn lived<
         → IsRunSoFar (F.function (arc_value function.now)) step.now records.now so_far
         → (db : _) → (state S.Store conn.new).may_leave db → IsOfARun (IsRunSoFar (F.function (arc_value function.now)) step.now records.now) db }
 {
-    let (place, count) = taken_from(alloc, conn, step, function, records)?;
+    let (place, end) = taken_from(alloc, conn, step, function, records)?;
     let (_, pause) = run(
         rt,
         alloc,
         conn,
         place,
-        count,
+        end,
         stretches,
         records.len(),
         pace,
@@ -199,15 +207,18 @@ fn through_crashes<
     ensures whole { IfSome result (λ last. HasCleanDisk (file_state last.conn)
         → Leaves D.Disk (HoldsRunOrNone (IsRunSoFar (F.function (arc_value function.now)) step.now records.now)) files
         → IsTrue last.is_done → ∥ ((all : List Kept) × Keeps (file_state last.conn) all × IsWholeRun (F.function (arc_value function.now)) step.now records.now all) ∥₁) }
+    ensures crashes { IfSome result (λ last. last.crashes ≡ length lives.now) }
 {
     let mut left = files;
     let mut is_sure = true;
+    let mut crashes = 0;
     'lives: for count in lives {
         let life = live_and_crash(
             rt, alloc, left, options, step, function, records, *count, pace, onlooker,
         )?;
         is_sure = life.sure_after(is_sure)?;
         left = life.files;
+        crashes += 1;
     }
     let mut conn = match open_own(alloc, left, options) {
         Ok(conn) => conn,
@@ -216,7 +227,11 @@ fn through_crashes<
     match lived_over_files(
         rt, alloc, &mut conn, step, function, records, stretches, pace, onlooker,
     ) {
-        Ok(is_done) => Some(LastLife { conn, is_done }),
+        Ok(is_done) => Some(LastLife {
+            conn,
+            is_done,
+            crashes,
+        }),
         Err(_) => {
             let _files = closed(conn);
             None
@@ -256,6 +271,7 @@ pub fn records_through_crashes<
         → Leaves D.Disk (HoldsRunOrNone (IsRunSoFar (F.function function) step.now records.now)) files
         → IsTrue last.is_done → ∥ ((all : List Kept) × Keeps (file_state last.conn) all × IsWholeRun (F.function function) step.now records.now all
         × HaveAllResults (F.function function) records.now (drop 1 all)) ∥₁) }
+    ensures crashes { IfSome result (λ last. last.crashes ≡ length lives.now) }
 {
     checkpoints_have_results();
     let Ok(function) = Arc::new(alloc, function) else {

@@ -1,131 +1,86 @@
-//! Work that goes on from its checkpoints, whatever call of the disk a life ends at.
+//! A list of checkpoints that grows in lives, whatever call of the disk a life ends at.
 
-use crate::files::{crashed, failing, new_files};
-use crate::lives::{Life, last_says, listed, lived};
-use jb_durable::{DurableWork, LastLife, run_durably, work_through_crashes};
-use jb_store::Checkpoint;
-use sqlite::{Alter, Connection, Files, Options};
-use sqlite_disk::{Crash, Memory};
+use crate::files::{added, begun, crashed, failing, new_files};
+use crate::lives::{Life, listed, lived};
+use jb_slice_file::{ListEnd, StoreError};
+use sqlite::{Alter, Connection, Files};
+use sqlite_disk::Memory;
 use std::alloc::{AllocError, Global};
 use std::process::Abort;
 use std::sync::Wait;
 use std::test::*;
 use std::thread::Threads;
 
-/// What a life says whose work is done: the checkpoints of a whole run.
+/// What a life says that added all: each checkpoint has its number, as a text and as so many bytes.
 const WHOLE: &str = "true 0:[] 1:[1] 2:[2, 2] ";
 
-const STRETCHES: u32 = 3;
+const CHECKPOINTS: u32 = 3;
 
 /// More than one life makes calls of one of its files.
 const MOST_CALLS: u64 = 400;
 
-/// Three stretches, each of which keeps its number, as a text and as so many bytes.
+/// A life that adds what is missing, up to so many checkpoints. It says whether they are all there, and the checkpoints.
 #[derive(Drop)]
-struct Count {
-    done: u32,
-    /// So many checkpoints are known to be kept.
-    kept: usize,
-    /// A restart had fewer.
+struct Counting {
+    most: u32,
+    /// So many are known to be kept.
+    kept: u32,
+    /// An open had fewer.
     has_lost: bool,
 }
 
-/// Work of which so many stretches were kept in an earlier life.
-fn count_from(kept: u32) -> Count {
-    Count {
-        done: 0,
-        kept: kept as usize,
+/// A life up to so many checkpoints, of which so many were kept in an earlier one.
+fn life_behind(kept: u32, most: u32) -> Counting {
+    Counting {
+        most,
+        kept,
         has_lost: false,
     }
-}
-
-impl DurableWork for Count {
-    type Error = AllocError;
-
-    ghost is_so_far = { λ _ _. Unit {0} };
-
-    ghost is_whole = { λ _ _. Unit {0} };
-
-    ghost stands_at = { λ _ _. Unit {0} };
-
-    fn restart(&mut self, _alloc: Global, done: &[Checkpoint]) -> Result<(), AllocError> {
-        self.has_lost = self.has_lost || done.len() < self.kept;
-        self.done = u32::try_from(done.len()).unwrap_or(STRETCHES);
-        Ok(())
-    }
-
-    /// It is asked for the next stretch once the one before was kept.
-    fn go_on<R: Threads + Wait + Sync>(
-        &mut self,
-        _rt: &R,
-        alloc: Global,
-    ) -> Result<Option<Checkpoint>, AllocError> {
-        self.kept = self.done as usize;
-        if self.done >= STRETCHES {
-            return Ok(None);
-        }
-        let saved = format!(in alloc; "{}", self.done)?;
-        let mut results = Vec::new(alloc);
-        for _ in 0..self.done {
-            results.push(self.done as u8)?;
-        }
-        self.done += 1;
-        Ok(Some(Checkpoint { saved, results }))
-    }
-}
-
-/// A life of so many stretches at most. It says whether the work is done, and the checkpoints.
-#[derive(Drop)]
-struct Counting {
-    work: Count,
-    stretches: u32,
 }
 
 impl Life for Counting {
     fn live<R: Threads + Wait + Sync, S: Alter>(
         &mut self,
-        rt: &R,
+        _rt: &R,
         alloc: Global,
         conn: &mut Connection<S>,
     ) -> Result<String, AllocError> {
-        let is_done = is_finished(rt, alloc, conn, &mut self.work, self.stretches);
+        let is_done = has_counted(alloc, conn, self);
         let all = listed(alloc, conn)?;
         format!(in alloc; "{is_done} {all}")
     }
 }
 
-/// A life of work of which so many stretches were kept in an earlier one.
-fn life_behind(kept: u32, stretches: u32) -> Counting {
-    Counting {
-        work: count_from(kept),
-        stretches,
+fn has_counted<S: Alter>(alloc: Global, conn: &mut Connection<S>, life: &mut Counting) -> bool {
+    let Ok((found, mut end)) = begun(alloc, conn) else {
+        return false;
+    };
+    let found = u32::try_from(found.len()).unwrap_or(CHECKPOINTS);
+    life.has_lost = life.has_lost || found < life.kept;
+    life.kept = found;
+    for number in found..life.most {
+        if counted(alloc, conn, &mut end, number).is_err() {
+            return false;
+        }
+        life.kept = number + 1;
     }
+    true
 }
 
-/// It has no clauses, so that the proof of a test doesn't carry those of the call.
-fn is_finished<R: Threads + Wait + Sync, S: Alter>(
-    rt: &R,
+/// The checkpoint of this number, counted from 0, at the end of the others.
+fn counted<S: Alter>(
     alloc: Global,
     conn: &mut Connection<S>,
-    work: &mut Count,
-    stretches: u32,
-) -> bool {
-    matches!(run_durably(rt, alloc, conn, work, stretches), Ok(true))
-}
-
-/// The last of some lives, all of which but this one end in a crash; none where the files may not be used.
-fn last_life<R: Threads + Wait + Sync, D: Crash + Drop>(
-    rt: &R,
-    alloc: Global,
-    files: Files<D>,
-    work: &mut Count,
-    lives: &[u32],
-    stretches: u32,
-) -> Option<LastLife<D>> {
-    if !files.may_be_used() {
-        return None;
+    end: &mut ListEnd,
+    number: u32,
+) -> Result<(), StoreError> {
+    let saved = format!(in alloc; "{number}")?;
+    let byte = u8::try_from(number).unwrap_or(u8::MAX);
+    let mut results = Vec::new(alloc);
+    for _ in 0..number {
+        results.push(byte)?;
     }
-    work_through_crashes(rt, alloc, files, Options::new(5), work, lives, stretches)
+    added(conn, end, saved.as_str(), &results)
 }
 
 /// Files in which a life before kept so many checkpoints.
@@ -138,30 +93,9 @@ fn files_of<R: Threads + Wait + Sync>(rt: &R, alloc: Global, kept: u32) -> Files
     crashed(files)
 }
 
-/// A life says that the work is done, and which checkpoints there are.
+/// A life says that all are there, and which.
 fn assert_whole<R: Abort>(rt: &R, said: &str, kept: u32, calls: [u64; 2]) {
     assert_eq!(rt; said, WHOLE, "{kept} {calls:?}");
-}
-
-/// No checkpoint that was kept is missing.
-fn assert_none_lost<R: Abort>(rt: &R, work: &Count, kept: u32, calls: [u64; 2]) {
-    assert!(rt; !work.has_lost, "{kept} {calls:?}");
-}
-
-/// Two such lives by the function that has the theorem: it answers, wherever the first one ends.
-fn assert_answered<R: Threads + Wait + Sync + Abort>(
-    rt: &R,
-    alloc: Global,
-    kept: u32,
-    calls: [u64; 2],
-) -> Result<(), Fail> {
-    let files = failing(files_of(rt, alloc, kept), calls);
-    let mut work = count_from(kept);
-    let lives = [STRETCHES + 1];
-    let last = last_life(rt, alloc, files, &mut work, &lives, STRETCHES + 1);
-    assert_whole(rt, last_says(rt, alloc, last)?.as_str(), kept, calls);
-    assert_none_lost(rt, &work, kept, calls);
-    Ok(())
 }
 
 /// A life whose files fail from so many calls on, and two whose files don't: true where the first was whole.
@@ -172,13 +106,13 @@ fn is_whole_at_once<R: Threads + Wait + Sync + Abort>(
     calls: [u64; 2],
 ) -> Result<bool, Fail> {
     let files = failing(files_of(rt, alloc, kept), calls);
-    let mut life = life_behind(kept, STRETCHES + 1);
+    let mut life = life_behind(kept, CHECKPOINTS);
     let (files, first) = lived(rt, alloc, files, &mut life);
     let (files, next) = lived(rt, alloc, crashed(files), &mut life);
     let (_, last) = lived(rt, alloc, crashed(files), &mut life);
     assert_whole(rt, next?.as_str(), kept, calls);
     assert_whole(rt, last?.as_str(), kept, calls);
-    assert_none_lost(rt, &life.work, kept, calls);
+    assert!(rt; !life.has_lost, "{kept} {calls:?}");
     Ok(first?.as_str() == WHOLE)
 }
 
@@ -195,7 +129,6 @@ fn assert_each_call<R: Threads + Wait + Sync + Abort>(
         } else {
             [u64::MAX, calls]
         };
-        assert_answered(rt, alloc, kept, calls)?;
         if is_whole_at_once(rt, alloc, kept, calls)? {
             return Ok(());
         }
@@ -203,24 +136,15 @@ fn assert_each_call<R: Threads + Wait + Sync + Abort>(
     Err(Fail::from("a life has more calls"))
 }
 
-/// Each life ends in a crash, and none of them lost anything that was kept. Then four lives of a stretch or two, of which all but the last end so.
+/// Each life ends in a crash, and none of them lost anything that was kept.
 #[test]
 fn a_crash_at_each_call(rt: HostRuntime) -> Result<(), Fail> {
     let alloc = rt.alloc();
-    for kept in 0..3u32 {
+    for kept in 0..CHECKPOINTS {
         for is_log in [true, false] {
             assert_each_call(&rt, alloc, kept, is_log)?;
         }
     }
-    let last = last_life(
-        &rt,
-        alloc,
-        new_files(alloc),
-        &mut count_from(0),
-        &[0, 1, 1],
-        2,
-    );
-    assert_eq!(rt; last_says(&rt, alloc, last)?.as_str(), WHOLE);
     Ok(())
 }
 
@@ -229,7 +153,7 @@ fn a_crash_at_each_call(rt: HostRuntime) -> Result<(), Fail> {
 #[test]
 fn memory_refused(rt: HostRuntime) -> Result<(), Fail> {
     let alloc = rt.alloc();
-    let mut life = life_behind(0, STRETCHES + 1);
+    let mut life = life_behind(0, CHECKPOINTS);
     let mut files = new_files(alloc);
     let mut was_whole = false;
     for _ in 0..4 {
@@ -237,7 +161,7 @@ fn memory_refused(rt: HostRuntime) -> Result<(), Fail> {
         files = crashed(left);
         let is_whole = said.is_ok_and(|said| said.as_str() == WHOLE);
         if is_whole && was_whole {
-            assert!(rt; !life.work.has_lost);
+            assert!(rt; !life.has_lost);
             return Ok(());
         }
         was_whole = is_whole;

@@ -1,7 +1,7 @@
 //! Files in memory, and what they hold. The calls have no clauses, so that the proof of a test doesn't carry what the libraries' show.
 
-use jb_store::{Checkpoint, StoreError};
-use sqlite::{Connection, FileStore, Files, Options};
+use jb_slice_file::{Checkpoint, ListEnd, StoreError, append, begin};
+use sqlite::{Alter, Connection, FileStore, Files, Options};
 use sqlite_disk::{Crash, Disk, Fuse, Memory};
 use std::alloc::{AllocError, Global};
 
@@ -40,6 +40,24 @@ pub(crate) fn opened<D: Disk + Drop>(
         Ok(conn) => Ok(conn),
         Err((error, left)) => Err((StoreError::from(error), left.into_files())),
     }
+}
+
+/// The list of a connection that was just opened, and where it ends.
+pub(crate) fn begun<S: Alter>(
+    alloc: Global,
+    conn: &mut Connection<S>,
+) -> Result<(Vec<Checkpoint>, ListEnd), StoreError> {
+    begin(alloc, conn)
+}
+
+/// A checkpoint more, at the end of a list.
+pub(crate) fn added<S: Alter>(
+    conn: &mut Connection<S>,
+    end: &mut ListEnd,
+    saved: &str,
+    results: &[u8],
+) -> Result<(), StoreError> {
+    append(conn, end, saved, results)
 }
 
 /// Each checkpoint as its text, a colon and its bytes.

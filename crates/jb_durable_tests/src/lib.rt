@@ -1,8 +1,7 @@
-//! Tests of the public calls of the libraries that keep checkpoints in a file: `jb_store`, `jb_durable` and
-//! `jb_durable_records`.
+//! Tests of the public calls of the libraries that keep checkpoints in a file: `jb_slice_file` and `jb_durable_records`.
 //!
-//! They stand apart from the libraries, so that each of those is proved once. `store`, `durable` and `records` have the tests of the library of
-//! that name, over files in memory (`files`) and in lives (`lives`).
+//! They stand apart from the libraries, so that each of those is proved once. `store` and `durable` have the tests of the first one, of files of
+//! many kinds and of lists that grow in lives, and `records` those of the second, over files in memory (`files`) and in lives (`lives`).
 #![tactic(auto)]
 
 #[cfg(test)]

@@ -6,8 +6,8 @@
 ghost use Rattle.std.specs.Thread.{IsSync};
 
 use crate::files::{opened, text_of};
-use jb_durable::LastLife;
-use jb_store::{StoreError, closed, list};
+use jb_durable_records::LastLife;
+use jb_slice_file::{StoreError, closed, list};
 use sqlite::{Alter, Connection, FileStore, Files};
 use sqlite_disk::Disk;
 use std::alloc::{AllocError, Global};
@@ -66,18 +66,25 @@ pub(crate) fn lived<R: Threads + Wait + Sync, D: Disk + Drop, L: Life>(
     }
 }
 
-/// What the last of some lives says: whether the work is done, and the checkpoints.
+/// What the last of some lives says: whether the run is whole, how many crashes there were before it, and the checkpoints.
 pub(crate) fn last_says<R: Threads + Wait + Sync, D: Disk + Drop>(
     rt: &R,
     alloc: Global,
     last: Option<LastLife<D>>,
 ) -> Result<String, Fail> {
-    let Some(LastLife { conn, is_done }) = last else {
+    let Some(
+        LastLife {
+            conn,
+            is_done,
+            crashes,
+        },
+    ) = last
+    else {
         return Err(Fail::from("an open"));
     };
     let (_, said) = ended(rt, alloc, conn, &mut Listing);
     let all = said?;
-    Ok(format!(in alloc; "{is_done} {all}")?)
+    Ok(format!(in alloc; "{is_done} {crashes} {all}")?)
 }
 
 /// The name of a refusal.
@@ -91,7 +98,7 @@ pub(crate) fn listed<S: Alter>(
     conn: &mut Connection<S>,
 ) -> Result<String, AllocError> {
     match list(alloc, conn) {
-        Ok(all) => text_of(alloc, &all),
+        Ok((all, _)) => text_of(alloc, &all),
         Err(error) => named(alloc, error),
     }
 }

@@ -6,9 +6,9 @@ ghost use Rattle.jb_rows.specs.Author.{field_at};
 use crate::files::{crashed, failing, new_files};
 use crate::lives::{Life, Listing, last_says, lived};
 use jb_base::{ClassId, Name, PackedList, Rules};
-use jb_durable::LastLife;
 use jb_durable_records::{
-    DurableEnd, DurableError, Nobody, Rounds, records_through_crashes, run_records_durably,
+    DurableEnd, DurableError, LastLife, Nobody, Rounds, records_through_crashes,
+    run_records_durably,
 };
 use jb_records::RecordsStep;
 use jb_rows::{Outcome, Row as Fields, RowBuilder, RowFunction, Rows};
@@ -20,7 +20,7 @@ use std::sync::{Arc, Wait};
 use std::test::*;
 use std::thread::Threads;
 
-/// More than a life makes calls of its log.
+/// More than a life makes calls of one of its files.
 const MOST_CALLS: u64 = 400;
 
 /// What a whole run of the step below over five records says.
@@ -116,6 +116,41 @@ impl Life for Running {
     }
 }
 
+/// What a run in eight partitions says of which two fail: the results of the six others, and those of the records before the faults.
+const TWO_OF_EIGHT: &str =
+    "Failed [99] [100] [101] [102] [103] [104] [105] [107] [108] [109] [110] [111] [112] ";
+
+/// The step in eight partitions on two threads over sixteen records, of which the first one and the tenth can't be read.
+#[derive(Drop)]
+struct TwoOfEight;
+
+impl Life for TwoOfEight {
+    fn live<R: Threads + Wait + Sync, S: Alter>(
+        &mut self,
+        rt: &R,
+        alloc: Global,
+        conn: &mut Connection<S>,
+    ) -> Result<String, AllocError> {
+        let mut step = step_of(alloc, false)?;
+        step.partitions = 8;
+        let mut records = Rows::new(alloc);
+        let mut record = RowBuilder::new(alloc);
+        for number in 0..16u8 {
+            record.clear();
+            if number == 0 || number == 9 {
+                record.push(b"xyz")?;
+            } else {
+                record.push(&[97 + number])?;
+            }
+            records.push(&record)?;
+        }
+        match run(rt, alloc, conn, &step, records.as_list()) {
+            Ok(end) => text_of(alloc, &end),
+            Err(error) => format!(in alloc; "{error:?}"),
+        }
+    }
+}
+
 /// It has no clauses, so that the proof of a test doesn't carry those of the call.
 fn run<R: Threads + Wait + Sync, S: Alter>(
     rt: &R,
@@ -142,17 +177,17 @@ fn text_of(alloc: Global, end: &DurableEnd) -> Result<String, AllocError> {
     Ok(text)
 }
 
-/// A life whose log fails from so many calls on, and one whose files don't: true where the first was whole.
+/// A life whose files fail from so many calls on, and one whose files don't: true where the first was whole.
 fn is_whole_at_once<R: Threads + Wait + Sync + Abort>(
     rt: &R,
     alloc: Global,
-    calls: u64,
+    calls: [u64; 2],
 ) -> Result<bool, Fail> {
-    let files = failing(new_files(alloc), [calls, u64::MAX]);
+    let files = failing(new_files(alloc), calls);
     let mut life = run_to(b"e");
     let (files, first) = lived(rt, alloc, files, &mut life);
     let (_, last) = lived(rt, alloc, crashed(files), &mut life);
-    assert_eq!(rt; last?.as_str(), WHOLE, "{calls}");
+    assert_eq!(rt; last?.as_str(), WHOLE, "{calls:?}");
     Ok(first?.as_str() == WHOLE)
 }
 
@@ -182,21 +217,35 @@ fn last_life<R: Threads + Wait + Sync, D: Crash + Drop>(
     )
 }
 
-/// Each number of calls in turn that the log passes, up to a life that they suffice for; then three lives of a checkpoint or two that each
-/// end in a crash, and one more.
+/// Each number of calls in turn that the log passes, or the file, up to a life that they suffice for.
+fn assert_each_call<R: Threads + Wait + Sync + Abort>(
+    rt: &R,
+    alloc: Global,
+    is_log: bool,
+) -> Result<(), Fail> {
+    for calls in 0..MOST_CALLS {
+        let calls = if is_log {
+            [calls, u64::MAX]
+        } else {
+            [u64::MAX, calls]
+        };
+        if is_whole_at_once(rt, alloc, calls)? {
+            return Ok(());
+        }
+    }
+    Err(Fail::from("a life has more calls"))
+}
+
+/// Three lives of a checkpoint or two that each end in a crash, and one more; then a life that ends at each call of its files.
 #[test]
 fn a_crash_at_each_call_of_a_step(rt: HostRuntime) -> Result<(), Fail> {
     let alloc = rt.alloc();
     let step = step_of(alloc, false)?;
     let records = records_of(alloc, b"e")?;
     let last = last_life(&rt, alloc, new_files(alloc), &step, &records);
-    assert!(rt; last_says(&rt, alloc, last)?.as_str().starts_with("true "));
-    for calls in 0..MOST_CALLS {
-        if is_whole_at_once(&rt, alloc, calls)? {
-            return Ok(());
-        }
-    }
-    Err(Fail::from("a life has more calls"))
+    assert!(rt; last_says(&rt, alloc, last)?.as_str().starts_with("true 3 "));
+    assert_each_call(&rt, alloc, true)?;
+    assert_each_call(&rt, alloc, false)
 }
 
 /// A life over a whole run of the step, and what it says.
@@ -265,16 +314,16 @@ fn assert_told_apart<R: Threads + Wait + Sync + Abort>(rt: &R, alloc: Global) ->
     Ok(())
 }
 
-/// A run that is whole is told again and adds nothing; another step's and other records are refused; and a record that can't be read
-/// ends a run as failed, in each life.
+/// A run that is whole is told again and adds nothing; another step's and other records are refused; and where two partitions fail, the
+/// six others end in the same life. The next one tries these two alone.
 #[test]
 fn runs_are_told_apart(rt: HostRuntime) -> Result<(), Fail> {
     let alloc = rt.alloc();
     assert_told_apart(&rt, alloc)?;
     let mut files = new_files(alloc);
     for _ in 0..2 {
-        let (left, failed) = said(&rt, alloc, files, &mut run_to(b"xyz"))?;
-        assert!(rt; failed.as_str().starts_with("Failed "));
+        let (left, failed) = said(&rt, alloc, files, &mut TwoOfEight)?;
+        assert_eq!(rt; failed.as_str(), TWO_OF_EIGHT);
         files = left;
     }
     Ok(())

@@ -1,8 +1,8 @@
 //! Files of many kinds: which list each one has, or which refusal it gets, and what an append makes of it.
 
-use crate::files::{crashed, new_files, opened, text_of};
+use crate::files::{added, begun, crashed, new_files, text_of};
 use crate::lives::{Life, Listing, ended, listed, lived, named};
-use jb_store::{Checkpoint, StoreError, append, begin, open_files};
+use jb_slice_file::open_files;
 use sqlite::{Alter, Connection, Error, Files, Options};
 use sqlite_disk::Memory;
 use std::alloc::{AllocError, Global};
@@ -26,9 +26,9 @@ impl Life for Makes {
     }
 }
 
-/// The list is taken, and a checkpoint is added behind it, and once more with the same number.
+/// The list is taken, and a checkpoint is added at its end, and once more at the end that it had.
 #[derive(Drop)]
-struct Adds(u32);
+struct Adds;
 
 impl Life for Adds {
     fn live<R: Threads + Wait + Sync, S: Alter>(
@@ -38,10 +38,11 @@ impl Life for Adds {
         conn: &mut Connection<S>,
     ) -> Result<String, AllocError> {
         match begun(alloc, conn) {
-            Ok(found) => {
+            Ok((found, mut end)) => {
                 let told = text_of(alloc, &found)?;
-                let first = added(conn, self.0);
-                let again = added(conn, self.0);
+                let mut stale = end;
+                let first = added(conn, &mut end, "new", &[7, 8]);
+                let again = added(conn, &mut stale, "new", &[7, 8]);
                 let now = listed(alloc, conn)?;
                 format!(in alloc; "{told}| {first:?} {again:?} | {now}")
             }
@@ -50,18 +51,9 @@ impl Life for Adds {
     }
 }
 
-/// Calls without clauses.
-fn run<S: Alter>(conn: &mut Connection<S>, sql: &str) -> Result<(), Error> {
-    conn.execute_batch(sql)
-}
-
-fn begun<S: Alter>(alloc: Global, conn: &mut Connection<S>) -> Result<Vec<Checkpoint>, StoreError> {
-    begin(alloc, conn)
-}
-
 /// A checkpoint is added.
 #[derive(Drop)]
-struct AddsLast(u32);
+struct AddsLast;
 
 impl Life for AddsLast {
     fn live<R: Threads + Wait + Sync, S: Alter>(
@@ -70,88 +62,114 @@ impl Life for AddsLast {
         alloc: Global,
         conn: &mut Connection<S>,
     ) -> Result<String, AllocError> {
-        let added = append(conn, self.0, "last", &[]);
-        format!(in alloc; "{added:?}")
+        match begun(alloc, conn) {
+            Ok((_, mut end)) => {
+                let added = added(conn, &mut end, "last", &[]);
+                format!(in alloc; "{added:?}")
+            }
+            Err(error) => named(alloc, error),
+        }
     }
 }
 
-fn added<S: Alter>(conn: &mut Connection<S>, number: u32) -> Result<(), StoreError> {
-    append(conn, number, "new", &[7, 8])
+/// A statement without clauses.
+fn run<S: Alter>(conn: &mut Connection<S>, sql: &str) -> Result<(), Error> {
+    conn.execute_batch(sql)
 }
 
 /// A database, and what is said of it.
 struct Row {
     made_by: &'static str,
-    /// The number of its next checkpoint; 0 where it is refused.
-    number: u32,
+    is_list: bool,
     says: &'static str,
 }
 
-const ROWS: [Row; 13] = [
+const ROWS: [Row; 17] = [
     Row {
         made_by: "",
-        number: 1,
+        is_list: true,
         says: "| Ok(()) Err(Taken) | new:[7, 8] | Ok(()) new:[7, 8] last:[] | new:[7, 8] last:[] ",
     },
     Row {
-        made_by: "CREATE TABLE checkpoint (number INTEGER PRIMARY KEY, saved TEXT NOT NULL, results BLOB NOT NULL) STRICT",
-        number: 1,
+        made_by: "CREATE TABLE checkpoint (number INTEGER PRIMARY KEY, saved TEXT NOT NULL, results BLOB NOT NULL, link BLOB NOT NULL) STRICT",
+        is_list: true,
         says: "| Ok(()) Err(Taken) | new:[7, 8] | Ok(()) new:[7, 8] last:[] | new:[7, 8] last:[] ",
     },
-    // The text of the definition is its maker's own, and so is the order in which the rows came.
+    // The text of the definition is its maker's own, and so is the order in which the rows came. Python has worked out the links.
     Row {
-        made_by: "create table checkpoint(number integer primary key,saved text not null,results blob not null) strict; insert into checkpoint values (2, 'b', x''), (1, 'a', x'00ff')",
-        number: 3,
+        made_by: "create table checkpoint(number integer primary key,saved text not null,results blob not null,link blob not null) strict; insert into checkpoint values (2, 'b', x'', x'b41a77651e96a87366d76069caa94702bca6194da8231839f7de26772cca5bd2'), (1, 'a', x'00ff', x'd99e16749a85a31b25b6346a4b078892d40788eda76c7555fd7d7d8c79aecfe1')",
+        is_list: true,
         says: "a:[0, 255] b:[] | Ok(()) Err(Taken) | a:[0, 255] b:[] new:[7, 8] | Ok(()) a:[0, 255] b:[] new:[7, 8] last:[] | a:[0, 255] b:[] new:[7, 8] last:[] ",
     },
     Row {
-        made_by: "CREATE TABLE checkpoint (number INTEGER PRIMARY KEY, saved TEXT NOT NULL, results BLOB NOT NULL) STRICT; INSERT INTO checkpoint VALUES (1, 'a', x''), (3, 'c', x'')",
-        number: 0,
+        made_by: "CREATE TABLE checkpoint (number INTEGER PRIMARY KEY, saved TEXT NOT NULL, results BLOB NOT NULL, link BLOB NOT NULL) STRICT; INSERT INTO checkpoint VALUES (1, 'a', x'', x'db81d629e52542fbf67eb22de6cc257337d0802b909a9a3f668b220f67d28170'), (3, 'c', x'', x'db035661cc917971897ee9ede4b33d3c6ed706d4509ea1d4898b57c7664f16e9')",
+        is_list: false,
         says: "Gap, untouched: true",
     },
     Row {
-        made_by: "CREATE TABLE checkpoint (number INTEGER PRIMARY KEY, saved TEXT NOT NULL, results BLOB NOT NULL) STRICT; INSERT INTO checkpoint VALUES (2, 'b', x'')",
-        number: 0,
+        made_by: "CREATE TABLE checkpoint (number INTEGER PRIMARY KEY, saved TEXT NOT NULL, results BLOB NOT NULL, link BLOB NOT NULL) STRICT; INSERT INTO checkpoint VALUES (2, 'b', x'', x'9b580f674acf7013d5c0dcbc845f091d1038b0e7b9c84849bdd4d7c5aa8a7aed')",
+        is_list: false,
         says: "Gap, untouched: true",
     },
     Row {
-        made_by: "CREATE TABLE checkpoint (number INTEGER PRIMARY KEY, saved TEXT NOT NULL, results BLOB NOT NULL) STRICT; INSERT INTO checkpoint VALUES (-1, 'z', x''), (1, 'a', x'')",
-        number: 0,
+        made_by: "CREATE TABLE checkpoint (number INTEGER PRIMARY KEY, saved TEXT NOT NULL, results BLOB NOT NULL, link BLOB NOT NULL) STRICT; INSERT INTO checkpoint VALUES (-1, 'z', x'', x'0000000000000000000000000000000000000000000000000000000000000000'), (1, 'a', x'', x'db81d629e52542fbf67eb22de6cc257337d0802b909a9a3f668b220f67d28170')",
+        is_list: false,
         says: "Gap, untouched: true",
     },
+    // A text, a result, and a link of another chain.
     Row {
-        made_by: "CREATE TABLE note (number INTEGER PRIMARY KEY, saved TEXT NOT NULL, results BLOB NOT NULL) STRICT",
-        number: 0,
+        made_by: "CREATE TABLE checkpoint (number INTEGER PRIMARY KEY, saved TEXT NOT NULL, results BLOB NOT NULL, link BLOB NOT NULL) STRICT; INSERT INTO checkpoint VALUES (1, 'b', x'00ff', x'd99e16749a85a31b25b6346a4b078892d40788eda76c7555fd7d7d8c79aecfe1')",
+        is_list: false,
+        says: "Altered(1), untouched: true",
+    },
+    Row {
+        made_by: "CREATE TABLE checkpoint (number INTEGER PRIMARY KEY, saved TEXT NOT NULL, results BLOB NOT NULL, link BLOB NOT NULL) STRICT; INSERT INTO checkpoint VALUES (1, 'a', x'00ff', x'd99e16749a85a31b25b6346a4b078892d40788eda76c7555fd7d7d8c79aecfe1'), (2, 'b', x'01', x'b41a77651e96a87366d76069caa94702bca6194da8231839f7de26772cca5bd2')",
+        is_list: false,
+        says: "Altered(2), untouched: true",
+    },
+    Row {
+        made_by: "CREATE TABLE checkpoint (number INTEGER PRIMARY KEY, saved TEXT NOT NULL, results BLOB NOT NULL, link BLOB NOT NULL) STRICT; INSERT INTO checkpoint VALUES (1, 'a', x'00ff', x'd99e16749a85a31b25b6346a4b078892d40788eda76c7555fd7d7d8c79aecfe1'), (2, 'b', x'', x'9b580f674acf7013d5c0dcbc845f091d1038b0e7b9c84849bdd4d7c5aa8a7aed')",
+        is_list: false,
+        says: "Altered(2), untouched: true",
+    },
+    Row {
+        made_by: "CREATE TABLE note (number INTEGER PRIMARY KEY, saved TEXT NOT NULL, results BLOB NOT NULL, link BLOB NOT NULL) STRICT",
+        is_list: false,
         says: "Foreign, untouched: true",
     },
     Row {
         made_by: "CREATE VIEW checkpoint AS SELECT 1",
-        number: 0,
+        is_list: false,
         says: "Foreign, untouched: true",
     },
     Row {
-        made_by: "CREATE TABLE checkpoint (number INTEGER PRIMARY KEY, saved TEXT NOT NULL, results BLOB NOT NULL)",
-        number: 0,
+        made_by: "CREATE TABLE checkpoint (number INTEGER PRIMARY KEY, saved TEXT NOT NULL, results BLOB NOT NULL, link BLOB NOT NULL)",
+        is_list: false,
         says: "Version, untouched: true",
     },
     Row {
-        made_by: "CREATE TABLE checkpoint (number INTEGER PRIMARY KEY, saved TEXT NOT NULL, results BLOB) STRICT",
-        number: 0,
+        made_by: "CREATE TABLE checkpoint (number INTEGER PRIMARY KEY, saved TEXT NOT NULL, results BLOB NOT NULL, link BLOB) STRICT",
+        is_list: false,
         says: "Version, untouched: true",
     },
     Row {
-        made_by: "CREATE TABLE checkpoint (number INTEGER PRIMARY KEY, saved TEXT NOT NULL, results BLOB NOT NULL, made TEXT) STRICT",
-        number: 0,
+        made_by: "CREATE TABLE checkpoint (number INTEGER PRIMARY KEY, saved TEXT NOT NULL, results BLOB NOT NULL) STRICT",
+        is_list: false,
         says: "Version, untouched: true",
     },
     Row {
-        made_by: "CREATE TABLE Checkpoint (number INTEGER PRIMARY KEY, saved TEXT NOT NULL, results BLOB NOT NULL) STRICT",
-        number: 0,
+        made_by: "CREATE TABLE checkpoint (number INTEGER PRIMARY KEY, saved TEXT NOT NULL, results BLOB NOT NULL, link BLOB NOT NULL, made TEXT) STRICT",
+        is_list: false,
         says: "Version, untouched: true",
     },
     Row {
-        made_by: "CREATE TABLE checkpoint (number INTEGER PRIMARY KEY, saved TEXT NOT NULL, results BLOB NOT NULL) STRICT; CREATE TABLE note (id INTEGER PRIMARY KEY) STRICT",
-        number: 0,
+        made_by: "CREATE TABLE Checkpoint (number INTEGER PRIMARY KEY, saved TEXT NOT NULL, results BLOB NOT NULL, link BLOB NOT NULL) STRICT",
+        is_list: false,
+        says: "Version, untouched: true",
+    },
+    Row {
+        made_by: "CREATE TABLE checkpoint (number INTEGER PRIMARY KEY, saved TEXT NOT NULL, results BLOB NOT NULL, link BLOB NOT NULL) STRICT; CREATE TABLE note (id INTEGER PRIMARY KEY) STRICT",
+        is_list: false,
         says: "Version, untouched: true",
     },
 ];
@@ -174,14 +192,13 @@ fn crash_says<R: Threads + Wait + Sync>(
     rt: &R,
     alloc: Global,
     files: Files<Memory>,
-    number: u32,
 ) -> Result<String, Fail> {
-    let (files, told) = lived(rt, alloc, files, &mut AddsLast(number));
+    let (files, told) = lived(rt, alloc, files, &mut AddsLast);
     let files = crashed(files);
     if !files.may_be_used() {
         return Err(Fail::from("files that may be used"));
     }
-    let Ok((again, found)) = open_files(alloc, files, Options::new(3)) else {
+    let Ok((again, found, _)) = open_files(alloc, files, Options::new(3)) else {
         return Err(Fail::from("an open after a crash"));
     };
     let (_, shown) = ended(rt, alloc, again, &mut Listing);
@@ -196,7 +213,7 @@ fn refusal_says<R: Threads + Wait + Sync>(
     files: Files<Memory>,
 ) -> Result<String, Fail> {
     let before = bytes_of(alloc, &files)?;
-    let (files, told) = lived(rt, alloc, files, &mut Adds(0));
+    let (files, told) = lived(rt, alloc, files, &mut Adds);
     let is_same = is_same(&files, &before);
     let told = told?;
     Ok(format!(in alloc; "{told}, untouched: {is_same}")?)
@@ -207,10 +224,9 @@ fn list_says<R: Threads + Wait + Sync>(
     rt: &R,
     alloc: Global,
     files: Files<Memory>,
-    number: u32,
 ) -> Result<String, Fail> {
-    let (files, told) = lived(rt, alloc, files, &mut Adds(number));
-    let more = crash_says(rt, alloc, files, number.saturating_add(1))?;
+    let (files, told) = lived(rt, alloc, files, &mut Adds);
+    let more = crash_says(rt, alloc, files)?;
     let told = told?;
     Ok(format!(in alloc; "{told}{more}")?)
 }
@@ -219,10 +235,10 @@ fn list_says<R: Threads + Wait + Sync>(
 fn says<R: Threads + Wait + Sync>(rt: &R, alloc: Global, row: &Row) -> Result<String, Fail> {
     let (files, made) = lived(rt, alloc, new_files(alloc), &mut Makes(row.made_by));
     let _made = made?;
-    if row.number == 0 {
-        refusal_says(rt, alloc, crashed(files))
+    if row.is_list {
+        list_says(rt, alloc, crashed(files))
     } else {
-        list_says(rt, alloc, crashed(files), row.number)
+        refusal_says(rt, alloc, crashed(files))
     }
 }
 

@@ -16,8 +16,8 @@ use Rattle.jb_records.specs.Function.{Function}
 use Rattle.jb_records.specs.Shares.{IsSoFar, joined}
 use Rattle.jb_records.specs.Stretches.{HasGoneOn, RunState}
 use Rattle.jb_rules.specs.declared.row.Row.{Row}
-use Rattle.jb_checkpoint.specs.declared.checkpoint.Checkpoint.{Checkpoint}
-use Rattle.jb_checkpoint.specs.Checkpoints.{Kept, kept}
+use Rattle.jb_slice_file.specs.declared.checkpoint.Checkpoint.{Checkpoint}
+use Rattle.jb_slice_file.specs.Kept.{Kept, kept}
 use Rattle.jb_records_checkpoints.specs.declared.coding.CodingError.{CodingError}
 use Rattle.jb_records_checkpoints.specs.declared.coding.CodingError.TheVariants as coding
 use Rattle.jb_records_checkpoints.specs.declared.error.CheckpointError.{CheckpointError}

@@ -6,8 +6,8 @@ use Rattle.jb_rules.specs.declared.row.Row.{Row}
 use Rattle.jb_records.specs.Shares.{AreNumbered, joined}
 use Rattle.jb_records.specs.Stretches.{grown}
 use Rattle.std.specs.Prelude.{slice_get}
-use Rattle.jb_checkpoint.specs.declared.checkpoint.Checkpoint.{Checkpoint}
-use Rattle.jb_checkpoint.specs.Checkpoints.{Kept, kept}
+use Rattle.jb_slice_file.specs.declared.checkpoint.Checkpoint.{Checkpoint}
+use Rattle.jb_slice_file.specs.Kept.{Kept, kept}
 use Rattle.jb_records_checkpoints.specs.Coding.{IsCodingOf}
 use Rattle.jb_records_checkpoints.specs.Checkpoints.{AreCoded, grown_by, no_results}
 

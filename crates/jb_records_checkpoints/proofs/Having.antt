@@ -5,14 +5,17 @@ use Rattle.jb_rules.specs.declared.row.Row.{Row}
 use Rattle.jb_saved.specs.Reading.{answer_of}
 use Rattle.jb_saved.specs.SavedRows.{SavedRows}
 use Rattle.jb_records.specs.declared.step.RecordsStep.{RecordsStep}
+use Rattle.jb_records.specs.Following.{RangesPass}
+use Rattle.jb_records.specs.FollowingLaws.{FailedRowsDont, FinishedRowsPass}
 use Rattle.jb_records.specs.Function.{Function}
 use Rattle.jb_records.specs.Shares.{SharesJoin}
 use Rattle.jb_records.specs.Stretches.{RunState, StandsOver}
-use Rattle.jb_checkpoint.specs.Checkpoints.{Kept}
-use Rattle.jb_records_checkpoints.specs.Checkpoints.{AreCoded, IsRunSoFar, WholeRunsAreSoFar, WholeRunsHaveAll, grown_by, no_results}
+use Rattle.jb_slice_file.specs.Kept.{Kept}
+use Rattle.jb_records_checkpoints.specs.Checkpoints.{AreCoded, IsRunSoFar, WholeRunsAreSoFar, WholeRunsHaveAll, WholeRunsPass, grown_by, no_results}
 use Rattle.jb_records_checkpoints.specs.Refusals.{IsDamaged, OtherRun, RunsSoFarAreOwn}
-use Rattle.jb_records_checkpoints.specs.Work.{PlacesHaveAll, PlacesHaveThoseSoFar, RunStandsAt}
+use Rattle.jb_records_checkpoints.specs.Work.{FailedPlacesDont, PlacesGoByStep, PlacesHaveAll, PlacesHaveThoseSoFar, RunStandsAt}
 use Rattle.jb_records_checkpoints.proofs.Behind.{no_members, ok_once, one_last, stands_as}
+use Rattle.jb_records_checkpoints.proofs.Telling.{one_failed}
 use Rattle.jb_records_checkpoints.specs.declared.place.Stage.{Stage}
 use Rattle.jb_records_checkpoints.specs.declared.place.Stage.TheVariants.{Blank, Begun, Underway}
 
@@ -30,6 +33,14 @@ places_have_all join f step records stage s rows all at whole = join f records s
 pub places_have_those_so_far : PlacesHaveThoseSoFar
 places_have_those_so_far f step records stage s rows all at underway = (stands_as f step records stage Underway s rows all underway at).after.so_far
 
+pub places_go_by_step : PlacesGoByStep
+places_go_by_step f step records stage s rows all at underway = (stands_as f step records stage Underway s rows all underway at).after.by_step
+
+pub failed_places_dont : FailedRowsDont → FailedPlacesDont
+failed_places_dont law f step records stage s rows all at underway told steady passes =
+    let by = places_go_by_step f step records stage s rows all at underway in
+    law f step.rules records rows (by.follows steady) (one_failed rows told) (subst (RangesPass f step.rules records) (sym by.ranges) passes)
+
 -- ---- a whole run
 
 pub whole_runs_have_all : SharesJoin → WholeRunsHaveAll
@@ -41,6 +52,14 @@ whole_runs_have_all join f step records first later whole =
       coded = all.coded;
       results = join f records all.held.rows (grown_by (no_results (length all.held.rows)) all.news) all.so_far whole.1.1;
     }
+
+-- the records of each of its partitions pass
+pub whole_runs_pass : FinishedRowsPass → WholeRunsPass
+whole_runs_pass law f step records [] steady whole = absurd whole
+whole_runs_pass law f step records (first ∷ later) steady whole =
+    let all = whole.1.0 in
+    subst (RangesPass f step.rules records) all.by_step.ranges
+    (law f step.rules records all.held.rows (grown_by (no_results (length all.held.rows)) all.news) all.so_far (all.by_step.follows steady) whole.1.1)
 
 -- a whole run is one so far
 pub whole_so_far : WholeRunsAreSoFar

@@ -4,11 +4,14 @@ use Rattle.jb_base.specs.Pairwise.{Pairwise}
 use Rattle.jb_job.specs.Reading.{tree_of}
 use Rattle.jb_saved.specs.Reading.{answer_of}
 use Rattle.jb_saved.specs.SavedRows.{SavedRows}
+use Rattle.jb_rules.specs.declared.row.Row.{Row}
 use Rattle.jb_records.specs.declared.step.RecordsStep.{RecordsStep}
-use Rattle.jb_records.specs.Function.{Function, all_results}
+use Rattle.jb_records.specs.Following.{FollowRules, StepPasses, ranges_of}
+use Rattle.jb_records.specs.Function.{Function, IsSteady, all_results}
+use Rattle.jb_records.specs.Made.{even_partitions}
 use Rattle.jb_records.specs.Shares.{AreAtTheirEnds, IsSoFar, joined}
 use Rattle.jb_records.specs.Stretches.{grown}
-use Rattle.jb_checkpoint.specs.Checkpoints.{Kept}
+use Rattle.jb_slice_file.specs.Kept.{Kept}
 use Rattle.jb_records_checkpoints.specs.Coding.{IsCodingOf}
 use Rattle.jb_records_checkpoints.specs.Form.{Form, digest_of, form_text}
 
@@ -37,8 +40,15 @@ grown_by shares (new ∷ news) = grown_by (grown shares new) news
 abbrev pub AreCoded : (count : ℕ) → List Kept → (news : List (List (List (List ℕ)))) → Type 0
 AreCoded count later news = Pairwise (λ (c : Kept) new. IsCodingOf c.results count new) later news
 
--- THE STRETCHES SO FAR: the last text says how far each partition is, and what is new in all of them, put together, is each one's share
-pub record AreStretches (f : Function) (records : List (List ℕ)) (later : List Kept) : Type 0 where
+-- THE PARTITIONS GO BY THE STEP: they are the even ranges of all records, and the step's rules let those before each checkpoint pass, if no
+-- try of the function fails
+pub record GoByStep (f : Function) (step : RecordsStep) (records : List (List ℕ)) (rows : List Row) : Type 0 where
+  pub ranges : ranges_of rows ≡ (even_partitions step (length records)).ranges
+  pub follows : IsSteady f → FollowRules f step.rules records rows
+
+-- THE STRETCHES SO FAR: the last text says how far each partition is; what is new in all of them, put together, is each one's share; and the
+-- partitions go by the step
+pub record AreStretches (f : Function) (step : RecordsStep) (records : List (List ℕ)) (later : List Kept) : Type 0 where
   pub before : List Kept
   pub last : Kept
   pub last_is : later ≡ before ++ last ∷ []
@@ -47,18 +57,19 @@ pub record AreStretches (f : Function) (records : List (List ℕ)) (later : List
   pub news : List (List (List (List ℕ)))
   pub coded : AreCoded (length held.rows) later news
   pub so_far : IsSoFar f records held.rows (grown_by (no_results (length held.rows)) news)
+  pub by_step : GoByStep f step records held.rows
 
 -- ---- all of them
 
 -- THE CHECKPOINTS OF A RUN SO FAR, of this function over these records: none; or the first one, and those of its stretches so far
 abbrev pub IsRunSoFar : Function → RecordsStep → (records : List (List ℕ)) → List Kept → Type 0
 IsRunSoFar f step records [] = ⊤
-IsRunSoFar f step records (first ∷ later) = IsOf step records first × ((later ≡ []) ⊎ AreStretches f records later)
+IsRunSoFar f step records (first ∷ later) = IsOf step records first × ((later ≡ []) ⊎ AreStretches f step records later)
 
 -- THOSE OF A WHOLE RUN: each partition is at the end of its range
 abbrev pub IsWholeRun : Function → RecordsStep → (records : List (List ℕ)) → List Kept → Type 0
 IsWholeRun f step records [] = ⊥
-IsWholeRun f step records (first ∷ later) = IsOf step records first × ((all : AreStretches f records later) × AreAtTheirEnds all.held.rows)
+IsWholeRun f step records (first ∷ later) = IsOf step records first × ((all : AreStretches f step records later) × AreAtTheirEnds all.held.rows)
 
 -- THEY HAVE ALL RESULTS: what is new in each of them, put together and the partitions one behind the other, are the results of all
 -- records, each once and in order
@@ -79,3 +90,7 @@ abbrev pub WholeRunsAreSoFar : Type 0
 WholeRunsAreSoFar =
     (f : Function) (step : RecordsStep) (records : List (List ℕ)) (all : List Kept)
     → IsWholeRun f step records all → IsRunSoFar f step records all
+
+-- THE LAW: the step's rules let the records of each partition of a whole run pass, if no try of the function fails
+abbrev pub WholeRunsPass : Type 0
+WholeRunsPass = (f : Function) (step : RecordsStep) (records : List (List ℕ)) (all : List Kept) → IsSteady f → IsWholeRun f step records all → StepPasses f step records

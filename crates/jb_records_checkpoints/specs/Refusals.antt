@@ -11,7 +11,7 @@ use Rattle.jb_records.specs.Causes.{AreOtherShares, IsCauseOf}
 use Rattle.jb_records.specs.Function.{Function}
 use Rattle.jb_records.specs.Shares.{IsSoFar}
 use Rattle.jb_records.specs.Stretches.{IsBrokenOff, grown}
-use Rattle.jb_checkpoint.specs.Checkpoints.{Kept}
+use Rattle.jb_slice_file.specs.Kept.{Kept}
 use Rattle.jb_records_checkpoints.specs.declared.coding.CodingError.{CodingError}
 use Rattle.jb_records_checkpoints.specs.declared.coding.CodingError.TheVariants as coding
 use Rattle.jb_records_checkpoints.specs.declared.error.CheckpointError.{CheckpointError}

@@ -1,23 +1,24 @@
 //! Where the work stands: a run in memory, behind its checkpoints.
 
-ghost use Rattle.std.specs.Prelude.{◌≡◌, List, ℕ, IfErr, IfOk, MatchResult, None};
+ghost use Rattle.std.specs.Prelude.{◌≡◌, List, ℕ, IfErr, IfOk, IsTrue, MatchResult, None};
+ghost use Rattle.jb_collect.specs.declared.calls.Status.TheVariants.{Failed};
 ghost use Rattle.jb_records.specs.declared.step.RecordsStep.{RecordsStep as StepOfRecords};
 ghost use Rattle.jb_records.specs.Function.{Function};
 ghost use Rattle.jb_records.specs.Shares.{AreAtTheirEnds};
 ghost use Rattle.jb_records.specs.Stretches.{StandsOver};
-ghost use Rattle.jb_checkpoint.specs.Checkpoints.{Kept, kept};
-ghost use Rattle.jb_checkpoint.specs.Checkpoints.{GoesOn};
+ghost use Rattle.jb_slice_file.specs.Kept.{Kept, kept};
+ghost use Rattle.jb_slice_file.specs.Kept.{GoesOn};
 ghost use Rattle.jb_records_checkpoints.specs.Checkpoints.{IsRunSoFar, IsWholeRun};
 ghost use Rattle.jb_records_checkpoints.specs.Refusals.{IsOfAStretch, IsStretchCause};
-ghost use Rattle.jb_records_checkpoints.specs.Work.{GoesOnBehind, IsRunDone, IsTold, RunStandsAt};
+ghost use Rattle.jb_records_checkpoints.specs.Work.{GoesOnBehind, HaveEnded, IsRunDone, IsTold, RunStandsAt};
 ghost use Rattle.jb_records_checkpoints.specs.declared.place.Stage.TheVariants.{Underway};
 
 use crate::coding::coding_of;
 use crate::error::CheckpointError;
-use jb_checkpoint::Checkpoint;
 use jb_collect::Status;
-use jb_records::{RecordsRun, Standing, StepFunction};
+use jb_records::{RecordsRun, Standing, StepFunction, rules_are_kept};
 use jb_rules::Row;
+use jb_slice_file::Checkpoint;
 use std::alloc::Global;
 use std::sync::Wait;
 use std::thread::Threads;
@@ -38,7 +39,7 @@ pub struct Place<F> {
     pub run: RecordsRun<F>,
     /// The rows of the last stretch that is kept.
     pub rows: Vec<Row>,
-    /// A partition failed in it.
+    /// Each partition has ended in it, and one failed.
     pub has_failed: bool,
     pub stage: Stage,
 }
@@ -71,6 +72,26 @@ impl<F: Drop> Place<F> {
     }
 }
 
+/// Whether each partition has ended: it is finished, or it has failed.
+fn have_ended(rows: &[Row]) -> bool
+    ensures { IsTrue result → HaveEnded rows.now }
+{
+    for row in rows {
+        if !row.state.has_ended() {
+            return false;
+        }
+    }
+    true
+}
+
+/// Whether the run has failed, by the status and the rows of a stretch: each partition has ended, and one failed.
+fn has_run_failed(status: Status, rows: &[Row]) -> bool
+    ensures failed { IsTrue result → status ≡ Failed }
+    ensures ended { IsTrue result → HaveEnded rows.now }
+{
+    matches!(status, Status::Failed) && have_ended(rows)
+}
+
 /// One stretch more of the run, and its checkpoint.
 fn stretched<F: StepFunction + Drop + 'static, R: Threads + Wait + Sync>(
     rt: &R,
@@ -84,15 +105,17 @@ fn stretched<F: StepFunction + Drop + 'static, R: Threads + Wait + Sync>(
     ensures own { IfErr result IsOfAStretch }
     ensures why { (f : Function) (records : List (List ℕ)) → StandsOver f records (⟦<RecordsRun<F> as Standing>⟧.standing run) → IfErr result (IsStretchCause f records) }
 {
+    rules_are_kept();
     let (run, stretch) = run.go_on(rt, alloc, Some(rounds))?;
-    let place = Place {
-        run,
-        rows: stretch.snapshot.rows,
-        has_failed: matches!(stretch.status, Status::Failed),
-        stage: Stage::Underway,
-    };
     let results = coding_of(alloc, &stretch.results)?;
     let saved = stretch.saved;
+    let rows = stretch.snapshot.rows;
+    let place = Place {
+        run,
+        has_failed: has_run_failed(stretch.status, &rows),
+        rows,
+        stage: Stage::Underway,
+    };
     Ok((place, Checkpoint { saved, results }))
 }
 

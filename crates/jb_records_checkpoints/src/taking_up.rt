@@ -4,7 +4,7 @@ ghost use Rattle.std.specs.Prelude.{◌≡◌, ◌≢◌, ◌⊎◌, ◌-◌, �
 ghost use Rattle.std.specs.Arc.{arc_value};
 ghost use Rattle.jb_records.specs.Causes.{IsCauseOf};
 ghost use Rattle.jb_records.specs.declared.error.RecordsStepError.{RecordsStepError as RecordsStepFault};
-ghost use Rattle.jb_checkpoint.specs.Checkpoints.{Kept, kept};
+ghost use Rattle.jb_slice_file.specs.Kept.{Kept, kept};
 ghost use Rattle.jb_records_checkpoints.specs.Coding.{IsCodable};
 ghost use Rattle.jb_records_checkpoints.specs.Checkpoints.{AreCoded, AreStretches, IsOf, IsRunSoFar, IsWholeRun, grown_by, no_results};
 ghost use Rattle.jb_records_checkpoints.specs.Refusals.{IsOfOwn, IsOtherJob, IsOverOthers, IsTakenCause, OtherRun};
@@ -18,8 +18,8 @@ use crate::form::form_text;
 use crate::place::{Place, Stage};
 use crate::reading::read_into;
 use jb_base::PackedList;
-use jb_checkpoint::Checkpoint;
-use jb_records::{RecordsRun, RecordsStep, Standing, StepFunction};
+use jb_records::{RecordsRun, RecordsStep, Standing, StepFunction, rules_are_kept};
+use jb_slice_file::Checkpoint;
 use jb_step::read_saved;
 use std::alloc::{AllocError, Global};
 use std::sync::Arc;
@@ -108,7 +108,7 @@ fn begun<F: StepFunction + Drop>(
     records: &PackedList,
     stage: Stage,
 ) -> Result<Place<F>, CheckpointError>
-    ensures behind { IfOk result (λ place. IsBehind (F.function (arc_value function.now)) records.now [] (⟦<RecordsRun<F> as Standing>⟧.standing place.run)) }
+    ensures behind { IfOk result (λ place. IsBehind (F.function (arc_value function.now)) step.now records.now [] (⟦<RecordsRun<F> as Standing>⟧.standing place.run)) }
     ensures stage { IfOk result (λ place. place.stage ≡ stage) }
     ensures told { IfOk result (λ place. IsTold place.has_failed place.stage (⟦<RecordsRun<F> as Standing>⟧.standing place.run) place.rows.items) }
     ensures why { IfErr result IsOfOwn }
@@ -133,7 +133,7 @@ fn behind<F: StepFunction + Drop>(
     last: &Checkpoint,
 ) -> Result<Place<F>, CheckpointError>
     requires { slice_get later.now (length later.now - 1) ≡ Some last.now }
-    ensures underway { (first : Kept) → IsOf step.now records.now first → AreStretches (F.function (arc_value function.now)) records.now (map kept later.now)
+    ensures underway { (first : Kept) → IsOf step.now records.now first → AreStretches (F.function (arc_value function.now)) step.now records.now (map kept later.now)
         → IfOk result (λ place. IsUnderway (F.function (arc_value function.now)) step.now records.now (⟦<RecordsRun<F> as Standing>⟧.standing place.run) place.rows.items (first ∷ map kept later.now)) }
     ensures stage { IfOk result (λ place. place.stage ≡ Underway) }
     ensures told { IfOk result (λ place. IsTold place.has_failed place.stage (⟦<RecordsRun<F> as Standing>⟧.standing place.run) place.rows.items) }
@@ -141,6 +141,7 @@ fn behind<F: StepFunction + Drop>(
     ensures why { IfErr result IsOfOwn }
     ensures cause { (first : Kept) → IfErr result (IsTakenCause (F.function (arc_value function.now)) step.now records.now (first ∷ map kept later.now)) }
 {
+    rules_are_kept();
     let rows = {
         let held = read_saved(alloc, last.saved.as_bytes())?;
         Vec::from_slice(alloc, held.rows())?

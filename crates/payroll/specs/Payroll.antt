@@ -1,7 +1,7 @@
 -- A payroll: the pay slips of all time sheets.
 use Rattle.std.specs.Prelude.{ℕ, List, Option, None, codes}
 use Rattle.jb_base.specs.Rules.{RulesRecord}
-use Rattle.jb_checkpoint.specs.Checkpoints.{Kept}
+use Rattle.jb_slice_file.specs.Kept.{Kept}
 use Rattle.jb_csv_job.specs.Done.{IsDoneSoFar, IsJobDone}
 use Rattle.jb_csv_job.specs.Job.{JobRecord}
 use Rattle.jb_csv_job.specs.Kept.{IsJobSoFar}

@@ -4,8 +4,8 @@ ghost use Rattle.std.specs.Prelude.{◌≡◌};
 ghost use Rattle.payroll.specs.Sheets.{broken_class, pay_slip, sheet_tries, unsteady_class};
 
 use crate::sheet::{is_shaky, named_pay};
+use jb_answers::{Fate, FaultClass};
 use jb_base::ClassId;
-use jb_csv_job::{Fate, FaultClass};
 use jb_records::FirstTries;
 use jb_rows::{Outcome, Row, RowBuilder, RowFunction};
 use std::alloc::{AllocError, Global};

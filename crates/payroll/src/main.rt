@@ -11,9 +11,9 @@
 ghost use Rattle.std.specs.Prelude.{◌≡◌, ◌≤◌, ◌⊎◌, List, IfOk};
 ghost use Rattle.sqlite.specs.Held.{state};
 ghost use Rattle.jb_base.specs.Limits.{max_threads};
-ghost use Rattle.jb_checkpoint.specs.Checkpoints.{Kept};
+ghost use Rattle.jb_slice_file.specs.Kept.{Kept};
 ghost use Rattle.jb_csv_job.specs.Kept.{IsTakenUp};
-ghost use Rattle.jb_durable.specs.Files.{IsOfARun};
+ghost use Rattle.jb_slice_file.specs.Files.{IsOfARun};
 ghost use Rattle.payroll.specs.Payroll.{IsPaid, IsPaidSoFar, IsPayrollSoFar, payroll};
 
 mod clerk;

@@ -1,5 +1,1 @@
-pub mod Amounts
 pub mod Job
-pub mod Prices
-pub mod Sales
-pub mod Totals

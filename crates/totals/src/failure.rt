@@ -1,11 +1,10 @@
 //! Why there is no answer.
 
-use crate::prices::PricesError;
 use crate::run::JOB;
-use crate::sums::SumsError;
 use jb_csv_job::{Failure, FailureText};
 use jb_rows::RowsError;
-use jb_store::StoreError;
+use jb_slice_file::StoreError;
+use sales::{PricesError, SumsError};
 use std::io;
 use thiserror::Error;
 

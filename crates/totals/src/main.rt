@@ -4,24 +4,21 @@
 //! `{"customer":"Ada","item":"pen","count":3}`, on standard input. It writes lines `CUSTOMER,TOTAL` on standard output, once all
 //! sales are done. Whatever ends it, called again with the same sales and prices it resumes from the last checkpoint in FILE.
 //!
-//! - `amounts`: cents by name. `prices`: the list of prices. `sale`: a sale, and what it costs. `sums`: the total of each customer.
 //! - `run`: the job's run, and the totals that come of it. `words`: the command line. `failure`: why there is no answer.
+//!
+//! What a sale is, and what a customer pays, is in the crate `sales`.
 #![tactic(auto)]
 
-mod amounts;
 mod failure;
-mod prices;
 mod run;
-mod sale;
-mod sums;
 mod words;
 
 use failure::{TotalsError, say};
 use jb_csv_job::{Host, closed};
 use jb_rows::{Rows, RowsOptions, RowsWriter};
-use jb_store::connect;
-use prices::{PricesError, read_prices};
+use jb_slice_file::connect;
 use run::totals;
+use sales::{PricesError, read_prices};
 use sqlite::Wary;
 use std::fs::File;
 use std::process::ExitCode;

@@ -3,19 +3,16 @@
 ghost use Rattle.std.specs.Prelude.{◌≡◌, ◌≤◌, List, IfOk};
 ghost use Rattle.sqlite.specs.Held.{state};
 ghost use Rattle.jb_base.specs.Limits.{max_threads};
-ghost use Rattle.jb_checkpoint.specs.Checkpoints.{Kept};
+ghost use Rattle.jb_slice_file.specs.Kept.{Kept};
 ghost use Rattle.jb_csv_job.specs.Kept.{IsJobSoFar, IsTakenUp};
-ghost use Rattle.jb_durable.specs.Files.{IsOfARun};
-ghost use Rattle.totals.specs.Job.{totals_job};
-ghost use Rattle.totals.specs.Totals.{AreTotalsOf};
+ghost use Rattle.jb_slice_file.specs.Files.{IsOfARun};
+ghost use Rattle.totals.specs.Job.{AreTotalsOf, totals_job};
 
-use crate::amounts::Amounts;
 use crate::failure::TotalsError;
-use crate::sale::{CLASSES, Pricing};
-use crate::sums::totals_of;
 use jb_base::DEFAULT_RETRY_LIMIT;
 use jb_csv_job::{CsvJob, run_to_rows};
 use jb_rows::{Rows, RowsOptions};
+use sales::{Amounts, CLASSES, Pricing, totals_of};
 use sqlite::{Alter, Connection};
 use std::alloc::Global;
 use std::io::Read;

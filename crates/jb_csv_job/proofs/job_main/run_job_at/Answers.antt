@@ -1,10 +1,6 @@
 use Rattle.std.proofs.Common.{}
 use Rattle.std.proofs.Math.Logic.{∥∥₁_map}
-use Rattle.sqlite_trees.specs.Tree.{Trees}
-use Rattle.jb_checkpoint.specs.Checkpoints.{Kept}
-use Rattle.jb_csv_job.specs.Job.{job_record}
-use Rattle.jb_csv_job.specs.Kept.{IsJobSoFar, IsTakenUp}
-use Rattle.jb_durable.proofs.Clean.{clean_before}
+use Rattle.jb_slice_file.proofs.Clean.{clean_before}
 use Rattle.jb_csv_job.proofs.job_main.run_job_at.Goals as goal
 
 pub returns-clause-all : goal.returns-clause-all

@@ -1,5 +1,5 @@
 use Rattle.std.specs.Arc.{arc_value}
-use Rattle.jb_durable.specs.Watching.{clean_now, left_now}
+use Rattle.jb_slice_file.specs.Watching.{clean_now, left_now}
 use Rattle.jb_records_checkpoints.specs.Checkpoints.{IsRunSoFar}
 use Rattle.jb_durable_records.proofs.lives.live_and_crash.Given as goal
 

@@ -5,11 +5,11 @@ use Rattle.sqlite_wal.specs.Reads.{AreClean}
 use Rattle.sqlite_trees.specs.Tree.{Trees}
 use Rattle.sqlite.specs.Files.{file_state}
 use Rattle.sqlite.specs.State.{HasCleanDisk}
-use Rattle.jb_durable.specs.declared.stop.Life.{Life}
-use Rattle.jb_durable.specs.Files.{HoldsRun, IsOfARun, Leaves, MayGoOn}
-use Rattle.jb_durable.specs.Lives.{Leads}
-use Rattle.jb_durable.proofs.Over.{run_is_left}
-use Rattle.jb_durable.proofs.Somes.{some_both, some_from}
+use Rattle.jb_slice_file.specs.declared.stop.Life.{Life}
+use Rattle.jb_slice_file.specs.Files.{HoldsRun, IsOfARun, Leaves, MayGoOn}
+use Rattle.jb_slice_file.specs.Lives.{Leads}
+use Rattle.jb_slice_file.proofs.Over.{run_is_left}
+use Rattle.jb_slice_file.proofs.Somes.{some_both, some_from}
 use Rattle.jb_durable_records.proofs.lives.watched_life.Goals as goal
 
 -- a life that had the files open leaves a run

@@ -1,12 +1,11 @@
-use Rattle.std.proofs.Common.{◌++◌, inl, inr, [], ◌∷◌, ap, arith, le_refl, refl, sym, true≢false, ◌+◌}
+use Rattle.std.proofs.Common.{◌++◌, inl, inr, [], ◌∷◌, le_refl, refl, sym, true≢false}
 use Rattle.std.proofs.lemmas.Result.{IfOk-from_err}
 use Rattle.sqlite.specs.Held.{state}
-use Rattle.jb_checkpoint.specs.Checkpoints.{kept}
-use Rattle.jb_durable_records.specs.Refusals.{durable_refusal}
-use Rattle.jb_durable_records.specs.declared.error.DurableError.TheVariants.{Store}
-use Rattle.jb_durable_records.proofs.Causing.{many_of_a_stretch, of_a_stretch, store_of_a_stretch, stretch_gone}
+use Rattle.jb_slice_file.specs.Kept.{kept}
+use Rattle.jb_durable_records.specs.Refusals.{durable_refusal, store_refusal}
+use Rattle.jb_durable_records.proofs.Causing.{of_a_stretch, store_of_a_stretch, stretch_gone}
 use Rattle.jb_durable_records.proofs.Ending.{none_is_some}
-use Rattle.jb_checkpoint.proofs.Handed.{handed_on}
+use Rattle.jb_slice_file.proofs.Handed.{handed_on}
 use Rattle.jb_durable_records.proofs.Filing.{untaken}
 use Rattle.jb_durable_records.proofs.Resting.{rests_on, rests_safe}
 use Rattle.jb_durable_records.proofs.run.advance.Goals as goal
@@ -59,7 +58,7 @@ returns-in_err-place-clause-crash g c clean f step records all at = rests_safe f
 pub returns-in_default-clause-kept : goal.returns-in_default-clause-kept
 returns-in_default-clause-kept g c clean f step records all at =
     let on = rw c.in_default.is at (c.in_ok-place.ensures.on f step records all at.place) in
-    (all, record { keeps = at.keeps; so_far = at.so_far; place = on.1; number = at.number }, λ _. on.0)
+    (all, record { keeps = at.keeps; so_far = at.so_far; place = on.1; ends = at.ends }, λ _. on.0)
 
 pub returns-in_default-clause-counted : goal.returns-in_default-clause-counted
 returns-in_default-clause-counted g c is = absurd (true≢false (sym is))
@@ -88,30 +87,6 @@ returns-in_default-clause-clean g c = le_refl _
 pub returns-in_default-clause-crash : goal.returns-in_default-clause-crash
 returns-in_default-clause-crash g c clean f step records all at = rests_safe f step records _ _ _ _ _ all at
 
--- ---- there is no number for the checkpoint
-
-pub returns-then-count-eq4294967295-clause-own : goal.returns-then-count-eq4294967295-clause-own
-returns-then-count-eq4294967295-clause-own g c = many_of_a_stretch
-
-pub returns-then-count-eq4294967295-clause-cause : goal.returns-then-count-eq4294967295-clause-cause
-returns-then-count-eq4294967295-clause-cause g c clean f step records all at =
-    record { all = all; so_far = at.so_far; full = omega (arith, c.if-count-eq4294967295.true, at.number) }
-
-pub returns-then-count-eq4294967295-clause-counts : goal.returns-then-count-eq4294967295-clause-counts
-returns-then-count-eq4294967295-clause-counts g c = le_refl _
-
-pub returns-then-count-eq4294967295-clause-shut : goal.returns-then-count-eq4294967295-clause-shut
-returns-then-count-eq4294967295-clause-shut g c clean was = inl was
-
-pub returns-then-count-eq4294967295-clause-again : goal.returns-then-count-eq4294967295-clause-again
-returns-then-count-eq4294967295-clause-again g c done = absurd (none_is_some _ c.in-Some.next c.in-Some.is (c.in_ok-place.ensures.again done))
-
-pub returns-then-count-eq4294967295-clause-clean : goal.returns-then-count-eq4294967295-clause-clean
-returns-then-count-eq4294967295-clause-clean g c = le_refl _
-
-pub returns-then-count-eq4294967295-clause-crash : goal.returns-then-count-eq4294967295-clause-crash
-returns-then-count-eq4294967295-clause-crash g c clean f step records all at = rests_safe f step records _ _ _ _ _ all at
-
 -- ---- the database doesn't take it
 
 pub returns-in_err-append-clause-kept : goal.returns-in_err-append-clause-kept
@@ -120,15 +95,15 @@ returns-in_err-append-clause-kept g c clean f step records all at = IfOk-from_er
 pub returns-in_err-append-clause-own : goal.returns-in_err-append-clause-own
 returns-in_err-append-clause-own g c =
     let e = c.in_err-append.field-0.0 in
-    handed_on c.from_residual-in_err-append.result (Store e) _ c.from_residual-in_err-append.ensures.1 (store_of_a_stretch e)
+    handed_on c.from_residual-in_err-append.result (store_refusal e) _ c.from_residual-in_err-append.ensures.1 (store_of_a_stretch e)
 
 pub returns-in_err-append-clause-cause : goal.returns-in_err-append-clause-cause
 returns-in_err-append-clause-cause g c clean f step records all at =
     let e = c.in_err-append.field-0.0 in
     let on = rw c.in-Some.is at (c.in_ok-place.ensures.on f step records all at.place) in
     let cause = rw (c.as_str.ensures.value, c.deref.ensures.value) at (c.in_err-append.ensures.cause clean all at.keeps) in
-    handed_on c.from_residual-in_err-append.result (Store e) _ c.from_residual-in_err-append.ensures.1
-    (untaken f step records (state g.S.Store c.args.conn.now) (state g.S.Store c.append.new.conn) all (kept c.in-Some.next) _ (ap (λ n. n + 1) at.number) on.0 e cause)
+    handed_on c.from_residual-in_err-append.result (store_refusal e) _ c.from_residual-in_err-append.ensures.1
+    (untaken f step records (state g.S.Store c.args.conn.now) (state g.S.Store c.append.new.conn) all (kept c.in-Some.next) c.args.end.now at.ends at.so_far on.0 e cause)
 
 pub returns-in_err-append-clause-counted : goal.returns-in_err-append-clause-counted
 returns-in_err-append-clause-counted g c = IfOk-from_err c.from_residual-in_err-append.result _ c.from_residual-in_err-append.ensures.0
@@ -157,7 +132,7 @@ returns-in_err-append-clause-clean g c = c.append.ensures.clean
 pub returns-in_err-append-clause-crash : goal.returns-in_err-append-clause-crash
 returns-in_err-append-clause-crash g c clean f step records all at db may =
     let on = rw c.in-Some.is at (c.in_ok-place.ensures.on f step records all at.place) in
-    elim (c.append.ensures.crash clean all at.keeps (ap (λ n. n + 1) at.number) db may) [
+    elim (c.append.ensures.crash clean all at.keeps at.ends db may) [
       | inl old ↦ (all, inl old, at.so_far)
       | inr new ↦ (all ++ kept c.in-Some.next ∷ [], inl (rw (c.as_str.ensures.value, c.deref.ensures.value) at new), on.0)
     ]
@@ -167,11 +142,12 @@ returns-in_err-append-clause-crash g c clean f step records all at db may =
 pub returns-clause-kept : goal.returns-clause-kept
 returns-clause-kept g c clean f step records all at =
     let on = rw c.in-Some.is at (c.in_ok-place.ensures.on f step records all at.place) in
-    let keeps = rw (c.as_str.ensures.value, c.deref.ensures.value) at (c.in_ok-append.ensures.added clean all at.keeps (ap (λ n. n + 1) at.number)) in
-    (all ++ kept c.in-Some.next ∷ [], rests_on f step records _ _ _ _ _ _ _ _ c.args.count.now all (kept c.in-Some.next) at on keeps, λ is. absurd (true≢false is))
+    let keeps = rw (c.as_str.ensures.value, c.deref.ensures.value) at (c.in_ok-append.ensures.added clean all at.keeps at.ends) in
+    let ends = rw (c.as_str.ensures.value, c.deref.ensures.value) at (c.in_ok-append.ensures.end all at.ends) in
+    (all ++ kept c.in-Some.next ∷ [], rests_on f step records _ _ _ _ _ _ _ _ c.args.end.now _ all (kept c.in-Some.next) at on keeps ends, λ is. absurd (true≢false is))
 
 pub returns-clause-counted : goal.returns-clause-counted
-returns-clause-counted g c _ = refl
+returns-clause-counted g c _ = c.in_ok-append.ensures.counted
 
 pub returns-clause-settled : goal.returns-clause-settled
 returns-clause-settled g c is = absurd (true≢false is)
@@ -197,7 +173,7 @@ returns-clause-clean g c = c.append.ensures.clean
 pub returns-clause-crash : goal.returns-clause-crash
 returns-clause-crash g c clean f step records all at db may =
     let on = rw c.in-Some.is at (c.in_ok-place.ensures.on f step records all at.place) in
-    elim (c.append.ensures.crash clean all at.keeps (ap (λ n. n + 1) at.number) db may) [
+    elim (c.append.ensures.crash clean all at.keeps at.ends db may) [
       | inl old ↦ (all, inl old, at.so_far)
       | inr new ↦ (all ++ kept c.in-Some.next ∷ [], inl (rw (c.as_str.ensures.value, c.deref.ensures.value) at new), on.0)
     ]

@@ -1,9 +1,9 @@
 use Rattle.std.proofs.Common.{◌≡◌, ◌∙◌, arith, inl, le_trans, refl, sym, true≢false}
 use Rattle.std.proofs.lemmas.Result.{IfOk-from_err}
 use Rattle.sqlite.specs.Held.{state}
-use Rattle.jb_durable.proofs.Clean.{clean_before}
+use Rattle.jb_slice_file.proofs.Clean.{clean_before}
 use Rattle.jb_durable_records.proofs.Ending.{match_ok}
-use Rattle.jb_checkpoint.proofs.Handed.{handed_on}
+use Rattle.jb_slice_file.proofs.Handed.{handed_on}
 use Rattle.jb_durable_records.proofs.Causing.{gone_since}
 use Rattle.jb_durable_records.proofs.Filing.{open_since}
 use Rattle.jb_durable_records.specs.declared.run.Pause.TheVariants.{Failed, Stretches, Whole}

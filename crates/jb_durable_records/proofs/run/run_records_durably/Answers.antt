@@ -1,16 +1,17 @@
 use Rattle.std.proofs.Common.{ℕ, List, sym, subst, ap, ◌∙◌, arith, le_trans, lit≤}
-use Rattle.jb_checkpoint_table.specs.Connections.{Keeps}
+use Rattle.jb_slice_file.specs.Connections.{Keeps}
 use Rattle.std.specs.Arc.{arc_value}
 use Rattle.std.proofs.lemmas.Result.{IfOk-from_err, IfOk-weaker}
 use Rattle.sqlite.specs.Held.{state}
 use Rattle.jb_rules.specs.declared.row.Row.{Row}
 use Rattle.jb_records.specs.Shares.{IsSoFar, joined}
+use Rattle.jb_records_checkpoints.specs.Checkpoints.{GoByStep}
 use Rattle.jb_durable_records.specs.declared.error.DurableError.{DurableError}
 use Rattle.jb_durable_records.specs.Refusals.{IsCauseOfNoEnd}
 use Rattle.jb_durable_records.proofs.Causing.{gone_ends, taken_ends}
-use Rattle.jb_durable.proofs.Clean.{clean_before}
+use Rattle.jb_slice_file.proofs.Clean.{clean_before}
 use Rattle.jb_durable_records.proofs.Ending.{both_ok, ended_so, err_to, match_ok, told_again}
-use Rattle.jb_checkpoint.proofs.Handed.{handed_on, on_ok}
+use Rattle.jb_slice_file.proofs.Handed.{handed_on, on_ok}
 use Rattle.jb_durable_records.proofs.run.run_records_durably.Goals as goal
 
 -- ---- the run is not taken up
@@ -47,6 +48,18 @@ returns-in_err-place-clause-status g c = IfOk-from_err c.from_residual.result _ 
 
 pub returns-in_err-place-clause-told : goal.returns-in_err-place-clause-told
 returns-in_err-place-clause-told g c = IfOk-from_err c.from_residual.result _ c.from_residual.ensures.0
+
+pub returns-in_err-place-clause-ended : goal.returns-in_err-place-clause-ended
+returns-in_err-place-clause-ended g c = IfOk-from_err c.from_residual.result _ c.from_residual.ensures.0
+
+pub returns-in_err-place-clause-by_step : goal.returns-in_err-place-clause-by_step
+returns-in_err-place-clause-by_step g c clean opened all shows so = IfOk-from_err c.from_residual.result _ c.from_residual.ensures.0
+
+pub returns-in_err-place-clause-passes : goal.returns-in_err-place-clause-passes
+returns-in_err-place-clause-passes g c clean opened all shows so steady = IfOk-from_err c.from_residual.result _ c.from_residual.ensures.0
+
+pub returns-in_err-place-clause-fails : goal.returns-in_err-place-clause-fails
+returns-in_err-place-clause-fails g c clean opened all shows so steady = IfOk-from_err c.from_residual.result _ c.from_residual.ensures.0
 
 pub returns-in_err-place-clause-again : goal.returns-in_err-place-clause-again
 returns-in_err-place-clause-again g c clean opened all shows whole = IfOk-from_err c.from_residual.result _ c.from_residual.ensures.0
@@ -107,6 +120,18 @@ returns-in_err-place-2-clause-status g c = IfOk-from_err c.from_residual-in_err-
 pub returns-in_err-place-2-clause-told : goal.returns-in_err-place-2-clause-told
 returns-in_err-place-2-clause-told g c = IfOk-from_err c.from_residual-in_err-place-2.result _ c.from_residual-in_err-place-2.ensures.0
 
+pub returns-in_err-place-2-clause-ended : goal.returns-in_err-place-2-clause-ended
+returns-in_err-place-2-clause-ended g c = IfOk-from_err c.from_residual-in_err-place-2.result _ c.from_residual-in_err-place-2.ensures.0
+
+pub returns-in_err-place-2-clause-by_step : goal.returns-in_err-place-2-clause-by_step
+returns-in_err-place-2-clause-by_step g c clean opened all shows so = IfOk-from_err c.from_residual-in_err-place-2.result _ c.from_residual-in_err-place-2.ensures.0
+
+pub returns-in_err-place-2-clause-passes : goal.returns-in_err-place-2-clause-passes
+returns-in_err-place-2-clause-passes g c clean opened all shows so steady = IfOk-from_err c.from_residual-in_err-place-2.result _ c.from_residual-in_err-place-2.ensures.0
+
+pub returns-in_err-place-2-clause-fails : goal.returns-in_err-place-2-clause-fails
+returns-in_err-place-2-clause-fails g c clean opened all shows so steady = IfOk-from_err c.from_residual-in_err-place-2.result _ c.from_residual-in_err-place-2.ensures.0
+
 pub returns-in_err-place-2-clause-again : goal.returns-in_err-place-2-clause-again
 returns-in_err-place-2-clause-again g c clean opened all shows whole = IfOk-from_err c.from_residual-in_err-place-2.result _ c.from_residual-in_err-place-2.ensures.0
 
@@ -148,6 +173,47 @@ returns-clause-kept g c clean opened all shows so =
     let after = c.in_ok-place-2.ensures.kept clean (F own) step records all rest in
     IfOk-weaker c.ended.result _ _ (λ end whole completed. (after.0, after.2.keeps, after.3 (whole completed))) c.ended.ensures.whole
 
+pub returns-clause-by_step : goal.returns-clause-by_step
+returns-clause-by_step g c clean opened all shows so =
+    let F = g.F.StepFunction.function in
+    let own = arc_value c.args.function.now in
+    let step = c.args.step.now in
+    let records = c.args.records.now in
+    let early = clean_before _ _ c.run.ensures.clean clean in
+    let rest = c.in_ok-place.ensures.rests early opened all shows so in
+    let after = c.in_ok-place-2.ensures.kept clean (F own) step records all rest in
+    let told = c.in_ok-place-2.ensures.told c.in_ok-place.ensures.told in
+    let settled = c.ended.ensures.settled c.in_ok-place-2.ensures.settled (λ failing. told.kept (c.in_ok-place-2.ensures.failed failing)) in
+    ended_so c.ended.result _ _ _ _
+    (λ end underway results rows. subst (λ (r : List Row). GoByStep (F own) step records r) (sym rows) (c.places_have_results.ensures.by_step (F own) step records _ _ _ after.0 after.2.place underway))
+    settled c.ended.ensures.results c.ended.ensures.rows
+
+pub returns-clause-passes : goal.returns-clause-passes
+returns-clause-passes g c clean opened all shows so steady =
+    let F = g.F.StepFunction.function in
+    let own = arc_value c.args.function.now in
+    let step = c.args.step.now in
+    let records = c.args.records.now in
+    let early = clean_before _ _ c.run.ensures.clean clean in
+    let rest = c.in_ok-place.ensures.rests early opened all shows so in
+    let after = c.in_ok-place-2.ensures.kept clean (F own) step records all rest in
+    IfOk-weaker c.ended.result _ _ (λ end whole completed. c.checkpoints_have_results.ensures.passes (F own) step records after.0 steady (after.3 (whole completed))) c.ended.ensures.whole
+
+pub returns-clause-fails : goal.returns-clause-fails
+returns-clause-fails g c clean opened all shows so steady =
+    let F = g.F.StepFunction.function in
+    let own = arc_value c.args.function.now in
+    let step = c.args.step.now in
+    let records = c.args.records.now in
+    let early = clean_before _ _ c.run.ensures.clean clean in
+    let rest = c.in_ok-place.ensures.rests early opened all shows so in
+    let after = c.in_ok-place-2.ensures.kept clean (F own) step records all rest in
+    let told = c.in_ok-place-2.ensures.told c.in_ok-place.ensures.told in
+    let has = c.in_ok-place-2.ensures.failed in
+    IfOk-weaker c.ended.result _ _
+    (λ end failing failed. c.places_have_results.ensures.fails (F own) step records _ _ _ after.0 after.2.place (told.kept (has (failing failed))) (told.failed (has (failing failed))) steady)
+    c.ended.ensures.failed
+
 pub returns-clause-so_far : goal.returns-clause-so_far
 returns-clause-so_far g c clean opened all shows so =
     let F = g.F.StepFunction.function in
@@ -182,6 +248,10 @@ returns-clause-crash g c clean opened all shows so db may =
 pub returns-clause-told : goal.returns-clause-told
 returns-clause-told g c =
     c.ended.ensures.told (c.in_ok-place-2.ensures.told c.in_ok-place.ensures.told) c.in_ok-place-2.ensures.whole c.in_ok-place-2.ensures.failed
+
+pub returns-clause-ended : goal.returns-clause-ended
+returns-clause-ended g c =
+    c.ended.ensures.ended (c.in_ok-place-2.ensures.told c.in_ok-place.ensures.told) c.in_ok-place-2.ensures.whole c.in_ok-place-2.ensures.failed
 
 pub returns-clause-again : goal.returns-clause-again
 returns-clause-again g c clean opened all shows whole =
@@ -221,7 +291,7 @@ returns-clause-cause g c clean opened all shows so =
     let after = c.in_ok-place-2.ensures.kept clean (F own) step records all rest in
     err_to c.ended.result _ _
     (λ why many. subst (λ (x : DurableError). IsCauseOfNoEnd (F own) step records old new all x) (sym many.0)
-    (record { all = after.0; so_far = after.2.so_far; full = omega (arith, after.2.number, after.4 many.1) })) c.ended.ensures.cause
+    (record { all = after.0; so_far = after.2.so_far; full = (let count = after.2.ends.count in omega (arith, count, after.4 many.1)) })) c.ended.ensures.cause
 
 pub returns-clause-status : goal.returns-clause-status
 returns-clause-status g c = c.ended.ensures.status

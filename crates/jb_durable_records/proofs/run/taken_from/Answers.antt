@@ -1,20 +1,20 @@
-use Rattle.std.proofs.Common.{◌≡◌, IfErr, List, length, map, sym, subst, ap, ◌∙◌, rules}
+use Rattle.std.proofs.Common.{◌≡◌, IfErr, List, map, sym, subst, ap, ◌∙◌}
 use Rattle.std.proofs.lemmas.Result.{IfOk-from_err}
 use Rattle.std.specs.Arc.{arc_value}
-use Rattle.std.proofs.lemmas.List.{length-map}
 use Rattle.sqlite.specs.Held.{state}
 use Rattle.sqlite.specs.State.{HasCleanDisk}
-use Rattle.jb_checkpoint.specs.declared.checkpoint.Checkpoint.{Checkpoint}
-use Rattle.jb_checkpoint.specs.Checkpoints.{Kept, kept}
-use Rattle.jb_checkpoint_table.specs.Checkpoints.{ShowsList}
-use Rattle.jb_checkpoint_table.specs.Connections.{IsJustOpened, Keeps}
+use Rattle.jb_slice_file.specs.declared.checkpoint.Checkpoint.{Checkpoint}
+use Rattle.jb_slice_file.specs.Kept.{Kept, kept}
+use Rattle.jb_slice_file.specs.Rows.{ShowsList}
+use Rattle.jb_slice_file.specs.Connections.{IsJustOpened, Keeps}
+use Rattle.jb_slice_file.specs.ListEnd.{IsEndOf}
 use Rattle.jb_records_checkpoints.specs.Checkpoints.{IsRunSoFar}
 use Rattle.jb_records_checkpoints.specs.Refusals.{IsTakenCause}
-use Rattle.jb_durable_records.specs.Refusals.{IsUntaken, durable_refusal}
+use Rattle.jb_durable_records.specs.Refusals.{IsUntaken, durable_refusal, store_refusal}
 use Rattle.jb_durable_records.specs.declared.error.DurableError.{DurableError}
-use Rattle.jb_durable_records.specs.declared.error.DurableError.TheVariants.{Damaged, OtherJob, OtherRecords, Store}
-use Rattle.jb_durable_records.proofs.Causing.{many_of_a_stretch, store_of_a_stretch, untaken_for}
-use Rattle.jb_checkpoint.proofs.Handed.{handed_on}
+use Rattle.jb_durable_records.specs.declared.error.DurableError.TheVariants.{Damaged, OtherJob, OtherRecords}
+use Rattle.jb_durable_records.proofs.Causing.{store_of_a_stretch, untaken_for}
+use Rattle.jb_slice_file.proofs.Handed.{handed_on}
 use Rattle.jb_durable_records.proofs.Filing.{unlisted}
 use Rattle.jb_durable_records.proofs.Resting.{rests_behind}
 use Rattle.jb_durable_records.proofs.run.taken_from.Goals as goal
@@ -25,20 +25,19 @@ returns-clause-rests g c clean opened all shows so =
     let step = c.args.step.now in
     let records = c.args.records.now in
     let s = state g.S.Store c.begin.new.conn in
-    let done = c.in_ok-done.done.items in
     let value = c.deref.ensures.value in
     let found = map kept c.deref.result.now in
     let is : found ≡ all = ap (map kept) value ∙ c.in_ok-done.ensures.listed clean opened all shows in
     let keeps = subst (λ (xs : List Checkpoint). Keeps s (map kept xs)) (sym value) (c.in_ok-done.ensures.begun clean opened).0 in
     let stands = c.in_ok-place.ensures.stands (subst (IsRunSoFar f step records) (sym is) so) in
-    let count : c.in-Ok.count ≡ length done = search rules in
-    rests_behind f step records s c.in_ok-place.place.stage _ _ c.in-Ok.count found all is keeps so stands (count ∙ ap length (sym value) ∙ sym (length-map c.deref.result.now kept))
+    let ends = subst (λ (xs : List Checkpoint). IsEndOf c.in_ok-done.end (map kept xs)) (sym value) c.in_ok-done.ensures.end in
+    rests_behind f step records s c.in_ok-place.place.stage _ _ c.in_ok-done.end found all is keeps so stands ends
 
 pub returns-in_err-done-clause-cause : goal.returns-in_err-done-clause-cause
 returns-in_err-done-clause-cause g c clean opened all shows =
     let e = c.in_err-done.field-0.0 in
-    handed_on c.from_residual.result (Store e) _ c.from_residual.ensures.1
-    (unlisted (state g.S.Store c.args.conn.now) (state g.S.Store c.begin.new.conn) e (c.in_err-done.ensures.own clean opened all shows) (c.in_err-done.ensures.cause clean opened))
+    handed_on c.from_residual.result (store_refusal e) _ c.from_residual.ensures.1
+    (unlisted (g.F.StepFunction.function (arc_value c.args.function.now)) c.args.step.now c.args.records.now (state g.S.Store c.args.conn.now) (state g.S.Store c.begin.new.conn) all e (c.in_err-done.ensures.own clean opened all shows) (c.in_err-done.ensures.cause clean opened))
 
 -- ---- the file doesn't list them
 
@@ -54,17 +53,17 @@ returns-in_err-done-clause-done g c clean opened all shows whole = IfOk-from_err
 pub returns-in_err-done-clause-other_job : goal.returns-in_err-done-clause-other_job
 returns-in_err-done-clause-other_job g c clean opened all shows =
     let e = c.in_err-done.field-0.0 in
-    handed_on c.from_residual.result (Store e) _ c.from_residual.ensures.1 (λ is. absurd ((store_of_a_stretch e).0 is))
+    handed_on c.from_residual.result (store_refusal e) _ c.from_residual.ensures.1 (λ is. absurd ((store_of_a_stretch e).0 is))
 
 pub returns-in_err-done-clause-other_records : goal.returns-in_err-done-clause-other_records
 returns-in_err-done-clause-other_records g c clean opened all shows =
     let e = c.in_err-done.field-0.0 in
-    handed_on c.from_residual.result (Store e) _ c.from_residual.ensures.1 (λ is. absurd ((store_of_a_stretch e).1 is))
+    handed_on c.from_residual.result (store_refusal e) _ c.from_residual.ensures.1 (λ is. absurd ((store_of_a_stretch e).1 is))
 
 pub returns-in_err-done-clause-damaged : goal.returns-in_err-done-clause-damaged
 returns-in_err-done-clause-damaged g c clean opened all shows =
     let e = c.in_err-done.field-0.0 in
-    handed_on c.from_residual.result (Store e) _ c.from_residual.ensures.1 (λ is. absurd ((store_of_a_stretch e).2 is))
+    handed_on c.from_residual.result (store_refusal e) _ c.from_residual.ensures.1 (λ is. absurd ((store_of_a_stretch e).2 is))
 
 pub returns-in_err-done-clause-shown : goal.returns-in_err-done-clause-shown
 returns-in_err-done-clause-shown g c = c.begin.ensures.shown
@@ -84,44 +83,15 @@ returns-in_err-done-clause-clean g c = c.begin.ensures.clean
 pub returns-in_err-done-clause-crash : goal.returns-in_err-done-clause-crash
 returns-in_err-done-clause-crash g c clean opened all shows so db may = (all, c.begin.ensures.left clean opened all shows db may, so)
 
--- ---- there are more than numbers for them
-
-pub returns-in_default-clause-shown : goal.returns-in_default-clause-shown
-returns-in_default-clause-shown g c = c.begin.ensures.shown
-
-pub returns-in_default-clause-left : goal.returns-in_default-clause-left
-returns-in_default-clause-left g c = c.begin.ensures.left
-
-pub returns-in_default-clause-counts : goal.returns-in_default-clause-counts
-returns-in_default-clause-counts g c = c.begin.ensures.counts
-
-pub returns-in_default-clause-shut : goal.returns-in_default-clause-shut
-returns-in_default-clause-shut g c = c.begin.ensures.shut
-
-pub returns-in_default-clause-clean : goal.returns-in_default-clause-clean
-returns-in_default-clause-clean g c = c.begin.ensures.clean
-
-pub returns-in_default-clause-other_job : goal.returns-in_default-clause-other_job
-returns-in_default-clause-other_job g c clean opened all shows is = absurd (many_of_a_stretch.0 is)
-
-pub returns-in_default-clause-other_records : goal.returns-in_default-clause-other_records
-returns-in_default-clause-other_records g c clean opened all shows is = absurd (many_of_a_stretch.1 is)
-
-pub returns-in_default-clause-damaged : goal.returns-in_default-clause-damaged
-returns-in_default-clause-damaged g c clean opened all shows is = absurd (many_of_a_stretch.2 is)
-
-pub returns-in_default-clause-crash : goal.returns-in_default-clause-crash
-returns-in_default-clause-crash g c clean opened all shows so db may = (all, c.begin.ensures.left clean opened all shows db may, so)
-
 -- ---- they are refused
 
 -- the checkpoints that were found are those that the file shows
-found : (g : _) (c : goal.After-drop-done-in_err-place g) → HasCleanDisk (state g.S.Store c.begin.new.conn) → IsJustOpened (state g.S.Store c.args.conn.now)
+found : (g : _) (c : goal.After-drop-done g) → HasCleanDisk (state g.S.Store c.begin.new.conn) → IsJustOpened (state g.S.Store c.args.conn.now)
     → (all : List Kept) → ShowsList (state g.S.Store c.args.conn.now).now all → map kept c.deref.result.now ≡ all
 found g c clean opened all shows = ap (map kept) c.deref.ensures.value ∙ c.in_ok-done.ensures.listed clean opened all shows
 
 -- why they aren't taken up
-refused : (g : _) (c : goal.After-drop-done-in_err-place g) → HasCleanDisk (state g.S.Store c.begin.new.conn) → IsJustOpened (state g.S.Store c.args.conn.now)
+refused : (g : _) (c : goal.After-drop-done g) → HasCleanDisk (state g.S.Store c.begin.new.conn) → IsJustOpened (state g.S.Store c.args.conn.now)
     → (all : List Kept) → ShowsList (state g.S.Store c.args.conn.now).now all
     → IsUntaken (g.F.StepFunction.function (arc_value c.args.function.now)) c.args.step.now c.args.records.now (state g.S.Store c.args.conn.now) (state g.S.Store c.begin.new.conn) all (durable_refusal c.in_err-place.field-0.0)
 refused g c clean opened all shows =
@@ -130,7 +100,7 @@ refused g c clean opened all shows =
     (subst (λ (l : List Kept). IsTakenCause (g.F.StepFunction.function (arc_value c.args.function.now)) c.args.step.now c.args.records.now l e) (found g c clean opened all shows) c.in_err-place.ensures.cause)
 
 -- what that says of them, and that they are kept
-kept_untaken : (g : _) (c : goal.After-drop-done-in_err-place g) → HasCleanDisk (state g.S.Store c.begin.new.conn) → IsJustOpened (state g.S.Store c.args.conn.now)
+kept_untaken : (g : _) (c : goal.After-drop-done g) → HasCleanDisk (state g.S.Store c.begin.new.conn) → IsJustOpened (state g.S.Store c.args.conn.now)
     → (all : List Kept) → ShowsList (state g.S.Store c.args.conn.now).now all → (name : DurableError)
     → IfErr c.from_residual-in_err-place.result (λ x. x ≡ name
     → IsUntaken (g.F.StepFunction.function (arc_value c.args.function.now)) c.args.step.now c.args.records.now (state g.S.Store c.args.conn.now) (state g.S.Store c.begin.new.conn) all name

@@ -1,7 +1,7 @@
 use Rattle.std.proofs.Common.{[], subst, ap, ◌∙◌, take_all}
 use Rattle.std.proofs.lemmas.Result.{IfOk-from_err}
 use Rattle.jb_records_checkpoints.specs.Coding.{AreCodable, IsCodable, coded, coded_list}
-use Rattle.jb_checkpoint.proofs.Handed.{handed_on}
+use Rattle.jb_slice_file.proofs.Handed.{handed_on}
 use Rattle.jb_records_checkpoints.proofs.Writing.{all_more, long_why, one_of, written}
 use Rattle.jb_records_checkpoints.proofs.coding.coding_of.Goals as goal
 

@@ -3,7 +3,7 @@ use Rattle.std.specs.List.{AllByRecursion}
 use Rattle.std.proofs.lemmas.List.{append-nil}
 use Rattle.std.proofs.lemmas.Result.{IfOk-from_err}
 use Rattle.jb_records_checkpoints.specs.Coding.{coded_string, coded_strings, IsShort}
-use Rattle.jb_checkpoint.proofs.Handed.{handed_on}
+use Rattle.jb_slice_file.proofs.Handed.{handed_on}
 use Rattle.jb_records_checkpoints.proofs.Writing.{all_more, long_why, not_short, one_of, written}
 use Rattle.jb_records_checkpoints.proofs.coding.write_strings.Goals as goal
 

@@ -6,7 +6,7 @@ use Rattle.sha2.specs.Sha256.{sha256}
 use Rattle.jb_records_checkpoints.specs.Coding.{coded_number, coded_strings, IsShort}
 use Rattle.jb_records_checkpoints.specs.declared.coding.CodingError.TheVariants.{Memory}
 use Rattle.jb_records_checkpoints.proofs.Feeding.{fed_more}
-use Rattle.jb_checkpoint.proofs.Handed.{handed_on}
+use Rattle.jb_slice_file.proofs.Handed.{handed_on}
 use Rattle.jb_records_checkpoints.proofs.Writing.{all_more, long_why, not_short, one_of}
 use Rattle.jb_records_checkpoints.proofs.digest.digest_of.Goals as goal
 

@@ -6,14 +6,14 @@ use Rattle.jb_saved.specs.Reading.{answer_of}
 use Rattle.jb_step.specs.restarts.Saving.{text_cause}
 use Rattle.jb_records.specs.declared.error.RecordsStepError.TheVariants as fault
 use Rattle.jb_records.specs.Causes.{IsCauseBehind}
-use Rattle.jb_checkpoint.specs.Checkpoints.{kept}
+use Rattle.jb_slice_file.specs.Kept.{kept}
 use Rattle.jb_records_checkpoints.specs.Checkpoints.{AreCoded, grown_by, no_results}
-use Rattle.jb_records_checkpoints.proofs.Behind.{behind_text, taken, so_far_then, told_behind, whole_again}
+use Rattle.jb_records_checkpoints.proofs.Behind.{behind_text, follow_then, taken, so_far_then, told_behind, whole_again}
 use Rattle.jb_records_checkpoints.specs.declared.error.CheckpointError.TheVariants.{Memory, Step}
 use Rattle.jb_records_checkpoints.specs.Refusals.{IsOfOwn, IsTakenCause}
 use Rattle.jb_records_checkpoints.proofs.Causing.{after_of, given_of, no_rows, own_memory, own_step, unbegun, unread}
 use Rattle.jb_records_checkpoints.proofs.Growing.{split_last}
-use Rattle.jb_checkpoint.proofs.Handed.{handed_on}
+use Rattle.jb_slice_file.proofs.Handed.{handed_on}
 use Rattle.jb_records_checkpoints.proofs.taking_up.behind.Goals as goal
 
 pub returns-clause-underway : goal.returns-clause-underway
@@ -35,9 +35,10 @@ returns-clause-underway g c first of all =
     let given = subst (λ (n : ℕ). (news : List (List (List (List ℕ)))) → AreCoded n later news → results ≡ grown_by (no_results n) news) count c.in_ok-results.ensures.given in
     let text : c.as_bytes-2.result.now ≡ string_bytes last.saved = c.as_bytes-2.ensures.value in
     let so = so_far_then f step records first (kept last) before later rows results held of all last_is read rows_are given in
-    taken f step records first (kept last) before later rows results held of all last_is read rows_are given _
-    (behind_text step.id _ _ results _ text c.in_ok-run.ensures.behind)
-    (c.in_ok-run.ensures.stands held (ap (λ (b : List ℕ). answer_of (tree_of b)) text ∙ read) so)
+    let follow = follow_then f step records first (kept last) before later rows results held of all last_is read rows_are given c.rules_are_kept.ensures.raised in
+    taken f step records first (kept last) before later rows results held of all last_is read rows_are given c.rules_are_kept.ensures.restarted _
+    (behind_text step.id _ _ results _ text c.in_ok-run.ensures.behind) c.in_ok-run.ensures.by
+    (c.in_ok-run.ensures.stands held (ap (λ (b : List ℕ). answer_of (tree_of b)) text ∙ read) so follow)
 
 pub returns-clause-stage : goal.returns-clause-stage
 returns-clause-stage g c = refl
@@ -50,6 +51,7 @@ returns-clause-told g c =
     let text : c.as_bytes-2.result.now ≡ string_bytes last.saved = c.as_bytes-2.ensures.value in
     record {
       failed = λ never. absurd (true≢false (sym never));
+      ended = λ never. absurd (true≢false (sym never));
       kept = λ never. absurd (true≢false (sym never));
       whole = told_behind _ _ c.args.step.now.id c.in_ok-results.results.items held c.in_ok-rows.rows.items
           (behind_text c.args.step.now.id _ _ c.in_ok-results.results.items _ text c.in_ok-run.ensures.behind) read (c.in_ok-rows.ensures.items ∙ c.rows.ensures.rows);

@@ -1,5 +1,5 @@
 use Rattle.std.proofs.Common.{◌≡◌, List, ℕ, map, length, take}
-use Rattle.jb_checkpoint.specs.Checkpoints.{kept}
+use Rattle.jb_slice_file.specs.Kept.{kept}
 use Rattle.jb_records_checkpoints.specs.Checkpoints.{AreCoded, grown_by}
 use Rattle.jb_records_checkpoints.proofs.taking_up.read_all.Given as goal
 

@@ -1,13 +1,13 @@
 use Rattle.std.proofs.Common.{List, IfErr, ◌∷◌, ◌∙◌, map, sym, ap, subst}
 use Rattle.std.proofs.lemmas.Result.{IfErr-weaker, IfOk-from_err}
 use Rattle.std.specs.Arc.{arc_value}
-use Rattle.jb_checkpoint.specs.Checkpoints.{Kept, kept}
+use Rattle.jb_slice_file.specs.Kept.{Kept, kept}
 use Rattle.jb_records_checkpoints.specs.Refusals.{IsTakenCause}
 use Rattle.jb_records_checkpoints.specs.declared.place.Stage.TheVariants.{Begun, Blank, Underway}
 use Rattle.jb_records_checkpoints.specs.Checkpoints.{IsWholeRun}
 use Rattle.jb_records_checkpoints.proofs.Behind.{both_ok, never_whole, no_last, none_done, stands_as, stretches_in, underway_of}
 use Rattle.jb_records_checkpoints.proofs.Causing.{as_job, as_records, first_kept, never_job, never_records, none_kept, none_other, not_other, others_cause, own_cause, own_first}
-use Rattle.jb_checkpoint.proofs.Handed.{handed_on, on_ok}
+use Rattle.jb_slice_file.proofs.Handed.{handed_on, on_ok}
 use Rattle.jb_records_checkpoints.proofs.taking_up.taken_up.Goals as goal
 
 -- ---- there is no checkpoint of our own

@@ -1,9 +1,9 @@
 use Rattle.std.proofs.Common.{◌≡◌, ◌⊎◌, inl, inr, refl, sym, ◌∙◌, true≢false}
 use Rattle.std.proofs.lemmas.Result.{IfOk-from_err}
-use Rattle.jb_checkpoint.specs.Checkpoints.{kept}
+use Rattle.jb_slice_file.specs.Kept.{kept}
 use Rattle.jb_records_checkpoints.specs.declared.place.Stage.TheVariants.{Begun, Blank, Underway}
 use Rattle.jb_records_checkpoints.proofs.Behind.{begun_apart, blank_apart, first_kept, never_none, next_kept, stands_as, whole_underway}
-use Rattle.jb_checkpoint.proofs.Handed.{handed_on}
+use Rattle.jb_slice_file.proofs.Handed.{handed_on}
 use Rattle.jb_records_checkpoints.proofs.Having.{stands_over}
 use Rattle.jb_records_checkpoints.proofs.place.Place.go_on.Goals as goal
 use Rattle.jb_records_checkpoints.proofs.place.Place.go_on.Goals.{in_default-via-in-Underway+else-is_done, in_default-via-in_default}
@@ -28,7 +28,7 @@ pub returns-in-Blank-clause-settled : goal.returns-in-Blank-clause-settled
 returns-in-Blank-clause-settled g c none = absurd (never_none c.in-Blank.first none)
 
 pub returns-in-Blank-clause-told : goal.returns-in-Blank-clause-told
-returns-in-Blank-clause-told g c told = record { failed = told.failed; kept = λ failed. absurd (blank_apart c.in-Blank.first (sym c.in-Blank.is ∙ told.kept failed)); whole = told.whole }
+returns-in-Blank-clause-told g c told = record { failed = told.failed; ended = told.ended; kept = λ failed. absurd (blank_apart c.in-Blank.first (sym c.in-Blank.is ∙ told.kept failed)); whole = told.whole }
 
 pub returns-in-Blank-clause-again : goal.returns-in-Blank-clause-again
 returns-in-Blank-clause-again g c done = absurd (blank_apart c.in-Blank.first (sym c.in-Blank.is ∙ done.kept))
@@ -53,7 +53,7 @@ pub returns-in-Underway-clause-settled : goal.returns-in-Underway-clause-settled
 returns-in-Underway-clause-settled g c none = refl
 
 pub returns-in-Underway-clause-told : goal.returns-in-Underway-clause-told
-returns-in-Underway-clause-told g c told = record { failed = told.failed; kept = λ failed. refl; whole = told.whole }
+returns-in-Underway-clause-told g c told = record { failed = told.failed; ended = told.ended; kept = λ failed. refl; whole = told.whole }
 
 pub returns-in-Underway-clause-again : goal.returns-in-Underway-clause-again
 returns-in-Underway-clause-again g c done = refl

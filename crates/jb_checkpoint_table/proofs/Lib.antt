@@ -1,9 +1,0 @@
-pub mod Texts
-pub mod Lists
-pub mod Rows
-pub mod Written
-pub mod Caused
-pub mod CausedOpen
-pub mod Read
-pub mod Named
-pub mod Opened

@@ -1,5 +1,0 @@
-pub mod Form
-pub mod Checkpoints
-pub mod Connections
-pub mod Errors
-pub mod Texts

@@ -1,6 +1,0 @@
-use Rattle.jb_durable.specs.Watching.{clean_now, left_now}
-use Rattle.jb_durable.proofs.life.live_and_crash.Given as goal
-
--- what the life has in mind
-abbrev pub ghosts-watched_life : goal.ghosts-watched_life
-ghosts-watched_life g a = record { was_clean = clean_now g.D.Disk a.files; could_leave = left_now g.D.Disk a.files; is_so_far = g.W.DurableWork.is_so_far a.work.now }

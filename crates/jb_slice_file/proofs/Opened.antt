@@ -1,0 +1,71 @@
+-- A connection that was just opened, and one that only read.
+use Rattle.std.proofs.Common.{◌≡◌, ◌⊎◌, inl, inr, List, [], length, arith, IsTrue, sym, ap, subst, ◌∙◌}
+use Rattle.sqlite.specs.Effect.{Database}
+use Rattle.sqlite.specs.State.{State, IsUnchanged}
+use Rattle.sqlite.specs.Tree.{Trees}
+use Rattle.sqlite.specs.Schema.{Schema}
+use Rattle.sqlite_trees.specs.Objects.{catalog_tree}
+use Rattle.sqlite_catalog.specs.Listing.{IsSound}
+use Rattle.sqlite_catalog.proofs.ReadLemmas.{lists_once}
+use Rattle.jb_slice_file.specs.Form.{checkpoint_schema, no_schema}
+use Rattle.jb_slice_file.specs.Kept.{Kept}
+use Rattle.jb_slice_file.specs.Rows.{AreIn, HoldsList, StandsFor, Has, ShowsList}
+use Rattle.jb_slice_file.specs.Connections.{IsJustOpened, Keeps}
+
+pub apart : checkpoint_schema ≡ no_schema → ⊥
+apart e = let tables = ap (λ (s : Schema). length s.tables) e in omega (arith, tables)
+
+module _ (s : State) (settled : (db : Trees) → IsTrue s.is_open → s.may_leave db → db ≡ s.committed.trees) (opened : IsJustOpened s) where
+  pub is_left : (db : Trees) → s.may_leave db → db ≡ s.now.trees
+  is_left db may = settled db opened.0.is_open may ∙ ap (λ (d : Database). d.trees) (sym opened.0.clean)
+
+  pub is_sound : s.now.schema ≡ checkpoint_schema → IsSound checkpoint_schema s.now.trees
+  is_sound ours = subst (λ x. IsSound x s.now.trees) ours (opened.1 opened.0.is_open).0
+
+  pub keeps_found : s.now.schema ≡ checkpoint_schema → (all : List Kept) → AreIn s.now.trees all → Keeps s all
+  keeps_found ours all rows = record {
+    autocommit = opened.0.autocommit;
+    same = λ _. opened.0.clean;
+    shows = record { schema = ours; rows = rows };
+    leaves = λ db may. subst (λ t. StandsFor t all) (sym (is_left db may)) (record { sound = is_sound ours; rows = rows });
+  }
+
+-- the files held a database that stands for the list, and the open found it
+pub shows_found : (s : State) → IsJustOpened s → (db : Trees) → s.committed.trees ≡ db → (all : List Kept) → Has db all → ShowsList s.now all
+shows_found s opened db is all has = go has
+  where
+    live : IsSound s.now.schema s.now.trees
+    live = (opened.1 opened.0.is_open).0
+
+    trees : s.now.trees ≡ db
+    trees = ap (λ (d : Database). d.trees) opened.0.clean ∙ is
+
+    schema_is : (x : Schema) → IsSound x db → s.now.schema ≡ x
+    schema_is x sound = lists_once (s.now.trees catalog_tree) s.now.schema x live.lists (subst (λ t. IsSound x t) (sym trees) sound).lists
+
+    go : Has db all → ShowsList s.now all
+    go (inl stands) = inl (record { schema = schema_is checkpoint_schema stands.sound; rows = subst (λ t. AreIn t all) (sym trees) stands.rows })
+    go (inr none) = inr (schema_is no_schema none.0, none.1)
+
+-- what the database has it shows, and the other way about
+pub shows_now : (s : State) → IsJustOpened s → (all : List Kept) → Has s.now.trees all → ShowsList s.now all
+shows_now s opened all has = shows_found s opened s.now.trees (ap (λ (d : Database). d.trees) (sym opened.0.clean)) all has
+
+has_shown : (s : State) → IsJustOpened s → (all : List Kept) → ShowsList s.now all → Has s.now.trees all
+has_shown s opened all (inl holds) = inl (record { sound = subst (λ x. IsSound x s.now.trees) holds.schema (opened.1 opened.0.is_open).0; rows = holds.rows })
+has_shown s opened all (inr none) = inr (subst (λ x. IsSound x s.now.trees) none.0 (opened.1 opened.0.is_open).0, none.1)
+
+-- what a crash leaves while the list is taken has the same one
+pub has_left : (s : State) → IsJustOpened s → (all : List Kept) → ShowsList s.now all → (db : Trees) → (db ≡ s.now.trees) ⊎ ((s.now.schema ≡ no_schema) × StandsFor db []) → Has db all
+has_left s opened all shows db (inl same) = subst (λ t. Has t all) (sym same) (has_shown s opened all shows)
+has_left s opened all (inl holds) db (inr fresh) = absurd (apart (sym holds.schema ∙ fresh.0))
+has_left s opened all (inr none) db (inr fresh) = inl (subst (StandsFor db) (sym none.1) fresh.1)
+
+-- what only read keeps the list
+pub keeps_read : (old new : State) (all : List Kept) → Keeps old all → IsUnchanged old new → ((db : Trees) → new.may_leave db → old.may_leave db) → Keeps new all
+keeps_read old new all keeps u left = record {
+  autocommit = u.0.mode ∙ keeps.autocommit;
+  same = λ _. u.0.now_is ∙ keeps.same u.0.was_open ∙ sym u.0.committed_is;
+  shows = subst (λ d. HoldsList d all) (sym u.0.now_is) keeps.shows;
+  leaves = λ db may. keeps.leaves db (left db may);
+}

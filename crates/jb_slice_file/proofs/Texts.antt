@@ -1,0 +1,62 @@
+-- What the three texts mean, computed.
+use Rattle.std.proofs.Common.{◌≡◌, ℕ, pos, negsuc, List, [], ◌∷◌, codes, false, None, Ok, refl}
+use Rattle.sqlite.specs.declared.types.Value.TheVariants.{Null, Int}
+use Rattle.sqlite.specs.Term.{Term, lit, col}
+use Rattle.sqlite.specs.Query.{Query, inner, end}
+use Rattle.sqlite.specs.Source.TheVariants.{Values}
+use Rattle.sqlite.specs.Collation.TheVariants.{Binary}
+use Rattle.sqlite.specs.Command.TheVariants.{Insert, Select, CreateTable}
+use Rattle.sqlite.specs.Compile.{table_defined_by}
+use Rattle.sqlite_tied.specs.Compute.{everything}
+use Rattle.sqlite.specs.Listing.{understood, reads_listing}
+use Rattle.sqlite.proofs.Callers.{IsPlain, command_of, statement_of}
+use Rattle.jb_slice_file.specs.Form.{checkpoint, checkpoint_schema, no_schema}
+
+abbrev pub create_text : List ℕ
+create_text = codes "CREATE TABLE checkpoint (number INTEGER PRIMARY KEY, saved TEXT NOT NULL, results BLOB NOT NULL, link BLOB NOT NULL) STRICT"
+
+abbrev pub insert_text : List ℕ
+insert_text = codes "INSERT INTO checkpoint (number, saved, results, link) VALUES (?1, ?2, ?3, ?4)"
+
+abbrev pub select_text : List ℕ
+select_text = codes "SELECT number, saved, results, link FROM checkpoint ORDER BY number"
+
+abbrev pub terms : List Term
+terms = col 0 0 ∷ lit Null ∷ col 0 1 ∷ col 0 2 ∷ col 0 3 ∷ []
+
+abbrev pub query : Query
+query = record {
+  from = inner 0 end;
+  filter = [];
+  group = None;
+  project = col 1 0 ∷ col 1 2 ∷ col 1 3 ∷ col 1 4 ∷ [];
+  distinct = false;
+  collations = [];
+  order = (col 1 0, record { collation = Binary; descending = false }) ∷ [];
+  limit = lit (Int (negsuc 0));
+  offset = lit (Int (pos 0));
+}
+
+pub create_is : (command_of (understood no_schema create_text) ≡ CreateTable) × (statement_of create_text (understood no_schema create_text) ≡ create_text) × (table_defined_by create_text ≡ Ok checkpoint)
+unfolding understood everything
+create_is = (refl, refl, refl)
+
+pub insert_is : command_of (understood checkpoint_schema insert_text) ≡ Insert 0 (Values terms 5)
+unfolding understood everything
+insert_is = refl
+
+pub select_is : (command_of (understood checkpoint_schema select_text) ≡ Select (record { lets = []; body = query }) (codes "number" ∷ codes "saved" ∷ codes "results" ∷ codes "link" ∷ [])) × (reads_listing checkpoint_schema select_text ≡ false)
+unfolding understood everything
+select_is = (refl, refl)
+
+pub create_plain : IsPlain (understood no_schema create_text)
+unfolding understood everything
+create_plain = (refl, refl)
+
+pub insert_plain : IsPlain (understood checkpoint_schema insert_text)
+unfolding understood everything
+insert_plain = (refl, refl)
+
+pub select_plain : IsPlain (understood checkpoint_schema select_text)
+unfolding understood everything
+select_plain = (refl, refl)

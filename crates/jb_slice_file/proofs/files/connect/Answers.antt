@@ -1,0 +1,7 @@
+use Rattle.sqlite.specs.Files.{file_state}
+use Rattle.jb_slice_file.proofs.Opened.{shows_found}
+use Rattle.jb_slice_file.proofs.files.connect.Goals as goal
+
+pub returns-in-Ok-clause-found : goal.returns-in-Ok-clause-found
+returns-in-Ok-clause-found g c clean db all holds has =
+    shows_found (file_state c.in-Ok.conn) (c.in-Ok.ensures.opened clean) db ((c.in-Ok.ensures.found clean).holds db holds) all has

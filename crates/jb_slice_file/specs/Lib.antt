@@ -1,0 +1,14 @@
+pub mod Kept
+pub mod Chain
+pub mod ChainLaws
+pub mod ListEnd
+pub mod Numbered
+pub mod Form
+pub mod Rows
+pub mod Connections
+pub mod Errors
+pub mod Texts
+pub mod Files
+pub mod Watching
+pub mod Watched
+pub mod Lives

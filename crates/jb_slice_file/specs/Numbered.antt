@@ -1,0 +1,27 @@
+-- Checkpoints as they are found: each with a number and a link.
+use Rattle.std.specs.Prelude.{ℕ, suc, ℤ, pos, ◌≡◌, ◌≢◌, List, [], ◌∷◌, ◌++◌, length}
+use Rattle.jb_slice_file.specs.declared.numbered.Found.{Found}
+use Rattle.jb_slice_file.specs.Kept.{Kept, kept}
+use Rattle.jb_slice_file.specs.Chain.{Linked, chained, last_link, link_of}
+
+-- one with its link, under a number
+pub record Numbered : Type 0 where
+  pub number : ℤ
+  pub linked : Linked
+
+abbrev pub numbered : Found → Numbered
+numbered found = record { number = found.number; linked = record { it = kept found.checkpoint; link = found.link.items } }
+
+-- numbered one after the other, from a number on
+abbrev pub numbered_from : ℕ → List Linked → List Numbered
+numbered_from number [] = []
+numbered_from number (one ∷ more) = record { number = pos number; linked = one } ∷ numbered_from (suc number) more
+
+-- THE CHECKPOINT OF THIS NUMBER WAS CHANGED, or one before it: those before it are chained, and it has another link than it must have
+pub record IsAlteredAt (number : ℕ) (found : List Numbered) : Type 0 where
+  pub front : List Kept
+  pub one : Linked
+  pub later : List Numbered
+  pub number_is : number ≡ suc (length front)
+  pub other : one.link ≢ link_of (last_link front) number one.it
+  pub found_are : found ≡ numbered_from 1 (chained front ++ one ∷ []) ++ later

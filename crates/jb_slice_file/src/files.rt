@@ -1,0 +1,103 @@
+//! The list of two files, or of those at a path, and a connection to these.
+
+ghost use Rattle.std.specs.Prelude.{◌≡◌, map, IfErr, IfOk, IsTrue};
+ghost use Rattle.jb_slice_file.specs.Rows.{Has, ShowsList};
+ghost use Rattle.jb_slice_file.specs.Kept.{kept};
+ghost use Rattle.jb_slice_file.specs.Connections.{IsJustOpened, Keeps};
+ghost use Rattle.jb_slice_file.specs.Errors.{refusal_named};
+ghost use Rattle.jb_slice_file.specs.Files.{HoldsWhole};
+ghost use Rattle.jb_slice_file.specs.ListEnd.{IsEndOf};
+ghost use Rattle.sqlite.specs.declared.error.Error.{Error as SqlError};
+ghost use Rattle.sqlite.specs.Files.{HoldsDatabase, file_state, image_of};
+ghost use Rattle.sqlite.specs.State.{HasCleanDisk};
+ghost use Rattle.sqlite_trees.specs.Tree.{Trees};
+ghost use Rattle.sqlite_wal.specs.Files.{image_at, outcomes};
+ghost use Rattle.sqlite_wal.specs.Reads.{AreClean};
+ghost use Rattle.sqlite_wal.specs.Recovery.{Image};
+
+use crate::checkpoint::Checkpoint;
+use crate::error::StoreError;
+use crate::list_end::ListEnd;
+use crate::opening::begin;
+use sqlite::{Connection, FileFrom, FileStore, Files, Options, Start};
+use sqlite_disk::Disk;
+use std::alloc::Global;
+
+/// The files of a connection that ends: whatever a crash leaves of them holds a database that a crash might have left of it. A crate that
+/// lets a connection over files go in any other way, at the end of a scope too, proves anew how the kit's store is dropped.
+pub fn closed<D: Disk + Drop>(conn: Connection<FileStore<D>>) -> Files<D>
+    ensures clean { AreClean D.Disk result.log result.db → HasCleanDisk (file_state conn) }
+    ensures left { AreClean D.Disk result.log result.db → (image : Image) → outcomes D.Disk result.log result.db image
+        → ∥ ((db : Trees) × HoldsWhole image db × (file_state conn).may_leave db) ∥₁ }
+{
+    conn.into_store().close()
+}
+
+/// The list of a connection that was just opened, and the connection. Where there is none, it is shut.
+fn with_list<D: Disk + Drop>(
+    alloc: Global,
+    conn: Connection<FileStore<D>>,
+) -> Result<(Connection<FileStore<D>>, Vec<Checkpoint>, ListEnd), StoreError>
+    ensures end { IfOk result (λ r. IsEndOf r.2 (map kept r.1.items)) }
+    ensures taken { IfOk result (λ r. HasCleanDisk (file_state r.0) → HasCleanDisk (file_state conn)
+        × (IsJustOpened (file_state conn) → Keeps (file_state r.0) (map kept r.1.items) × ((all : _) → ShowsList (file_state conn).now all → map kept r.1.items ≡ all))) }
+{
+    let mut conn = conn;
+    match begin(alloc, &mut conn) {
+        Ok((found, end)) => Ok((conn, found, end)),
+        Err(error) => {
+            let _files = closed(conn);
+            Err(error)
+        }
+    }
+}
+
+/// Opens a log and its database file, and takes the list: of an empty file none.
+pub fn open_files<D: Disk + Drop>(
+    alloc: Global,
+    files: Files<D>,
+    options: Options,
+) -> Result<(Connection<FileStore<D>>, Vec<Checkpoint>, ListEnd), StoreError>
+    requires log { IsTrue (D.Disk.is_usable files.log) }
+    requires db { IsTrue (D.Disk.is_usable files.db) }
+    ensures end { IfOk result (λ r. IsEndOf r.2 (map kept r.1.items)) }
+    ensures begun { IfOk result (λ r. HasCleanDisk (file_state r.0) → Keeps (file_state r.0) (map kept r.1.items)) }
+    ensures found { IfOk result (λ r. HasCleanDisk (file_state r.0) → (db : _) (all : _) → HoldsDatabase (image_of D.Disk files) db → Has db all → map kept r.1.items ≡ all) }
+    ensures honest { IfOk result (λ r. HasCleanDisk (file_state r.0) → AreClean D.Disk files.log files.db) }
+{
+    match Connection::open_files(alloc, files, options) {
+        Ok(conn) => with_list(alloc, conn),
+        Err((error, _)) => Err(StoreError::from(error)),
+    }
+}
+
+/// A connection to the file at a path, which is made where there is none, and to its log beside it. Its list isn't taken yet, and no
+/// table is made; so it is refused by no name of a list's. A second process gets `Busy`.
+pub fn connect<S: Start>(
+    rt: &HostRuntime,
+    path: &str,
+    start: S,
+) -> Result<Connection<FileStore<FileFrom<S>>>, StoreError>
+    ensures opened { IfOk result (λ conn. HasCleanDisk (file_state conn) → IsJustOpened (file_state conn)) }
+    ensures found { IfOk result (λ conn. HasCleanDisk (file_state conn) → (db : _) (all : _) → HoldsDatabase (image_at S.Start) db → Has db all → ShowsList (file_state conn).now all) }
+    ensures named { IfErr result (λ e. (why : SqlError) × (e ≡ refusal_named why)) }
+{
+    match Connection::open_from(rt, path, false, start) {
+        Ok(conn) => Ok(conn),
+        Err((error, _)) => Err(StoreError::from(error)),
+    }
+}
+
+/// Opens the file at a path, and takes the list.
+pub fn open<S: Start>(
+    rt: &HostRuntime,
+    path: &str,
+    start: S,
+) -> Result<(Connection<FileStore<FileFrom<S>>>, Vec<Checkpoint>, ListEnd), StoreError>
+    ensures end { IfOk result (λ r. IsEndOf r.2 (map kept r.1.items)) }
+    ensures begun { IfOk result (λ r. HasCleanDisk (file_state r.0) → Keeps (file_state r.0) (map kept r.1.items)) }
+    ensures found { IfOk result (λ r. HasCleanDisk (file_state r.0) → (db : _) (all : _) → HoldsDatabase (image_at S.Start) db → Has db all → map kept r.1.items ≡ all) }
+{
+    let conn = connect(rt, path, start)?;
+    with_list(rt.alloc(), conn)
+}

@@ -1,0 +1,115 @@
+//! The list of a connection that was just opened.
+
+ghost use Rattle.std.specs.Prelude.{◌≡◌, ◌≢◌, ◌⊎◌, ◌≤◌, ◌↔◌, false, map, [], None, Some, Err, IfOk, IfErr, IsOk, IsTrue, OnOk};
+ghost use Rattle.jb_slice_file.specs.declared.error.StoreError.TheVariants.{Altered, Foreign, Version, Gap};
+ghost use Rattle.jb_slice_file.specs.Errors.{IsStoreFault, IsOfTheList, IsOpenCause};
+ghost use Rattle.jb_slice_file.specs.Form.{checkpoint_schema, no_schema, IsForeign, IsOtherVersion};
+ghost use Rattle.jb_slice_file.specs.Rows.{Has, HasGap, IsAltered, ShowsList, StandsFor};
+ghost use Rattle.jb_slice_file.specs.Kept.{kept};
+ghost use Rattle.jb_slice_file.specs.Connections.{IsAsItWas, IsJustOpened, Keeps};
+ghost use Rattle.jb_slice_file.specs.ListEnd.{IsEndOf};
+ghost use Rattle.sqlite.specs.Held.{state};
+ghost use Rattle.sqlite.specs.State.{HasCleanDisk};
+ghost use Rattle.sqlite_disk.specs.Disk.{MoreFaults};
+ghost use Rattle.sqlite_trees.specs.View.{doubt};
+
+use crate::checkpoint::Checkpoint;
+use crate::error::StoreError;
+use crate::form::{is_blank, is_ours, names_checkpoint};
+use crate::list_end::ListEnd;
+use crate::listing::list;
+use sqlite::{Alter, Connection};
+use sqlite_schema::schema::Schema;
+use std::alloc::Global;
+
+/// Why a database with this schema isn't opened.
+#[tactic(auto, using(crate::proofs::Named::ours_is_named))]
+fn refusal_of(schema: &Schema) -> Option<StoreError>
+    ensures fits { (result ≡ None) ↔ ((schema.now ≡ no_schema) ⊎ (schema.now ≡ checkpoint_schema)) }
+    ensures foreign { (result ≡ Some Foreign) ↔ IsForeign schema.now }
+    ensures version { (result ≡ Some Version) ↔ IsOtherVersion schema.now }
+    ensures named { (result ≡ None) ⊎ ((result ≡ Some Foreign) ⊎ (result ≡ Some Version)) }
+{
+    if is_blank(schema) || is_ours(schema) {
+        None
+    } else if names_checkpoint(schema) {
+        Some(StoreError::Version)
+    } else {
+        Some(StoreError::Foreign)
+    }
+}
+
+/// Makes the table where nothing is defined yet.
+fn make<S: Alter>(conn: &mut Connection<S>) -> Result<(), StoreError>
+    ensures made { HasCleanDisk (state S.Store conn.new) → (state S.Store conn.old).now.schema ≡ no_schema → (state S.Store conn.old).in_transaction ≡ false
+        → OnOk result (Keeps (state S.Store conn.new) []) }
+    ensures defined { (state S.Store conn.old).now.schema ≢ no_schema → IsOk result × (conn.new ≡ conn.old) }
+    ensures named { IfErr result (λ e. ¬ IsOfTheList e) }
+    ensures clean { doubt (state S.Store conn.old).is_clean ≤ doubt (state S.Store conn.new).is_clean }
+    ensures crash { HasCleanDisk (state S.Store conn.new) → (state S.Store conn.old).now.schema ≡ no_schema → (db : _) → (state S.Store conn.new).may_leave db
+        → (state S.Store conn.old).may_leave db ⊎ StandsFor db [] }
+    ensures cause { HasCleanDisk (state S.Store conn.new) → IfErr result (IsStoreFault (state S.Store conn.old) (state S.Store conn.new)) }
+    ensures counts { (state S.Store conn.old).faults ≤ (state S.Store conn.new).faults }
+    ensures shut { HasCleanDisk (state S.Store conn.new) → IsTrue (state S.Store conn.old).is_open
+        → IsTrue (state S.Store conn.new).is_open ⊎ MoreFaults (state S.Store conn.old).faults (state S.Store conn.new).faults }
+{
+    if is_blank(conn.schema()) {
+        conn.execute(
+            "CREATE TABLE checkpoint (number INTEGER PRIMARY KEY, saved TEXT NOT NULL, results BLOB NOT NULL, link BLOB NOT NULL) STRICT",
+            &[],
+        )?;
+    }
+    Ok(())
+}
+
+/// The checkpoints of a database that was just opened, and where they end: none where nothing is defined yet, and then the table is made.
+/// One that isn't ours, has a gap or was changed is refused and not written.
+pub fn begin<S: Alter>(
+    alloc: Global,
+    conn: &mut Connection<S>,
+) -> Result<(Vec<Checkpoint>, ListEnd), StoreError>
+    ensures begun { HasCleanDisk (state S.Store conn.new) → IsJustOpened (state S.Store conn.old)
+        → IfOk result (λ found. Keeps (state S.Store conn.new) (map kept found.0.items) × ShowsList (state S.Store conn.old).now (map kept found.0.items)) }
+    ensures shown { IsJustOpened (state S.Store conn.old) → (all : _) → Has (state S.Store conn.old).now.trees all → ShowsList (state S.Store conn.old).now all }
+    ensures listed { HasCleanDisk (state S.Store conn.new) → IsJustOpened (state S.Store conn.old) → (all : _) → ShowsList (state S.Store conn.old).now all
+        → IfOk result (λ found. map kept found.0.items ≡ all) }
+    ensures end { IfOk result (λ found. IsEndOf found.1 (map kept found.0.items)) }
+    ensures foreign { (result ≡ Err Foreign) ↔ IsForeign (state S.Store conn.old).now.schema }
+    ensures version { (result ≡ Err Version) ↔ IsOtherVersion (state S.Store conn.old).now.schema }
+    ensures gap { HasCleanDisk (state S.Store conn.new) → IsJustOpened (state S.Store conn.old) → result ≡ Err Gap
+        → ((state S.Store conn.old).now.schema ≡ checkpoint_schema) × HasGap (state S.Store conn.old).now.trees }
+    ensures altered { HasCleanDisk (state S.Store conn.new) → IsJustOpened (state S.Store conn.old) → (number : _) → result ≡ Err (Altered number)
+        → ((state S.Store conn.old).now.schema ≡ checkpoint_schema) × IsAltered number (state S.Store conn.old).now.trees }
+    ensures cause { HasCleanDisk (state S.Store conn.new) → IsJustOpened (state S.Store conn.old) → IfErr result (IsOpenCause (state S.Store conn.old) (state S.Store conn.new)) }
+    ensures own { HasCleanDisk (state S.Store conn.new) → IsJustOpened (state S.Store conn.old) → (all : _) → ShowsList (state S.Store conn.old).now all
+        → IfErr result (λ e. ¬ IsOfTheList e) }
+    ensures counts { (state S.Store conn.old).faults ≤ (state S.Store conn.new).faults }
+    ensures shut { HasCleanDisk (state S.Store conn.new) → IsTrue (state S.Store conn.old).is_open
+        → IsTrue (state S.Store conn.new).is_open ⊎ MoreFaults (state S.Store conn.old).faults (state S.Store conn.new).faults }
+    ensures untouched { HasCleanDisk (state S.Store conn.new) → IsJustOpened (state S.Store conn.old)
+        → IfErr result (λ e. IsOfTheList e → IsAsItWas (state S.Store conn.old) (state S.Store conn.new)) }
+    ensures clean { doubt (state S.Store conn.old).is_clean ≤ doubt (state S.Store conn.new).is_clean }
+    ensures crash { HasCleanDisk (state S.Store conn.new) → IsJustOpened (state S.Store conn.old) → (db : _) → (state S.Store conn.new).may_leave db
+        → (db ≡ (state S.Store conn.old).now.trees) ⊎ (((state S.Store conn.old).now.schema ≡ no_schema) × StandsFor db []) }
+    ensures left { HasCleanDisk (state S.Store conn.new) → IsJustOpened (state S.Store conn.old) → (all : _) → ShowsList (state S.Store conn.old).now all
+        → (db : _) → (state S.Store conn.new).may_leave db → Has db all }
+{
+    if let Some(refusal) = refusal_of(conn.schema()) {
+        return Err(refusal);
+    }
+    make(conn)?;
+    list(alloc, conn)
+}
+
+/// Nothing is defined in the database, or a table of checkpoints is: `begin` refuses it neither as another program's nor as another version's.
+pub fn takes<S: Alter>(conn: &Connection<S>) -> bool
+    ensures { IsTrue result ↔ (((state S.Store conn.now).now.schema ≡ no_schema) ⊎ ((state S.Store conn.now).now.schema ≡ checkpoint_schema)) }
+{
+    refusal_of(conn.schema()).is_none()
+}
+
+/// What a crash leaves of a connection that was just opened: the list that it shows. Nothing is done here: the clause is the law.
+pub fn opened_leaves_its_list<S: Alter>(conn: &Connection<S>)
+    ensures { IsJustOpened (state S.Store conn.now) → (all : _) → ShowsList (state S.Store conn.now).now all
+        → (db : _) → (state S.Store conn.now).may_leave db → Has db all }
+{}

@@ -1,0 +1,62 @@
+//! The list of a database's rows.
+
+ghost use Rattle.std.specs.Prelude.{◌≡◌, ◌≢◌, ◌⊎◌, length, map, IfOk, IfErr};
+ghost use Rattle.std.specs.List.{AllByRecursion};
+ghost use Rattle.jb_slice_file.specs.Chain.{chained};
+ghost use Rattle.jb_slice_file.specs.Kept.{kept};
+ghost use Rattle.jb_slice_file.specs.ListEnd.{IsEndOf};
+ghost use Rattle.jb_slice_file.specs.Numbered.{IsAlteredAt, numbered};
+ghost use Rattle.jb_slice_file.specs.Rows.{columns_of, shown_from};
+ghost use Rattle.jb_slice_file.specs.declared.error.StoreError.TheVariants.{Altered, Foreign, Gap, Memory, Sql, Version};
+
+use crate::checkpoint::Checkpoint;
+use crate::error::StoreError;
+use crate::list_end::ListEnd;
+use crate::numbered::{Found, in_order};
+use sqlite::Row;
+use std::alloc::Global;
+
+/// The checkpoint of a row, its number and its link.
+fn found_of(row: &Row) -> Result<Found, StoreError>
+    ensures read { length row.now ≡ 4 → IfOk result (λ c. row.now ≡ columns_of (numbered c)) }
+    ensures why { IfErr result (λ e. (e ≡ Memory) ⊎ ((why : _) × (e ≡ Sql why))) }
+{
+    let number = row.get(0)?;
+    let saved = row.get(1)?;
+    let results = row.get(2)?;
+    let link = row.get(3)?;
+    Ok(Found {
+        number,
+        checkpoint: Checkpoint { saved, results },
+        link,
+    })
+}
+
+/// Those of all rows.
+fn all_found(alloc: Global, rows: &[Row]) -> Result<Vec<Found>, StoreError>
+    ensures read { AllByRecursion (λ row. length row ≡ 4) rows.now → IfOk result (λ found. rows.now ≡ map columns_of (map numbered found.items)) }
+    ensures why { IfErr result (λ e. (e ≡ Memory) ⊎ ((why : _) × (e ≡ Sql why))) }
+{
+    let mut found = Vec::new(alloc);
+    'rows: for row in rows {
+        found.push(found_of(row)?)?;
+    }
+    Ok(found)
+}
+
+/// The checkpoints of all rows, and where they end. They have to be numbered from 1 on, and each must have its link.
+pub(crate) fn checkpoints_of(
+    alloc: Global,
+    rows: &[Row],
+) -> Result<(Vec<Checkpoint>, ListEnd), StoreError>
+    ensures read { AllByRecursion (λ row. length row ≡ 4) rows.now → IfOk result (λ r. rows.now ≡ shown_from 1 (chained (map kept r.0.items))) }
+    ensures end { IfOk result (λ r. IsEndOf r.1 (map kept r.0.items)) }
+    ensures named { IfErr result (λ e. (e ≢ Foreign) × (e ≢ Version)) }
+    ensures gap { (all : _) → rows.now ≡ shown_from 1 all → IfErr result (λ e. e ≢ Gap) }
+    ensures altered { AllByRecursion (λ row. length row ≡ 4) rows.now → IfErr result (λ e. (number : _) → e ≡ Altered number
+        → (found : _) × (rows.now ≡ map columns_of found) × IsAlteredAt number found) }
+    ensures why { IfErr result (λ e. (e ≡ Gap) ⊎ (((number : _) × (e ≡ Altered number)) ⊎ ((e ≡ Memory) ⊎ ((why : _) × (e ≡ Sql why))))) }
+{
+    let found = all_found(alloc, rows)?;
+    in_order(alloc, found)
+}

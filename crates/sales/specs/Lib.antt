@@ -1,0 +1,4 @@
+pub mod Amounts
+pub mod Prices
+pub mod Sales
+pub mod Totals
