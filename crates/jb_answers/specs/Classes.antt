@@ -27,11 +27,3 @@ name_by (Some class) = class.name.now
 
 abbrev pub class_name : List FaultClass → ClassId → List ℕ
 class_name classes class = name_by (slice_get classes class.number)
-
--- what becomes of its faults
-abbrev pub fate_by : Option FaultClass → Fate
-fate_by None = fate.Fails
-fate_by (Some class) = class.fate
-
-abbrev pub fate_of : List FaultClass → ClassId → Fate
-fate_of classes class = fate_by (slice_get classes class.number)

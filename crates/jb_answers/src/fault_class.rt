@@ -2,7 +2,7 @@
 
 ghost use Rattle.std.specs.Prelude.{◌≡◌, ◌≤◌, ◌<◌, ◌^◌, length};
 ghost use Rattle.jb_base.specs.Limits.{max_classes};
-ghost use Rattle.jb_answers.specs.Classes.{class_name, fate_of, is_retried, is_skipped, set_by};
+ghost use Rattle.jb_answers.specs.Classes.{class_name, is_retried, is_skipped, set_by};
 
 use jb_base::ClassId;
 
@@ -53,15 +53,5 @@ pub fn name_of<'a>(classes: &[FaultClass<'a>], class: ClassId) -> &'a str
     match classes.get(number) {
         Some(found) => found.name,
         None => "a class without a name",
-    }
-}
-
-/// What becomes of the faults of a class.
-pub fn fate_of(classes: &[FaultClass], class: ClassId) -> Fate
-    ensures { result ≡ fate_of classes.now class }
-{
-    match classes.get(class.number() as usize) {
-        Some(found) => found.fate,
-        None => Fate::Fails,
     }
 }

@@ -1,4 +1,12 @@
-mod Input
-mod Packed
-mod Resuming
-mod TakenUp
+pub mod Carrying
+pub mod Doing
+pub mod Ending
+pub mod Fronts
+pub mod Going
+pub mod Joining
+mod Matching
+pub mod Owning
+pub mod Sinks
+pub mod Taking
+mod Worked
+pub mod Writing

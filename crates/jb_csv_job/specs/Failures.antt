@@ -1,40 +1,60 @@
--- What a job tells where it has no answer.
-use Rattle.std.specs.Prelude.{ℕ, ◌++◌, List, Option, Some, None, codes, decimal}
+-- WHAT A JOB REPORTS WHERE IT HAS NO ANSWER: a text that begins with the name of the refusal. Nothing is said here of the texts of faults that come
+-- from the system.
+use Rattle.std.specs.Prelude.{ℕ, Bool, true, false, ◌++◌, List, Option, Some, None, codes, decimal, string_bytes}
+use Rattle.jb_csv_job.specs.SliceTexts.{at_slice, run_text, store_text}
 use Rattle.jb_csv_job.specs.declared.failure.Failure.{Failure}
 use Rattle.jb_csv_job.specs.declared.failure.Failure.TheVariants as failure
-use Rattle.jb_durable_records.specs.declared.error.DurableError.{DurableError}
-use Rattle.jb_durable_records.specs.declared.error.DurableError.TheVariants as run
-use Rattle.jb_records.specs.declared.error.RecordsStepError.TheVariants as step
+use Rattle.jb_csv_job.specs.declared.failure.FolderFault.{FolderFault}
+use Rattle.jb_csv_job.specs.declared.failure.FolderFault.TheVariants as folder_fault
+use Rattle.jb_csv_job.specs.declared.failure.OutputFault.{OutputFault}
+use Rattle.jb_csv_job.specs.declared.failure.OutputFault.TheVariants as output
+use Rattle.jb_csv_job.specs.declared.failure.WordsFault.{WordsFault}
+use Rattle.jb_csv_job.specs.declared.failure.WordsFault.TheVariants as fault
 use Rattle.jb_rows.specs.declared.rows_error.RowsError.{RowsError}
 use Rattle.jb_rows.specs.declared.rows_error.RowsError.TheVariants as rows
-use Rattle.jb_slice_file.specs.declared.error.StoreError.{StoreError}
-use Rattle.jb_slice_file.specs.declared.error.StoreError.TheVariants as store
 
--- why the file isn't taken, and why the run over such records has no end; nothing is said here of the texts of faults that come from below
-abbrev pub file_text : StoreError → Option (List ℕ)
-file_text store.Memory = Some (codes "no memory")
-file_text _ = None
+-- of a job with this name and this word for its input
+abbrev pub words_text : (name input : List ℕ) → WordsFault → List ℕ
+words_text name input (fault.OldForm threads) = codes "Words: THREADS FILE is the form of an earlier version, which kept all checkpoints in one file. Type: "
+    ++ (name ++ (codes " --threads " ++ (string_bytes threads ++ (codes " FOLDER < " ++ input))))
+words_text name input (fault.Threads value) = codes "Words: --threads " ++ (string_bytes value ++ codes ": type a number from 1 to 64.")
+words_text name input (fault.Records value) = codes "Words: --records " ++ (string_bytes value ++ codes ": type a number below 18,446,744,073,709,551,616.")
+words_text name input (fault.Part value) = codes "Words: --part " ++ (string_bytes value ++ codes ": type K/N, where K is one of the numbers 0 to N - 1, as 0/4.")
+words_text name input fault.PartAndCollect = codes "Words: --part runs slices, and --collect runs none. Type one of them."
+words_text name input fault.PartAndOutput = codes "Words: --part writes no results. Type it without --output, and collect the results by --collect."
+words_text name input fault.NoFolder = codes "Words: FOLDER is missing."
+words_text name input fault.NoText = codes "Words: a word is no text in UTF-8."
+words_text name input (fault.Wrong text) = codes "Words: " ++ string_bytes text
 
-abbrev pub run_text : (records : List ℕ) → DurableError → Option (List ℕ)
-run_text records (run.Store error) = file_text error
-run_text records run.OtherJob = Some (codes "OtherJob: the checkpoints in the file are another job's, of another number of " ++ (records ++ codes ", or of an older version"))
-run_text records run.OtherRecords = Some (codes "OtherRecords: the checkpoints in the file are of other " ++ records)
-run_text records (run.Step step.Records) = Some (codes "Records: more than 10,000,000 " ++ records)
-run_text records (run.Step step.Memory) = Some (codes "no memory")
-run_text records run.Memory = Some (codes "no memory")
-run_text records _ = None
+abbrev pub folder_text : (folder : List ℕ) → FolderFault → Option (List ℕ)
+folder_text folder folder_fault.NotAFolder = Some (codes "NotAFolder: " ++ (folder ++ codes " is no folder. Name another FOLDER: it is made if it isn't there."))
+folder_text folder (folder_fault.CannotMake error) = None
+
+abbrev pub output_text : (path : List ℕ) → OutputFault → Option (List ℕ)
+output_text path output.NotAFile = Some (codes "NotAFile: " ++ (path ++ codes " is no regular file. Name another one by --output, or leave it out and write to standard output."))
+output_text path output.Busy = Some (codes "Busy: another process is writing " ++ (path ++ codes ". Type the same line again when it has ended."))
+output_text path (output.CannotWrite error) = None
 
 abbrev pub rows_text : RowsError → Option (List ℕ)
-rows_text (rows.TooLong number) = Some (codes "TooLong: record " ++ (decimal number ++ codes " is too long"))
-rows_text rows.LongHeader = Some (codes "TooLong: the header row is too long")
+rows_text (rows.TooLong number) = Some (codes "TooLong: record " ++ (decimal number ++ codes " is too long. Correct it: often a quote isn't closed."))
+rows_text rows.LongHeader = Some (codes "TooLong: the header row is too long. Correct it: often a quote isn't closed.")
 rows_text (rows.Stream error) = None
-rows_text rows.Memory = Some (codes "no memory")
+rows_text rows.Memory = Some (codes "Memory: out of memory. Type the same line again when there is more.")
 
--- of a job with this name and these words for its input and its records
-abbrev pub job_failure_text : (name input records : List ℕ) → Failure → Option (List ℕ)
-job_failure_text name input records failure.Usage = Some (codes "usage: " ++ (name ++ (codes " THREADS FILE < " ++ input)))
-job_failure_text name input records (failure.Words error) = None
-job_failure_text name input records (failure.File error) = file_text error
-job_failure_text name input records (failure.Run error) = run_text records error
-job_failure_text name input records (failure.Rows error) = rows_text error
-job_failure_text name input records failure.Memory = Some (codes "no memory")
+-- the number that `--records` has, and the number that was read up to there, or to the end of the input
+abbrev pub records_text : (records : List ℕ) → (asked read : ℕ) → (is_end : Bool) → List ℕ
+records_text records asked read true = codes "OtherNumber: the input has " ++ (decimal read ++ (codes " " ++ (records ++ (codes ", and --records says " ++ (decimal asked ++ codes ". The last slice isn't run. Type the same line with the right input.")))))
+records_text records asked read false = codes "OtherNumber: the input has " ++ (decimal read ++ (codes " " ++ (records ++ (codes " at least, and --records says " ++ (decimal asked ++ codes ". Type the same line with the right input.")))))
+
+-- of a job with this name and these words for its input and its records, over this folder
+abbrev pub job_failure_text : (name input records folder : List ℕ) → Failure → Option (List ℕ)
+job_failure_text name input records folder (failure.Words fault) = Some (words_text name input fault)
+job_failure_text name input records folder (failure.Folder fault) = folder_text folder fault
+job_failure_text name input records folder (failure.File number error) = store_text folder number error
+job_failure_text name input records folder (failure.Slice number error) = run_text folder records number error
+job_failure_text name input records folder (failure.NotWhole number) = Some (at_slice (codes "NotWhole") folder number (codes "the slice isn't whole, and --collect runs nothing. Type the line that runs it, and then this one again."))
+job_failure_text name input records folder (failure.Records asked read is_end) = Some (records_text records asked read is_end)
+job_failure_text name input records folder (failure.Rows error) = rows_text error
+job_failure_text name input records folder (failure.Output path why) = output_text (string_bytes path) why
+job_failure_text name input records folder failure.TooMany = Some (codes "TooMany: there are too many " ++ (records ++ codes ": their numbers end at 18,446,744,073,709,551,615."))
+job_failure_text name input records folder failure.Memory = Some (codes "Memory: out of memory. Type the same line again when there is more.")

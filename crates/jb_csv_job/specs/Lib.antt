@@ -1,4 +1,16 @@
+pub mod Asking
+pub mod CommandLine
 pub mod Done
 pub mod Failures
 pub mod Job
 pub mod Kept
+pub mod Loop
+pub mod Matched
+pub mod Parsing
+pub mod Paths
+pub mod Reports
+pub mod Sinks
+pub mod SliceTexts
+pub mod Slices
+pub mod Statuses
+pub mod Tasks

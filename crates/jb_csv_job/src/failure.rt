@@ -1,94 +1,91 @@
 //! Why there is no answer.
 
 ghost use Rattle.std.specs.Prelude.{◌≡◌};
-ghost use Rattle.jb_csv_job.specs.Failures.{job_failure_text};
-ghost use Rattle.jb_csv_job.specs.declared.failure.Failure.TheVariants.{File, Memory, Rows, Run, Words};
+ghost use Rattle.jb_csv_job.specs.declared.failure.Failure.TheVariants.{Memory, Rows};
 
-use jb_durable_records::DurableError;
-use jb_records::RecordsStepError;
 use jb_rows::RowsError;
+use jb_slice_durable::DurableError;
 use jb_slice_file::StoreError;
 use std::alloc::{AllocError, AllocFailed};
-use std::{fmt, io};
+use std::io;
 use thiserror::Error;
 
-/// Why there is no answer. What the file keeps stays.
+/// What is wrong with the words of the command line.
+#[derive(Debug, Drop)]
+pub enum WordsFault {
+    /// They are those of an earlier version, THREADS FILE. This is the first one.
+    OldForm(String),
+    /// The value of `--threads` is no number from 1 to 64.
+    Threads(String),
+    /// The value of `--records` is no number below 2^64.
+    Records(String),
+    /// The value of `--part` isn't K/N with K below N.
+    Part(String),
+    /// There are `--part` and `--collect`.
+    PartAndCollect,
+    /// There are `--part` and `--output`: a part writes no results.
+    PartAndOutput,
+    /// FOLDER is missing.
+    NoFolder,
+    /// A word is no text.
+    NoText,
+    /// `clap` refuses them: its own text.
+    Wrong(String),
+}
+
+/// Why FOLDER isn't taken.
+#[derive(Debug, Drop)]
+pub enum FolderFault {
+    /// There is something else of that name.
+    NotAFolder,
+    /// It can't be made, or looked at.
+    CannotMake(io::Error),
+}
+
+/// Why the output isn't written.
+#[derive(Debug, Drop)]
+pub enum OutputFault {
+    /// There is something of that name that is no regular file.
+    NotAFile,
+    /// Another process is writing it.
+    Busy,
+    /// A call of the system failed.
+    CannotWrite(io::Error),
+}
+
+/// Why there is no answer. What the files of the slices keep stays: the same line resumes the job.
 #[derive(Debug, Drop, Error)]
 pub enum Failure {
     /// The words of the command line ask for nothing.
     #[error("the words of the command line ask for nothing")]
-    Usage,
-    /// The file of the checkpoints.
-    #[error("{0}")]
-    File(StoreError),
-    /// The run has no end.
-    #[error("{0}")]
-    Run(DurableError),
-    /// The words of the command line can't be read.
-    #[error("the words of the command line can't be read: {0}")]
-    Words(io::Error),
+    Words(WordsFault),
+    /// FOLDER isn't taken.
+    #[error("the folder isn't taken")]
+    Folder(FolderFault),
+    /// The file of a slice isn't opened.
+    #[error("slice {slice}: {error}")]
+    File { slice: u64, error: StoreError },
+    /// The run of a slice has no end.
+    #[error("slice {slice}: {error}")]
+    Slice { slice: u64, error: DurableError },
+    /// A slice is to be collected, and isn't whole.
+    #[error("slice {slice} isn't whole")]
+    NotWhole { slice: u64 },
+    /// The input has another number of records than `--records` says. So many are read of it, up to its end or not.
+    #[error("the input has another number of records")]
+    Records { asked: u64, read: u64, is_end: bool },
     /// The records aren't read, or the results not written.
     #[error("{0}")]
     Rows(RowsError),
+    /// The file of the results isn't written.
+    #[error("the output {path} isn't written")]
+    Output { path: String, why: OutputFault },
+    /// There are more than 2^64 - 1 records or slices.
+    #[error("there are too many records")]
+    TooMany,
     /// There was no memory.
-    #[error("no memory")]
+    #[error("out of memory")]
     Memory,
-}
-
-/// Why there is no answer, as a job tells it: a line that begins with the name of the refusal, where it has one.
-#[derive(Drop)]
-pub struct FailureText<'a> {
-    /// The words of the job, as `CsvJob` has them.
-    pub name: &'a str,
-    pub input: &'a str,
-    pub records: &'a str,
-    pub failure: Failure,
-}
-
-impl<'a> fmt::Display for FailureText<'a> {
-    ghost output = { λ text. job_failure_text text.name.now text.input.now text.records.now text.failure };
-
-    fn fmt<W: fmt::Write>(&self, f: &mut fmt::Formatter<W>) -> fmt::Result {
-        let (name, input, records) = (self.name, self.input, self.records);
-        match &self.failure {
-            Failure::Usage => write!(f, "usage: {name} THREADS FILE < {input}"),
-            Failure::File(StoreError::Memory)
-            | Failure::Run(DurableError::Store(StoreError::Memory))
-            | Failure::Run(DurableError::Step(RecordsStepError::Memory))
-            | Failure::Run(DurableError::Memory)
-            | Failure::Rows(RowsError::Memory)
-            | Failure::Memory => f.write_str("no memory"),
-            Failure::Run(DurableError::Step(RecordsStepError::Records)) => {
-                write!(f, "Records: more than 10,000,000 {records}")
-            }
-            Failure::Run(DurableError::OtherRecords) => {
-                write!(
-                    f,
-                    "OtherRecords: the checkpoints in the file are of other {records}"
-                )
-            }
-            Failure::Run(DurableError::OtherJob) => {
-                write!(
-                    f,
-                    "OtherJob: the checkpoints in the file are another job's, of another number of {records}, or of an older version"
-                )
-            }
-            Failure::File(error) | Failure::Run(DurableError::Store(error)) => {
-                write!(f, "{error:?}: {error}")
-            }
-            Failure::Run(error) => write!(f, "{error:?}: {error}"),
-            Failure::Words(error) => {
-                write!(f, "the words of the command line can't be read: {error}")
-            }
-            Failure::Rows(RowsError::TooLong { number }) => {
-                write!(f, "TooLong: record {number} is too long")
-            }
-            Failure::Rows(RowsError::LongHeader) => {
-                f.write_str("TooLong: the header row is too long")
-            }
-            Failure::Rows(RowsError::Stream(error)) => write!(f, "a stream failed: {error}"),
-        }
-    }
 }
 
 impl From<AllocError> for Failure {
@@ -107,34 +104,10 @@ impl<T: Drop> From<AllocFailed<T>> for Failure {
     }
 }
 
-impl From<io::Error> for Failure {
-    ghost from_gives = { λ error failure. failure ≡ Words error };
-
-    fn from(error: io::Error) -> Failure {
-        Failure::Words(error)
-    }
-}
-
 impl From<RowsError> for Failure {
     ghost from_gives = { λ error failure. failure ≡ Rows error };
 
     fn from(error: RowsError) -> Failure {
         Failure::Rows(error)
-    }
-}
-
-impl From<StoreError> for Failure {
-    ghost from_gives = { λ error failure. failure ≡ File error };
-
-    fn from(error: StoreError) -> Failure {
-        Failure::File(error)
-    }
-}
-
-impl From<DurableError> for Failure {
-    ghost from_gives = { λ error failure. failure ≡ Run error };
-
-    fn from(error: DurableError) -> Failure {
-        Failure::Run(error)
     }
 }

@@ -1,31 +1,67 @@
-//! A job over CSV, from the words of its command line to its exit status: a text of CSV is read, its records go through one function in a
-//! step whose checkpoints are kept in a file, and the results are written. Whatever ends it, the same call resumes.
+//! A job over CSV, from the words of its command line to its exit status: records are read slice by slice, go through one function in a step
+//! whose checkpoints are kept in a file for each slice, and the results are written. Whatever ends it, the same line resumes it.
 //!
-//! - `job_main`: all of a job's `main`. `job`: what the job is called, and how it runs. `step`: its step.
-//! - `opening`: the words of the command line, and the file that they name.
-//! - `reading`: the records of a stream. `progress`: how far the step is; `reporting`: which records are skipped or fail, by the names of
-//!   their classes.
-//! - `run`: the run, to rows (`job_rows`) or to a stream. `failure`: why there is no answer. `exit`: the exit status.
+//! - `job`: what a job is. `job_main`: all of a `main`. `run`: a job over two streams; `next`: one slice after the other.
+//! - `words`, `command`, `line`, `values`, `asked`: the command line, and what it asks. `opening`: FOLDER is made.
+//! - `reading`: the records of a slice. `work`, `one_slice`: a slice over its file; `folder`, `path`: the file's path. `kinds`: files of another kind.
+//! - `giving`, `sink`, `output`: results to their taker. `tally`: what is kept from slice to slice.
+//! - `stored`, `keeper`: what files hold before and after, as contracts see it.
+//! - `report`, `progress`, `meter`: lines on standard error. `history`: the folder's history; `stopping`: the file that stops a job.
+//! - `exit`: the status; `failure`: why there is no answer, with `failure_status`, `failure_text`, `slice_text` and `reason`.
 #![tactic(auto)]
 
+mod asked;
+mod command;
 mod exit;
 mod failure;
+mod failure_status;
+mod failure_text;
+mod folder;
+mod giving;
+mod history;
+mod host;
 mod job;
 mod job_main;
-mod job_rows;
+mod keeper;
+mod kinds;
+mod laws;
+mod line;
+mod meter;
+mod next;
+mod one_slice;
 mod opening;
+mod output;
+mod path;
 mod progress;
 mod reading;
-mod reporting;
+mod reason;
+mod report;
 mod run;
-mod step;
+mod sink;
+mod slice_text;
+mod stopping;
+mod stored;
+mod tally;
+mod values;
+mod words;
+mod work;
 
+pub use asked::{Asked, OwnOption, Request, Task};
 pub use exit::exit_code;
-pub use failure::{Failure, FailureText};
+pub use failure::{Failure, FolderFault, OutputFault, WordsFault};
+pub use failure_text::FailureText;
+pub use folder::slice_path;
+pub use host::Host;
 pub use jb_answers::{Fate, FaultClass};
-pub use jb_slice_file::closed;
-pub use job::CsvJob;
-pub use job_main::{Host, run_job, run_job_at};
-pub use job_rows::JobRows;
-pub use opening::{Asked, opened};
-pub use run::{run_csv_job, run_to_rows};
+pub use job::{CsvJob, DEFAULT_SLICE_LENGTH};
+pub use job_main::run_job;
+pub use keeper::{Drops, Keeper};
+pub use laws::crashes_are_resumed;
+pub use opening::ready_folder;
+pub use output::Output;
+pub use path::SlicePath;
+pub use report::Reporter;
+pub use run::{JobEnd, run_csv_job, run_slices};
+pub use sink::{CsvSink, Sink};
+pub use stored::Stored;
+pub use words::asked_of;

@@ -1,48 +1,26 @@
-//! The words of the command line, and the file that they name.
+//! The folder of the slices' files.
 
-ghost use Rattle.std.specs.Prelude.{◌≤◌, IfOk};
-ghost use Rattle.jb_base.specs.Limits.{max_threads};
-ghost use Rattle.jb_slice_file.specs.Rows.{Has, ShowsList};
-ghost use Rattle.jb_slice_file.specs.Connections.{IsJustOpened};
-ghost use Rattle.sqlite.specs.Files.{HoldsDatabase, file_state};
-ghost use Rattle.sqlite.specs.State.{HasCleanDisk};
-ghost use Rattle.sqlite_wal.specs.Files.{image_at};
+use crate::failure::{Failure, FolderFault};
+use crate::history::{Event, note};
+use std::fs;
+use std::io::ErrorKind;
 
-use crate::failure::Failure;
-use jb_base::MAX_THREADS;
-use jb_slice_file::connect;
-use sqlite::{Connection, FileFrom, FileStore, Start, Wary};
-use std::env;
-
-/// What the command line asks: `THREADS FILE`.
-#[derive(Drop)]
-pub struct Asked {
-    /// At most 64.
-    pub threads: u32,
-    /// The path of the file that keeps the checkpoints.
-    pub file: String,
-    pub ghost few: { threads ≤ max_threads },
-}
-
-/// The words of the command line.
-pub(crate) fn words_of(rt: &HostRuntime) -> Result<Asked, Failure> {
-    let mut words = env::args(rt)?.skip(1);
-    let threads = words.next().ok_or(Failure::Usage)?;
-    let file = words.next().ok_or(Failure::Usage)?;
-    let threads = threads.parse::<u32>().ok().ok_or(Failure::Usage)?;
-    if threads > MAX_THREADS || words.next().is_some() {
-        return Err(Failure::Usage);
+/// Makes FOLDER, if it isn't there. Its history says that a run begins.
+///
+/// # Errors
+/// `Folder`: something else has that name, or the folder can't be made or looked at.
+pub fn ready_folder(host: &HostRuntime, folder: &str) -> Result<(), Failure> {
+    let made = match fs::metadata(host, folder) {
+        Ok(found) if found.is_dir() => Ok(()),
+        Ok(_) => return Err(Failure::Folder(FolderFault::NotAFolder)),
+        Err(error) if error.kind() == ErrorKind::NotFound => fs::create_dir_all(host, folder),
+        Err(error) => Err(error),
+    };
+    match made {
+        Ok(()) => {
+            note(host, folder, &Event::Begin);
+            Ok(())
+        }
+        Err(error) => Err(Failure::Folder(FolderFault::CannotMake(error))),
     }
-    Ok(Asked { threads, file })
-}
-
-/// The words of the command line, and a connection to the file that they name. It is made where there is none, with its log beside it; a
-/// second process that opens it is refused.
-pub fn opened(rt: &HostRuntime) -> Result<(Asked, Connection<FileStore<FileFrom<Wary>>>), Failure>
-    ensures opened { IfOk result (λ r. HasCleanDisk (file_state r.1) → IsJustOpened (file_state r.1)) }
-    ensures found { IfOk result (λ r. HasCleanDisk (file_state r.1) → (db : _) (all : _) → HoldsDatabase (image_at ⟦<Wary as Start>⟧) db → Has db all → ShowsList (file_state r.1).now all) }
-{
-    let asked = words_of(rt)?;
-    let conn = connect(rt, asked.file.as_str(), Wary)?;
-    Ok((asked, conn))
 }

@@ -1,19 +1,100 @@
 //! The progress of a job.
 
-use jb_durable_records::{Onlooker, Progress};
+use crate::history::{Event, note};
+use crate::host::Host;
+use crate::meter::Meter;
+use crate::stopping::is_stopped;
+use jb_slice_durable::{Onlooker, Progress};
+use std::fmt;
+use std::io::IsTerminal;
+use std::time::Clock;
 
-/// Tells on standard error, at each checkpoint, how many records are done, and how many results there are.
+/// How far a job is at a checkpoint of a slice.
+#[derive(Clone, Copy)]
+struct ProgressText<'a> {
+    slice: u64,
+    done: u64,
+    results: u64,
+    record_word: &'a str,
+    result_word: &'a str,
+}
+
+impl<'a> fmt::Display for ProgressText<'a> {
+    ghost use Rattle.std.specs.Prelude.{Some};
+    ghost use Rattle.jb_csv_job.specs.Reports.{progress_text};
+
+    ghost output = { λ text. Some (progress_text text.slice text.done text.results text.record_word.now text.result_word.now) };
+
+    fn fmt<W: fmt::Write>(&self, f: &mut fmt::Formatter<W>) -> fmt::Result {
+        let ProgressText {
+            slice,
+            done,
+            results,
+            record_word,
+            result_word,
+        } = *self;
+        write!(
+            f,
+            "slice {slice}: {done} {record_word} done, {results} {result_word}"
+        )
+    }
+}
+
+/// Clears the line that is written over, if standard error is a terminal.
+pub(crate) fn clear_line<T: Eprint + Host>(rt: &T) {
+    if rt.host().stderr().is_terminal() {
+        let _cleared = eprint!(rt; "\r\x1b[K");
+    }
+}
+
+/// Reports on standard error, at each checkpoint of a slice, how many records of all slices so far are done, how many results there are, the share
+/// that is done, and the pace: in one line that is written over, if it is a terminal, else in a line a checkpoint. It keeps the checkpoint in the
+/// folder's history. The slice goes on until FOLDER/stop is there.
 #[derive(Drop)]
 pub(crate) struct Told<'a, T> {
     pub rt: T,
-    /// What the records are, and the results.
+    /// FOLDER.
+    pub folder: &'a str,
+    /// What the records are called, and the results.
     pub records: &'a str,
     pub results: &'a str,
+    /// The slice's number.
+    pub slice: u64,
+    /// How many records of earlier slices are done, and how many results they have.
+    pub records_before: u64,
+    pub results_before: u64,
+    /// How many records of the slice were done at its last checkpoint that was told.
+    pub told: Option<u64>,
+    pub meter: &'a mut Meter,
 }
 
-impl<'a, T: Eprint> Onlooker for Told<'a, T> {
-    fn told(&mut self, progress: Progress) {
-        let Progress { done, results, .. } = progress;
-        let _told = eprintln!(self.rt; "{done} {} done, {results} {}", self.records, self.results);
+impl<'a, T: Clock + Eprint + Host> Onlooker for Told<'a, T> {
+    fn told(&mut self, progress: Progress) -> bool {
+        let more = match self.told {
+            Some(before) => progress.done.saturating_sub(before),
+            None => 0,
+        };
+        self.told = Some(progress.done);
+        let text = ProgressText {
+            slice: self.slice,
+            done: self.records_before.saturating_add(progress.done),
+            results: self.results_before.saturating_add(progress.results),
+            record_word: self.records,
+            result_word: self.results,
+        };
+        let pace = self.meter.tell(&self.rt, text.done, more);
+        clear_line(&self.rt);
+        let _told = if self.rt.host().stderr().is_terminal() {
+            eprint!(self.rt; "{text}{pace}")
+        } else {
+            eprintln!(self.rt; "{text}{pace}")
+        };
+        let event = Event::Checkpoint {
+            slice: self.slice,
+            records: text.done,
+            results: text.results,
+        };
+        note(self.rt.host(), self.folder, &event);
+        !is_stopped(self.rt.host(), self.folder)
     }
 }

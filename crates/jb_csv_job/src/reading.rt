@@ -1,30 +1,38 @@
-//! The records of a stream.
+//! The records of a slice.
 
-ghost use Rattle.std.specs.Prelude.{IfOk, List, ℕ, []};
-ghost use Rattle.jb_rows.specs.Streams.{HasGivenRows};
+ghost use Rattle.std.specs.Prelude.{◌≡◌, ℕ, List, IfOk};
+ghost use Rattle.jb_rows.specs.Fields.{Fields};
 ghost use Rattle.jb_rows.specs.Texts.{AreRowsOf};
-ghost use Rattle.jb_rows.specs.declared.rows_options.RowsOptions.{RowsOptions};
+ghost use Rattle.jb_slices.specs.Function.{Function};
+ghost use Rattle.jb_csv_job.specs.Job.{job_record};
+ghost use Rattle.jb_csv_job.specs.Loop.{IsSliceRead, StandsBefore};
 
 use crate::failure::Failure;
-use jb_base::MAX_RECORDS;
-use jb_durable_records::DurableError;
-use jb_records::RecordsStepError;
+use crate::tally::Tally;
+use crate::work::Work;
 use jb_rows::{Rows, RowsReader};
-use std::alloc::Global;
+use jb_slices::is_last_slice;
 use std::io::Read;
 
-/// The records of a stream, read to its end. More than a step may have are refused before they are all in memory.
-pub(crate) fn records_in<R: Read + Drop>(
-    alloc: Global,
+/// Reads the records of the next slice, in place of those in `rows`; and whether it is the last one. Another number of records than is asked is
+/// refused.
+pub(crate) fn read_slice<R: Read>(
+    work: &Work,
     reader: &mut RowsReader<R>,
-) -> Result<Rows, Failure>
-    ensures { IfOk result (λ rows. (options : RowsOptions) (text : List ℕ) → HasGivenRows options R.remaining reader.old text []
-        → HasGivenRows options R.remaining reader.new text rows × AreRowsOf options text rows) }
+    rows: &mut Rows,
+    tally: &mut Tally,
+) -> Result<bool, Failure>
+    ensures read { (f : Function) (text : List ℕ) (records : List Fields) (number : ℕ) → AreRowsOf work.now.job.now.options text records
+        → StandsBefore (job_record work.now.job.now work.now.asked.now f) R.remaining text records number reader.old
+        → IfOk result (IsSliceRead (job_record work.now.job.now work.now.asked.now f) R.remaining text records number reader.new rows.new) }
+    ensures skips { tally.new.skips ≡ tally.old.skips }
+    ensures failed { tally.new.is_failed ≡ tally.old.is_failed }
 {
-    let mut rows = Rows::new(alloc);
-    let more = reader.next_rows(&mut rows, MAX_RECORDS as usize + 1)?;
-    if more {
-        return Err(Failure::Run(DurableError::Step(RecordsStepError::Records)));
-    }
-    Ok(rows)
+    let most = work.job.slice_length;
+    reader.next_rows(rows, most as usize)?;
+    let count = rows.len() as u64;
+    tally.read(count)?;
+    let is_last = is_last_slice(count, most);
+    work.asked.refuse_other_number(tally.records, is_last)?;
+    Ok(is_last)
 }

@@ -1,150 +1,239 @@
-//! The run of a job over CSV.
+//! A job over CSV, slice after slice.
 
-ghost use Rattle.std.specs.Prelude.{◌≡◌, ◌≤◌, ◌⊎◌, List, IfOk};
-ghost use Rattle.sqlite.specs.Held.{state};
-ghost use Rattle.sqlite_trees.specs.View.{doubt};
-ghost use Rattle.jb_base.specs.Limits.{max_threads_asked};
-ghost use Rattle.jb_slice_file.specs.Kept.{Kept};
-ghost use Rattle.jb_csv_job.specs.Done.{AreAllResults, AreResultsSoFar, IsDoneSoFar, IsJobDone, header_in, results_in};
-ghost use Rattle.jb_csv_job.specs.Job.{job_record};
-ghost use Rattle.jb_csv_job.specs.Kept.{IsJobSoFar, IsTakenUp};
-ghost use Rattle.jb_slice_file.specs.Files.{IsOfARun};
+ghost use Rattle.std.specs.Prelude.{◌≡◌, ◌⊎◌, ℕ, Some, List, IfOk, IsTrue, MatchResult};
+ghost use Rattle.std.specs.Arc.{arc_value};
+ghost use Rattle.sqlite_wal.specs.Recovery.{Image};
+ghost use Rattle.jb_slice_file.specs.Files.{HoldsRun};
+ghost use Rattle.jb_slice_run.specs.Step.{AreOf};
+ghost use Rattle.jb_slices.specs.Slice.{Functions};
+ghost use Rattle.jb_csv_job.specs.Done.{HasEnded, HasSkipped, HasTakenAll, HasTakenSoFar, IsByRules, IsDoneSoFar, IsJobDone};
+ghost use Rattle.jb_csv_job.specs.Job.{job_record, stamps_of};
+ghost use Rattle.jb_csv_job.specs.Kept.{HoldsSlice, IsTakenUp, KeepsOwn, LeavesSlice, image_by};
+ghost use Rattle.jb_csv_job.specs.Loop.{IfTakenUp, IsLeftOfAny};
 
+use crate::asked::Asked;
 use crate::failure::Failure;
+use crate::host::Host;
 use crate::job::CsvJob;
-use crate::job_rows::JobRows;
-use crate::progress::Told;
-use crate::reading::records_in;
-use crate::reporting::report;
-use crate::step::step_of;
-use jb_answers::{status_of, write_results};
-use jb_durable_records::{ASecond, run_records_durably};
-use jb_records::StepFunction;
-use jb_rows::RowsReader;
-use jb_slice_file::opened_leaves_its_list;
-use sqlite::{Alter, Connection};
+use crate::keeper::Keeper;
+use crate::next::next_slice;
+use crate::report::Reporter;
+use crate::sink::{CsvSink, Sink};
+use crate::stored::Stored;
+use crate::tally::Tally;
+use crate::work::{Work, name_of, names_of, texts_of, work_of};
+use jb_rows::{RowFunction, Rows, RowsReader};
 use std::alloc::Global;
 use std::io::{Read, Write};
 use std::sync::{Arc, Wait};
 use std::thread::Threads;
 use std::time::Clock;
 
-/// Reads the records, and runs the step from the last checkpoint that the connection has to its end. Gives the results, and the exit
-/// status, 0 or 1. After each checkpoint, about a second's work, it says on standard error how far it is; and at the end which records are
-/// skipped and which fail. Where there is no answer, what is kept stays.
-pub fn run_to_rows<
-    F: StepFunction + Drop + 'static,
-    T: Threads + Wait + Clock + Eprint + Copy + Send + Sync + 'static,
-    S: Alter,
-    R: Read + Drop,
->(
-    rt: &T,
-    alloc: Global,
-    job: &CsvJob,
-    threads: u32,
-    function: F,
-    conn: &mut Connection<S>,
-    from: R,
-) -> Result<JobRows<R>, Failure>
-    requires { threads ≤ max_threads_asked }
-
-    // With status 0 they are the results of all records, whatever earlier runs the checkpoints are of.
-    ensures all { (all : List Kept) → IsTakenUp (job_record job.now (F.function function)) (R.remaining from) (state S.Store conn.old) (state S.Store conn.new) all
-        → IfOk result (λ r. r.status ≡ 0 → AreAllResults (job_record job.now (F.function function)) (R.remaining from) (header_in (job_record job.now (F.function function)) r) (results_in r)) }
-
-    // With any status they are those of each partition's records before its checkpoint, and the status is that of the rows.
-    ensures so_far { (all : List Kept) → IsTakenUp (job_record job.now (F.function function)) (R.remaining from) (state S.Store conn.old) (state S.Store conn.new) all
-        → IfOk result (λ r. AreResultsSoFar (job_record job.now (F.function function)) (R.remaining from) (header_in (job_record job.now (F.function function)) r) (results_in r) r.status) }
-
-    // It is 0 or 1.
-    ensures status { IfOk result (λ r. (r.status ≡ 0) ⊎ (r.status ≡ 1)) }
-
-    // A disk that is clean after the call was so before it.
-    ensures clean { doubt (state S.Store conn.old).is_clean ≤ doubt (state S.Store conn.new).is_clean }
-
-    // At any moment a crash leaves such checkpoints again.
-    ensures crash { (all : List Kept) → IsTakenUp (job_record job.now (F.function function)) (R.remaining from) (state S.Store conn.old) (state S.Store conn.new) all
-        → (db : _) → (state S.Store conn.new).may_leave db → IsOfARun (IsJobSoFar (job_record job.now (F.function function)) (R.remaining from)) db }
-{
-    opened_leaves_its_list(conn);
-    let mut reader = RowsReader::new(alloc, &job.options, from)?;
-    let rows = records_in(alloc, &mut reader)?;
-    let step = step_of(alloc, job, threads)?;
-    let function = Arc::new(alloc, function)?;
-    let onlooker = Told {
-        rt: *rt,
-        records: job.records,
-        results: job.results,
-    };
-    let pace = ASecond::new(*rt);
-    let end = run_records_durably(
-        rt,
-        alloc,
-        conn,
-        &step,
-        &function,
-        rows.as_list(),
-        pace,
-        onlooker,
-    )?;
-    let results = end.all_results(alloc)?;
-    let lines = reader.lines();
-    report(
-        rt,
-        alloc,
-        job.classes,
-        &step.rules,
-        &*function,
-        rows.as_list(),
-        lines,
-        &end.rows,
-    );
-    Ok(JobRows {
-        status: status_of(end.status),
-        reader,
-        results,
-    })
+/// How a job ended.
+#[derive(Clone, Copy, Debug, PartialEq, Eq)]
+pub struct JobEnd {
+    /// The exit status: 0 for COMPLETED, 1 for FAILED.
+    pub status: u8,
+    /// How many slices ended, of the task's own.
+    pub slices: u64,
+    /// How many records were read.
+    pub records: u64,
+    /// How many records of whole slices were skipped.
+    pub skips: u64,
+    /// How many slices failed. FAILED with none: more records were skipped than the job's limit.
+    pub failed: u64,
 }
 
-/// `run_to_rows`, and writes the results, each a line. Gives the exit status and the stream back. Where there is no answer, nothing is said
-/// of what was written.
+/// Slice after slice, from the first one on.
+fn all_slices<
+    F: RowFunction + Drop + 'static,
+    T: Threads + Wait + Clock + Eprint + Host + Copy + Send + Sync + 'static,
+    H: Stored,
+    K: Keeper,
+    R: Read + Drop,
+    N: Sink,
+>(
+    rt: &T,
+    work: &Work,
+    function: &Arc<F, Global>,
+    reader: &mut RowsReader<R>,
+    sink: &mut N,
+    keeper: &mut K,
+) -> Result<JobEnd, Failure>
+    ensures ends { IsTrue (K.are_clean keeper.new) → IfTakenUp (job_record work.now.job.now work.now.asked.now (F.answer (arc_value function.now))) R.remaining reader.old H.log H.db (λ functions text.
+        IfOk result (λ end. HasEnded (job_record work.now.job.now work.now.asked.now (F.answer (arc_value function.now))) (Some text) (N.took sink.old sink.new) end.status end.skips)) }
+    ensures so_far { IsTrue (K.are_clean keeper.new) → IfTakenUp (job_record work.now.job.now work.now.asked.now (F.answer (arc_value function.now))) R.remaining reader.old H.log H.db (λ functions text.
+        MatchResult result (λ end. HasTakenSoFar (job_record work.now.job.now work.now.asked.now (F.answer (arc_value function.now))) (Some text) (N.took sink.old sink.new)) (λ e. N.may_refuse e ⊎ HasTakenSoFar (job_record work.now.job.now work.now.asked.now (F.answer (arc_value function.now))) (Some text) (N.took sink.old sink.new))) }
+    ensures status { IfOk result (λ end. (end.status ≡ 0) ⊎ (end.status ≡ 1)) }
+    ensures clean { IsTrue (K.are_clean keeper.new) → IsTrue (K.are_clean keeper.old) }
+    ensures left { IsTrue (K.are_clean keeper.new) → IfTakenUp (job_record work.now.job.now work.now.asked.now (F.answer (arc_value function.now))) R.remaining reader.old H.log H.db (λ functions text.
+        (k : ℕ) (items : List (List ℕ)) (image : Image) → K.may_leave keeper.new k items image
+        → K.may_leave keeper.old k items image ⊎ LeavesSlice (job_record work.now.job.now work.now.asked.now (F.answer (arc_value function.now))) functions (Some text) k image) }
+    ensures crash { IsTrue (K.are_clean keeper.new) → (functions : Functions) → AreOf functions (F.answer (arc_value function.now)) (stamps_of work.now.job.now work.now.asked.now)
+        → (k : ℕ) (items : List (List ℕ)) (image : Image) → K.may_leave keeper.new k items image
+        → IsLeftOfAny (job_record work.now.job.now work.now.asked.now (F.answer (arc_value function.now))) functions (image_by H.log H.db) (K.may_leave keeper.old k items image) k items image }
+{
+    let mut rows = Rows::new(rt.host().alloc());
+    let mut reporter = Reporter::new(rt);
+    let mut tally = Tally::new();
+    for number in 0..u64::MAX {
+        let more = match next_slice::<F, T, H, K, R, N>(
+            rt,
+            work,
+            number,
+            function,
+            reader,
+            &mut rows,
+            sink,
+            keeper,
+            &mut reporter,
+            &mut tally,
+        ) {
+            Ok(more) => more,
+            Err(failure) => return Err(failure),
+        };
+        if !more {
+            reporter.finish(rt, work.job);
+            return Ok(tally.end());
+        }
+    }
+    Err(Failure::TooMany)
+}
+
+/// Reads the records, slice by slice, and runs each slice over its file from its last checkpoint on, or collects it; and gives its results to
+/// the sink before the next slice is read. It has in memory what one slice takes, however many there are. Where a slice fails, later ones still
+/// run, but no result more is given to the sink, and the job ends FAILED. After each slice it ends FAILED too if more records were skipped than
+/// the job's limit. Where there is no answer, what the files keep stays.
+///
+/// # Errors
+/// `File` and `Slice`, of a slice's file and of its run; `NotWhole`, where a slice is to be collected; `Rows`, of the records; `Records`, where
+/// there are others in number than asked; `TooMany`; `Memory`; and those of the sink.
+pub fn run_slices<
+    F: RowFunction + Drop + 'static,
+    T: Threads + Wait + Clock + Eprint + Host + Copy + Send + Sync + 'static,
+    H: Stored,
+    K: Keeper,
+    R: Read + Drop,
+    N: Sink,
+>(
+    rt: &T,
+    job: &CsvJob,
+    asked: &Asked,
+    function: F,
+    reader: &mut RowsReader<R>,
+    sink: &mut N,
+    keeper: &mut K,
+) -> Result<JobEnd, Failure>
+    // With status 0 the sink took the results of all records, whatever earlier runs the files are of.
+    ensures all { IsTrue (K.are_clean keeper.new) → IfTakenUp (job_record job.now asked.now (F.answer function)) R.remaining reader.old H.log H.db (λ functions text.
+        IfOk result (λ end. end.status ≡ 0 → HasTakenAll (job_record job.now asked.now (F.answer function)) (Some text) (N.took sink.old sink.new))) }
+
+    // With any answer but the sink's own failure it took those of the first slices.
+    ensures so_far { IsTrue (K.are_clean keeper.new) → IfTakenUp (job_record job.now asked.now (F.answer function)) R.remaining reader.old H.log H.db (λ functions text.
+        MatchResult result (λ end. HasTakenSoFar (job_record job.now asked.now (F.answer function)) (Some text) (N.took sink.old sink.new))
+        (λ e. N.may_refuse e ⊎ HasTakenSoFar (job_record job.now asked.now (F.answer function)) (Some text) (N.took sink.old sink.new))) }
+
+    // The status is by the job's rules, whatever was kept and however many runs it took.
+    ensures by_rules { IsTrue (K.are_clean keeper.new) → IfTakenUp (job_record job.now asked.now (F.answer function)) R.remaining reader.old H.log H.db (λ functions text.
+        IfOk result (λ end. IsByRules (job_record job.now asked.now (F.answer function)) (Some text) end.status)) }
+
+    // With status 0 it counts the records that have a fault.
+    ensures skips { IsTrue (K.are_clean keeper.new) → IfTakenUp (job_record job.now asked.now (F.answer function)) R.remaining reader.old H.log H.db (λ functions text.
+        IfOk result (λ end. end.status ≡ 0 → HasSkipped (job_record job.now asked.now (F.answer function)) (Some text) end.skips)) }
+
+    // It is 0 or 1.
+    ensures status { IfOk result (λ end. (end.status ≡ 0) ⊎ (end.status ≡ 1)) }
+
+    // Disks that are clean after the call were so before it.
+    ensures clean { IsTrue (K.are_clean keeper.new) → IsTrue (K.are_clean keeper.old) }
+
+    // Whatever a crash leaves of a slice's files holds that slice of the text so far again.
+    ensures left { IsTrue (K.are_clean keeper.new) → IfTakenUp (job_record job.now asked.now (F.answer function)) R.remaining reader.old H.log H.db (λ functions text.
+        (k : ℕ) (items : List (List ℕ)) (image : Image) → K.may_leave keeper.new k items image
+        → K.may_leave keeper.old k items image ⊎ LeavesSlice (job_record job.now asked.now (F.answer function)) functions (Some text) k image) }
+
+    // And where the bytes of the stream aren't known, the slice so far of the items that were read.
+    ensures crash { IsTrue (K.are_clean keeper.new) → (functions : Functions) → AreOf functions (F.answer function) (stamps_of job.now asked.now)
+        → (k : ℕ) (items : List (List ℕ)) (image : Image) → K.may_leave keeper.new k items image
+        → K.may_leave keeper.old k items image ⊎ (HoldsSlice (job_record job.now asked.now (F.answer function)) functions k items (image_by H.log H.db k)
+        → HoldsRun (KeepsOwn (job_record job.now asked.now (F.answer function)) functions k items) image) }
+{
+    let alloc = rt.host().alloc();
+    let name = name_of(alloc, job)?;
+    let classes = names_of(alloc, &*job.classes)?;
+    let stamps = texts_of(alloc, asked.stamps.as_slice())?;
+    let function = Arc::new(alloc, function)?;
+    let work = work_of(&name, classes.as_slice(), stamps.as_slice(), &*job, &*asked);
+    all_slices::<F, T, H, K, R, N>(rt, &work, &function, reader, sink, keeper)
+}
+
+/// `run_slices` with the records of a stream, and writes the results to another one, each a line, after the header row if it is copied. Gives
+/// the stream back that they were written to. A part writes nothing.
+///
+/// # Errors
+/// Those of `run_slices`, and `Rows`, of either stream.
 pub fn run_csv_job<
-    F: StepFunction + Drop + 'static,
-    T: Threads + Wait + Clock + Eprint + Copy + Send + Sync + 'static,
-    S: Alter,
+    F: RowFunction + Drop + 'static,
+    T: Threads + Wait + Clock + Eprint + Host + Copy + Send + Sync + 'static,
+    H: Stored,
+    K: Keeper,
     R: Read + Drop,
     W: Write + Drop,
 >(
     rt: &T,
-    alloc: Global,
     job: &CsvJob,
-    threads: u32,
+    asked: &Asked,
     function: F,
-    conn: &mut Connection<S>,
     from: R,
     to: W,
-) -> Result<(u8, W), Failure>
-    requires { threads ≤ max_threads_asked }
+    keeper: &mut K,
+) -> Result<(JobEnd, W), Failure>
+    // With status 0 what was written are the results of all records, whatever earlier runs the files are of.
+    ensures all { IsTrue (K.are_clean keeper.new) → (functions : Functions) → IsTakenUp (job_record job.now asked.now (F.answer function)) functions (R.remaining from) H.log H.db
+        → IfOk result (λ r. r.0.status ≡ 0 → IsJobDone (job_record job.now asked.now (F.answer function)) (R.remaining from) (W.contents to) (W.contents r.1)) }
 
-    // With status 0 what is written are the results of all records, whatever earlier runs the checkpoints are of.
-    ensures all { (all : List Kept) → IsTakenUp (job_record job.now (F.function function)) (R.remaining from) (state S.Store conn.old) (state S.Store conn.new) all
-        → IfOk result (λ r. r.0 ≡ 0 → IsJobDone (job_record job.now (F.function function)) (R.remaining from) (W.contents to) (W.contents r.1)) }
+    // With any status those of the first slices.
+    ensures so_far { IsTrue (K.are_clean keeper.new) → (functions : Functions) → IsTakenUp (job_record job.now asked.now (F.answer function)) functions (R.remaining from) H.log H.db
+        → IfOk result (λ r. IsDoneSoFar (job_record job.now asked.now (F.answer function)) (R.remaining from) (W.contents to) (W.contents r.1)) }
 
-    // With any status they are those of each partition's records before its checkpoint, and the status is that of the rows.
-    ensures so_far { (all : List Kept) → IsTakenUp (job_record job.now (F.function function)) (R.remaining from) (state S.Store conn.old) (state S.Store conn.new) all
-        → IfOk result (λ r. IsDoneSoFar (job_record job.now (F.function function)) (R.remaining from) (W.contents to) (W.contents r.1) r.0) }
+    // The status is by the job's rules, whatever was kept and however many runs it took.
+    ensures by_rules { IsTrue (K.are_clean keeper.new) → (functions : Functions) → IsTakenUp (job_record job.now asked.now (F.answer function)) functions (R.remaining from) H.log H.db
+        → IfOk result (λ r. IsByRules (job_record job.now asked.now (F.answer function)) (R.remaining from) r.0.status) }
+
+    // With status 0 it counts the records that have a fault.
+    ensures skips { IsTrue (K.are_clean keeper.new) → (functions : Functions) → IsTakenUp (job_record job.now asked.now (F.answer function)) functions (R.remaining from) H.log H.db
+        → IfOk result (λ r. r.0.status ≡ 0 → HasSkipped (job_record job.now asked.now (F.answer function)) (R.remaining from) r.0.skips) }
 
     // It is 0 or 1.
-    ensures status { IfOk result (λ r. (r.0 ≡ 0) ⊎ (r.0 ≡ 1)) }
+    ensures status { IfOk result (λ r. (r.0.status ≡ 0) ⊎ (r.0.status ≡ 1)) }
 
-    // A disk that is clean after the call was so before it.
-    ensures clean { doubt (state S.Store conn.old).is_clean ≤ doubt (state S.Store conn.new).is_clean }
+    // Disks that are clean after the call were so before it.
+    ensures clean { IsTrue (K.are_clean keeper.new) → IsTrue (K.are_clean keeper.old) }
 
-    // At any moment a crash leaves such checkpoints again.
-    ensures crash { (all : List Kept) → IsTakenUp (job_record job.now (F.function function)) (R.remaining from) (state S.Store conn.old) (state S.Store conn.new) all
-        → (db : _) → (state S.Store conn.new).may_leave db → IsOfARun (IsJobSoFar (job_record job.now (F.function function)) (R.remaining from)) db }
+    // Whatever a crash leaves of a slice's files holds that slice of the text so far again.
+    ensures left { IsTrue (K.are_clean keeper.new) → (functions : Functions) → IsTakenUp (job_record job.now asked.now (F.answer function)) functions (R.remaining from) H.log H.db
+        → (k : ℕ) (items : List (List ℕ)) (image : Image) → K.may_leave keeper.new k items image
+        → K.may_leave keeper.old k items image ⊎ LeavesSlice (job_record job.now asked.now (F.answer function)) functions (R.remaining from) k image }
+
+    // And where the bytes of the stream aren't known, the slice so far of the items that were read.
+    ensures crash { IsTrue (K.are_clean keeper.new) → (functions : Functions) → AreOf functions (F.answer function) (stamps_of job.now asked.now)
+        → (k : ℕ) (items : List (List ℕ)) (image : Image) → K.may_leave keeper.new k items image
+        → K.may_leave keeper.old k items image ⊎ (HoldsSlice (job_record job.now asked.now (F.answer function)) functions k items (image_by H.log H.db k)
+        → HoldsRun (KeepsOwn (job_record job.now asked.now (F.answer function)) functions k items) image) }
 {
-    let rows = run_to_rows(rt, alloc, job, threads, function, conn, from)?;
-    let to = write_results(alloc, &job.options, &rows.reader, to, &rows.results)?;
-    Ok((rows.status, to))
+    let alloc = rt.host().alloc();
+    let mut reader = RowsReader::new(alloc, &job.options, from)?;
+    let mut sink = CsvSink::new(alloc, &job.options, to);
+    sink.write_header(asked.task, &job.options, &reader)?;
+    let end = run_slices::<F, T, H, K, R, CsvSink<W>>(
+        rt,
+        job,
+        asked,
+        function,
+        &mut reader,
+        &mut sink,
+        keeper,
+    )?;
+    let to = sink.finish()?;
+    Ok((end, to))
 }

@@ -6,7 +6,6 @@
 ghost use Rattle.std.specs.Thread.{IsSync};
 
 use crate::files::{opened, text_of};
-use jb_durable_records::LastLife;
 use jb_slice_file::{StoreError, closed, list};
 use sqlite::{Alter, Connection, FileStore, Files};
 use sqlite_disk::Disk;
@@ -64,27 +63,6 @@ pub(crate) fn lived<R: Threads + Wait + Sync, D: Disk + Drop, L: Life>(
         Ok(conn) => ended(rt, alloc, conn, life),
         Err((error, files)) => (files, named(alloc, error)),
     }
-}
-
-/// What the last of some lives says: whether the run is whole, how many crashes there were before it, and the checkpoints.
-pub(crate) fn last_says<R: Threads + Wait + Sync, D: Disk + Drop>(
-    rt: &R,
-    alloc: Global,
-    last: Option<LastLife<D>>,
-) -> Result<String, Fail> {
-    let Some(
-        LastLife {
-            conn,
-            is_done,
-            crashes,
-        },
-    ) = last
-    else {
-        return Err(Fail::from("an open"));
-    };
-    let (_, said) = ended(rt, alloc, conn, &mut Listing);
-    let all = said?;
-    Ok(format!(in alloc; "{is_done} {crashes} {all}")?)
 }
 
 /// The name of a refusal.

@@ -21,7 +21,7 @@ use Rattle.jb_records.specs.Function.{Function, IsSteady}
 use Rattle.jb_records.specs.Runs.{PartsStay, ResultsGoOn}
 use Rattle.jb_records.specs.Shares.{AreRowsInOrder, IsSoFar, newer_shares}
 use Rattle.jb_records.specs.Steps.{AreArtifacts, StepsKeepResults}
-use Rattle.jb_records.specs.Stretches.{HasGoneOn, IsStretchMade, RunState, StandsOver, grown, numbers_in, artifacts_in}
+use Rattle.jb_records.specs.Stretches.{AreFurther, HasGoneOn, IsStretchMade, RunState, StandsOver, grown, numbers_in, artifacts_in}
 use Rattle.jb_records.specs.inside.Calls.{CanBeginOver}
 use Rattle.jb_records.specs.inside.Kept.{IsGoingOn, IsRanOver, RowsAreSaved, StretchesGoOn, ArtifactsFit, is_done, is_left, news_from}
 use Rattle.jb_records.proofs.Ahead.{GoAhead, IsAhead, rows-ahead}
@@ -187,10 +187,17 @@ module _ (going : ResultsGoOn) (parts : PartsStay) (begins : BeginsWithTasks) (s
         number = news-length 0 (map (λ row. row.written) before.setup.rows) left ∙ length-told before.setup.rows ∙ sym (same-length before.setup.rows rows aheads);
         same = same-length before.setup.rows rows aheads;
         ranges = ap ranges_of ran.rows ∙ rangesare before.setup (artifacts_in before.artifacts) now stands.setup ran.fit ran.ways;
+        further = all-further before.setup.rows rows aheads;
         follows = follow;
         stands = stands-now;
       }
         where
+          all-further : (olds news : List Row) → Pairwise IsAhead olds news → AreFurther olds news
+          all-further [] [] is = tt
+          all-further [] (n ∷ ns) is = absurd is
+          all-further (o ∷ os) [] is = absurd is
+          all-further (o ∷ os) (n ∷ ns) is = (is.0.at, all-further os ns is.1)
+
           length-told : (rs : List Row) → length (map (λ row. row.written) rs) ≡ length rs
           length-told [] = refl
           length-told (r ∷ rs) = ap suc (length-told rs)

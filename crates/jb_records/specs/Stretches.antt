@@ -1,7 +1,8 @@
 -- A step over records that stays in memory between its stretches.
-use Rattle.std.specs.Prelude.{ℕ, ◌≡◌, ◌++◌, List, [], length, map, Option, Ok}
+use Rattle.std.specs.Prelude.{ℕ, ◌≡◌, ◌≤◌, ◌++◌, List, [], length, map, Option, Ok}
 use Rattle.std.specs.List.{zip}
 use Rattle.jb_artifacts.specs.Meaning.{ArtifactsMeaning}
+use Rattle.jb_base.specs.Pairwise.{Pairwise}
 use Rattle.jb_job.specs.Reading.{tree_of}
 use Rattle.jb_repo.specs.declared.snapshot.Snapshot.{Snapshot}
 use Rattle.jb_rules.specs.declared.row.Row.{Row}
@@ -79,14 +80,19 @@ pub record BeginsBehind (step text : List ℕ) (shares : List (List (List ℕ)))
 abbrev pub grown : (shares news : List (List (List ℕ))) → List (List (List ℕ))
 grown shares news = map (λ n. n.0 ++ n.1) (zip shares news)
 
+-- each partition is where it was, or further on
+abbrev pub AreFurther : (before now : List Row) → Type 0
+AreFurther before now = Pairwise (λ (b n : Row). b.at ≤ n.at) before now
+
 -- THE STRETCH WENT ON: these rows and the shares now are so far; the shares now are those before, each with what is new of it behind;
--- the partitions keep their ranges, and the rows follow the rules; and the run stands there
+-- the partitions keep their ranges, and none goes back; the rows follow the rules; and the run stands there
 pub record HasGoneOn (f : Function) (records : List (List ℕ)) (before after : RunState) (rows : List Row) (news : List (List (List ℕ))) : Type 0 where
   pub so_far : IsSoFar f records rows after.shares
   pub shares_are : after.shares ≡ grown before.shares news
   pub number : length news ≡ length rows
   pub same : length rows ≡ length before.setup.rows
   pub ranges : ranges_of rows ≡ ranges_of before.setup.rows
+  pub further : AreFurther before.setup.rows rows
   pub follows : IsSteady f → FollowRules f before.setup.rules records rows
   pub stands : StandsOver f records after
 

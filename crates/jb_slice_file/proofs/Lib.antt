@@ -6,13 +6,11 @@ pub mod Lists
 pub mod Columns
 pub mod Written
 pub mod Caused
-pub mod CausedOpen
+pub mod Failing
 pub mod Read
 pub mod Named
 pub mod Opened
-pub mod WholeFiles
 pub mod Clean
-pub mod Left
 pub mod Opens
 pub mod Over
 pub mod Pages

@@ -1,5 +1,5 @@
 -- The rows of a table, in any order, and the checkpoints that they are.
-use Rattle.std.proofs.Common.{◌≡◌, ◌<◌, ◌≤◌, ◌+◌, inl, inr, ℕ, suc, pos, List, [], ◌∷◌, ◌++◌, length, map, not, Bool, true, false, Ordering, Less, Equal, Greater, IsPermutation, refl, sym, ap, subst, ◌∙◌, arith, add-one, true≢false}
+use Rattle.std.proofs.Common.{◌≡◌, ◌<◌, ◌≤◌, ◌+◌, inl, inr, ℕ, suc, pos, List, [], ◌∷◌, ◌++◌, length, map, Bool, true, false, Ordering, Less, Equal, Greater, IsPermutation, refl, sym, ap, subst, ◌∙◌, arith, true≢false}
 use Rattle.std.specs.List.{AllByRecursion}
 use Rattle.std.specs.Ordering.{is_eq, int_cmp, ordering_then, match_ordering}
 use Rattle.std.proofs.lemmas.List.Sorted.{list_any-IsPermutation, IsPermutation-refl, IsPermutation-cons, IsPermutation-trans, IsPermutation-middle, IsPermutation-sym}

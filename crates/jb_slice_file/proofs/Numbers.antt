@@ -1,5 +1,5 @@
 -- The numbers and the links of checkpoints that were found.
-use Rattle.std.proofs.Common.{◌≡◌, ◌≢◌, ◌+◌, ℕ, suc, pos, append_assoc, List, [], ◌∷◌, ◌++◌, length, length-append, map, refl, sym, ap, subst, ◌∙◌, arith}
+use Rattle.std.proofs.Common.{◌≡◌, ◌≢◌, ◌+◌, ℕ, suc, pos, append_assoc, List, [], ◌∷◌, ◌++◌, length, length-append, map, sym, ap, ◌∙◌, arith}
 use Rattle.std.proofs.lemmas.List.{map-append, length-map}
 use Rattle.jb_slice_file.specs.declared.checkpoint.Checkpoint.{Checkpoint}
 use Rattle.jb_slice_file.specs.declared.numbered.Found.{Found}
@@ -27,14 +27,14 @@ numbered_push : (number : ℕ) (all : List Linked) (one : Linked) (n : ℕ) → 
 numbered_push number [] one n is = let same : number ≡ n = omega (arith, is) in ap (λ (m : ℕ). (record { number = pos m; linked = one }) ∷ []) same
 numbered_push number (x ∷ all) one n is = ap (λ (more : List Numbered). (record { number = pos number; linked = x }) ∷ more) (numbered_push (suc number) all one n (omega (arith, is)))
 
-pub head_is : (x y : Numbered) (xs ys : List Numbered) → x ∷ xs ≡ y ∷ ys → x ≡ y
+head_is : (x y : Numbered) (xs ys : List Numbered) → x ∷ xs ≡ y ∷ ys → x ≡ y
 head_is x y xs ys e = cc
 
-pub tail_is : (x y : Numbered) (xs ys : List Numbered) → x ∷ xs ≡ y ∷ ys → xs ≡ ys
+tail_is : (x y : Numbered) (xs ys : List Numbered) → x ∷ xs ≡ y ∷ ys → xs ≡ ys
 tail_is x y xs ys e = cc
 
 -- one that was found with another link is of no chain
-pub has_link : (before : List ℕ) (number : ℕ) (front all : List Kept) (one : Linked) (later : List Numbered) (n : ℕ) → n ≡ number + length front
+has_link : (before : List ℕ) (number : ℕ) (front all : List Kept) (one : Linked) (later : List Numbered) (n : ℕ) → n ≡ number + length front
     → numbered_from number (chained_from before number front ++ one ∷ []) ++ later ≡ numbered_from number (chained_from before number all) → one.link ≡ link_of (last_from before number front) n one.it
 has_link before number [] [] one later n at is = let none : ⊥ = cc in absurd none
 has_link before number [] (a ∷ all) one later n at is =

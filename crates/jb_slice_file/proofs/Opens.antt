@@ -1,7 +1,7 @@
 -- What an open finds, and what it leaves where it was cut.
 use Rattle.std.proofs.Common.{◌≡◌, ◌⊎◌, ◌∙◌, ℕ, Bool, true, false, List, [], IsTrue, inl, inr, refl, sym, ap, subst, subst₂, true≢false}
 use Rattle.std.proofs.Math.Logic.{∥∥₁_map, ∥∥₁_elim}
-use Rattle.sqlite_catalog.specs.Listing.{IsSound}
+use Rattle.sqlite_catalog.specs.Listing.{IsSound, Lists}
 use Rattle.sqlite_disk.specs.declared.Disk.{Ghosts}
 use Rattle.sqlite_disk.specs.declared.Files.{Files}
 use Rattle.sqlite_pool.proofs.StateLemmas.{size_is_allowed}
@@ -22,17 +22,18 @@ use Rattle.sqlite.proofs.FileLemmas.{is_something}
 use Rattle.sqlite.proofs.ListingLemmas.{empty_is_sound}
 use Rattle.sqlite.specs.Files.{AreFoundIn, HoldsDatabase, IsNothing, LeavesFiles, NamesSize, SaysSums, image_of}
 use Rattle.sqlite.specs.Schema.{Schema}
+use Rattle.sqlite.specs.State.{State}
 use Rattle.sqlite.specs.declared.file.Leftover.{Leftover}
 use Rattle.sqlite.specs.declared.file.Leftover.TheVariants as left
-use Rattle.jb_slice_file.specs.Rows.{Has}
+use Rattle.jb_slice_file.specs.Rows.{Has, ShowsList}
+use Rattle.jb_slice_file.specs.Connections.{IsJustOpened}
 use Rattle.jb_slice_file.specs.Kept.{Kept}
 use Rattle.jb_slice_file.specs.Form.{checkpoint_schema, no_schema}
-use Rattle.jb_slice_file.specs.Files.{HoldsWhole}
-use Rattle.jb_slice_file.proofs.WholeFiles.{whole_is_database}
-use Rattle.jb_slice_file.specs.Files.{CanGoOn, IsResumable, HoldsPages, HoldsRun, HoldsRunOrNone, IsOfARun, Leaves, LeavesImage, MayGoOn, has_store}
+use Rattle.jb_slice_file.specs.Files.{HoldsWhole, CanGoOn, IsResumable, HoldsPages, HoldsRun, HoldsRunOrNone, IsOfARun, Leaves, LeavesImage, MayGoOn, has_store}
+use Rattle.jb_slice_file.proofs.Opened.{shows_found}
 use Rattle.jb_slice_file.proofs.Pages.{pages_once, something, stands_pages}
 use Rattle.jb_slice_file.proofs.Tables.{IsChecked, one_list}
-use Rattle.jb_slice_file.proofs.Whole.{database_pages, stands_whole, whole_pages}
+use Rattle.jb_slice_file.proofs.Whole.{database_pages, stands_whole, whole_is_database, whole_pages}
 
 -- the same file, of whose numbers nothing is said
 loose_file : (size : ℕ) (is_numbered : Bool) (wanted : List Wanted) (pages : Pages) → IsOurs size is_numbered wanted pages → IsOurs size false wanted pages
@@ -49,6 +50,11 @@ holds_something is_numbered image db held = something held.0 image held.2.stored
 
 adopts_something : (size : ℕ) (image : Image) (pages : Pages) (wanted : List Wanted) → Adopts size image pages → IsOurs size true wanted pages → ¬ IsNothing image
 adopts_something size image pages wanted taken ours = something size image taken.stored taken.found taken.whole (subst (IsSoundFile size) (sym taken.shows) ours.file.sound)
+
+-- in files with no database an open finds no checkpoint
+pub shows_none : (s : State) → IsJustOpened s → (image : Image) → IsNothing image → AreFoundIn image s.committed.trees → ShowsList s.now []
+shows_none s opened image nothing (inl there) = absurd (∥∥₁_elim there.4 (λ no. absurd no) (λ exact. adopts_something there.0 image there.1 there.2 there.3 exact nothing))
+shows_none s opened image nothing (inr none) = shows_found s opened s.committed.trees refl [] (inr (empty_is_sound s.committed.trees none.1.1, refl))
 
 stands_on : (is_numbered : Bool) (old new : Image) (db : Trees) → HoldsPages is_numbered old db → (size : ℕ) → NamesSize old (stored_size size)
     → (IsTrue (is_summed size) → SaysSums (stored_size size) old) → StandsAs size old new → HoldsPages is_numbered new db
@@ -106,35 +112,37 @@ module _ (image : Image) (db : Trees) (is_numbered : Bool) (held : HoldsPages is
       let listed : db catalog_tree ≡ listed_from 0 held.2.wanted = ap (λ d. d catalog_tree) held.2.reads ∙ catalog_rows held.0 held.2.wanted _ in
       let theirs : file_trees size wanted pages catalog_tree ≡ listed_from 0 wanted = catalog_rows size wanted _ in
       let ours : IsChecked (listed_from 0 held.2.wanted) = elim has [
-        | inl stands ↦ inl (subst (λ rows. Rattle.sqlite_catalog.specs.Listing.Lists rows checkpoint_schema) listed stands.sound.lists)
-        | inr none ↦ inr (subst (λ rows. Rattle.sqlite_catalog.specs.Listing.Lists rows no_schema) listed none.0.lists)
+        | inl stands ↦ inl (subst (λ rows. Lists rows checkpoint_schema) listed stands.sound.lists)
+        | inr none ↦ inr (subst (λ rows. Lists rows no_schema) listed none.0.lists)
       ] in
       let found : IsChecked (listed_from 0 wanted) = elim is [
-        | inl none ↦ inr (subst₂ Rattle.sqlite_catalog.specs.Listing.Lists theirs none sound.lists)
-        | inr checked ↦ inl (subst₂ Rattle.sqlite_catalog.specs.Listing.Lists theirs checked sound.lists)
+        | inl none ↦ inr (subst₂ Lists theirs none sound.lists)
+        | inr checked ↦ inl (subst₂ Lists theirs checked sound.lists)
       ] in
       let one = one_list held.0 (trimmed held.0 stored) held.2.wanted wanted held.2.ours.file here ours found in
       (same_file held.0 wanted held.2.wanted (trimmed held.0 stored) (sym one) here).0
 
+abbrev pub Resumes : Bool → (List Kept → Type 0) → Image → Type 0
+Resumes is_numbered so_far image = ((db : Trees) × HoldsPages is_numbered image db × IsOfARun so_far db) ⊎ (IsNothing image × so_far [])
+
+-- what an open finds in files from which a run resumes: their database, or none in either
+meets : {A : Type 0} (is_numbered : Bool) (so_far : List Kept → Type 0) (image : Image) (trees : Trees) → Resumes is_numbered so_far image → AreFoundIn image trees
+    → ((db : Trees) → HoldsPages is_numbered image db → IsOfARun so_far db → (size : ℕ) (pages : Pages) (wanted : List Wanted) → Adopts size image pages → IsOurs size true wanted pages
+    → trees ≡ file_trees size wanted pages → A)
+    → (so_far [] → IsSound no_schema trees → A) → ∥ A ∥₁
+meets is_numbered so_far image trees (inl h) (inl there) both none = ∥∥₁_map there.4 (λ exact. both h.0 h.1 h.2 there.0 there.1 there.2 there.3 exact there.5)
+meets is_numbered so_far image trees (inl h) (inr nothing) both none = absurd (holds_something is_numbered image h.0 h.1 nothing.0)
+meets is_numbered so_far image trees (inr empty) (inl there) both none = ∥∥₁_map there.4 (λ exact. absurd (adopts_something there.0 image there.1 there.2 there.3 exact empty.0))
+meets is_numbered so_far image trees (inr empty) (inr nothing) both none = ∣ none empty.1 (empty_is_sound trees nothing.1.1) ∣₁
+
 -- a database of an open that tells what it found in files from which a run may go on
 pub found_run : (so_far : List Kept → Type 0) (image : Image) (trees : Trees) → MayGoOn so_far image → AreFoundIn image trees → ((db : Trees) → HoldsDatabase image db → trees ≡ db)
     → (schema : Schema) → IsSound schema trees → (schema ≡ no_schema) ⊎ (schema ≡ checkpoint_schema) → ∥ IsOfARun so_far trees ∥₁
-found_run so_far image trees may reads holds schema sound is = ∥∥₁_elim may squash₁ (λ from. elim from [
-  | inl h ↦ elim reads [
-    | inl there ↦ ∥∥₁_map there.4 (λ exact.
-        let at = subst (IsSound schema) there.5 sound in
-        let held = as_database image h.0 false h.1 there.0 there.1 there.2 there.3 exact (named image h.0 false h.1 there.0 there.1 there.2 there.3 exact h.2.0 h.2.1 schema at is) in
-        let run : IsOfARun so_far trees = (h.2.0, subst (λ t. Has t h.2.0) (sym (holds h.0 held)) h.2.1, h.2.2) in run)
-    | inr nothing ↦ absurd (holds_something false image h.0 h.1 nothing.0)
-  ]
-  | inr none ↦ elim reads [
-    | inl there ↦ ∥∥₁_map there.4 (λ exact. absurd (adopts_something there.0 image there.1 there.2 there.3 exact none.0))
-    | inr nothing ↦ let run : IsOfARun so_far trees = ([], inr (empty_is_sound trees nothing.1.1, refl), none.1) in ∣ run ∣₁
-  ]
-])
-
-abbrev pub Resumes : Bool → (List Kept → Type 0) → Image → Type 0
-Resumes is_numbered so_far image = ((db : Trees) × HoldsPages is_numbered image db × IsOfARun so_far db) ⊎ (IsNothing image × so_far [])
+found_run so_far image trees may reads holds schema sound is = ∥∥₁_elim may squash₁ (λ from. meets false so_far image trees from reads
+    (λ db held run size pages wanted taken exact same.
+    let ours = named image db false held size pages wanted taken exact run.0 run.1 schema (subst (IsSound schema) same sound) is in
+    (run.0, subst (λ t. Has t run.0) (sym (holds db (as_database image db false held size pages wanted taken exact ours))) run.1, run.2))
+    (λ fresh empty. ([], inr (empty, refl), fresh)))
 
 pub run_goes_on : (so_far : List Kept → Type 0) (image : Image) → HoldsRun so_far image → CanGoOn so_far image
 run_goes_on so_far image run = ∥∥₁_map run (λ h. let r : Resumes true so_far image = inl (h.0, whole_pages image h.0 h.1, h.2) in r)
@@ -200,20 +208,11 @@ module _ {D : Type 0} {g : Ghosts D} (so_far : List Kept → Type 0) (stays : Se
       let holds = λ (db : Trees) (is : db ≡ read) (schema : Schema) (sound : IsSound schema db).
       let h : HoldsPages false image db =
       (size, valid, record { stored = found.1.stored; found = found.1.found; whole = found.1.whole; wanted = wanted; ours = loose; reads = is ∙ shows }, (schema, sound)) in h in
-      ∥∥₁_elim (leaves (image_of g files) (stays files.log, stays files.db)) squash₁ (λ from. elim from [
-        | inl h ↦ elim told.0 [
-          | inl there ↦ ∥∥₁_map there.4 (λ exact.
-              let is = told.1 h.0 (as_database (image_of g files) h.0 true h.1 there.0 there.1 there.2 there.3 exact h.1.2.ours) in
-              let r : Resumes false so_far image = inl (h.0, holds h.0 (sym is) h.1.3.0 h.1.3.1, h.2) in r)
-          | inr nothing ↦ absurd (holds_something true (image_of g files) h.0 h.1 nothing.0)
-        ]
-        | inr none ↦ elim told.0 [
-          | inl there ↦ ∥∥₁_map there.4 (λ exact. absurd (adopts_something there.0 (image_of g files) there.1 there.2 there.3 exact none.0))
-          | inr nothing ↦
-              let empty = empty_is_sound read nothing.1.1 in
-              let r : Resumes false so_far image = inl (read, holds read refl no_schema empty, ([], inr (empty, refl), none.1)) in ∣ r ∣₁
-        ]
-      ]))))
+      ∥∥₁_elim (leaves (image_of g files) (stays files.log, stays files.db)) squash₁ (λ from. meets true so_far (image_of g files) read from told.0
+      (λ db held run size pages wanted taken exact same.
+      let is = told.1 db (as_database (image_of g files) db true held size pages wanted taken exact held.2.ours) in
+      let r : Resumes false so_far image = inl (db, holds db (sym is) held.3.0 held.3.1, run) in r)
+      (λ fresh empty. let r : Resumes false so_far image = inl (read, holds read refl no_schema empty, ([], inr (empty, refl), fresh)) in r)))))
 
   -- at least that, wherever it was cut
   pub cut_may_go_on : (rest : Leftover D g) → LeavesFiles files rest → (image : Image) → LeavesImage rest image → Leaves g (CanGoOn so_far) files → MayGoOn so_far image

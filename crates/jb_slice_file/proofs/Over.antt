@@ -1,5 +1,5 @@
 -- What a life leaves, by how it ended.
-use Rattle.std.proofs.Common.{true, false, List, IsTrue}
+use Rattle.std.proofs.Common.{List, IsTrue}
 use Rattle.sqlite_disk.specs.declared.Disk.{Ghosts}
 use Rattle.sqlite_disk.specs.declared.Files.{Files}
 use Rattle.sqlite_wal.specs.Reads.{AreClean}

@@ -1,5 +1,5 @@
 -- The pages to which files recover, whatever sums they have.
-use Rattle.std.proofs.Common.{suc, zero, ◌≡◌, ◌⊎◌, ◌≤◌, ◌<◌, ◌+◌, ◌*◌, ◌-◌, ◌%◌, ◌++◌, ◌∷◌, inl, inr, ℕ, Bool, List, [], length, take, codes, get_or, slice_index, get_or-take, Option, Some, None, option_map, unwrap_or, true, false, IsTrue, refl, sym, ap, ap₂, subst, ◌∙◌, arith, take_all, eqb, eqb-true, zero-add, le-ltb, cond}
+use Rattle.std.proofs.Common.{suc, zero, ◌≡◌, ◌⊎◌, ◌≤◌, ◌<◌, ◌+◌, ◌*◌, ◌-◌, ◌%◌, ◌∷◌, inl, inr, ℕ, Bool, List, [], length, take, slice_index, get_or-take, Option, Some, None, option_map, unwrap_or, true, false, IsTrue, refl, sym, ap, ap₂, subst, ◌∙◌, arith, take_all, eqb, eqb-true, zero-add, le-ltb, cond}
 use Rattle.std.proofs.Math.Path.{fun_ext}
 use Rattle.std.proofs.lemmas.Bool.{cases_Bool, cases_eq, cases_lt}
 use Rattle.std.proofs.lemmas.List.{length-take}
@@ -32,7 +32,7 @@ unfolding resealed
 unchanged size numbers stored is = fun_ext λ n. again_same size (is_among numbers n) (stored n) (is n)
 
 -- pages with no sum in them are as they are under any size of theirs that has none
-pub plain_sealed : (size : ℕ) (bytes : List ℕ) → (is_summed size ≡ true → ⊥) → length bytes ≡ stored_size size → bytes ≡ sealed (take size bytes)
+plain_sealed : (size : ℕ) (bytes : List ℕ) → (is_summed size ≡ true → ⊥) → length bytes ≡ stored_size size → bytes ≡ sealed (take size bytes)
 unfolding sealed
 plain_sealed size bytes plain len =
     elim (cases_Bool (eqb (size % 16) 8)) [
@@ -105,7 +105,7 @@ module _ (size : ℕ) (image : Image) (stored : Pages) (found : log.Recovers (st
       rw (le-ltb (length image.db) 18 (omega (arith, long, wide))) (ap (λ (n : ℕ). cond (eqb n 1) 65536 n) (sym named) ∙ sound.header.0.size)
 
   -- the size that the files name is that of the pages
-  pub named_size : (other : ℕ) → NamesSize image other → stored_size size ≡ other
+  named_size : (other : ℕ) → NamesSize image other → stored_size size ≡ other
   named_size other names = elim (cases_eq (stored_size size) other) [
     | inl same ↦ same
     | inr differs ↦
@@ -132,7 +132,7 @@ module _ (size : ℕ) (image : Image) (stored : Pages) (found : log.Recovers (st
     there = subst (λ n. AreWhole n stored) alike whole
 
     -- the header of pages with no sums says so
-    pub says_not : is_summed other ≡ true → (size ≡ other → ⊥) → ⊥
+    says_not : is_summed other ≡ true → (size ≡ other → ⊥) → ⊥
     says_not summed differs =
         let said = says summed stored page here first.1 (len ∙ alike) in
         let eight : reserved other ≡ 8 = eqb-true _ _ summed in
@@ -141,26 +141,27 @@ module _ (size : ℕ) (image : Image) (stored : Pages) (found : log.Recovers (st
           | inr plain ↦ let r : reserved size ≡ 0 = rw plain in omega (arith, word, said, r)
         ]
 
-    abbrev Now : Type 0
-    Now = (after : Pages) × log.Recovers (stored_size size) new after × AreWhole (stored_size size) after × (trimmed size after ≡ trimmed size stored)
-
-    as_before : log.Recovers (stored_size other) new stored → Now
-    as_before now = (stored, subst (λ n. log.Recovers n new stored) (sym alike) now, whole, refl)
-
-    pub stands_pages : Now
-    stands_pages = elim stands.0 [
-      | inl same ↦ as_before (same stored here)
-      | inr summed ↦ elim (summed.2 stored here) [
-        | inl now ↦ as_before now
-        | inr now ↦ elim (cases_eq size other) [
-          | inl equal ↦
-              let more : log.Recovers (stored_size size) new (resealed size summed.0 stored) = subst (λ n. log.Recovers (stored_size n) new (resealed n summed.0 stored)) (sym equal) now in
-              (resealed size summed.0 stored, more, still_whole size summed.0 stored whole, same_trimmed size summed.0 stored whole)
-          | inr differs ↦
-              let plain = λ (n : ℕ) (bytes : List ℕ) (is : stored n ≡ Some bytes). plain_sealed other bytes (λ sums. says_not sums differs) (there.sized n bytes is) in
-              as_before (subst (log.Recovers (stored_size other) new) (unchanged other summed.0 stored plain) now)
+    -- to them, or to the same with sums
+    pub recovers_after : log.Recovers (stored_size size) new stored ⊎ ((numbers : List ℕ) × log.Recovers (stored_size size) new (resealed size numbers stored))
+    recovers_after =
+        let back = λ (now : log.Recovers (stored_size other) new stored). subst (λ n. log.Recovers n new stored) (sym alike) now in
+        elim stands.0 [
+          | inl same ↦ inl (back (same stored here))
+          | inr summed ↦ elim (summed.2 stored here) [
+            | inl now ↦ inl (back now)
+            | inr now ↦ elim (cases_eq size other) [
+              | inl equal ↦ inr (summed.0, subst (λ n. log.Recovers (stored_size n) new (resealed n summed.0 stored)) (sym equal) now)
+              | inr differs ↦
+                  let plain = λ (n : ℕ) (bytes : List ℕ) (is : stored n ≡ Some bytes). plain_sealed other bytes (λ sums. says_not sums differs) (there.sized n bytes is) in
+                  inl (back (subst (log.Recovers (stored_size other) new) (unchanged other summed.0 stored plain) now))
+            ]
+          ]
         ]
-      ]
+
+    pub stands_pages : (after : Pages) × log.Recovers (stored_size size) new after × AreWhole (stored_size size) after × (trimmed size after ≡ trimmed size stored)
+    stands_pages = elim recovers_after [
+      | inl now ↦ (stored, now, whole, refl)
+      | inr now ↦ (resealed size now.0 stored, now.1, still_whole size now.0 stored whole, same_trimmed size now.0 stored whole)
     ]
 
 -- Two recoveries of the same files to sound ones are to the same pages.

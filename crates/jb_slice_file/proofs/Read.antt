@@ -5,7 +5,7 @@ use Rattle.std.proofs.lemmas.List.Concat.{flat_map_single}
 use Rattle.std.proofs.lemmas.List.Sorted.{IsPermutation-trans, IsPermutation-map, IsPermutation-sym}
 use Rattle.std.specs.List.{AllByRecursion}
 use Rattle.sqlite.specs.declared.types.Value.{Value}
-use Rattle.sqlite.specs.declared.types.Value.TheVariants.{Null, Int, Real, Text as Words, Blob as Bytes}
+use Rattle.sqlite.specs.declared.types.Value.TheVariants.{Null}
 use Rattle.sqlite.specs.Order.{Row}
 use Rattle.sqlite.specs.Kind.TheVariants.{Text, Blob}
 use Rattle.sqlite.specs.Query.{IsAnswer, output, page, Output}
@@ -33,7 +33,7 @@ use Rattle.jb_slice_file.specs.Numbered.{IsAlteredAt, Numbered, numbered_from}
 use Rattle.jb_slice_file.specs.Rows.{AreIn, IsAltered, columns_of, stored, stored_from, shown_from}
 use Rattle.jb_slice_file.proofs.Columns.{rows_of_list, rows_once}
 use Rattle.jb_slice_file.proofs.Numbers.{never_altered}
-use Rattle.jb_slice_file.proofs.Texts.{select_text, query, select_is, select_plain}
+use Rattle.jb_slice_file.proofs.Texts.{select_text, query, select_is}
 use Rattle.jb_slice_file.proofs.Lists.{out, shown_of, rises}
 
 -- what the query shows of a row, and the row that it was
@@ -45,10 +45,7 @@ kept_as row = column row 0 ∷ Null ∷ column row 1 ∷ column row 2 ∷ column
 
 null_is : (v : Value) → is_null v ≡ true → v ≡ Null
 null_is Null h = refl
-null_is (Int n) h = absurd (true≢false (sym h))
-null_is (Real x) h = absurd (true≢false (sym h))
-null_is (Words t) h = absurd (true≢false (sym h))
-null_is (Bytes b) h = absurd (true≢false (sym h))
+null_is _ h = absurd (true≢false (sym h))
 
 never : (w x y z : Bool) → (w && (x && (y && (z && false)))) ≡ true → ⊥
 never w x y z h = true≢false (sym (and_parts z false (and_parts y _ (and_parts x _ (and_parts w _ h).1).1).1).1)
@@ -74,7 +71,7 @@ was_of number (it ∷ more) = ap (λ rows. stored number it ∷ rows) (was_of (s
 
 module _ (old new : State) (ours : old.now.schema ≡ checkpoint_schema) (rows : List Row) (h : Shown select_text [] old new rows) where
   answer : IsAnswer query (overlay old.now.trees []) [] rows
-  answer = (reads_as select_text [] old new checkpoint_schema ours _ select_is.0 select_plain select_is.1 rows h).answer Null
+  answer = (reads_as select_text [] old new checkpoint_schema ours _ select_is.0 select_is.2 select_is.1 rows h).answer Null
 
   abbrev env : Row → List Row
   env r = [] ∷ r ∷ []
@@ -142,7 +139,7 @@ module _ (old new : State) (ours : old.now.schema ≡ checkpoint_schema) (rows :
   pub unchanged : IsUnchanged old new
   unfolding Shown
   unchanged =
-      let plain = subst (λ x. IsPlain (understood x select_text)) (sym ours) select_plain in
+      let plain = subst (λ x. IsPlain (understood x select_text)) (sym ours) select_is.2 in
       let none = (subst IsPlain h.1.is plain).0 in
       (subst (ShowsRows old new select_text h.0 (timed [] h.0.formats h.1.now) rows) none h.2).3
 
@@ -150,5 +147,5 @@ module _ (old new : State) (ours : old.now.schema ≡ checkpoint_schema) (rows :
 pub survives : (old new : State) → old.now.schema ≡ checkpoint_schema → HasCleanDisk new → Survives old new (CommitsShowing select_text [] old) → (db : Trees) → new.may_leave db → old.may_leave db
 survives old new ours clean s db may = elim (s.crash clean db may) [
   | inl was ↦ was
-  | inr is ↦ absurd (never_commits select_text [] old db (subst (λ x. IsPlain (understood x select_text)) (sym ours) select_plain) is)
+  | inr is ↦ absurd (never_commits select_text [] old db (subst (λ x. IsPlain (understood x select_text)) (sym ours) select_is.2) is)
 ]

@@ -1,17 +1,13 @@
 -- From one life to the next.
-use Rattle.std.proofs.Common.{◌≡◌, ◌&&◌, ◌||◌, inl, inr, Bool, true, false, not, List, [], IsTrue, refl, sym, true≢false}
-use Rattle.std.proofs.Math.Logic.{∥∥₁_map}
+use Rattle.std.proofs.Common.{◌≡◌, ◌&&◌, ◌||◌, Bool, true, false, not, List, IsTrue, refl, sym, true≢false}
 use Rattle.sqlite_disk.specs.declared.Disk.{Ghosts}
 use Rattle.sqlite_disk.specs.declared.Files.{Files}
-use Rattle.sqlite_trees.specs.Tree.{Trees}
 use Rattle.sqlite_wal.specs.Reads.{AreClean}
-use Rattle.sqlite_wal.specs.Recovery.{Image}
 use Rattle.jb_slice_file.specs.Kept.{Kept}
-use Rattle.jb_slice_file.specs.Files.{HoldsWhole}
-use Rattle.jb_slice_file.specs.Files.{CanGoOn, IsResumable, HoldsRun, HoldsRunOrNone, IsOfARun, Leaves, MayGoOn}
+use Rattle.jb_slice_file.specs.Files.{CanGoOn, HoldsRun, HoldsRunOrNone, Leaves, MayGoOn}
 use Rattle.jb_slice_file.specs.declared.stop.Life.{Life}
 use Rattle.jb_slice_file.specs.Lives.{IsLifeOver}
-use Rattle.jb_slice_file.proofs.Opens.{Resumes, may_go_on, none_goes_on, run_goes_on}
+use Rattle.jb_slice_file.proofs.Opens.{may_go_on, none_goes_on, run_goes_on}
 
 -- WHAT LIVES LEAVE: files from which a run may go on and, unless an open was cut of which the kit doesn't say it, whose tables have their numbers
 pub record StandAfter {D : Type 0} (g : Ghosts D) (so_far : List Kept → Type 0) (is_sure : Bool) (files : Files D) : Type 0 where

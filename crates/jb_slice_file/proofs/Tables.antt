@@ -25,7 +25,7 @@ use Rattle.sqlite_trees.specs.Objects.{listing as object_listing}
 use Rattle.sqlite_trees.specs.Listing.{same_code}
 use Rattle.sqlite_trees.specs.Sound.{is_virtual, is_word}
 use Rattle.sqlite_trees.specs.declared.store.Shape.{Shape}
-use Rattle.sqlite_trees.specs.declared.store.Shape.TheVariants.{Absent, FrozenIndex, FrozenTable, Index, Pageless, Table}
+use Rattle.sqlite_trees.specs.declared.store.Shape.TheVariants.{Absent, Table}
 use Rattle.sqlite_value.proofs.OrderLemmas.{value_cmp-Text}
 use Rattle.sqlite_value.specs.Order.{Row, column}
 use Rattle.sqlite_value.specs.declared.value.Value.TheVariants.{Int, Text}
@@ -63,19 +63,17 @@ no_row (row ∷ more) lists = absurd (elim (row_kind row) [
 -- What an entry that is described tells of the objects.
 behind : (shape : Shape) (from : ℕ) (w : Wanted) (rows : List Row) (row : Row) → Has rows row → Has (listed from w shape ++ rows) row
 behind Absent from w rows row has = has
-behind Table from w rows row has = inr has
-behind (Index o) from w rows row has = inr has
-behind Pageless from w rows row has = inr has
-behind FrozenTable from w rows row has = inr has
-behind (FrozenIndex o) from w rows row has = inr has
+behind _ from w rows row has = inr has
 
 in_front : (shape : Shape) (from : ℕ) (w : Wanted) (rows : List Row) → (shape ≡ Absent → ⊥) → Has (listed from w shape ++ rows) (object_listing from w.row shape w.reals)
 in_front Absent from w rows present = absurd (present refl)
-in_front Table from w rows present = inl refl
-in_front (Index o) from w rows present = inl refl
-in_front Pageless from w rows present = inl refl
-in_front FrozenTable from w rows present = inl refl
-in_front (FrozenIndex o) from w rows present = inl refl
+in_front _ from w rows present = inl refl
+
+-- an object of a list is that of its first table, or one of the later ones
+first_or_later : {A : Type 0} (shape : Shape) (from : ℕ) (w : Wanted) (rows : List Row) (row : Row) → Has (listed from w shape ++ rows) row
+    → ((shape ≡ Absent → ⊥) → row ≡ object_listing from w.row shape w.reals → A) → (Has rows row → A) → A
+first_or_later Absent from w rows row has first later = later has
+first_or_later _ from w rows row has first later = elim has [ inl same ↦ first (λ e. cc) same | inr more ↦ later more ]
 
 described_listed : (from : ℕ) (entry : Row) (schema : List Wanted) → list_any (λ w. describes w entry) schema ≡ true
     → (t : ℕ) × (w : Wanted) × (describes w entry ≡ true) × Has (listed_from from schema) (object_listing t w.row w.shape w.reals)
@@ -89,41 +87,21 @@ described_listed from entry (w ∷ schema) any = elim (cases_Bool (describes w e
 abbrev HasEntry : ℕ → List Wanted → List ℕ → Row → Type 0
 HasEntry first schema roots row = (t root id : ℕ) × (w : Wanted) × Has schema w × (row ≡ object_listing t w.row w.shape w.reals) × Has (entries_of first schema roots) (Int (pos id) ∷ listing w root)
 
+is_there : (shape : Shape) → (shape ≡ Absent → ⊥) → is_present shape ≡ true
+is_there Absent present = absurd (present refl)
+is_there _ present = refl
+
+later_entry : (there : Bool) (first entry : Row) (rows : List Row) → Has rows entry → Has (if there then first ∷ rows else rows) entry
+later_entry true first entry rows has = inr has
+later_entry false first entry rows has = has
+
 -- In a file whose tables have their numbers each object has an entry.
 listed_entry : (from : ℕ) (schema : List Wanted) (roots : List ℕ) (row : Row) → AreRootsFor schema roots → Has (listed_from from schema) row → HasEntry (from + 1) schema roots row
 listed_entry from [] roots row fit has = absurd has
 listed_entry from (w ∷ schema) [] row fit has = absurd fit
-listed_entry from (w ∷ schema) (root ∷ roots) row fit has = go w.shape refl (listed_entry (from + 1) schema roots row fit.2) has
-  where
-    here : (shape : Shape) → w.shape ≡ shape → (shape ≡ Absent → ⊥) → row ≡ object_listing from w.row shape w.reals → HasEntry (from + 1) (w ∷ schema) (root ∷ roots) row
-    here Absent is present same = absurd (present refl)
-    here Table is present same = (from, root, from + 1, w, inl refl, rw is same, rw is (inl refl))
-    here (Index o) is present same = (from, root, from + 1, w, inl refl, rw is same, rw is (inl refl))
-    here Pageless is present same = (from, root, from + 1, w, inl refl, rw is same, rw is (inl refl))
-    here FrozenTable is present same = (from, root, from + 1, w, inl refl, rw is same, rw is (inl refl))
-    here (FrozenIndex o) is present same = (from, root, from + 1, w, inl refl, rw is same, rw is (inl refl))
-
-    there : (shape : Shape) → w.shape ≡ shape → HasEntry (from + 1 + 1) schema roots row → HasEntry (from + 1) (w ∷ schema) (root ∷ roots) row
-    there Absent is r = (r.0, r.1, r.2, r.3, inr r.4, r.5, rw is r.6)
-    there Table is r = (r.0, r.1, r.2, r.3, inr r.4, r.5, rw is (inr r.6))
-    there (Index o) is r = (r.0, r.1, r.2, r.3, inr r.4, r.5, rw is (inr r.6))
-    there Pageless is r = (r.0, r.1, r.2, r.3, inr r.4, r.5, rw is (inr r.6))
-    there FrozenTable is r = (r.0, r.1, r.2, r.3, inr r.4, r.5, rw is (inr r.6))
-    there (FrozenIndex o) is r = (r.0, r.1, r.2, r.3, inr r.4, r.5, rw is (inr r.6))
-
-    go : (shape : Shape) → w.shape ≡ shape → (Has (listed_from (from + 1) schema) row → HasEntry (from + 1 + 1) schema roots row)
-        → Has (listed from w shape ++ listed_from (from + 1) schema) row → HasEntry (from + 1) (w ∷ schema) (root ∷ roots) row
-    go Absent is rest more = there Absent is (rest more)
-    go Table is rest (inl same) = here Table is (λ e. cc) same
-    go Table is rest (inr more) = there Table is (rest more)
-    go (Index o) is rest (inl same) = here (Index o) is (λ e. cc) same
-    go (Index o) is rest (inr more) = there (Index o) is (rest more)
-    go Pageless is rest (inl same) = here Pageless is (λ e. cc) same
-    go Pageless is rest (inr more) = there Pageless is (rest more)
-    go FrozenTable is rest (inl same) = here FrozenTable is (λ e. cc) same
-    go FrozenTable is rest (inr more) = there FrozenTable is (rest more)
-    go (FrozenIndex o) is rest (inl same) = here (FrozenIndex o) is (λ e. cc) same
-    go (FrozenIndex o) is rest (inr more) = there (FrozenIndex o) is (rest more)
+listed_entry from (w ∷ schema) (root ∷ roots) row fit has = first_or_later w.shape from w (listed_from (from + 1) schema) row has
+    (λ present same. (from, root, from + 1, w, inl refl, same, rw (is_there w.shape present) (inl refl)))
+    (λ more. let r = listed_entry (from + 1) schema roots row fit.2 more in (r.0, r.1, r.2, r.3, inr r.4, r.5, later_entry (is_present w.shape) _ _ _ r.6))
 
 -- where no object is listed, no entry is
 no_entries : (from id : ℕ) (schema : List Wanted) (roots : List ℕ) → listed_from from schema ≡ [] → entries_of id schema roots ≡ []
@@ -134,11 +112,7 @@ no_entries from id (w ∷ schema) (root ∷ roots) none = go w.shape refl (no_en
     go : (shape : Shape) → w.shape ≡ shape → (listed_from (from + 1) schema ≡ [] → entries_of (id + 1) schema roots ≡ []) → listed from w shape ++ listed_from (from + 1) schema ≡ []
         → entries_of id (w ∷ schema) (root ∷ roots) ≡ []
     go Absent is rest none = rw is (rest none)
-    go Table is rest none = absurd (cc)
-    go (Index o) is rest none = absurd (cc)
-    go Pageless is rest none = absurd (cc)
-    go FrozenTable is rest none = absurd (cc)
-    go (FrozenIndex o) is rest none = absurd (cc)
+    go _ is rest none = absurd (cc)
 
 abbrev HasPlace : List Wanted → Row → Type 0
 HasPlace schema row = (t at : ℕ) × (w : Wanted) × (row ≡ object_listing t w.row w.shape w.reals) × (shape_at schema at ≡ w.shape)
@@ -146,23 +120,8 @@ HasPlace schema row = (t at : ℕ) × (w : Wanted) × (row ≡ object_listing t 
 -- an object stands at a place of the list
 placed : (from : ℕ) (schema : List Wanted) (row : Row) → Has (listed_from from schema) row → HasPlace schema row
 placed from [] row has = absurd has
-placed from (w ∷ schema) row has = go w.shape refl (placed (from + 1) schema row) has
-  where
-    there : HasPlace schema row → HasPlace (w ∷ schema) row
-    there r = (r.0, suc r.1, r.2, r.3, r.4)
-
-    go : (shape : Shape) → w.shape ≡ shape → (Has (listed_from (from + 1) schema) row → HasPlace schema row) → Has (listed from w shape ++ listed_from (from + 1) schema) row → HasPlace (w ∷ schema) row
-    go Absent is rest more = there (rest more)
-    go Table is rest (inl same) = (from, 0, w, rw is same, refl)
-    go Table is rest (inr more) = there (rest more)
-    go (Index o) is rest (inl same) = (from, 0, w, rw is same, refl)
-    go (Index o) is rest (inr more) = there (rest more)
-    go Pageless is rest (inl same) = (from, 0, w, rw is same, refl)
-    go Pageless is rest (inr more) = there (rest more)
-    go FrozenTable is rest (inl same) = (from, 0, w, rw is same, refl)
-    go FrozenTable is rest (inr more) = there (rest more)
-    go (FrozenIndex o) is rest (inl same) = (from, 0, w, rw is same, refl)
-    go (FrozenIndex o) is rest (inr more) = there (rest more)
+placed from (w ∷ schema) row has = first_or_later w.shape from w (listed_from (from + 1) schema) row has
+    (λ present same. (from, 0, w, same, refl)) (λ more. let r = placed (from + 1) schema row more in (r.0, suc r.1, r.2, r.3, r.4))
 
 all_stand : {X : Type 0} (test : X → Bool) (xs : List X) (x : X) → list_all test xs ≡ true → Has xs x → test x ≡ true
 all_stand test [] x all has = absurd has

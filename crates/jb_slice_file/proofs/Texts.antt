@@ -37,26 +37,17 @@ query = record {
   offset = lit (Int (pos 0));
 }
 
+-- how each is understood: it has no RETURNING and reads no clock
 pub create_is : (command_of (understood no_schema create_text) ≡ CreateTable) × (statement_of create_text (understood no_schema create_text) ≡ create_text) × (table_defined_by create_text ≡ Ok checkpoint)
+    × IsPlain (understood no_schema create_text)
 unfolding understood everything
-create_is = (refl, refl, refl)
+create_is = (refl, refl, refl, (refl, refl))
 
-pub insert_is : command_of (understood checkpoint_schema insert_text) ≡ Insert 0 (Values terms 5)
+pub insert_is : (command_of (understood checkpoint_schema insert_text) ≡ Insert 0 (Values terms 5)) × IsPlain (understood checkpoint_schema insert_text)
 unfolding understood everything
-insert_is = refl
+insert_is = (refl, (refl, refl))
 
 pub select_is : (command_of (understood checkpoint_schema select_text) ≡ Select (record { lets = []; body = query }) (codes "number" ∷ codes "saved" ∷ codes "results" ∷ codes "link" ∷ [])) × (reads_listing checkpoint_schema select_text ≡ false)
+    × IsPlain (understood checkpoint_schema select_text)
 unfolding understood everything
-select_is = (refl, refl)
-
-pub create_plain : IsPlain (understood no_schema create_text)
-unfolding understood everything
-create_plain = (refl, refl)
-
-pub insert_plain : IsPlain (understood checkpoint_schema insert_text)
-unfolding understood everything
-insert_plain = (refl, refl)
-
-pub select_plain : IsPlain (understood checkpoint_schema select_text)
-unfolding understood everything
-select_plain = (refl, refl)
+select_is = (refl, refl, (refl, refl))

@@ -6,12 +6,12 @@ use Rattle.sqlite.specs.declared.types.Value.{Value}
 use Rattle.sqlite.specs.declared.types.Value.TheVariants.{Null, Int, Text as Words, Blob as Bytes}
 use Rattle.sqlite.specs.Order.{Row}
 use Rattle.sqlite.specs.Ops.{unary}
-use Rattle.sqlite.specs.Query.{IsAnswer, output, page, Output}
-use Rattle.sqlite.specs.Program.{overlay}
 use Rattle.sqlite.specs.Kind.TheVariants.{Integer}
 use Rattle.sqlite.specs.Source.TheVariants.{Values}
-use Rattle.sqlite.specs.Command.TheVariants.{Insert, CreateTable}
-use Rattle.sqlite.specs.Edit.{Edit, edit_of, edited}
+use Rattle.sqlite.specs.Command.{Command}
+use Rattle.sqlite.specs.Command.TheVariants.{Commit, CreateTable, Insert, Release}
+use Rattle.sqlite.specs.Schema.{Schema}
+use Rattle.sqlite.specs.Edit.{edit_of, edited}
 use Rattle.sqlite.specs.Cast.{cast}
 use Rattle.sqlite.specs.Rowids.TheVariants.{Chosen}
 use Rattle.sqlite.specs.Change.{created, next_tree}
@@ -26,6 +26,7 @@ use Rattle.sqlite.specs.Listing.{understood}
 use Rattle.sqlite.specs.Clock.{timed}
 use Rattle.sqlite.specs.Effect.{Database}
 use Rattle.sqlite.specs.State.{State, HasCleanDisk, mode_of, Writes, Executes, ExecutesIn, IsNotRun, IsUnchanged, IsRolledBack, Survives, CommitsBy, MayCommit, RunsCommand, shows_rows}
+use Rattle.sqlite_resolve.specs.declared.compiled.Compiled.{Compiled}
 use Rattle.sqlite.proofs.Callers.{IsPlain, command_of, statement_of, runs_as, one_step}
 use Rattle.jb_slice_file.specs.Form.{checkpoint, checkpoint_schema, no_schema}
 use Rattle.jb_slice_file.specs.Kept.{Kept}
@@ -33,7 +34,7 @@ use Rattle.jb_slice_file.specs.Chain.{Linked, chained, last_link, link_of}
 use Rattle.jb_slice_file.proofs.Chains.{as_many, chained_more}
 use Rattle.jb_slice_file.specs.Rows.{HoldsList, StandsFor, stored, stored_from}
 use Rattle.jb_slice_file.specs.Connections.{Keeps}
-use Rattle.jb_slice_file.proofs.Texts.{create_text, insert_text, terms, create_is, insert_is, create_plain, insert_plain}
+use Rattle.jb_slice_file.proofs.Texts.{create_text, insert_text, terms, create_is, insert_is}
 use Rattle.jb_slice_file.proofs.Lists.{put_adds, stored_push}
 
 either : (b : Bool) (x : Value) → cond b x x ≡ x
@@ -87,10 +88,10 @@ joins trees all it next rows free =
 abbrev pub params : ℕ → Linked → Row
 params number one = Int (pos number) ∷ Words one.it.saved ∷ Bytes one.it.results ∷ Bytes one.link ∷ []
 
-abbrev pub command : Rattle.sqlite.specs.Command.Command
+abbrev pub command : Command
 command = Insert 0 (Values terms 5)
 
-abbrev insert_statement : List ℕ
+abbrev pub insert_statement : List ℕ
 insert_statement = statement_of insert_text (understood checkpoint_schema insert_text)
 
 -- what the insert makes of a database
@@ -119,55 +120,27 @@ inserts s all it number at next holds tally after changed =
       rows = subst (λ l. IsPermutation (stored_from 1 (chained (all ++ it.it ∷ []))) l) (sym (put ∙ ap (λ n. put_row (stored n it) (db 0)) at)) (joins (db 0) all it next holds.rows apart);
     }
 
--- what the insert commits
-pub commits : (s : State) (all : List Kept) (it : Linked) (number : ℕ) → number ≡ length all + 1 → IsNext all it → HoldsList s.now all → (db : Trees) → CommitsBy insert_text (params number it) s db
-    → StandsFor db (all ++ it.it ∷ [])
-unfolding CommitsBy
-commits s all it number at next holds db h = go plain
-  where
-    row : Row
-    row = params number it
-
-    known : Ok h.0 ≡ understood checkpoint_schema insert_text
-    known = sym h.1.is ∙ ap (λ x. understood x insert_text) holds.schema
-
-    bare : IsPlain (Ok h.0)
-    bare = subst IsPlain (sym known) insert_plain
-
-    plain : MayCommit s None command insert_statement (params number it) db
-    plain = subst₂ (λ k t. MayCommit s None k t (params number it) db) (ap command_of known ∙ insert_is) (ap (statement_of insert_text) known) (rw (bare.0, bare.1, append-nil (params number it)) at h.2)
-
-    go : MayCommit s None command insert_statement (params number it) db → StandsFor db (all ++ it.it ∷ [])
-    go (inl (inl is, _)) = absurd (let e = is in cc)
-    go (inl (inr released, _)) = absurd (let e = released.2 in cc)
-    go (inr w) =
-        let holds = inserts s all it number at next holds w.1 w.2 w.3 in
-        subst (λ x. StandsFor x (all ++ it.it ∷ [])) (sym w.5) (record { sound = subst (λ x. IsSound x w.2.trees) holds.schema w.4; rows = holds.rows })
-
--- what making the table commits
-pub commits_table : (s : State) → s.now.schema ≡ no_schema → (db : Trees) → CommitsBy create_text [] s db → StandsFor db []
-unfolding CommitsBy
-commits_table s has db h = go plain
-  where
-    known : Ok h.0 ≡ understood no_schema create_text
-    known = sym h.1.is ∙ ap (λ x. understood x create_text) has
-
-    bare : IsPlain (Ok h.0)
-    bare = subst IsPlain (sym known) create_plain
-
-    plain : MayCommit s None CreateTable create_text [] db
-    plain = subst₂ (λ k t. MayCommit s None k t [] db) (ap command_of known ∙ create_is.0) (ap (statement_of create_text) known ∙ create_is.1) (rw (bare.0, bare.1) at h.2)
-
-    go : MayCommit s None CreateTable create_text [] db → StandsFor db []
-    go (inl (inl is, _)) = absurd (let e = is in cc)
-    go (inl (inr released, _)) = absurd (let e = released.2 in cc)
-    go (inr w) =
-        let holds = makes s has w.1 w.2 w.3 in
-        subst (λ x. StandsFor x []) (sym w.5) (record { sound = subst (λ x. IsSound x w.2.trees) holds.schema w.4; rows = holds.rows })
+-- what a statement commits whose text is known, which neither commits nor releases, and which makes these of the list
+module _ (s : State) (sql : List ℕ) (given : Row) (schema : Schema) (has : s.now.schema ≡ schema) (command : Command) (is : command_of (understood schema sql) ≡ command)
+    (plain : IsPlain (understood schema sql)) (other : (command ≡ Commit → ⊥) × ((name : List ℕ) → command ≡ Release name → ⊥)) (all : List Kept)
+    (lists : (tally : Tally) (after : Database) → Does s.step_limit (mode_of s) given s.now (statement_of sql (understood schema sql)) None command (Ok (tally, after)) → HoldsList after all) where
+  commits : (db : Trees) → CommitsBy sql given s db → StandsFor db all
+  unfolding CommitsBy
+  commits db h =
+      let known = sym h.1.is ∙ ap (λ x. understood x sql) has in
+      let bare = subst IsPlain (sym known) plain in
+      go (subst₂ (λ k t. MayCommit s None k t given db) (ap command_of known ∙ is) (ap (statement_of sql) known) (rw (bare.0, bare.1, append-nil given) at h.2))
+    where
+      go : MayCommit s None command (statement_of sql (understood schema sql)) given db → StandsFor db all
+      go (inl (inl is, _)) = absurd (other.0 is)
+      go (inl (inr released, _)) = absurd (other.1 released.0 released.2)
+      go (inr w) =
+          let holds = lists w.1 w.2 w.3 in
+          subst (λ x. StandsFor x all) (sym w.5) (record { sound = subst (λ x. IsSound x w.2.trees) holds.schema w.4; rows = holds.rows })
 
 module _ (old new : State) (settled : (db : Trees) → IsTrue new.is_open → new.may_leave db → db ≡ new.committed.trees) (all : List Kept) where
   -- a write that was made and committed
-  wrote : {command : Rattle.sqlite.specs.Command.Command} {text : List ℕ} {row : Row} {count : ℕ} → old.in_transaction ≡ false → Writes old new None command text row count → HoldsList new.now all → Keeps new all
+  wrote : {command : Command} {text : List ℕ} {row : Row} {count : ℕ} → old.in_transaction ≡ false → Writes old new None command text row count → HoldsList new.now all → Keeps new all
   wrote autocommit w holds =
       let same : new.now ≡ new.committed = sym (w.shown.committed_is ∙ ap (λ b. if b then old.committed else new.now) autocommit) in
       record {
@@ -198,7 +171,7 @@ module _ (old new : State) (settled : (db : Trees) → IsTrue new.is_open → ne
       back : IsRolledBack old new → Keeps new all
       back r = let undone = r.undone is_open in rests keeps stays is_open (r.was_open is_open) undone.0 undone.1 r.autocommit
 
-      run : (c : Rattle.sqlite_resolve.specs.declared.compiled.Compiled.Compiled) (row : Row) → RunsCommand old new insert_text c row (Err e) → Keeps new all
+      run : (c : Compiled) (row : Row) → RunsCommand old new insert_text c row (Err e) → Keeps new all
       run c row (inl u) = same u.1
       run c row (inr f) = back f.3
 
@@ -219,20 +192,20 @@ module _ (old new : State) (settled : (db : Trees) → IsTrue new.is_open → ne
   pub appended : (all : List Kept) (it : Linked) (number : ℕ) (r : Result ℕ Error) → number ≡ length all + 1 → IsNext all it → Keeps old all → Executes insert_text (params number it) old new r
       → OnOk r (Keeps new (all ++ it.it ∷ []))
   appended all it number (Ok count) at next keeps h =
-      let w = runs_as insert_text (params number it) old new checkpoint_schema keeps.shows.schema command insert_is insert_plain count h in
+      let w = runs_as insert_text (params number it) old new checkpoint_schema keeps.shows.schema command insert_is.0 insert_is.1 count h in
       wrote old new settled (all ++ it.it ∷ []) keeps.autocommit w (inserts old all it number at next keeps.shows w.tally new.now w.changed)
   appended all it number (Err e) at next keeps h = tt
 
   pub made : (r : Result ℕ Error) → old.now.schema ≡ no_schema → old.in_transaction ≡ false → Executes create_text [] old new r → OnOk r (Keeps new [])
   made (Ok count) has autocommit h =
-      let w = subst (λ t. Writes old new None CreateTable t [] count) create_is.1 (runs_as create_text [] old new no_schema has CreateTable create_is.0 create_plain count h) in
+      let w = subst (λ t. Writes old new None CreateTable t [] count) create_is.1 (runs_as create_text [] old new no_schema has CreateTable create_is.0 create_is.3 count h) in
       wrote old new settled [] autocommit w (makes old has w.tally new.now w.changed)
   made (Err e) has autocommit h = tt
 
 -- What a crash during the calls leaves: what it left before, or the new list.
 pub made_survives : (old new : State) → old.now.schema ≡ no_schema → HasCleanDisk new → Survives old new (CommitsBy create_text [] old) → (db : Trees) → new.may_leave db → old.may_leave db ⊎ StandsFor db []
-made_survives old new has clean s db may = elim (s.crash clean db may) [ inl was ↦ inl was | inr is ↦ inr (commits_table old has db is) ]
+made_survives old new has clean s db may = elim (s.crash clean db may) [ inl was ↦ inl was | inr is ↦ inr (commits old create_text [] no_schema has CreateTable create_is.0 create_is.3 ((λ e. cc), (λ n e. cc)) [] (λ t d does. makes old has t d (subst (λ x. Does old.step_limit (mode_of old) [] old.now x None CreateTable (Ok (t, d))) create_is.1 does)) db is) ]
 
 pub survived : (old new : State) (all : List Kept) (it : Linked) (number : ℕ) → number ≡ length all + 1 → IsNext all it → Keeps old all → HasCleanDisk new → Survives old new (CommitsBy insert_text (params number it) old)
     → (db : Trees) → new.may_leave db → StandsFor db all ⊎ StandsFor db (all ++ it.it ∷ [])
-survived old new all it number at next keeps clean s db may = elim (s.crash clean db may) [ inl was ↦ inl (keeps.leaves db was) | inr is ↦ inr (commits old all it number at next keeps.shows db is) ]
+survived old new all it number at next keeps clean s db may = elim (s.crash clean db may) [ inl was ↦ inl (keeps.leaves db was) | inr is ↦ inr (commits old insert_text (params number it) checkpoint_schema keeps.shows.schema command insert_is.0 insert_is.1 ((λ e. cc), (λ n e. cc)) (all ++ it.it ∷ []) (inserts old all it number at next keeps.shows) db is) ]

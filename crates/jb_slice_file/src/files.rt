@@ -1,6 +1,6 @@
 //! The list of two files, or of those at a path, and a connection to these.
 
-ghost use Rattle.std.specs.Prelude.{◌≡◌, map, IfErr, IfOk, IsTrue};
+ghost use Rattle.std.specs.Prelude.{◌≡◌, [], map, IfErr, IfOk, IsTrue};
 ghost use Rattle.jb_slice_file.specs.Rows.{Has, ShowsList};
 ghost use Rattle.jb_slice_file.specs.Kept.{kept};
 ghost use Rattle.jb_slice_file.specs.Connections.{IsJustOpened, Keeps};
@@ -8,7 +8,7 @@ ghost use Rattle.jb_slice_file.specs.Errors.{refusal_named};
 ghost use Rattle.jb_slice_file.specs.Files.{HoldsWhole};
 ghost use Rattle.jb_slice_file.specs.ListEnd.{IsEndOf};
 ghost use Rattle.sqlite.specs.declared.error.Error.{Error as SqlError};
-ghost use Rattle.sqlite.specs.Files.{HoldsDatabase, file_state, image_of};
+ghost use Rattle.sqlite.specs.Files.{HoldsDatabase, IsNothing, file_state, image_of};
 ghost use Rattle.sqlite.specs.State.{HasCleanDisk};
 ghost use Rattle.sqlite_trees.specs.Tree.{Trees};
 ghost use Rattle.sqlite_wal.specs.Files.{image_at, outcomes};
@@ -63,6 +63,7 @@ pub fn open_files<D: Disk + Drop>(
     ensures end { IfOk result (λ r. IsEndOf r.2 (map kept r.1.items)) }
     ensures begun { IfOk result (λ r. HasCleanDisk (file_state r.0) → Keeps (file_state r.0) (map kept r.1.items)) }
     ensures found { IfOk result (λ r. HasCleanDisk (file_state r.0) → (db : _) (all : _) → HoldsDatabase (image_of D.Disk files) db → Has db all → map kept r.1.items ≡ all) }
+    ensures nothing { IfOk result (λ r. HasCleanDisk (file_state r.0) → IsNothing (image_of D.Disk files) → map kept r.1.items ≡ []) }
     ensures honest { IfOk result (λ r. HasCleanDisk (file_state r.0) → AreClean D.Disk files.log files.db) }
 {
     match Connection::open_files(alloc, files, options) {
@@ -80,6 +81,7 @@ pub fn connect<S: Start>(
 ) -> Result<Connection<FileStore<FileFrom<S>>>, StoreError>
     ensures opened { IfOk result (λ conn. HasCleanDisk (file_state conn) → IsJustOpened (file_state conn)) }
     ensures found { IfOk result (λ conn. HasCleanDisk (file_state conn) → (db : _) (all : _) → HoldsDatabase (image_at S.Start) db → Has db all → ShowsList (file_state conn).now all) }
+    ensures nothing { IfOk result (λ conn. HasCleanDisk (file_state conn) → IsNothing (image_at S.Start) → ShowsList (file_state conn).now []) }
     ensures named { IfErr result (λ e. (why : SqlError) × (e ≡ refusal_named why)) }
 {
     match Connection::open_from(rt, path, false, start) {
@@ -97,6 +99,7 @@ pub fn open<S: Start>(
     ensures end { IfOk result (λ r. IsEndOf r.2 (map kept r.1.items)) }
     ensures begun { IfOk result (λ r. HasCleanDisk (file_state r.0) → Keeps (file_state r.0) (map kept r.1.items)) }
     ensures found { IfOk result (λ r. HasCleanDisk (file_state r.0) → (db : _) (all : _) → HoldsDatabase (image_at S.Start) db → Has db all → map kept r.1.items ≡ all) }
+    ensures nothing { IfOk result (λ r. HasCleanDisk (file_state r.0) → IsNothing (image_at S.Start) → map kept r.1.items ≡ []) }
 {
     let conn = connect(rt, path, start)?;
     with_list(rt.alloc(), conn)

@@ -1,44 +1,70 @@
 -- A payroll: the pay slips of all time sheets.
-use Rattle.std.specs.Prelude.{ℕ, List, Option, None, codes}
-use Rattle.jb_base.specs.Rules.{RulesRecord}
-use Rattle.jb_slice_file.specs.Kept.{Kept}
-use Rattle.jb_csv_job.specs.Done.{IsDoneSoFar, IsJobDone}
+use Rattle.std.specs.Prelude.{ℕ, List, [], ◌∷◌, Option, None, codes, map, string_bytes}
+use Rattle.sqlite_wal.specs.Recovery.{Image}
+use Rattle.jb_csv_job.specs.Done.{HasSkipped, IsByRules, IsDoneSoFar, IsJobDone}
 use Rattle.jb_csv_job.specs.Job.{JobRecord}
-use Rattle.jb_csv_job.specs.Kept.{IsJobSoFar}
-use Rattle.jb_records_checkpoints.specs.Form.{Form}
+use Rattle.jb_csv_job.specs.Kept.{IsTakenUp, LeavesSlice}
+use Rattle.jb_csv_job.specs.declared.asked.Asked.{Asked}
 use Rattle.jb_rows.specs.declared.header.Header.TheVariants as header
 use Rattle.jb_rows.specs.declared.input.Input.TheVariants as input
 use Rattle.jb_rows.specs.declared.rows_options.RowsOptions.{RowsOptions}
-use Rattle.payroll.specs.Sheets.{pay_slip, sheet_tries}
+use Rattle.jb_slices.specs.Job.{Job, Limits}
+use Rattle.jb_slices.specs.Slice.{Functions}
+use Rattle.payroll.specs.Sheets.{pay_slip}
 
 -- ---- THE JOB
 
--- a time sheet without a pay slip is skipped, and a try that fails is made again
-abbrev pub payroll_rules : RulesRecord
-payroll_rules = record { skippable = 1; retryable = 2; no_rollback = 0; skip_limit = None; retry_limit = 1000 }
+-- its identity, which no later call may change. A time sheet without a pay slip is skipped, and one with too many hours fails its partition.
+abbrev pub payroll_job : Job
+payroll_job = record {
+  name = codes "payroll";
+  slice_length = 100000;
+  partitions = 8;
+  item_count = 100;
+  classes = record { names = codes "no pay slip" ∷ codes "more than 744 hours" ∷ []; skippable = 1; retryable = 0; no_rollback = 0 };
+}
 
--- the form of its step, which no number of threads changes
-abbrev pub payroll_form : (sheets : ℕ) → Form
-payroll_form sheets = record { step = codes "payroll"; records = sheets; partitions = 8; item_count = 100; rules = payroll_rules }
+-- no limit of skips
+abbrev pub payroll_limits : Limits
+payroll_limits = record { skips = None; job_skips = None; retries = 1000 }
 
 -- records of CSV with commas between fields, of up to 1 MiB, and no header row
 abbrev pub payroll_options : RowsOptions
 payroll_options = record { input = input.Csv; delimiter = 44; longest = 1048576; header = header.None }
 
-abbrev pub payroll : JobRecord
-payroll = record { function = record { answer = pay_slip; tries = sheet_tries }; options = payroll_options; form = payroll_form }
+-- THE PAYROLL that a command line asks for: all of it, or a part, with the stamps that it keeps beside its own
+abbrev pub payroll : Asked → JobRecord
+payroll asked = record {
+  function = pay_slip;
+  options = payroll_options;
+  job = payroll_job;
+  limits = payroll_limits;
+  stamps = codes "1" ∷ map string_bytes asked.stamps.items;
+  task = asked.task;
+}
 
 -- ---- WHAT IS KEPT AND WRITTEN
 
--- THE CHECKPOINTS OF A PAYROLL SO FAR, none or some, of the time sheets in these bytes
-abbrev pub IsPayrollSoFar : (text : Option (List ℕ)) → (all : List Kept) → Type 0
-IsPayrollSoFar text all = IsJobSoFar payroll text all
+-- IT IS TAKEN UP over the time sheets in these bytes: what the two files of each slice hold is a payroll so far, or nothing
+abbrev pub IsPayrollTakenUp : Asked → Functions → (text : Option (List ℕ)) → (log db : ℕ → List ℕ) → Type 0
+IsPayrollTakenUp asked functions text log db = IsTakenUp (payroll asked) functions text log db
+
+-- WHAT A CRASH LEAVES of the files of this slice: a payroll so far
+abbrev pub LeavesPayroll : Asked → Functions → (text : Option (List ℕ)) → (slice : ℕ) → Image → Type 0
+LeavesPayroll asked functions text slice image = LeavesSlice (payroll asked) functions text slice image
 
 -- WHAT WAS WRITTEN IS THE PAY SLIPS OF THE TIME SHEETS THAT WERE READ, each a line, once and in order
-abbrev pub IsPaid : (text old new : Option (List ℕ)) → Type 0
-IsPaid text old new = IsJobDone payroll text old new
+abbrev pub IsPaid : Asked → (text old new : Option (List ℕ)) → Type 0
+IsPaid asked text old new = IsJobDone (payroll asked) text old new
 
--- so far as the step is, those of each partition's time sheets before its checkpoint, one partition behind the other; and the exit status
--- is of the status of their rows
-abbrev pub IsPaidSoFar : (text old new : Option (List ℕ)) → (status : ℕ) → Type 0
-IsPaidSoFar text old new status = IsDoneSoFar payroll text old new status
+-- those of the first slices
+abbrev pub IsPaidSoFar : Asked → (text old new : Option (List ℕ)) → Type 0
+IsPaidSoFar asked text old new = IsDoneSoFar (payroll asked) text old new
+
+-- so many time sheets were skipped: all that have no pay slip
+abbrev pub AreSkipped : Asked → (text : Option (List ℕ)) → (skips : ℕ) → Type 0
+AreSkipped asked text skips = HasSkipped (payroll asked) text skips
+
+-- the exit status is 0 exactly if the payroll's rules let the time sheets pass, and 1 exactly if they don't
+abbrev pub IsPayrollByRules : Asked → (text : Option (List ℕ)) → (status : ℕ) → Type 0
+IsPayrollByRules asked text status = IsByRules (payroll asked) text status

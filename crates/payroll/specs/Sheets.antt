@@ -1,5 +1,5 @@
 -- A time sheet NAME,HOURS,RATE and its pay slip NAME,PAY.
-use Rattle.std.specs.Prelude.{ℕ, Bool, false, if◌then◌else◌, List, [], ◌∷◌, Option, Some, None, bytes_eq, codes, decimal, option_map}
+use Rattle.std.specs.Prelude.{ℕ, Bool, false, if◌then◌else◌, List, [], ◌∷◌, Option, Some, None, decimal, nat_lt, option_map}
 use Rattle.jb_rows.specs.Author.{Answer, ClassId, Fields, Given, Refused, class_of, field_at, number_of, product_of}
 
 -- ---- pay
@@ -20,9 +20,25 @@ named_pay (Some name) (Some hours) (Some rate) = option_map (λ pay. (name, pay)
 abbrev pub pay_in : (sheet : Fields) → Option (List ℕ × ℕ)
 pay_in sheet = named_pay (field_at sheet 0) (field_at sheet 1) (field_at sheet 2)
 
+-- ---- faults
+
 -- one without pay is refused
 abbrev pub broken_class : ClassId
 broken_class = class_of 0
+
+-- and so is one with more hours than the longest month
+abbrev pub overlong_class : ClassId
+overlong_class = class_of 1
+
+abbrev pub is_above : (hours : Option ℕ) → Bool
+is_above None = false
+is_above (Some hours) = nat_lt 744 hours
+
+abbrev pub is_overlong : (hours : Option (List ℕ)) → Bool
+is_overlong None = false
+is_overlong (Some hours) = is_above (number_of hours)
+
+-- ---- pay slips
 
 abbrev pub slip_with : Option (List ℕ × ℕ) → Answer
 slip_with None = Refused broken_class
@@ -30,18 +46,4 @@ slip_with (Some named) = Given (named.0 ∷ decimal named.1 ∷ [])
 
 -- THE PAY SLIP OF A TIME SHEET: its name, and its hours times its rate
 abbrev pub pay_slip : (sheet : Fields) → Answer
-pay_slip sheet = slip_with (pay_in sheet)
-
--- ---- first tries
-
--- the field is the word "shaky"
-abbrev pub says_shaky : Option (List ℕ) → Bool
-says_shaky None = false
-says_shaky (Some field) = bytes_eq field (codes "shaky")
-
-abbrev pub unsteady_class : ClassId
-unsteady_class = class_of 1
-
--- THE FIRST TRY AT A TIME SHEET FAILS if its fourth field is the word "shaky"
-abbrev pub sheet_tries : (sheet : Fields) → List ClassId
-sheet_tries sheet = if says_shaky (field_at sheet 3) then unsteady_class ∷ [] else []
+pay_slip sheet = if is_overlong (field_at sheet 1) then Refused overlong_class else slip_with (pay_in sheet)

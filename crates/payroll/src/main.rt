@@ -1,97 +1,110 @@
-//! A payroll: time sheets in, pay slips out, as a partitioned step over threads whose checkpoints are kept in a file. It shows how a job
-//! of one's own is made over `jb_csv_job`; docs/ARTIFACTS.md walks through it.
+//! A payroll: time sheets in, pay slips out, each once, through any number of kills. docs/ARTIFACTS.md walks through it.
 //!
-//! `payroll THREADS FILE` reads time sheets, lines `NAME,HOURS,RATE`, on standard input, and writes pay slips, lines `NAME,PAY`, on
-//! standard output. Whatever ends it, called again with the same sheets it goes on from the last checkpoint in FILE, on as many threads
-//! as it is given then.
+//! `payroll [OPTIONS] FOLDER` reads time sheets, lines `NAME,HOURS,RATE`, on standard input, and writes pay slips, lines `NAME,PAY`, on
+//! standard output. Whatever ends it, called again with the same sheets it resumes from the last checkpoint in FOLDER.
 //!
 //! - `sheet`: a time sheet and its pay slip. `clerk`: what is done to a time sheet.
 #![tactic(auto)]
 
-ghost use Rattle.std.specs.Prelude.{◌≡◌, ◌≤◌, ◌⊎◌, List, IfOk};
-ghost use Rattle.sqlite.specs.Held.{state};
-ghost use Rattle.jb_base.specs.Limits.{max_threads};
-ghost use Rattle.jb_slice_file.specs.Kept.{Kept};
-ghost use Rattle.jb_csv_job.specs.Kept.{IsTakenUp};
-ghost use Rattle.jb_slice_file.specs.Files.{IsOfARun};
-ghost use Rattle.payroll.specs.Payroll.{IsPaid, IsPaidSoFar, IsPayrollSoFar, payroll};
+ghost use Rattle.std.specs.Prelude.{◌≡◌, ◌⊎◌, ℕ, List, IfOk, IsTrue};
+ghost use Rattle.sqlite_wal.specs.Recovery.{Image};
+ghost use Rattle.jb_slices.specs.Slice.{Functions};
+ghost use Rattle.payroll.specs.Payroll.{AreSkipped, IsPaid, IsPaidSoFar, IsPayrollByRules, IsPayrollTakenUp, LeavesPayroll};
 
 mod clerk;
 mod sheet;
 
-use clerk::{BadDay, CLASSES, Clerk};
+use clerk::{CLASSES, Clerk};
 use jb_base::DEFAULT_RETRY_LIMIT;
-use jb_csv_job::{CsvJob, Failure, closed, exit_code, opened, run_csv_job};
-use jb_records::Shaky;
+use jb_csv_job::{
+    Asked, CsvJob, Drops, Failure, Host, JobEnd, Keeper, Output, Request, Stored, asked_of,
+    exit_code, ready_folder, run_csv_job,
+};
 use jb_rows::RowsOptions;
-use sqlite::{Alter, Connection};
-use std::alloc::Global;
-use std::io::{Read, Write};
+use std::io::{Read, Stdin, Write};
+use std::marker::Brand;
 use std::process::ExitCode;
 use std::sync::Wait;
 use std::thread::Threads;
 use std::time::Clock;
 
-/// What the job is called, and how its step runs.
+/// What the job is called, and how it runs.
 const JOB: CsvJob<'static> = CsvJob {
     name: "payroll",
     input: "SHEETS",
     records: "time sheets",
     results: "pay slips",
     options: RowsOptions::CSV,
+    slice_length: 100_000,
     partitions: 8,
     item_count: 100,
     classes: CLASSES,
     skip_limit: None,
+    job_skip_limit: None,
     retry_limit: DEFAULT_RETRY_LIMIT,
+    stamp: "1",
 };
 
-/// Reads the time sheets, runs the step from the last checkpoint that the connection has to its end, writes the pay slips, and gives
-/// the exit status and the stream back.
-fn answer<
-    T: Threads + Wait + Clock + Eprint + Copy + Send + Sync + 'static,
-    S: Alter,
+/// Runs the payroll that is asked for: reads the time sheets slice by slice, runs each slice or takes it from its file, and writes the pay
+/// slips. Gives the end, with the exit status, and the stream.
+fn paid<
+    T: Threads + Wait + Clock + Eprint + Host + Copy + Send + Sync + 'static,
+    H: Stored,
+    K: Keeper,
     R: Read + Drop,
     W: Write + Drop,
->(
-    rt: &T,
-    alloc: Global,
-    threads: u32,
-    conn: &mut Connection<S>,
-    from: R,
-    to: W,
-) -> Result<(u8, W), Failure>
-    requires { threads ≤ max_threads }
-    ensures all { (all : List Kept) → IsTakenUp payroll (R.remaining from) (state S.Store conn.old) (state S.Store conn.new) all
-        → IfOk result (λ r. r.0 ≡ 0 → IsPaid (R.remaining from) (W.contents to) (W.contents r.1)) }
-    ensures so_far { (all : List Kept) → IsTakenUp payroll (R.remaining from) (state S.Store conn.old) (state S.Store conn.new) all
-        → IfOk result (λ r. IsPaidSoFar (R.remaining from) (W.contents to) (W.contents r.1) r.0) }
-    ensures status { IfOk result (λ r. (r.0 ≡ 0) ⊎ (r.0 ≡ 1)) }
-    ensures crash { (all : List Kept) → IsTakenUp payroll (R.remaining from) (state S.Store conn.old) (state S.Store conn.new) all
-        → (db : _) → (state S.Store conn.new).may_leave db → IsOfARun (IsPayrollSoFar (R.remaining from)) db }
+>(rt: &T, asked: &Asked, from: R, to: W, keeper: &mut K) -> Result<(JobEnd, W), Failure>
+    // With status 0 the pay slips of all time sheets are written, whatever earlier calls left in the files.
+    ensures all { IsTrue (K.are_clean keeper.new) → (functions : Functions) → IsPayrollTakenUp asked.now functions (R.remaining from) H.log H.db
+        → IfOk result (λ r. r.0.status ≡ 0 → IsPaid asked.now (R.remaining from) (W.contents to) (W.contents r.1)) }
+
+    // With any status those of the first slices.
+    ensures so_far { IsTrue (K.are_clean keeper.new) → (functions : Functions) → IsPayrollTakenUp asked.now functions (R.remaining from) H.log H.db
+        → IfOk result (λ r. IsPaidSoFar asked.now (R.remaining from) (W.contents to) (W.contents r.1)) }
+
+    // It is 0 or 1, by the payroll's rules.
+    ensures by_rules { IsTrue (K.are_clean keeper.new) → (functions : Functions) → IsPayrollTakenUp asked.now functions (R.remaining from) H.log H.db
+        → IfOk result (λ r. IsPayrollByRules asked.now (R.remaining from) r.0.status) }
+    ensures status { IfOk result (λ r. (r.0.status ≡ 0) ⊎ (r.0.status ≡ 1)) }
+
+    // With status 0 it counts the time sheets without a pay slip.
+    ensures skips { IsTrue (K.are_clean keeper.new) → (functions : Functions) → IsPayrollTakenUp asked.now functions (R.remaining from) H.log H.db
+        → IfOk result (λ r. r.0.status ≡ 0 → AreSkipped asked.now (R.remaining from) r.0.skips) }
+
+    // Whatever a crash leaves of the files of a slice is a payroll so far.
+    ensures left { IsTrue (K.are_clean keeper.new) → (functions : Functions) → IsPayrollTakenUp asked.now functions (R.remaining from) H.log H.db
+        → (slice : ℕ) (items : List (List ℕ)) (image : Image) → K.may_leave keeper.new slice items image
+        → K.may_leave keeper.old slice items image ⊎ LeavesPayroll asked.now functions (R.remaining from) slice image }
 {
-    let clerk = Shaky {
-        function: Clerk,
-        tries: BadDay,
-    };
-    run_csv_job(rt, alloc, &JOB, threads, clerk, conn, from, to)
+    run_csv_job::<Clerk, T, H, K, R, W>(rt, &JOB, asked, Clerk, from, to, keeper)
+}
+
+/// The payroll over the standard streams, or with the file that gets its pay slips.
+fn answer<T: Threads + Wait + Clock + Eprint + Host + Copy + Send + Sync + 'static>(
+    rt: &T,
+    asked: &Asked,
+) -> Result<JobEnd, Failure> {
+    let host = rt.host();
+    ready_folder(host, asked.folder.as_str())?;
+    let to = Output::open(host, asked.output.as_deref())?;
+    let (end, to) = paid::<T, Brand, Drops, Stdin, Output>(
+        rt,
+        asked,
+        host.stdin(),
+        to,
+        &mut Drops,
+    )?;
+    to.close(host, end.status == 0)?;
+    Ok(end)
 }
 
 fn main(rt: HostRuntime) -> ExitCode {
-    let answer = match opened(&rt) {
-        Ok((asked, mut conn)) => {
-            let answer = answer(
-                &rt,
-                rt.alloc(),
-                asked.threads,
-                &mut conn,
-                rt.stdin(),
-                rt.stdout(),
-            );
-            let _files = closed(conn);
-            answer
+    match asked_of(&rt, &JOB, None) {
+        Ok(Request::Job(asked)) => {
+            let answer = answer(&rt, &asked);
+            exit_code(&rt, &JOB, asked.folder.as_str(), answer)
         }
-        Err(failure) => Err(failure),
-    };
-    exit_code(&rt, &JOB, answer)
+        Ok(Request::Said) => ExitCode::SUCCESS,
+        Err(failure) => exit_code(&rt, &JOB, "", Err(failure)),
+    }
 }

@@ -1,15 +1,15 @@
 //! A time sheet and its pay slip.
 
 ghost use Rattle.std.specs.Prelude.{◌≡◌, option_map};
+ghost use Rattle.jb_rows.specs.Author.{field_at};
 ghost use Rattle.jb_rows.specs.Numbers.{number_of};
-ghost use Rattle.payroll.specs.Sheets.{pay_by, pay_in, says_shaky};
-ghost use Rattle.csv.specs.Records.{field_at};
+ghost use Rattle.payroll.specs.Sheets.{is_overlong, pay_by, pay_in};
 
 use jb_rows::Row;
 use jb_rows::numbers::{number_of, product_of};
 
-/// What the fourth field of a time sheet says whose first try fails.
-const SHAKY: &[u8] = b"shaky";
+/// The hours of the longest month.
+const MOST_HOURS: u64 = 744;
 
 /// The pay in cents, if the two fields are numbers and their product is below 2^64.
 fn pay_of(hours: &[u8], rate: &[u8]) -> Option<u64>
@@ -27,9 +27,15 @@ pub fn named_pay<'a>(sheet: &'a Row) -> Option<(&'a [u8], u64)>
     Some((name, pay))
 }
 
-/// Whether the first try at this time sheet fails.
-pub fn is_shaky(sheet: &Row) -> bool
-    ensures { result ≡ says_shaky (field_at sheet.now 3) }
+/// Whether a time sheet has more hours than the longest month.
+pub fn is_overlong(sheet: &Row) -> bool
+    ensures { result ≡ is_overlong (field_at sheet.now 1) }
 {
-    sheet.get(3) == Some(SHAKY)
+    let Some(hours) = sheet.get(1) else {
+        return false;
+    };
+    match number_of(hours) {
+        Some(hours) => hours > MOST_HOURS,
+        None => false,
+    }
 }

@@ -1,14 +1,14 @@
 //! A job over CSV: parcels in, their postage out, each once, through any number of kills. Another job has another record in `parcel` and in
 //! specs/Parcels.antt, and other words and classes of faults in `JOB`.
 //!
-//! `postage THREADS FILE` reads parcels, lines `NAME,GRAMS`, on standard input, and writes lines `NAME,CENTS` on standard output. A line that
-//! has no postage is skipped. Whatever ends it, called again with the same parcels it resumes from the last checkpoint in FILE.
+//! `postage [OPTIONS] FOLDER` reads parcels, lines `NAME,GRAMS`, on standard input, and writes lines `NAME,CENTS` on standard output. A line
+//! that has no postage is skipped. Whatever ends it, called again with the same parcels it resumes from the last checkpoint in FOLDER.
 #![tactic(auto)]
 
 mod parcel;
 
 use jb_base::DEFAULT_RETRY_LIMIT;
-use jb_csv_job::{CsvJob, Fate, FaultClass, run_job};
+use jb_csv_job::{CsvJob, DEFAULT_SLICE_LENGTH, Fate, FaultClass, run_job};
 use jb_rows::RowsOptions;
 use parcel::Postage;
 use std::process::ExitCode;
@@ -20,6 +20,7 @@ const JOB: CsvJob<'static> = CsvJob {
     records: "parcels",
     results: "prices",
     options: RowsOptions::CSV,
+    slice_length: DEFAULT_SLICE_LENGTH,
     partitions: 8,
     item_count: 100,
     classes: &[FaultClass {
@@ -27,7 +28,9 @@ const JOB: CsvJob<'static> = CsvJob {
         fate: Fate::Skipped,
     }],
     skip_limit: None,
+    job_skip_limit: None,
     retry_limit: DEFAULT_RETRY_LIMIT,
+    stamp: "1",
 };
 
 fn main(rt: HostRuntime) -> ExitCode {

@@ -1,15 +1,14 @@
 -- The totals after one result more.
-use Rattle.std.proofs.Common.{◌≡◌, ℕ, ◌+◌, ◌<◌, ◌≤◌, Bool, true, false, cond, ◌||◌, List, [], ◌∷◌, ◌++◌, map, length, take, drop, Some, refl, sym, ap, subst, ◌∙◌, true≢false, add-zero, arith, length-append}
-use Rattle.std.specs.Prelude.{bytes_eq, slice_index_or, unwrap_or}
+use Rattle.std.proofs.Common.{◌≡◌, ℕ, ◌+◌, ◌<◌, ◌≤◌, Bool, true, false, cond, ◌||◌, List, [], ◌∷◌, ◌++◌, map, length, take, drop, Some, Result, Ok, Err, IfOk, refl, sym, ap, subst, ◌∙◌, true≢false, add-zero, append_assoc, arith, length-append}
+use Rattle.std.specs.Prelude.{bytes_eq, fold, slice_index_or, unwrap_or}
 use Rattle.std.specs.List.{AllByRecursion, IsDistinct, list_any}
-use Rattle.std.proofs.lemmas.List.{get_or-map, length-map, take-append-drop, take_all, take_more}
+use Rattle.std.proofs.lemmas.List.{append-nil, get_or-map, length-map, take-append-drop, take_all, take_more}
 use Rattle.std.proofs.lemmas.List.Elements.{filter_map-append}
-use Rattle.std.proofs.lemmas.List.Folds.{list_any-append}
 use Rattle.std.proofs.lemmas.List.Sums.{fold_push, sum_by-append, sum_by-cons, sum_by_push}
 use Rattle.std.proofs.lemmas.Slice.Eq.{bytes_eq-Decides}
 use Rattle.jb_rows.specs.Fields.{Fields, fields_in}
 use Rattle.sales.specs.Amounts.{Amount, amount_at, amount_of, amounts_in, with_amount}
-use Rattle.sales.specs.Totals.{AreTotals, IfTooLarge, customers_in, record_of, total_in, totals_in, with_customer}
+use Rattle.sales.specs.Totals.{AreTotals, AreTotalsSoFar, HaveAdded, IfTooLarge, customers_in, record_of, total_in, totals_in, with_customer}
 use Rattle.sales.specs.declared.sums.SumsError.{SumsError}
 use Rattle.sales.specs.declared.sums.SumsError.TheVariants as error
 
@@ -36,6 +35,10 @@ or-false : (t : Bool) → (t || false) ≡ t
 or-false true = refl
 or-false false = refl
 
+or-assoc : (a b c : Bool) → (a || (b || c)) ≡ ((a || b) || c)
+or-assoc true b c = refl
+or-assoc false b c = refl
+
 -- ---- the customers with one more
 
 -- what passes a test is one of before, or the new one
@@ -46,7 +49,7 @@ any-with_customer test [] name alike = or-false (test name)
 any-with_customer test (first ∷ customers) name alike =
     elim (bytes_eq name first) as (λ t. bytes_eq name first ≡ t → list_any test (cond t (first ∷ customers) (first ∷ with_customer customers name)) ≡ ((test first || list_any test customers) || test name)) [
       | true ↦ λ equal. known (test first) (test name) (list_any test customers) (alike first equal)
-      | false ↦ λ differ. ap (λ later. test first || later) (any-with_customer test customers name alike) ∙ assoc (test first) (list_any test customers) (test name)
+      | false ↦ λ differ. ap (λ later. test first || later) (any-with_customer test customers name alike) ∙ or-assoc (test first) (list_any test customers) (test name)
     ] refl
   where
     known : (a b c : Bool) → a ≡ b → (a || c) ≡ ((a || c) || b)
@@ -54,10 +57,6 @@ any-with_customer test (first ∷ customers) name alike =
     known false false c e = sym (or-false c)
     known true false c e = absurd (true≢false e)
     known false true c e = absurd (true≢false (sym e))
-
-    assoc : (a b c : Bool) → (a || (b || c)) ≡ ((a || b) || c)
-    assoc true b c = refl
-    assoc false b c = refl
 
 all-with_customer : (P : List ℕ → Type 0) (customers : List (List ℕ)) (name : List ℕ) → AllByRecursion P customers → P name → AllByRecursion P (with_customer customers name)
 all-with_customer P [] name all new = (new, tt)
@@ -75,6 +74,27 @@ once-with_customer (first ∷ customers) name once =
       | true ↦ λ equal. once
       | false ↦ λ differ. (all-with_customer (λ other. bytes_eq first other ≡ false) customers name once.0 (turned first name ∙ differ), once-with_customer customers name once.1)
     ] refl
+
+-- those of any amounts are distinct, and they are those that have an amount
+once-from : (customers : List (List ℕ)) (amounts : List Amount) → IsDistinct bytes_eq customers → IsDistinct bytes_eq (fold (λ those amount. with_customer those amount.0) customers amounts)
+once-from customers [] once = once
+once-from customers (amount ∷ amounts) once = once-from (with_customer customers amount.0) amounts (once-with_customer customers amount.0 once)
+
+pub customers-once : (amounts : List Amount) → IsDistinct bytes_eq (customers_in amounts)
+unfolding IsDistinct
+customers-once amounts = once-from [] amounts tt
+
+any-from : (name : List ℕ) (customers : List (List ℕ)) (amounts : List Amount)
+    → list_any (bytes_eq name) (fold (λ those amount. with_customer those amount.0) customers amounts) ≡ (list_any (bytes_eq name) customers || list_any (λ amount. bytes_eq name amount.0) amounts)
+any-from name customers [] = sym (or-false (list_any (bytes_eq name) customers))
+any-from name customers (amount ∷ amounts) =
+    any-from name (with_customer customers amount.0) amounts
+    ∙ ap (λ (t : Bool). t || list_any (λ (a : Amount). bytes_eq name a.0) amounts)
+    (any-with_customer (bytes_eq name) customers amount.0 (λ first equal. ap (bytes_eq name) (sym (same amount.0 first equal))))
+    ∙ sym (or-assoc (list_any (bytes_eq name) customers) (bytes_eq name amount.0) (list_any (λ (a : Amount). bytes_eq name a.0) amounts))
+
+pub customers-all : (amounts : List Amount) (name : List ℕ) → list_any (bytes_eq name) (customers_in amounts) ≡ list_any (λ amount. bytes_eq name amount.0) amounts
+customers-all amounts name = any-from name [] amounts
 
 -- ---- their totals
 
@@ -130,83 +150,73 @@ total-none (amount ∷ amounts) name none =
 
 -- ---- one result more
 
--- the totals of these results, as they are put together
-pub record AreSoFar (results : List Fields) (totals : List Amount) : Type 0 where
-  pub whole : length (amounts_in results) ≡ length results
-  pub sums : totals ≡ totals_in (amounts_in results)
-  pub once : IsDistinct bytes_eq (customers_in (amounts_in results))
-  pub all : (customer : List ℕ) → list_any (bytes_eq customer) (customers_in (amounts_in results)) ≡ list_any (λ amount. bytes_eq customer amount.0) (amounts_in results)
-
-pub no-results : AreSoFar [] []
-unfolding IsDistinct
-no-results = record { whole = refl; sums = refl; once = tt; all = λ customer. refl }
-
 pub amounts-more : (results : List Fields) (row : Fields) (amount : Amount) → amount_of row ≡ Some amount → amounts_in (results ++ row ∷ []) ≡ amounts_in results ++ amount ∷ []
 amounts-more results row amount is = filter_map-append amount_of results (row ∷ []) ∙ rw is refl
 
-pub customers-more : (amounts : List Amount) (amount : Amount) → customers_in (amounts ++ amount ∷ []) ≡ with_customer (customers_in amounts) amount.0
+customers-more : (amounts : List Amount) (amount : Amount) → customers_in (amounts ++ amount ∷ []) ≡ with_customer (customers_in amounts) amount.0
 customers-more amounts amount = fold_push (λ customers amount. with_customer customers amount.0) [] amounts amount
 
-pub total-more : (amounts : List Amount) (amount : Amount) (customer : List ℕ) → total_in (amounts ++ amount ∷ []) customer ≡ total_in amounts customer + cond (bytes_eq amount.0 customer) amount.1 0
+total-more : (amounts : List Amount) (amount : Amount) (customer : List ℕ) → total_in (amounts ++ amount ∷ []) customer ≡ total_in amounts customer + cond (bytes_eq amount.0 customer) amount.1 0
 total-more amounts amount customer = sum_by_push (λ a. cond (bytes_eq a.0 customer) a.1 0) amounts amount
 
--- the total of a name as it is found there
-found-total : (results : List Fields) (totals : List Amount) (name : List ℕ) → AreSoFar results totals → unwrap_or (amount_at totals name) 0 ≡ total_in (amounts_in results) name
-found-total results totals name so_far =
-    rw so_far.sums (at-total (total_in (amounts_in results)) (customers_in (amounts_in results)) name (λ nobody. total-none (amounts_in results) name (sym (so_far.all name) ∙ nobody)))
+-- who is no customer has the total 0
+nobody-pays : (amounts : List Amount) (name : List ℕ) → list_any (bytes_eq name) (customers_in amounts) ≡ false → total_in amounts name ≡ 0
+nobody-pays amounts name nobody = total-none amounts name (sym (customers-all amounts name) ∙ nobody)
 
-more-results : (results : List Fields) (row : Fields) (totals : List Amount) (amount : Amount) → amount_of row ≡ Some amount → AreSoFar results totals
-    → AreSoFar (results ++ row ∷ []) (with_amount totals amount.0 (unwrap_or (amount_at totals amount.0) 0 + amount.1))
+-- the total of a name as it is found there
+found-total : (results : List Fields) (totals : List Amount) (name : List ℕ) → AreTotalsSoFar results totals → unwrap_or (amount_at totals name) 0 ≡ total_in (amounts_in results) name
+found-total results totals name so_far = rw so_far.sums (at-total (total_in (amounts_in results)) (customers_in (amounts_in results)) name (nobody-pays (amounts_in results) name))
+
+more-results : (results : List Fields) (row : Fields) (totals : List Amount) (amount : Amount) → amount_of row ≡ Some amount → AreTotalsSoFar results totals
+    → AreTotalsSoFar (results ++ row ∷ []) (with_amount totals amount.0 (unwrap_or (amount_at totals amount.0) 0 + amount.1))
 more-results results row totals amount is so_far =
     let amounts : List Amount = amounts_in results in
     let more : amounts_in (results ++ row ∷ []) ≡ amounts ++ amount ∷ [] = amounts-more results row amount is in
-    let customers : customers_in (amounts_in (results ++ row ∷ [])) ≡ with_customer (customers_in amounts) amount.0 = ap customers_in more ∙ customers-more amounts amount in
-    let none : list_any (bytes_eq amount.0) (customers_in amounts) ≡ false → total_in amounts amount.0 ≡ 0 =
-    λ nobody. total-none amounts amount.0 (sym (so_far.all amount.0) ∙ nobody) in
     let sums : with_totals (total_in (amounts ++ amount ∷ [])) (with_customer (customers_in amounts) amount.0)
     ≡ with_amount (totals_in amounts) amount.0 (total_in amounts amount.0 + amount.1) =
-    one-total amount.0 amount.1 (total_in amounts) (total_in (amounts ++ amount ∷ [])) (total-more amounts amount) (customers_in amounts) so_far.once none in
+    one-total amount.0 amount.1 (total_in amounts) (total_in (amounts ++ amount ∷ [])) (total-more amounts amount) (customers_in amounts) (customers-once amounts) (nobody-pays amounts amount.0) in
     record {
       whole = ap length more ∙ length-append amounts (amount ∷ []) ∙ ap (λ (n : ℕ). n + 1) so_far.whole ∙ sym (length-append results (row ∷ []));
       sums = ap (λ (cents : ℕ). with_amount totals amount.0 (cents + amount.1)) (found-total results totals amount.0 so_far)
           ∙ ap (λ (those : List Amount). with_amount those amount.0 (total_in amounts amount.0 + amount.1)) so_far.sums
           ∙ sym sums ∙ ap (with_totals (total_in (amounts ++ amount ∷ []))) (sym (customers-more amounts amount)) ∙ ap totals_in (sym more);
-      once = subst (IsDistinct bytes_eq) (sym customers) (once-with_customer (customers_in amounts) amount.0 so_far.once);
-      all = λ customer.
-          ap (list_any (bytes_eq customer)) customers
-          ∙ any-with_customer (bytes_eq customer) (customers_in amounts) amount.0 (λ first equal. ap (bytes_eq customer) (sym (same amount.0 first equal)))
-          ∙ ap (λ (t : Bool). t || bytes_eq customer amount.0) (so_far.all customer)
-          ∙ ap (λ (t : Bool). list_any (λ (a : Amount). bytes_eq customer a.0) amounts || t) (sym (or-false (bytes_eq customer amount.0)))
-          ∙ sym (list_any-append (λ (a : Amount). bytes_eq customer a.0) amounts (amount ∷ []))
-          ∙ ap (list_any (λ (a : Amount). bytes_eq customer a.0)) (sym more);
     }
 
--- ---- in a loop over the results
+-- ---- in a loop over the results, after earlier ones
 
-module _ (results : List Fields) (number : ℕ) (row : Fields) (totals : List Amount) (name : List ℕ) (cents : ℕ) (below : number < length results)
-    (this : row ≡ slice_index_or results number []) (is : Some (name, cents) ≡ amount_of row) (so_far : AreSoFar (take number results) totals) where
-  front : take (number + 1) results ≡ take number results ++ row ∷ []
-  front = take_more results number [] below ∙ ap (λ (last : Fields). take number results ++ last ∷ []) (sym this)
+module _ (earlier results : List Fields) (number : ℕ) (row : Fields) (totals : List Amount) (name : List ℕ) (cents : ℕ) (below : number < length results)
+    (this : row ≡ slice_index_or results number []) (is : Some (name, cents) ≡ amount_of row) (so_far : AreTotalsSoFar (earlier ++ take number results) totals) where
+  front : earlier ++ take (number + 1) results ≡ (earlier ++ take number results) ++ row ∷ []
+  front =
+      ap (λ (those : List Fields). earlier ++ those) (take_more results number [] below ∙ ap (λ (last : Fields). take number results ++ last ∷ []) (sym this))
+      ∙ sym (append_assoc earlier (take number results) (row ∷ []))
 
-  pub one-more : (after : List Amount) → after ≡ with_amount totals name (unwrap_or (amount_at totals name) 0 + cents) → AreSoFar (take (number + 1) results) after
+  pub one-more : (after : List Amount) → after ≡ with_amount totals name (unwrap_or (amount_at totals name) 0 + cents) → AreTotalsSoFar (earlier ++ take (number + 1) results) after
   one-more after put =
-      subst (AreSoFar (take (number + 1) results)) (sym put)
-      (subst (λ (those : List Fields). AreSoFar those (with_amount totals name (unwrap_or (amount_at totals name) 0 + cents))) (sym front)
-      (more-results (take number results) row totals (name, cents) (sym is) so_far))
+      subst (AreTotalsSoFar (earlier ++ take (number + 1) results)) (sym put)
+      (subst (λ (those : List Fields). AreTotalsSoFar those (with_amount totals name (unwrap_or (amount_at totals name) 0 + cents))) (sym front)
+      (more-results (earlier ++ take number results) row totals (name, cents) (sym is) so_far))
 
   -- a sum that is too large is no larger than the total of all results
-  pub too-large : (limit : ℕ) → limit ≤ unwrap_or (amount_at totals name) 0 + cents → limit ≤ total_in (amounts_in results) name
+  pub too-large : (limit : ℕ) → limit ≤ unwrap_or (amount_at totals name) 0 + cents → limit ≤ total_in (amounts_in (earlier ++ results)) name
   too-large limit above =
-      let amounts : List Amount = amounts_in (take number results) in
-      let sum : unwrap_or (amount_at totals name) 0 + cents ≡ total_in (amounts_in (take (number + 1) results)) name =
-      ap (λ (before : ℕ). before + cents) (found-total (take number results) totals name so_far)
-      ∙ rw (own name) at (sym (total-more amounts (name, cents) name))
-      ∙ ap (λ (those : List Amount). total_in those name) (sym (ap amounts_in front ∙ amounts-more (take number results) row (name, cents) (sym is))) in
-      let whole : total_in (amounts_in results) name ≡ total_in (amounts_in (take (number + 1) results)) name + total_in (amounts_in (drop (number + 1) results)) name =
-      ap (λ (those : List Fields). total_in (amounts_in those) name) (sym (take-append-drop (number + 1) results))
-      ∙ ap (λ (those : List Amount). total_in those name) (filter_map-append amount_of (take (number + 1) results) (drop (number + 1) results))
-      ∙ sum_by-append (λ (a : Amount). cond (bytes_eq a.0 name) a.1 0) (amounts_in (take (number + 1) results)) (amounts_in (drop (number + 1) results)) in
+      let before : List Fields = earlier ++ take number results in
+      let later : List Fields = drop (number + 1) results in
+      let sum : unwrap_or (amount_at totals name) 0 + cents ≡ total_in (amounts_in (before ++ row ∷ [])) name =
+      ap (λ (those : ℕ). those + cents) (found-total before totals name so_far)
+      ∙ rw (own name) at (sym (total-more (amounts_in before) (name, cents) name))
+      ∙ ap (λ (those : List Amount). total_in those name) (sym (amounts-more before row (name, cents) (sym is))) in
+      let all : earlier ++ results ≡ (before ++ row ∷ []) ++ later =
+      ap (λ (those : List Fields). earlier ++ those) (sym (take-append-drop (number + 1) results))
+      ∙ sym (append_assoc earlier (take (number + 1) results) later) ∙ ap (λ (those : List Fields). those ++ later) front in
+      let whole : total_in (amounts_in (earlier ++ results)) name ≡ total_in (amounts_in (before ++ row ∷ [])) name + total_in (amounts_in later) name =
+      ap (λ (those : List Fields). total_in (amounts_in those) name) all
+      ∙ ap (λ (those : List Amount). total_in those name) (filter_map-append amount_of (before ++ row ∷ []) later)
+      ∙ sum_by-append (λ (a : Amount). cond (bytes_eq a.0 name) a.1 0) (amounts_in (before ++ row ∷ [])) (amounts_in later) in
       omega arith
+
+pub none-added : (totals : List Amount) → HaveAdded totals totals []
+none-added totals earlier so_far = subst (λ (those : List Fields). AreTotalsSoFar those totals) (sym (append-nil earlier)) so_far
 
 -- ---- of results that are packed
 
@@ -217,11 +227,16 @@ pub packed-row : (packed : List (List ℕ)) (number : ℕ) (bytes : List ℕ) (r
     → row ≡ slice_index_or (map fields_in packed) number []
 packed-row packed number bytes row below at is = is ∙ ap fields_in at ∙ sym (get_or-map fields_in packed number [] [] below)
 
-pub at-end : (packed : List (List ℕ)) (number : ℕ) (totals : List Amount) → length packed ≤ number → AreSoFar (take number (map fields_in packed)) totals → AreSoFar (map fields_in packed) totals
-at-end packed number totals past so_far = subst (λ (those : List Fields). AreSoFar those totals) (take_all number (map fields_in packed) (rw (length-map packed fields_in) past)) so_far
+pub at-end : (packed : List (List ℕ)) (number : ℕ) (before after : List Amount) → length packed ≤ number → HaveAdded before after (take number (map fields_in packed)) → HaveAdded before after (map fields_in packed)
+at-end packed number before after past added = subst (HaveAdded before after) (take_all number (map fields_in packed) (rw (length-map packed fields_in) past)) added
 
-pub totals-are : (results : List Fields) (totals : List Amount) (rows : List Fields) → AreSoFar results totals → rows ≡ map record_of totals → AreTotals (amounts_in results) rows
-totals-are results totals rows so_far are = record { sums = are ∙ ap (map record_of) so_far.sums; once = so_far.once; all = so_far.all }
+-- ---- as records
+
+pub as-records : {E : Type 0} (results : List Fields) (totals : List Amount) (rows : Result (List Fields) E) → AreTotalsSoFar results totals
+    → IfOk rows (λ those. those ≡ map record_of totals) → IfOk rows (AreTotals (amounts_in results))
+as-records results totals (Ok rows) so_far are =
+    record { sums = are ∙ ap (map record_of) so_far.sums; once = customers-once (amounts_in results); all = customers-all (amounts_in results) }
+as-records results totals (Err why) so_far are = tt
 
 pub if-too-large : {P Q : Type 0} (why : SumsError) → (P → Q) → IfTooLarge why P → IfTooLarge why Q
 if-too-large (error.NoAmount number) follows is = tt

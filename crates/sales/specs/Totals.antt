@@ -1,8 +1,8 @@
 -- The total of each customer.
-use Rattle.std.specs.Prelude.{ℕ, ◌≡◌, ⊤, List, [], ◌∷◌, bytes_eq, decimal, fold, if◌then◌else◌, map}
+use Rattle.std.specs.Prelude.{ℕ, ◌≡◌, ⊤, List, [], ◌∷◌, ◌++◌, bytes_eq, decimal, fold, if◌then◌else◌, length, map}
 use Rattle.std.specs.List.{IsDistinct, list_any, sum_by}
 use Rattle.jb_rows.specs.Fields.{Fields}
-use Rattle.sales.specs.Amounts.{Amount}
+use Rattle.sales.specs.Amounts.{Amount, amounts_in}
 use Rattle.sales.specs.declared.sums.SumsError.{SumsError}
 use Rattle.sales.specs.declared.sums.SumsError.TheVariants as error
 
@@ -32,6 +32,17 @@ pub record AreTotals (amounts : List Amount) (totals : List Fields) : Type 0 whe
   pub sums : totals ≡ map record_of (totals_in amounts)
   pub once : IsDistinct bytes_eq (customers_in amounts)
   pub all : (customer : List ℕ) → list_any (bytes_eq customer) (customers_in amounts) ≡ list_any (λ amount. bytes_eq customer amount.0) amounts
+
+-- ---- AS RESULTS ARE ADDED
+
+-- the totals of these results, each of which is an amount
+pub record AreTotalsSoFar (results : List Fields) (totals : List Amount) : Type 0 where
+  pub whole : length (amounts_in results) ≡ length results
+  pub sums : totals ≡ totals_in (amounts_in results)
+
+-- THESE RESULTS WERE ADDED: if the totals before were those of earlier ones, these are of both
+abbrev pub HaveAdded : (before after : List Amount) → (results : List Fields) → Type 0
+HaveAdded before after results = (earlier : List Fields) → AreTotalsSoFar earlier before → AreTotalsSoFar (earlier ++ results) after
 
 -- if a sum was too large, P
 abbrev pub IfTooLarge : SumsError → (P : Type 0) → Type 0

@@ -11,4 +11,4 @@ mod sums;
 pub use amounts::Amounts;
 pub use prices::{PricesError, read_prices};
 pub use sale::{CLASSES, Pricing};
-pub use sums::{SumsError, totals_of};
+pub use sums::{SumsError, Totals};

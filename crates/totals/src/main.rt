@@ -1,68 +1,94 @@
 //! A job over JSON Lines with a lookup: sales in, the total of each customer out.
 //!
-//! `totals THREADS FILE PRICES` reads a list of prices, lines `ITEM,CENTS`, in PRICES, and sales, lines
-//! `{"customer":"Ada","item":"pen","count":3}`, on standard input. It writes lines `CUSTOMER,TOTAL` on standard output, once all
-//! sales are done. Whatever ends it, called again with the same sales and prices it resumes from the last checkpoint in FILE.
+//! `totals [OPTIONS] --prices PATH FOLDER` reads a list of prices, lines `ITEM,CENTS`, in PATH, and sales, lines
+//! `{"customer":"Ada","item":"pen","count":3}`, on standard input. It writes lines `CUSTOMER,TOTAL` on standard output, once all sales are
+//! done. Whatever ends it, called again with the same sales and prices it resumes from the last checkpoint in FOLDER.
 //!
-//! - `run`: the job's run, and the totals that come of it. `words`: the command line. `failure`: why there is no answer.
+//! - `run`: the job's run, and the totals that come of it. `adding`: who takes the results of slices. `price_list`: the list of prices.
+//!   `failure`: why there is no answer.
 //!
 //! What a sale is, and what a customer pays, is in the crate `sales`.
 #![tactic(auto)]
 
+mod adding;
 mod failure;
+mod price_list;
 mod run;
-mod words;
 
-use failure::{TotalsError, say};
-use jb_csv_job::{Host, closed};
+use failure::TotalsError;
+use jb_csv_job::{
+    Asked, Drops, Host, JobEnd, Output, OwnOption, Request, asked_of, exit_code, ready_folder,
+};
 use jb_rows::{Rows, RowsOptions, RowsWriter};
-use jb_slice_file::connect;
-use run::totals;
-use sales::{PricesError, read_prices};
-use sqlite::Wary;
-use std::fs::File;
+use price_list::read_list;
+use run::{JOB, totals};
+use std::io::Stdin;
+use std::marker::Brand;
 use std::process::ExitCode;
 use std::sync::Wait;
 use std::thread::Threads;
 use std::time::Clock;
-use words::words_of;
 
-/// The exit status, and the totals of the sales on standard input.
-fn answer<T: Threads + Wait + Clock + Eprint + Host + Copy + Send + Sync + 'static>(
-    rt: &T,
-) -> Result<(u8, Rows), TotalsError> {
-    let host = rt.host();
-    let alloc = host.alloc();
-    let asked = words_of(host)?;
-    let file = match File::open(host, asked.prices.as_str()) {
-        Ok(file) => file,
-        Err(error) => return Err(TotalsError::Prices(PricesError::File(error))),
-    };
-    let prices = read_prices(alloc, file)?;
-    let mut conn = connect(host, asked.file.as_str(), Wary)?;
-    let answer = totals(rt, alloc, asked.threads, prices, &mut conn, host.stdin());
-    let _files = closed(conn);
-    answer
+/// The option that names the list of prices.
+const PRICES: OwnOption<'static> = OwnOption {
+    name: "prices",
+    value: "PATH",
+    help: "The list of prices, lines ITEM,CENTS",
+};
+
+/// Writes the totals.
+fn write_totals(host: &HostRuntime, to: Output, totals: &Rows) -> Result<Output, TotalsError> {
+    let mut writer = RowsWriter::new(host.alloc(), &RowsOptions::CSV, to);
+    writer.write_rows(totals)?;
+    Ok(writer.finish()?)
 }
 
-/// Writes the totals on standard output, and gives the exit status.
-fn written<T: Threads + Wait + Clock + Eprint + Host + Copy + Send + Sync + 'static>(
+/// Runs the job over standard input, and writes the totals.
+fn answer<T: Threads + Wait + Clock + Eprint + Host + Copy + Send + Sync + 'static>(
     rt: &T,
-) -> Result<u8, TotalsError> {
-    let (status, totals) = answer(rt)?;
+    asked: &Asked,
+) -> Result<JobEnd, TotalsError> {
     let host = rt.host();
-    let mut writer = RowsWriter::new(host.alloc(), &RowsOptions::CSV, host.stdout());
-    writer.write_rows(&totals)?;
-    let _stdout = writer.finish()?;
-    Ok(status)
+    let list = read_list(host, asked)?;
+    ready_folder(host, asked.folder.as_str())?;
+    let to = Output::open(host, asked.output.as_deref())?;
+    let (end, rows) = totals::<T, Brand, Drops, Stdin>(
+        rt,
+        host.alloc(),
+        asked,
+        list.prices,
+        list.stamp.as_str(),
+        host.stdin(),
+        &mut Drops,
+    )?;
+    let to = write_totals(host, to, &rows)?;
+    to.close(host, end.status == 0)?;
+    Ok(end)
+}
+
+/// The exit status of an answer. Why there is none is printed on standard error, in a line that begins with the name of the refusal.
+fn exit_of<T: Eprint + Host>(
+    rt: &T,
+    folder: &str,
+    answer: Result<JobEnd, TotalsError>,
+) -> ExitCode {
+    match answer {
+        Ok(end) => exit_code(rt, &JOB, folder, Ok(end)),
+        Err(TotalsError::Job(failure)) => exit_code(rt, &JOB, folder, Err(failure)),
+        Err(error) => {
+            let _reported = eprintln!(rt; "{error}");
+            ExitCode::from(3)
+        }
+    }
 }
 
 fn main(rt: HostRuntime) -> ExitCode {
-    match written(&rt) {
-        Ok(status) => ExitCode::from(status),
-        Err(error) => {
-            say(&rt, error);
-            ExitCode::from(3)
+    match asked_of(&rt, &JOB, Some(&PRICES)) {
+        Ok(Request::Job(asked)) => {
+            let answer = answer(&rt, &asked);
+            exit_of(&rt, asked.folder.as_str(), answer)
         }
+        Ok(Request::Said) => ExitCode::SUCCESS,
+        Err(failure) => exit_code(&rt, &JOB, "", Err(failure)),
     }
 }

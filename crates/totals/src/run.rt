@@ -1,68 +1,110 @@
 //! The job's run, and the totals that come of it.
 
-ghost use Rattle.std.specs.Prelude.{◌≡◌, ◌≤◌, List, IfOk};
-ghost use Rattle.sqlite.specs.Held.{state};
-ghost use Rattle.jb_base.specs.Limits.{max_threads};
-ghost use Rattle.jb_slice_file.specs.Kept.{Kept};
-ghost use Rattle.jb_csv_job.specs.Kept.{IsJobSoFar, IsTakenUp};
-ghost use Rattle.jb_slice_file.specs.Files.{IsOfARun};
-ghost use Rattle.totals.specs.Job.{AreTotalsOf, totals_job};
+ghost use Rattle.std.specs.Prelude.{◌≡◌, ◌⊎◌, ℕ, List, IfOk, IsTrue};
+ghost use Rattle.sqlite_wal.specs.Recovery.{Image};
+ghost use Rattle.jb_slices.specs.Slice.{Functions};
+ghost use Rattle.totals.specs.Job.{AreAdded, AreSalesTakenUp, AreTotalsOf, IsTotalsByRules, LeavesSales};
 
+use crate::adding::Adding;
 use crate::failure::TotalsError;
 use jb_base::DEFAULT_RETRY_LIMIT;
-use jb_csv_job::{CsvJob, run_to_rows};
-use jb_rows::{Rows, RowsOptions};
-use sales::{Amounts, CLASSES, Pricing, totals_of};
-use sqlite::{Alter, Connection};
+use jb_csv_job::{Asked, CsvJob, Failure, Host, JobEnd, Keeper, Stored, run_slices};
+use jb_rows::{Rows, RowsOptions, RowsReader};
+use sales::{Amounts, CLASSES, Pricing};
 use std::alloc::Global;
 use std::io::Read;
 use std::sync::Wait;
 use std::thread::Threads;
 use std::time::Clock;
 
-/// What the job is called, and how it runs.
+/// What the job is called, and how it runs. Its stamp is that of the list of prices.
 pub const JOB: CsvJob<'static> = CsvJob {
     name: "totals",
     input: "SALES",
     records: "sales",
     results: "payments",
     options: RowsOptions::LINES,
+    slice_length: 100_000,
     partitions: 8,
     item_count: 100,
     classes: CLASSES,
     skip_limit: None,
+    job_skip_limit: None,
     retry_limit: DEFAULT_RETRY_LIMIT,
+    stamp: "",
 };
 
-/// Reads the sales, runs the step from the last checkpoint that the connection has to its end, and gives the exit status and the totals. With
-/// another status than 0 there are none.
-pub fn totals<
-    T: Threads + Wait + Clock + Eprint + Copy + Send + Sync + 'static,
-    S: Alter,
+/// Reads the sales slice by slice, runs each slice or takes it from its file, and adds up the results. Gives the end, with the exit status.
+fn added<
+    T: Threads + Wait + Clock + Eprint + Host + Copy + Send + Sync + 'static,
+    H: Stored,
+    K: Keeper,
     R: Read + Drop,
 >(
     rt: &T,
     alloc: Global,
-    threads: u32,
+    asked: &Asked,
     prices: Amounts,
-    conn: &mut Connection<S>,
+    stamp: &str,
     from: R,
-) -> Result<(u8, Rows), TotalsError>
-    requires { threads ≤ max_threads }
-
-    // With status 0 each total is the sum of what is paid for all sales that were read, each once, whatever earlier runs the checkpoints are of.
-    ensures all { (all : List Kept) → IsTakenUp (totals_job prices) (R.remaining from) (state S.Store conn.old) (state S.Store conn.new) all
-        → IfOk result (λ r. r.0 ≡ 0 → AreTotalsOf (totals_job prices) prices (R.remaining from) r.1) }
-
-    // At any moment a crash leaves such checkpoints again.
-    ensures crash { (all : List Kept) → IsTakenUp (totals_job prices) (R.remaining from) (state S.Store conn.old) (state S.Store conn.new) all
-        → (db : _) → (state S.Store conn.new).may_leave db → IsOfARun (IsJobSoFar (totals_job prices) (R.remaining from)) db }
+    keeper: &mut K,
+) -> Result<(JobEnd, Adding), Failure>
+    ensures all { IsTrue (K.are_clean keeper.new) → (functions : Functions) → AreSalesTakenUp prices stamp.now asked.now functions (R.remaining from) H.log H.db
+        → IfOk result (λ r. r.0.status ≡ 0 → AreAdded prices asked.now (R.remaining from) r.1) }
+    ensures by_rules { IsTrue (K.are_clean keeper.new) → (functions : Functions) → AreSalesTakenUp prices stamp.now asked.now functions (R.remaining from) H.log H.db
+        → IfOk result (λ r. IsTotalsByRules prices stamp.now asked.now (R.remaining from) r.0.status) }
+    ensures status { IfOk result (λ r. (r.0.status ≡ 0) ⊎ (r.0.status ≡ 1)) }
+    ensures left { IsTrue (K.are_clean keeper.new) → (functions : Functions) → AreSalesTakenUp prices stamp.now asked.now functions (R.remaining from) H.log H.db
+        → (slice : ℕ) (items : List (List ℕ)) (image : Image) → K.may_leave keeper.new slice items image
+        → K.may_leave keeper.old slice items image ⊎ LeavesSales prices stamp.now asked.now functions (R.remaining from) slice image }
 {
+    let mut job: CsvJob = JOB;
+    job.stamp = stamp;
+    let mut reader = RowsReader::new(alloc, &job.options, from)?;
+    let mut adding = Adding::new(alloc);
     let pricing = Pricing { prices, alloc };
-    let rows = run_to_rows(rt, alloc, &JOB, threads, pricing, conn, from)?;
-    if rows.status != 0 {
-        return Ok((rows.status, Rows::new(alloc)));
+    let end = run_slices::<Pricing, T, H, K, R, Adding>(
+        rt,
+        &job,
+        asked,
+        pricing,
+        &mut reader,
+        &mut adding,
+        keeper,
+    )?;
+    Ok((end, adding))
+}
+
+/// Runs the job, and gives its end, with the exit status, and the totals. With another status than 0, or for a part of the job, there are none.
+pub fn totals<
+    T: Threads + Wait + Clock + Eprint + Host + Copy + Send + Sync + 'static,
+    H: Stored,
+    K: Keeper,
+    R: Read + Drop,
+>(
+    rt: &T,
+    alloc: Global,
+    asked: &Asked,
+    prices: Amounts,
+    stamp: &str,
+    from: R,
+    keeper: &mut K,
+) -> Result<(JobEnd, Rows), TotalsError>
+    // With status 0 each total is the sum of what is paid for all sales that were read, each once, whatever earlier calls left in the files.
+    ensures all { IsTrue (K.are_clean keeper.new) → (functions : Functions) → AreSalesTakenUp prices stamp.now asked.now functions (R.remaining from) H.log H.db
+        → IfOk result (λ r. r.0.status ≡ 0 → AreTotalsOf prices asked.now (R.remaining from) r.1) }
+    ensures by_rules { IsTrue (K.are_clean keeper.new) → (functions : Functions) → AreSalesTakenUp prices stamp.now asked.now functions (R.remaining from) H.log H.db
+        → IfOk result (λ r. IsTotalsByRules prices stamp.now asked.now (R.remaining from) r.0.status) }
+    ensures status { IfOk result (λ r. (r.0.status ≡ 0) ⊎ (r.0.status ≡ 1)) }
+
+    // Whatever a crash leaves of the files of a slice is the job so far.
+    ensures left { IsTrue (K.are_clean keeper.new) → (functions : Functions) → AreSalesTakenUp prices stamp.now asked.now functions (R.remaining from) H.log H.db
+        → (slice : ℕ) (items : List (List ℕ)) (image : Image) → K.may_leave keeper.new slice items image
+        → K.may_leave keeper.old slice items image ⊎ LeavesSales prices stamp.now asked.now functions (R.remaining from) slice image }
+{
+    let (end, adding) = added::<T, H, K, R>(rt, alloc, asked, prices, stamp, from, keeper)?;
+    if end.status != 0 {
+        return Ok((end, Rows::new(alloc)));
     }
-    let totals = totals_of(alloc, &rows.results)?;
-    Ok((0, totals))
+    Ok((end, adding.rows()?))
 }

@@ -1,4 +1,4 @@
-use Rattle.std.proofs.Common.{◌≡◌, ◌++◌, [], ap, ◌∙◌}
+use Rattle.std.proofs.Common.{◌++◌, [], ap, ◌∙◌}
 use Rattle.sha2.specs.Sha256.{sha256}
 use Rattle.jb_slice_file.proofs.Chains.{fed, link_is}
 use Rattle.jb_slice_file.proofs.list_end.link_of.Goals as goal

@@ -1,4 +1,4 @@
-use Rattle.std.proofs.Common.{◌≡◌, ◌≢◌, ◌+◌, ◌∷◌, ◌++◌, length, map, pos, rules, ap, subst, sym, ◌∙◌, arith, true≢false}
+use Rattle.std.proofs.Common.{◌≡◌, ◌≢◌, ◌+◌, ◌∷◌, length, map, pos, rules, ap, subst, sym, ◌∙◌, arith, true≢false}
 use Rattle.std.specs.Vec.Iter.{into_iter_items}
 use Rattle.jb_slice_file.specs.Chain.{last_link, link_of}
 use Rattle.jb_slice_file.specs.Kept.{kept}

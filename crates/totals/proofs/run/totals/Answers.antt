@@ -1,12 +1,10 @@
-use Rattle.jb_csv_job.specs.Done.{header_in}
-use Rattle.totals.specs.Job.{totals_job}
+use Rattle.jb_csv_job.specs.Tasks.{given_by}
 use Rattle.totals.proofs.run.totals.Goals as goal
 
 pub returns-clause-all : goal.returns-clause-all
-returns-clause-all g c all taken zero =
-    let done = c.in_ok-rows.ensures.all all taken c.if-rows-ne0.false in record {
-      header = header_in (totals_job c.args.prices) c.in_ok-rows.rows;
-      lines = done.records;
+returns-clause-all g c = λ clean functions taken zero.
+    let done = c.in_ok-end.ensures.all clean functions taken zero in record {
+      lines = done.lines;
       read = done.read;
-      are = c.in_ok-totals.ensures.sold c.args.prices done.records done.results_are;
+      are = c.in_ok-rows.ensures.sold c.args.prices (given_by c.args.asked.now.task done.lines) done.added;
     }

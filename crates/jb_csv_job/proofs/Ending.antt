@@ -1,0 +1,97 @@
+-- One slice, in the job's terms.
+use Rattle.std.proofs.Common.{◌≡◌, ◌≢◌, ◌∙◌, ℕ, zero, suc, List, [], Option, None, Some, ap, arith, refl, subst, sym, ◌⊎◌, inl, inr}
+use Rattle.std.specs.Prelude.{IfSome}
+use Rattle.sqlite.specs.Files.{HoldsDatabase, IsNothing}
+use Rattle.sqlite.specs.State.{HasCleanDisk, State}
+use Rattle.sqlite_trees.specs.Tree.{Trees}
+use Rattle.sqlite_wal.specs.Recovery.{Image}
+use Rattle.jb_collect.specs.declared.calls.Status.{Status}
+use Rattle.jb_collect.specs.declared.calls.Status.TheVariants.{Completed, Failed}
+use Rattle.jb_records.specs.Shares.{joined}
+use Rattle.jb_slice_durable.specs.Work.{IsResumed, work_of}
+use Rattle.jb_slice_durable.specs.declared.end.SliceEnd.{SliceEnd}
+use Rattle.jb_slice_file.specs.Connections.{IsJustOpened}
+use Rattle.jb_slice_file.specs.Files.{IsOfARun}
+use Rattle.jb_slice_file.specs.Kept.{Kept}
+use Rattle.jb_slice_file.specs.Rows.{Has, ShowsList}
+use Rattle.jb_slice_run.specs.Held.{faults_in, limits_in}
+use Rattle.jb_slice_run.specs.Jobs.{job_in, stamps_in}
+use Rattle.jb_slice_run.specs.Kept.{KeepsSlice}
+use Rattle.jb_slice_run.specs.Step.{AreOf}
+use Rattle.jb_slice_run.specs.declared.job.SliceJob.{SliceJob}
+use Rattle.jb_slices.specs.Function.{Function, all_results, faults_from}
+use Rattle.jb_slices.specs.Job.{Job, Limits, first_of}
+use Rattle.jb_slices.specs.Passing.{SlicePasses}
+use Rattle.jb_slices.specs.Slice.{Functions}
+use Rattle.jb_csv_job.specs.Job.{identity_of, job_record, limits_of, stamps_of}
+use Rattle.jb_csv_job.specs.Kept.{HoldsSlice, KeepsOwn}
+use Rattle.jb_csv_job.specs.Slices.{IsSliceEnd, IsSliceJobOf}
+use Rattle.jb_csv_job.specs.declared.asked.Asked.{Asked}
+use Rattle.jb_csv_job.specs.declared.job.CsvJob.{CsvJob}
+
+not-both : (s : Status) → s ≡ Completed → s ≡ Failed → ⊥
+not-both s completed failed = cc
+
+module _ (csv : CsvJob) (asked : Asked) (slice : SliceJob) (of : IsSliceJobOf csv asked slice) (f : Function) (number : ℕ) (items : List (List ℕ)) where
+  -- what a slice's run passes by, the job does
+  pass-by : SlicePasses (job_in slice) (limits_in slice.limits) f items → SlicePasses (identity_of csv) (limits_of csv) f items
+  pass-by pass = subst (λ (j : Job). SlicePasses j (limits_of csv) f items) of.identity (subst (λ (l : Limits). SlicePasses (job_in slice) l f items) of.limits pass)
+
+  pass-back : SlicePasses (identity_of csv) (limits_of csv) f items → SlicePasses (job_in slice) (limits_in slice.limits) f items
+  pass-back pass = subst (λ (l : Limits). SlicePasses (job_in slice) l f items) (sym of.limits) (subst (λ (j : Job). SlicePasses j (limits_of csv) f items) (sym of.identity) pass)
+
+  pub slice-ends : (end : SliceEnd) → (end.status ≡ Completed → joined end.results.items ≡ all_results f items)
+      → (end.status ≡ Completed → faults_in end.skips.items ≡ faults_from f (first_of (job_in slice) number) items)
+      → (end.status ≡ Completed → SlicePasses (job_in slice) (limits_in slice.limits) f items)
+      → (end.status ≡ Failed → SlicePasses (job_in slice) (limits_in slice.limits) f items → ⊥) → IsSliceEnd (job_record csv asked f) number items end
+  slice-ends end results skips passes fails = record {
+    results = results;
+    skips = λ done. skips done ∙ ap (λ (j : Job). faults_from f (first_of j number) items) of.identity;
+    passes = λ done. pass-by (passes done);
+    fails = λ failed pass. fails failed (pass-back pass);
+  }
+
+  -- one that is collected is whole
+  pub collected-ends : (found : Option SliceEnd) (end : SliceEnd) → found ≡ Some end → IfSome found (λ e. joined e.results.items ≡ all_results f items)
+      → IfSome found (λ e. faults_in e.skips.items ≡ faults_from f (first_of (job_in slice) number) items)
+      → IfSome found (λ e. SlicePasses (job_in slice) (limits_in slice.limits) f items) → IfSome found (λ e. e.status ≡ Completed) → IsSliceEnd (job_record csv asked f) number items end
+  collected-ends None end is results skips passes completed = (let no : ⊥ = cc is in absurd no)
+  collected-ends (Some one) end is results skips passes completed =
+      let same : one ≡ end = cc is in
+      subst (IsSliceEnd (job_record csv asked f) number items) same
+      (slice-ends one (λ done. results) (λ done. skips) (λ done. passes) (λ failed pass. not-both one.status completed failed))
+
+  -- checkpoints of the slice's run are those of the job
+  pub left-own : (functions : Functions) (db : Trees) → IsOfARun (λ all. KeepsSlice (job_in slice) functions number items all) db
+      → IsOfARun (λ all. KeepsOwn (job_record csv asked f) functions number items all) db
+  left-own functions db left = subst (λ (j : Job). IsOfARun (λ all. KeepsSlice j functions number items all) db) of.identity left
+
+  -- over files that hold the slice so far, or nothing, it is resumed
+  pub resumed-from : (functions : Functions) (before after : State) (image : Image) → HasCleanDisk after → IsJustOpened before → AreOf functions f (stamps_of csv asked)
+      → HoldsSlice (job_record csv asked f) functions number items image
+      → ((db : Trees) (all : List Kept) → HoldsDatabase image db → Has db all → ShowsList before.now all) → (IsNothing image → ShowsList before.now [])
+      → (all : List Kept) × IsResumed (work_of slice functions f number items) (stamps_in slice) before after all
+  resumed-from functions before after image clean opened stamps holds found nothing =
+      let of-all : AreOf functions f (stamps_in slice) = subst (AreOf functions f) (sym of.stamps) stamps in
+      let back : (all : List Kept) → KeepsOwn (job_record csv asked f) functions number items all → KeepsSlice (job_in slice) functions number items all =
+      λ all keeps. subst (λ (j : Job). KeepsSlice j functions number items all) (sym of.identity) keeps in
+      elim holds [
+        | inl h ↦ (h.1, record { shown = record { clean = clean; opened = opened; shows = found h.0 h.1 h.2 h.3 }; stamps_are = of-all; so_far = back h.1 h.4 })
+        | inr none ↦ (
+          [],
+          record {
+            shown = record { clean = clean; opened = opened; shows = nothing none };
+            stamps_are = of-all;
+            so_far = record { checkpoints = []; kept_as = tt; so_far = tt };
+          },
+        )
+      ]
+
+pub same-or-other : (k number : ℕ) → (k ≢ number) ⊎ (k ≡ number)
+same-or-other zero zero = inr refl
+same-or-other zero (suc n) = inl (λ e. omega (arith, e))
+same-or-other (suc k) zero = inl (λ e. omega (arith, e))
+same-or-other (suc k) (suc n) = elim (same-or-other k n) [
+  | inl other ↦ inl (λ e. other (omega (arith, e)))
+  | inr same ↦ inr (ap suc same)
+]

@@ -1,0 +1,65 @@
+-- What was written of packed results.
+use Rattle.std.proofs.Common.{◌≡◌, ◌∙◌, ℕ, List, [], ◌∷◌, ◌++◌, Option, ap, map, refl, subst, sym, take}
+use Rattle.std.proofs.KnownBytes.{Appends-trans}
+use Rattle.std.proofs.lemmas.List.{take-map}
+use Rattle.std.specs.Io.KnownBytes.{Appends, Keeps}
+use Rattle.std.specs.List.{cons_option}
+use Rattle.jb_rows.proofs.Lines.{appends-kept}
+use Rattle.jb_rows.proofs.Packing.{read-packed}
+use Rattle.jb_rows.specs.Answers as rows
+use Rattle.jb_rows.specs.Answers.{Answer, Filtered, Given, Refused}
+use Rattle.jb_rows.specs.Fields.{Fields, fields_in, packed}
+use Rattle.jb_rows.specs.Streams.{csv_rows}
+use Rattle.jb_slices.specs.Function.{Function, all_results, result_in}
+use Rattle.jb_csv_job.specs.Sinks.{HasTaken, IsBetweenLines, lines_written}
+use Rattle.jb_csv_job.specs.Tasks.{given_by}
+use Rattle.jb_csv_job.specs.declared.asked.Task.{Task}
+use Rattle.jb_csv_job.specs.declared.asked.Task.TheVariants.{Collect, Part, Run}
+use Rattle.jb_csv_job.specs.declared.sink.CsvSink.{CsvSink}
+use Rattle.jb_csv_job.proofs.Sinks.{lines-of-both}
+
+one : (answer : Answer) (later : List (List ℕ)) (rest : List Fields) → map fields_in later ≡ rest → map fields_in (cons_option (result_in answer) later) ≡ cons_option (rows.result_of answer) rest
+one (Given fields) later rest e = (λ i. read-packed fields i ∷ e i)
+one Filtered later rest e = e
+one (Refused class) later rest e = e
+
+-- the fields in the results of packed records are the results of the records
+results-are-packed : (f : Function) (records : List Fields) → map fields_in (all_results f (map packed records)) ≡ rows.all_results f records
+results-are-packed f [] = refl
+results-are-packed f (fields ∷ records) =
+    ap (λ own. map fields_in (cons_option (result_in (f own)) (all_results f (map packed records)))) (read-packed fields)
+    ∙ one (f fields) (all_results f (map packed records)) (rows.all_results f records) (results-are-packed f records)
+
+given-packed : (task : Task) (f : Function) (records : List Fields) → map fields_in (given_by task (all_results f (map packed records))) ≡ given_by task (rows.all_results f records)
+given-packed Run f records = results-are-packed f records
+given-packed (Part part of) f records = refl
+given-packed Collect f records = results-are-packed f records
+
+given-both : (task : Task) (xs ys : List Fields) → given_by task xs ++ given_by task ys ≡ given_by task (xs ++ ys)
+given-both Run xs ys = refl
+given-both (Part part of) xs ys = refl
+given-both Collect xs ys = refl
+
+-- nothing, then the header row, then the results of these records, and then the stream is given back
+pub written : {W : Type 0} (contents : W → Option (List ℕ)) (delimiter : ℕ) (task : Task) (f : Function) (to done : W) (blank begun ended : CsvSink W) (header records : List Fields)
+    → Appends (contents to) (lines_written contents blank) [] → IsBetweenLines delimiter blank
+    → (IsBetweenLines delimiter blank → IsBetweenLines delimiter begun × Appends (lines_written contents blank) (lines_written contents begun) (csv_rows delimiter (given_by task header)))
+    → HasTaken contents begun ended (given_by task (all_results f (map packed records))) → Keeps (lines_written contents ended) (contents done)
+    → Appends (contents to) (contents done) (csv_rows delimiter (given_by task (header ++ rows.all_results f records)))
+written contents delimiter task f to done blank begun ended header records nothing between begins took kept =
+    let (there, first) = begins between in
+    let (last, later) = took delimiter there in
+    let front = csv_rows delimiter (given_by task header) in
+    let results = csv_rows delimiter (map fields_in (given_by task (all_results f (map packed records)))) in
+    let lines : front ++ results ≡ csv_rows delimiter (given_by task (header ++ rows.all_results f records)) =
+    ap (λ xs. front ++ csv_rows delimiter xs) (given-packed task f records)
+    ∙ sym (lines-of-both delimiter (given_by task header) (given_by task (rows.all_results f records)))
+    ∙ ap (csv_rows delimiter) (given-both task header (rows.all_results f records)) in
+    let both = Appends-trans (lines_written contents blank) (lines_written contents begun) (lines_written contents ended) front results first later in
+    let all = Appends-trans (contents to) (lines_written contents blank) (lines_written contents ended) [] (front ++ results) nothing both in
+    appends-kept (contents to) (lines_written contents ended) (contents done) _ (subst (Appends (contents to) (lines_written contents ended)) lines all) kept
+
+-- the first packed records are the first records, packed
+pub first-packed : (task : Task) (f : Function) (count : ℕ) (records : List Fields)
+    → given_by task (all_results f (take count (map packed records))) ≡ given_by task (all_results f (map packed (take count records)))
+first-packed task f count records = ap (λ items. given_by task (all_results f items)) (take-map packed count records)

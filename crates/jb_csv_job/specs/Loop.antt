@@ -1,0 +1,91 @@
+-- Where a job stands between two slices.
+use Rattle.std.specs.Prelude.{ℕ, suc, ◌≡◌, ◌≤◌, ◌<◌, ◌⊎◌, ◌+◌, Bool, true, false, List, [], Option, length, map, take, MatchOption, Some, ⊤}
+use Rattle.std.specs.Bool.{MatchBool}
+use Rattle.sqlite_wal.specs.Recovery.{Image}
+use Rattle.jb_collect.specs.declared.calls.Status.TheVariants.{Completed, Failed}
+use Rattle.jb_rows.specs.Fields.{Fields, packed}
+use Rattle.jb_rows.specs.Streams.{HasGivenRows}
+use Rattle.jb_rows.specs.declared.rows_reader.RowsReader.{RowsReader}
+use Rattle.jb_slice_durable.specs.declared.end.SliceEnd.{SliceEnd}
+use Rattle.jb_slice_file.specs.Files.{HoldsRun}
+use Rattle.jb_slices.specs.Function.{all_results, fault_classes}
+use Rattle.jb_slices.specs.Job.{HasSlice, IsLastSlice, first_of, slice_at}
+use Rattle.jb_slices.specs.Passing.{SlicePasses}
+use Rattle.jb_slices.specs.Slice.{Functions}
+use Rattle.jb_csv_job.specs.Job.{JobRecord}
+use Rattle.jb_csv_job.specs.Kept.{HoldsSlice, IsTakenUp, KeepsOwn, slice_of}
+use Rattle.jb_csv_job.specs.Tasks.{TaskPasses, given_by, is_own, own_items}
+use Rattle.jb_csv_job.specs.declared.tally.Seam.{Seam}
+use Rattle.jb_csv_job.specs.declared.tally.Seam.TheVariants.{Ends, Gives, Keeps}
+use Rattle.jb_csv_job.specs.declared.tally.Tally.{Tally}
+
+-- ---- READ
+
+-- the reader has given the records of the slices before this one, of these, and there is such a slice
+pub record StandsBefore {R : Type 0} (job : JobRecord) (remaining : R → Option (List ℕ)) (text : List ℕ) (records : List Fields) (number : ℕ) (reader : RowsReader R) : Type 0 where
+  pub has : HasSlice job.job (map packed records) number
+  pub given : HasGivenRows job.options remaining reader text (take (first_of job.job number) records)
+
+-- these are the records of this slice, which is the last one, or the reader stands before the next one
+pub record IsSliceRead {R : Type 0} (job : JobRecord) (remaining : R → Option (List ℕ)) (text : List ℕ) (records : List Fields) (number : ℕ) (reader : RowsReader R) (rows : List Fields) (is_last : Bool) : Type 0 where
+  pub items : map packed rows ≡ slice_of job records number
+  pub next : MatchBool is_last (IsLastSlice job.job (map packed records) number) (StandsBefore job remaining text records (suc number) reader)
+
+-- where a reader that has given nothing of the text yet reads the text of a job that is taken up, this holds
+abbrev pub IfTakenUp : {R : Type 0} → JobRecord → (remaining : R → Option (List ℕ)) → RowsReader R → (log db : ℕ → List ℕ) → (Functions → (text : List ℕ) → Type 0) → Type 0
+IfTakenUp job remaining reader log db Holds =
+    (text : List ℕ) → HasGivenRows job.options remaining reader text [] → (functions : Functions) → IsTakenUp job functions (Some text) log db → Holds functions text
+
+-- ---- COUNTED
+
+-- A slice that ended is counted. Its results are given away where it is whole and none failed before; where more were skipped than the limit, the
+-- job ends.
+pub record IsCounted (limit : Option ℕ) (old new : Tally) (end : SliceEnd) (seam : Seam) : Type 0 where
+  pub gives : seam ≡ Gives → (end.status ≡ Completed) × (old.is_failed ≡ false) × (new.is_failed ≡ false) × (new.skips ≡ old.skips + length end.skips.items) × MatchOption limit ⊤ (λ most. new.skips ≤ most)
+  pub keeps : seam ≡ Keeps → (new.is_failed ≡ true) × ((old.is_failed ≡ true) ⊎ (end.status ≡ Failed))
+  pub ends : seam ≡ Ends → (new.is_failed ≡ true) × (end.status ≡ Completed) × ((most : ℕ) × (limit ≡ Some most) × (most < old.skips + length end.skips.items))
+
+-- ---- DONE
+
+-- the results of the first slices, so many, as the task gives them to a sink
+abbrev pub front_of : JobRecord → (items : List (List ℕ)) → (count : ℕ) → List (List ℕ)
+front_of job items count = given_by job.task (all_results job.function (take (first_of job.job count) items))
+
+-- a sink took those of some of the first slices
+abbrev pub IsFront : JobRecord → (items taken : List (List ℕ)) → Type 0
+IsFront job items taken = (count : ℕ) × (taken ≡ front_of job items count)
+
+-- NONE OF THE TASK'S OWN SLICES BEFORE THIS ONE FAILED: their results were given away, and their faults were counted
+pub record AreGood (job : JobRecord) (items : List (List ℕ)) (number : ℕ) (t : Tally) (taken : List (List ℕ)) : Type 0 where
+  pub results : taken ≡ front_of job items number
+  pub passed : (k : ℕ) → k < number → is_own job.task k ≡ true → SlicePasses job.job job.limits job.function (slice_at job.job items k)
+  pub skips : t.skips ≡ length (fault_classes job.function (own_items job.job job.task items number))
+  pub few : MatchOption job.limits.job_skips ⊤ (λ limit. t.skips ≤ limit)
+
+-- THE SLICES BEFORE THIS ONE ARE DONE
+pub record AreDone (job : JobRecord) (items : List (List ℕ)) (number : ℕ) (t : Tally) (taken : List (List ℕ)) : Type 0 where
+  pub front : IsFront job items taken
+  pub good : t.is_failed ≡ false → AreGood job items number t taken
+  pub bad : t.is_failed ≡ true → TaskPasses job items → ⊥
+
+-- THE JOB GOES ON FROM THE SLICE OF THIS NUMBER, of these items: the slices before the next one are done, and without a failure this is the last
+-- one if there is no more
+pub record HasGoneOn (job : JobRecord) (items : List (List ℕ)) (number : ℕ) (t : Tally) (taken : List (List ℕ)) (more : Bool) : Type 0 where
+  pub done : AreDone job items (suc number) t taken
+  pub last : more ≡ false → t.is_failed ≡ false → IsLastSlice job.job items number
+
+-- ---- LEFT
+
+-- A crash leaves of the files of a slice what it left before the call, or the files are those of this slice over the items that were read: and
+-- if these held it so far, or nothing, they hold it so far again.
+abbrev pub IsLeft : JobRecord → Functions → (stored : Image) → (number : ℕ) → (items : List (List ℕ)) → (before : Type 0) → (k : ℕ) → (read : List (List ℕ)) → Image → Type 0
+IsLeft job functions stored number items before k read image =
+    before ⊎ ((k ≡ number) × (read ≡ items) × (HoldsSlice job functions number items stored → HoldsRun (KeepsOwn job functions number items) image))
+
+-- the same of any slice that was run
+abbrev pub IsLeftOfAny : JobRecord → Functions → (stored : ℕ → Image) → (before : Type 0) → (k : ℕ) → (read : List (List ℕ)) → Image → Type 0
+IsLeftOfAny job functions stored before k read image = before ⊎ (HoldsSlice job functions k read (stored k) → HoldsRun (KeepsOwn job functions k read) image)
+
+-- and these items are those of the text's slice, which is one of the task's own
+abbrev pub IsOfText : JobRecord → (records : List Fields) → (before : Type 0) → (k : ℕ) → (read : List (List ℕ)) → Type 0
+IsOfText job records before k read = before ⊎ (HasSlice job.job (map packed records) k × (is_own job.task k ≡ true) × (read ≡ slice_of job records k))

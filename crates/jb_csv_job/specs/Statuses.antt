@@ -1,0 +1,88 @@
+-- THE EXIT STATUS WHERE A JOB HAS NO ANSWER: 2 if it was stopped; 3 if it refuses what it was given, and the same line won't help; 4 if the same line helps later: no
+-- memory, no worker, no room, a busy file, a stream that failed; 5 if the words are wrong.
+use Rattle.std.specs.Prelude.{ℕ}
+use Rattle.jb_csv_job.specs.declared.failure.Failure.{Failure}
+use Rattle.jb_csv_job.specs.declared.failure.Failure.TheVariants as failure
+use Rattle.jb_csv_job.specs.declared.failure.FolderFault.{FolderFault}
+use Rattle.jb_csv_job.specs.declared.failure.FolderFault.TheVariants as folder
+use Rattle.jb_csv_job.specs.declared.failure.OutputFault.{OutputFault}
+use Rattle.jb_csv_job.specs.declared.failure.OutputFault.TheVariants as output
+use Rattle.jb_slice_durable.specs.declared.error.DurableError.{DurableError}
+use Rattle.jb_slice_durable.specs.declared.error.DurableError.TheVariants as run
+use Rattle.jb_slice_run.specs.declared.error.SliceError.{SliceError}
+use Rattle.jb_slice_run.specs.declared.error.SliceError.TheVariants as slice
+use Rattle.jb_slice_run.specs.declared.run_error.SliceRunError.{SliceRunError}
+use Rattle.jb_slice_run.specs.declared.run_error.SliceRunError.TheVariants as part
+use Rattle.jb_slice_file.specs.declared.error.StoreError.{StoreError}
+use Rattle.jb_slice_file.specs.declared.error.StoreError.TheVariants as store
+use Rattle.jb_records.specs.declared.error.RecordsStepError.{RecordsStepError}
+use Rattle.jb_records.specs.declared.error.RecordsStepError.TheVariants as step
+use Rattle.jb_step.specs.declared.error.StepError.{StepError}
+use Rattle.jb_step.specs.declared.error.StepError.TheVariants as round
+use Rattle.jb_rows.specs.declared.rows_error.RowsError.{RowsError}
+use Rattle.jb_rows.specs.declared.rows_error.RowsError.TheVariants as rows
+
+-- of a slice's file: that it can't be opened has causes of both kinds
+abbrev pub store_status : StoreError → ℕ
+store_status store.Busy = 4
+store_status store.CannotOpen = 4
+store_status store.Full = 4
+store_status store.Disk = 4
+store_status store.Shut = 4
+store_status store.Taken = 4
+store_status store.Memory = 4
+store_status _ = 3
+
+-- of a slice's checkpoints
+abbrev pub slice_status : SliceError → ℕ
+slice_status slice.Memory = 4
+slice_status _ = 3
+
+-- of its step
+abbrev pub round_status : StepError → ℕ
+round_status round.Workers = 4
+round_status round.Memory = 4
+round_status _ = 3
+
+abbrev pub step_status : RecordsStepError → ℕ
+step_status (step.Step error) = round_status error
+step_status step.Memory = 4
+step_status _ = 3
+
+abbrev pub part_status : SliceRunError → ℕ
+part_status (part.Checkpoints error) = slice_status error
+part_status (part.Step error) = step_status error
+part_status part.TooMany = 3
+
+abbrev pub run_status : DurableError → ℕ
+run_status (run.Store error) = store_status error
+run_status (run.Run error) = part_status error
+run_status run.TooMany = 3
+run_status run.Stopped = 2
+
+-- of the input and the results
+abbrev pub rows_status : RowsError → ℕ
+rows_status (rows.Stream error) = 4
+rows_status rows.Memory = 4
+rows_status _ = 3
+
+abbrev pub folder_status : FolderFault → ℕ
+folder_status folder.NotAFolder = 3
+folder_status (folder.CannotMake error) = 4
+
+abbrev pub output_status : OutputFault → ℕ
+output_status output.NotAFile = 3
+output_status output.Busy = 4
+output_status (output.CannotWrite error) = 4
+
+abbrev pub failure_status : Failure → ℕ
+failure_status (failure.Words fault) = 5
+failure_status (failure.Folder fault) = folder_status fault
+failure_status (failure.File number error) = store_status error
+failure_status (failure.Slice number error) = run_status error
+failure_status (failure.NotWhole number) = 3
+failure_status (failure.Records asked read is_end) = 3
+failure_status (failure.Rows error) = rows_status error
+failure_status (failure.Output path why) = output_status why
+failure_status failure.TooMany = 3
+failure_status failure.Memory = 4

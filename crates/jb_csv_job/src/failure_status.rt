@@ -1,0 +1,102 @@
+//! The exit status where a job has no answer.
+
+ghost use Rattle.std.specs.Prelude.{◌≡◌};
+ghost use Rattle.jb_csv_job.specs.Statuses.{failure_status, part_status, rows_status, run_status, step_status, store_status};
+
+use crate::failure::{Failure, FolderFault, OutputFault};
+use jb_records::RecordsStepError;
+use jb_rows::RowsError;
+use jb_slice_durable::DurableError;
+use jb_slice_file::StoreError;
+use jb_slice_run::{SliceError, SliceRunError};
+use jb_step::StepError;
+
+/// The same line won't help.
+const REFUSED: u8 = 3;
+
+/// The same line goes on once FOLDER/stop is removed.
+const STOPPED: u8 = 2;
+
+/// The same line may help later.
+const LATER: u8 = 4;
+
+/// The words of the command line are wrong.
+const WRONG_WORDS: u8 = 5;
+
+fn store_status(error: &StoreError) -> u8
+    ensures { result ≡ store_status error.now }
+{
+    match error {
+        StoreError::Busy
+        | StoreError::CannotOpen
+        | StoreError::Full
+        | StoreError::Disk
+        | StoreError::Shut
+        | StoreError::Taken
+        | StoreError::Memory => LATER,
+        _ => REFUSED,
+    }
+}
+
+fn step_status(error: &RecordsStepError) -> u8
+    ensures { result ≡ step_status error.now }
+{
+    match error {
+        RecordsStepError::Step(StepError::Workers | StepError::Memory) | RecordsStepError::Memory =>
+            LATER,
+        _ => REFUSED,
+    }
+}
+
+fn part_status(error: &SliceRunError) -> u8
+    ensures { result ≡ part_status error.now }
+{
+    match error {
+        SliceRunError::Checkpoints(SliceError::Memory) => LATER,
+        SliceRunError::Step(error) => step_status(error),
+        _ => REFUSED,
+    }
+}
+
+fn run_status(error: &DurableError) -> u8
+    ensures { result ≡ run_status error.now }
+{
+    match error {
+        DurableError::Store(error) => store_status(error),
+        DurableError::Run(error) => part_status(error),
+        DurableError::TooMany => REFUSED,
+        DurableError::Stopped => STOPPED,
+    }
+}
+
+fn rows_status(error: &RowsError) -> u8
+    ensures { result ≡ rows_status error.now }
+{
+    match error {
+        RowsError::Stream(_) | RowsError::Memory => LATER,
+        _ => REFUSED,
+    }
+}
+
+/// The exit status of a job that has no answer: 2, 3, 4 or 5.
+pub(crate) fn failure_status(failure: &Failure) -> u8
+    ensures { result ≡ failure_status failure.now }
+{
+    match failure {
+        Failure::Words(_) => WRONG_WORDS,
+        Failure::Folder(FolderFault::NotAFolder)
+        | Failure::NotWhole { .. }
+        | Failure::Records { .. }
+        | Failure::Output {
+            why: OutputFault::NotAFile,
+            ..
+        }
+        | Failure::TooMany => REFUSED,
+        Failure::Folder(FolderFault::CannotMake(_)) | Failure::Output { .. } | Failure::Memory => {
+            LATER
+        }
+        Failure::File { error, .. } => store_status(error),
+        Failure::Slice { error, .. } => run_status(error),
+        Failure::Rows(error) => rows_status(error),
+    }
+}

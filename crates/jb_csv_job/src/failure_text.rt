@@ -1,0 +1,264 @@
+//! What a job reports where it has no answer.
+
+use crate::failure::{Failure, FolderFault, OutputFault, WordsFault};
+use crate::path::SlicePath;
+use crate::slice_text::{RunText, StoreText};
+use jb_rows::RowsError;
+use std::fmt;
+
+/// What is wrong with the words of the command line.
+#[derive(Clone, Copy)]
+struct WordsText<'a, 'c> {
+    name: &'a str,
+    input: &'a str,
+    fault: &'c WordsFault,
+}
+
+impl<'a, 'c> fmt::Display for WordsText<'a, 'c> {
+    ghost use Rattle.std.specs.Prelude.{Some};
+    ghost use Rattle.jb_csv_job.specs.Failures.{words_text};
+
+    ghost output = { λ text. Some (words_text text.name.now text.input.now text.fault.now) };
+
+    fn fmt<W: fmt::Write>(&self, f: &mut fmt::Formatter<W>) -> fmt::Result {
+        let (name, input) = (self.name, self.input);
+        match self.fault {
+            WordsFault::OldForm(threads) => write!(
+                f,
+                "Words: THREADS FILE is the form of an earlier version, which kept all checkpoints in one file. Type: {name} --threads {threads} FOLDER < {input}"
+            ),
+            WordsFault::Threads(value) => write!(
+                f,
+                "Words: --threads {value}: type a number from 1 to 64."
+            ),
+            WordsFault::Records(value) => write!(
+                f,
+                "Words: --records {value}: type a number below 18,446,744,073,709,551,616."
+            ),
+            WordsFault::Part(value) => write!(
+                f,
+                "Words: --part {value}: type K/N, where K is one of the numbers 0 to N - 1, as 0/4."
+            ),
+            WordsFault::PartAndCollect => f.write_str(
+                "Words: --part runs slices, and --collect runs none. Type one of them.",
+            ),
+            WordsFault::PartAndOutput => f.write_str(
+                "Words: --part writes no results. Type it without --output, and collect the results by --collect.",
+            ),
+            WordsFault::NoFolder => f.write_str("Words: FOLDER is missing."),
+            WordsFault::NoText => f.write_str("Words: a word is no text in UTF-8."),
+            WordsFault::Wrong(text) => write!(f, "Words: {text}"),
+        }
+    }
+}
+
+/// Why FOLDER isn't taken.
+#[derive(Clone, Copy)]
+struct FolderText<'b, 'c> {
+    folder: &'b str,
+    fault: &'c FolderFault,
+}
+
+impl<'b, 'c> fmt::Display for FolderText<'b, 'c> {
+    ghost use Rattle.jb_csv_job.specs.Failures.{folder_text};
+
+    ghost output = { λ text. folder_text text.folder.now text.fault.now };
+
+    fn fmt<W: fmt::Write>(&self, f: &mut fmt::Formatter<W>) -> fmt::Result {
+        let folder = self.folder;
+        match self.fault {
+            FolderFault::NotAFolder => write!(
+                f,
+                "NotAFolder: {folder} is no folder. Name another FOLDER: it is made if it isn't there."
+            ),
+            FolderFault::CannotMake(error) => write!(
+                f,
+                "NoFolder: the folder {folder} can't be made: {error}. Mend this, or name another FOLDER."
+            ),
+        }
+    }
+}
+
+/// Why the results aren't written to a file.
+#[derive(Clone, Copy)]
+struct OutputText<'a> {
+    path: &'a str,
+    why: &'a OutputFault,
+}
+
+impl<'a> fmt::Display for OutputText<'a> {
+    ghost use Rattle.jb_csv_job.specs.Failures.{output_text};
+
+    ghost output = { λ text. output_text text.path.now text.why.now };
+
+    fn fmt<W: fmt::Write>(&self, f: &mut fmt::Formatter<W>) -> fmt::Result {
+        let path = self.path;
+        match self.why {
+            OutputFault::NotAFile => write!(
+                f,
+                "NotAFile: {path} is no regular file. Name another one by --output, or leave it out and write to standard output."
+            ),
+            OutputFault::Busy => write!(
+                f,
+                "Busy: another process is writing {path}. Type the same line again when it has ended."
+            ),
+            OutputFault::CannotWrite(error) => write!(
+                f,
+                "CannotWrite: {path} can't be written: {error}. Mend this, and type the same line again."
+            ),
+        }
+    }
+}
+
+/// Why the records aren't read, or the results not written.
+#[derive(Clone, Copy)]
+struct RowsText<'a>(&'a RowsError);
+
+impl<'a> fmt::Display for RowsText<'a> {
+    ghost use Rattle.jb_csv_job.specs.Failures.{rows_text};
+
+    ghost output = { λ text. rows_text text.0.now };
+
+    fn fmt<W: fmt::Write>(&self, f: &mut fmt::Formatter<W>) -> fmt::Result {
+        match self.0 {
+            RowsError::TooLong { number } => write!(
+                f,
+                "TooLong: record {number} is too long. Correct it: often a quote isn't closed."
+            ),
+            RowsError::LongHeader => f.write_str(
+                "TooLong: the header row is too long. Correct it: often a quote isn't closed.",
+            ),
+            RowsError::Stream(error) => write!(
+                f,
+                "Stream: a stream failed: {error}. Type the same line again."
+            ),
+            RowsError::Memory => f.write_str(
+                "Memory: out of memory. Type the same line again when there is more.",
+            ),
+        }
+    }
+}
+
+/// The input has another number of records than `--records` says.
+#[derive(Clone, Copy)]
+struct RecordsText<'a> {
+    records: &'a str,
+    asked: u64,
+    read: u64,
+    is_end: bool,
+}
+
+impl<'a> fmt::Display for RecordsText<'a> {
+    ghost use Rattle.std.specs.Prelude.{Some};
+    ghost use Rattle.jb_csv_job.specs.Failures.{records_text};
+
+    ghost output = { λ text. Some (records_text text.records.now text.asked text.read text.is_end) };
+
+    fn fmt<W: fmt::Write>(&self, f: &mut fmt::Formatter<W>) -> fmt::Result {
+        let (asked, read, records) = (self.asked, self.read, self.records);
+        if self.is_end {
+            write!(
+                f,
+                "OtherNumber: the input has {read} {records}, and --records says {asked}. The last slice isn't run. Type the same line with the right input."
+            )
+        } else {
+            write!(
+                f,
+                "OtherNumber: the input has {read} {records} at least, and --records says {asked}. Type the same line with the right input."
+            )
+        }
+    }
+}
+
+/// Why a job has no answer, as it is reported: a text that begins with the name of the refusal.
+#[derive(Clone, Copy)]
+pub struct FailureText<'a, 'b, 'c> {
+    /// The words of the job, as `CsvJob` has them.
+    pub name: &'a str,
+    pub input: &'a str,
+    pub records: &'a str,
+    /// FOLDER. It is empty while the words of the command line aren't read.
+    pub folder: &'b str,
+    pub failure: &'c Failure,
+}
+
+impl<'a, 'b, 'c> fmt::Display for FailureText<'a, 'b, 'c> {
+    ghost use Rattle.jb_csv_job.specs.Failures.{job_failure_text};
+
+    ghost output = { λ text. job_failure_text text.name.now text.input.now text.records.now text.folder.now text.failure.now };
+
+    fn fmt<W: fmt::Write>(&self, f: &mut fmt::Formatter<W>) -> fmt::Result {
+        let FailureText {
+            name,
+            input,
+            records,
+            folder,
+            failure,
+        } = *self;
+        match failure {
+            Failure::Words(fault) => write!(f, "{}", WordsText { name, input, fault }),
+            Failure::Folder(fault) => write!(f, "{}", FolderText { folder, fault }),
+            Failure::File { slice, error } => write!(
+                f,
+                "{}",
+                StoreText {
+                    at: SlicePath {
+                        folder,
+                        slice: *slice
+                    },
+                    error
+                }
+            ),
+            Failure::Slice { slice, error } => write!(
+                f,
+                "{}",
+                RunText {
+                    at: SlicePath {
+                        folder,
+                        slice: *slice
+                    },
+                    records,
+                    error
+                }
+            ),
+            Failure::NotWhole { slice } => write!(
+                f,
+                "NotWhole: slice {slice}, {}: the slice isn't whole, and --collect runs nothing. Type the line that runs it, and then this one again.",
+                SlicePath {
+                    folder,
+                    slice: *slice
+                }
+            ),
+            Failure::Records {
+                asked,
+                read,
+                is_end,
+            } => write!(
+                f,
+                "{}",
+                RecordsText {
+                    records,
+                    asked: *asked,
+                    read: *read,
+                    is_end: *is_end
+                }
+            ),
+            Failure::Rows(error) => write!(f, "{}", RowsText(error)),
+            Failure::Output { path, why } => write!(
+                f,
+                "{}",
+                OutputText {
+                    path: path.as_str(),
+                    why
+                }
+            ),
+            Failure::TooMany => write!(
+                f,
+                "TooMany: there are too many {records}: their numbers end at 18,446,744,073,709,551,615."
+            ),
+            Failure::Memory => f.write_str(
+                "Memory: out of memory. Type the same line again when there is more.",
+            ),
+        }
+    }
+}

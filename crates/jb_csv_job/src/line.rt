@@ -1,0 +1,138 @@
+//! What `clap`'s matches of a command line ask for.
+
+ghost use Rattle.std.specs.Prelude.{◌≡◌, ◌≤◌, ◌-◌, ◌^◌, [], None, Some, codes, map, option_map, option_and_then, string_bytes, unwrap_or, IfErr, IfOk, IfSome, true};
+ghost use Rattle.clap.specs.Words.{first_value, found_of};
+ghost use Rattle.jb_base.specs.Limits.{max_threads};
+ghost use Rattle.jb_csv_job.specs.Asking.{IsInParts, number_between, task_in};
+ghost use Rattle.jb_csv_job.specs.CommandLine.{IsLine, IsWrong, is_collect};
+ghost use Rattle.jb_csv_job.specs.Matched.{all_in, first_in};
+
+use crate::asked::{Asked, Task};
+use crate::failure::{Failure, WordsFault};
+use crate::values::{number_between, task_in};
+use clap::ArgMatches;
+use jb_base::MAX_THREADS;
+use std::alloc::Global;
+
+/// The number of threads: what `--threads` says, or else the default.
+fn threads_in(alloc: Global, matches: &ArgMatches<'_>, default: u32) -> Result<u32, Failure>
+    requires some { 1 ≤ default }
+    requires few { default ≤ max_threads }
+    ensures some { IfOk result (λ n. 1 ≤ n) }
+    ensures few { IfOk result (λ n. n ≤ max_threads) }
+    ensures said { IfOk result (λ n. IfSome (first_in matches.now (codes "threads")) (λ text. number_between 1 max_threads text ≡ Some n)) }
+    ensures wrong { IfErr result (IsWrong (first_in matches.now)) }
+{
+    let Some(text) = matches.get_str("threads") else {
+        return Ok(default);
+    };
+    match number_between(1, MAX_THREADS as u64, text) {
+        Some(threads) => Ok(threads as u32),
+        None => Err(Failure::Words(WordsFault::Threads(text.to_string(alloc)?))),
+    }
+}
+
+/// The number of records that `--records` says, if it is there.
+fn records_in(alloc: Global, matches: &ArgMatches<'_>) -> Result<Option<u64>, Failure>
+    ensures said { IfOk result (λ n. n ≡ option_and_then (number_between 0 (2 ^ 64 - 1)) (first_in matches.now (codes "records"))) }
+    ensures wrong { IfErr result (IsWrong (first_in matches.now)) }
+{
+    let Some(text) = matches.get_str("records") else {
+        return Ok(None);
+    };
+    match number_between(0, u64::MAX, text) {
+        Some(records) => Ok(Some(records)),
+        None => Err(Failure::Words(WordsFault::Records(text.to_string(alloc)?))),
+    }
+}
+
+/// What is done with the slices.
+fn task_of(alloc: Global, matches: &ArgMatches<'_>) -> Result<Task, Failure>
+    ensures task { IfOk result IsInParts }
+    ensures said { IfOk result (λ task. task_in (is_collect (first_in matches.now (codes "collect"))) (first_in matches.now (codes "part")) ≡ Some task) }
+    ensures wrong { IfErr result (IsWrong (first_in matches.now)) }
+{
+    let is_collect = matches!(matches.get_str("collect"), Some("true"));
+    let part = matches.get_str("part");
+    match task_in(is_collect, part) {
+        Some(task) => Ok(task),
+        None => Err(Failure::Words(match part {
+            Some(text) if !is_collect => WordsFault::Part(text.to_string(alloc)?),
+            _ => WordsFault::PartAndCollect,
+        })),
+    }
+}
+
+/// A text of its own, if there is one.
+fn own_text(alloc: Global, text: Option<&str>) -> Result<Option<String>, Failure>
+    ensures text { IfOk result (λ own. option_map string_bytes own ≡ option_map (λ t. t.now) text.entry) }
+    ensures memory { IfErr result (λ e. e ≡ Failure.Memory) }
+{
+    match text {
+        Some(text) => Ok(Some(text.to_string(alloc)?)),
+        None => Ok(None),
+    }
+}
+
+/// Texts of their own.
+fn own_list(alloc: Global, texts: &[&str]) -> Result<Vec<String>, Failure>
+    ensures texts { IfOk result (λ own. map string_bytes own.items ≡ map (λ t. t.now) texts.now) }
+    ensures memory { IfErr result (λ e. e ≡ Failure.Memory) }
+{
+    let mut own = Vec::new(alloc);
+    for text in texts {
+        let text: &str = text;
+        own.push(text.to_string(alloc)?)?;
+    }
+    Ok(own)
+}
+
+/// The stamps that are kept.
+fn stamps_in(alloc: Global, matches: &ArgMatches<'_>) -> Result<Vec<String>, Failure>
+    ensures said { IfOk result (λ stamps. map string_bytes stamps.items ≡ unwrap_or (all_in matches.now (codes "keep-stamp")) []) }
+    ensures memory { IfErr result (λ e. e ≡ Failure.Memory) }
+{
+    match matches.get_strs("keep-stamp") {
+        Some(texts) => own_list(alloc, texts),
+        None => Ok(Vec::new(alloc)),
+    }
+}
+
+/// What the matches ask for, with so many threads if they don't say how many.
+pub(crate) fn asked_in(
+    alloc: Global,
+    matches: &ArgMatches<'_>,
+    own: Option<&str>,
+    default: u32,
+) -> Result<Asked, Failure>
+    requires some { 1 ≤ default }
+    requires few { default ≤ max_threads }
+    ensures said { IfOk result (IsLine (first_in matches.now) (all_in matches.now) (option_map (λ o. o.now) own.entry)) }
+    ensures wrong { IfErr result (IsWrong (first_in matches.now)) }
+{
+    let threads = threads_in(alloc, matches, default)?;
+    let records = records_in(alloc, matches)?;
+    let task = task_of(alloc, matches)?;
+    let output = own_text(alloc, matches.get_str("output"))?;
+    if matches!(task, Task::Part { .. }) && output.is_some() {
+        return Err(Failure::Words(WordsFault::PartAndOutput));
+    }
+    let Some(folder) = matches.get_str("FOLDER") else {
+        return Err(Failure::Words(WordsFault::NoFolder));
+    };
+    let folder = folder.to_string(alloc)?;
+    let stamps = stamps_in(alloc, matches)?;
+    let own = match own {
+        Some(name) => own_text(alloc, matches.get_str(name))?,
+        None => None,
+    };
+    Ok(Asked {
+        threads,
+        folder,
+        stamps,
+        task,
+        records,
+        output,
+        own,
+    })
+}

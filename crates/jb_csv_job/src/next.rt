@@ -1,0 +1,139 @@
+//! One slice more of a job.
+
+ghost use Rattle.std.specs.Prelude.{◌≡◌, ◌⊎◌, ℕ, suc, false, true, List, IfErr, IfOk, IsTrue, map};
+ghost use Rattle.std.specs.Arc.{arc_value};
+ghost use Rattle.sqlite_wal.specs.Recovery.{Image};
+ghost use Rattle.jb_collect.specs.declared.calls.Status.TheVariants.{Completed, Failed};
+ghost use Rattle.jb_rows.specs.Fields.{Fields, packed};
+ghost use Rattle.jb_rows.specs.Texts.{AreRowsOf};
+ghost use Rattle.jb_slice_run.specs.Step.{AreOf};
+ghost use Rattle.jb_slices.specs.Function.{Function};
+ghost use Rattle.jb_slices.specs.Job.{HasSlice, slice_at};
+ghost use Rattle.jb_slices.specs.Slice.{Functions};
+ghost use Rattle.jb_csv_job.specs.Job.{identity_of, job_record, stamps_of};
+ghost use Rattle.jb_csv_job.specs.Kept.{HoldsSlice, image_by, slice_of};
+ghost use Rattle.jb_csv_job.specs.Loop.{AreDone, HasGoneOn, IsLeft, IsOfText, StandsBefore};
+ghost use Rattle.jb_csv_job.specs.Slices.{IsSliceEnd};
+ghost use Rattle.jb_csv_job.specs.Tasks.{is_own as is_own_of};
+
+use crate::failure::Failure;
+use crate::giving::{give, is_own};
+use crate::host::Host;
+use crate::keeper::Keeper;
+use crate::one_slice::kept_slice;
+use crate::reading::read_slice;
+use crate::report::Reporter;
+use crate::sink::Sink;
+use crate::stored::Stored;
+use crate::tally::{Seam, Tally};
+use crate::work::Work;
+use jb_rows::{RowFunction, Rows, RowsReader};
+use jb_slice_durable::SliceEnd;
+use std::alloc::Global;
+use std::io::Read;
+use std::marker::Brand;
+use std::sync::{Arc, Wait};
+use std::thread::Threads;
+use std::time::Clock;
+
+/// Counts a slice that ended, and gives its results to the sink, if none failed; and whether later ones are run.
+fn settle<N: Sink>(
+    work: &Work,
+    end: &SliceEnd,
+    sink: &mut N,
+    tally: &mut Tally,
+) -> Result<bool, Failure>
+    requires { (end.now.status ≡ Completed) ⊎ (end.now.status ≡ Failed) }
+    ensures goes { (f : Function) (items : List (List ℕ)) (number : ℕ) → is_own_of work.now.asked.now.task number ≡ true → HasSlice (identity_of work.now.job.now) items number
+        → IsSliceEnd (job_record work.now.job.now work.now.asked.now f) number (slice_at (identity_of work.now.job.now) items number) end.now
+        → (start : N) (taken : List (List ℕ)) → N.took start sink.old taken → AreDone (job_record work.now.job.now work.now.asked.now f) items number tally.old taken
+        → IfOk result (λ more. (now : List (List ℕ)) × N.took start sink.new now × AreDone (job_record work.now.job.now work.now.asked.now f) items (suc number) tally.new now × (more ≡ false → tally.new.is_failed ≡ true)) }
+    ensures kept { IfErr result (λ e. N.may_refuse e ⊎ (sink.new ≡ sink.old)) }
+{
+    match tally.add(end, work.job.job_skip_limit)? {
+        Seam::Gives => {
+            give(work.asked.task, sink, end.results.as_slice())?;
+            Ok(true)
+        }
+        Seam::Keeps => Ok(true),
+        Seam::Ends => Ok(false),
+    }
+}
+
+/// Reads the next slice, runs it where it is one of the task's own, and gives its results to the sink; and whether there is another one to be
+/// run.
+pub(crate) fn next_slice<
+    F: RowFunction + Drop + 'static,
+    T: Threads + Wait + Clock + Eprint + Host + Copy + Send + Sync + 'static,
+    H: Stored,
+    K: Keeper,
+    R: Read + Drop,
+    N: Sink,
+>(
+    rt: &T,
+    work: &Work,
+    number: u64,
+    function: &Arc<F, Global>,
+    reader: &mut RowsReader<R>,
+    rows: &mut Rows,
+    sink: &mut N,
+    keeper: &mut K,
+    reporter: &mut Reporter,
+    tally: &mut Tally,
+) -> Result<bool, Failure>
+    // The reader goes on to the next slice.
+    ensures reads { (text : List ℕ) (records : List Fields) → AreRowsOf work.now.job.now.options text records
+        → StandsBefore (job_record work.now.job.now work.now.asked.now (F.answer (arc_value function.now))) R.remaining text records number reader.old
+        → IfOk result (λ more. more ≡ true → StandsBefore (job_record work.now.job.now work.now.asked.now (F.answer (arc_value function.now))) R.remaining text records (suc number) reader.new) }
+
+    // And so does the job.
+    ensures goes { IsTrue (K.are_clean keeper.new) → (functions : Functions) → AreOf functions (F.answer (arc_value function.now)) (stamps_of work.now.job.now work.now.asked.now)
+        → (text : List ℕ) (records : List Fields) → AreRowsOf work.now.job.now.options text records
+        → StandsBefore (job_record work.now.job.now work.now.asked.now (F.answer (arc_value function.now))) R.remaining text records number reader.old
+        → (is_own_of work.now.asked.now.task number ≡ true
+        → HoldsSlice (job_record work.now.job.now work.now.asked.now (F.answer (arc_value function.now))) functions number (slice_of (job_record work.now.job.now work.now.asked.now (F.answer (arc_value function.now))) records number) (image_by H.log H.db number))
+        → (start : N) (taken : List (List ℕ)) → N.took start sink.old taken
+        → AreDone (job_record work.now.job.now work.now.asked.now (F.answer (arc_value function.now))) (map packed records) number tally.old taken
+        → IfOk result (λ more. (now : List (List ℕ)) × N.took start sink.new now × HasGoneOn (job_record work.now.job.now work.now.asked.now (F.answer (arc_value function.now))) (map packed records) number tally.new now more) }
+
+    // After an error that isn't the sink's own it is as it was.
+    ensures kept { IfErr result (λ e. N.may_refuse e ⊎ (sink.new ≡ sink.old)) }
+    ensures clean { IsTrue (K.are_clean keeper.new) → IsTrue (K.are_clean keeper.old) }
+
+    // What a crash leaves of the files of this slice.
+    ensures crash { IsTrue (K.are_clean keeper.new) → (functions : Functions) → AreOf functions (F.answer (arc_value function.now)) (stamps_of work.now.job.now work.now.asked.now)
+        → (k : ℕ) (read : List (List ℕ)) (image : Image) → K.may_leave keeper.new k read image
+        → IsLeft (job_record work.now.job.now work.now.asked.now (F.answer (arc_value function.now))) functions (image_by H.log H.db number) number (map packed rows.new) (K.may_leave keeper.old k read image) k read image }
+    ensures items { IsTrue (K.are_clean keeper.new) → (text : List ℕ) (records : List Fields) → AreRowsOf work.now.job.now.options text records
+        → StandsBefore (job_record work.now.job.now work.now.asked.now (F.answer (arc_value function.now))) R.remaining text records number reader.old
+        → (k : ℕ) (read : List (List ℕ)) (image : Image) → K.may_leave keeper.new k read image
+        → IsOfText (job_record work.now.job.now work.now.asked.now (F.answer (arc_value function.now))) records (K.may_leave keeper.old k read image) k read }
+{
+    let is_last = read_slice(work, reader, rows, tally)?;
+    if !is_own(work.asked.task, number) {
+        return Ok(!is_last);
+    }
+    let end = kept_slice::<F, T, Brand, K>(
+        rt,
+        work,
+        number,
+        tally.results,
+        reporter.meter(rt, work.asked.records, tally.records, is_last),
+        function,
+        rows.as_list(),
+        keeper,
+    )?;
+    reporter.report(
+        rt,
+        work.job,
+        work.asked.folder.as_str(),
+        number,
+        reader.lines(),
+        &end,
+    );
+    let goes_on = settle(work, &end, sink, tally)?;
+    if is_last {
+        return Ok(false);
+    }
+    Ok(goes_on)
+}

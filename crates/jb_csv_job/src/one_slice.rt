@@ -1,0 +1,293 @@
+//! One slice of a job, from the open of its file to its close.
+
+ghost use Rattle.std.specs.Prelude.{◌≡◌, ◌≤◌, ◌⊎◌, ℕ, [], List, IfOk, IsTrue};
+ghost use Rattle.std.specs.Arc.{arc_value};
+ghost use Rattle.sqlite.specs.Files.{HoldsDatabase, IsNothing, file_state};
+ghost use Rattle.sqlite.specs.Held.{state};
+ghost use Rattle.sqlite.specs.State.{HasCleanDisk};
+ghost use Rattle.sqlite_trees.specs.View.{doubt};
+ghost use Rattle.sqlite_wal.specs.Files.{image_at, outcomes};
+ghost use Rattle.sqlite_wal.specs.Reads.{AreClean};
+ghost use Rattle.sqlite_wal.specs.Recovery.{Image};
+ghost use Rattle.jb_collect.specs.declared.calls.Status.TheVariants.{Completed, Failed};
+ghost use Rattle.jb_slice_durable.specs.Work.{IfResumed};
+ghost use Rattle.jb_slice_file.specs.Connections.{IsJustOpened};
+ghost use Rattle.jb_slice_file.specs.Files.{HoldsRun, IsOfARun};
+ghost use Rattle.jb_slice_file.specs.Rows.{Has, ShowsList};
+ghost use Rattle.jb_slice_run.specs.Step.{AreOf};
+ghost use Rattle.jb_slices.specs.Slice.{Functions};
+ghost use Rattle.jb_csv_job.specs.Job.{job_record, stamps_of};
+ghost use Rattle.jb_csv_job.specs.Kept.{HoldsSlice, KeepsOwn};
+ghost use Rattle.jb_csv_job.specs.Loop.{IsLeft};
+ghost use Rattle.jb_csv_job.specs.Slices.{IsSliceEnd};
+
+use crate::asked::Task;
+use crate::failure::Failure;
+use crate::folder::{is_missing, slice_path};
+use crate::host::Host;
+use crate::keeper::Keeper;
+use crate::kinds::other_kind;
+use crate::meter::Meter;
+use crate::progress::Told;
+use crate::stopping::is_stopped;
+use crate::stored::{Before, OneStored};
+use crate::work::Work;
+use jb_base::PackedList;
+use jb_rows::RowFunction;
+use jb_slice_durable::{ASecond, DurableError, SliceEnd, collect_slice, run_slice};
+use jb_slice_file::{closed, connect};
+use sqlite::{Alter, Connection, FileFrom, FileStore, Files, Start};
+use sqlite_disk::Disk;
+use std::alloc::Global;
+use std::sync::{Arc, Wait};
+use std::thread::Threads;
+use std::time::Clock;
+
+/// Runs the slice over a connection that was just opened.
+fn ran<
+    F: RowFunction + Drop + 'static,
+    T: Threads + Wait + Clock + Eprint + Host + Copy + Send + Sync + 'static,
+    S: Alter,
+>(
+    rt: &T,
+    alloc: Global,
+    conn: &mut Connection<S>,
+    work: &Work,
+    number: u64,
+    results_before: u64,
+    meter: &mut Meter,
+    function: &Arc<F, Global>,
+    items: &PackedList,
+) -> Result<SliceEnd, Failure>
+    ensures ended { IfResumed work.now.slice (F.answer (arc_value function.now)) number items.now (state S.Store conn.old) (state S.Store conn.new) (λ w all.
+        IfOk result (IsSliceEnd (job_record work.now.job.now work.now.asked.now (F.answer (arc_value function.now))) number items.now)) }
+    ensures status { IfOk result (λ end. (end.status ≡ Completed) ⊎ (end.status ≡ Failed)) }
+    ensures clean { doubt (state S.Store conn.old).is_clean ≤ doubt (state S.Store conn.new).is_clean }
+    ensures crash { IfResumed work.now.slice (F.answer (arc_value function.now)) number items.now (state S.Store conn.old) (state S.Store conn.new) (λ w all.
+        (db : _) → (state S.Store conn.new).may_leave db
+        → IsOfARun (λ kept. KeepsOwn (job_record work.now.job.now work.now.asked.now (F.answer (arc_value function.now))) w.functions number items.now kept) db) }
+{
+    let told = Told {
+        rt: *rt,
+        folder: work.asked.folder.as_str(),
+        records: work.job.records,
+        results: work.job.results,
+        slice: number,
+        records_before: number.saturating_mul(work.job.slice_length),
+        results_before,
+        told: None,
+        meter,
+    };
+    match run_slice(
+        rt,
+        alloc,
+        conn,
+        &work.slice,
+        number,
+        function,
+        items,
+        ASecond::new(*rt),
+        told,
+    ) {
+        Ok(end) => Ok(end),
+        Err(error) => Err(Failure::Slice {
+            slice: number,
+            error,
+        }),
+    }
+}
+
+/// The end of the slice that is whole in the database of a connection that was just opened.
+fn collected<F: RowFunction + Drop + 'static, S: Alter>(
+    alloc: Global,
+    conn: &mut Connection<S>,
+    work: &Work,
+    number: u64,
+    function: &Arc<F, Global>,
+    items: &PackedList,
+) -> Result<SliceEnd, Failure>
+    ensures ended { IfResumed work.now.slice (F.answer (arc_value function.now)) number items.now (state S.Store conn.old) (state S.Store conn.new) (λ w all.
+        IfOk result (IsSliceEnd (job_record work.now.job.now work.now.asked.now (F.answer (arc_value function.now))) number items.now)) }
+    ensures status { IfOk result (λ end. (end.status ≡ Completed) ⊎ (end.status ≡ Failed)) }
+    ensures clean { doubt (state S.Store conn.old).is_clean ≤ doubt (state S.Store conn.new).is_clean }
+    ensures crash { IfResumed work.now.slice (F.answer (arc_value function.now)) number items.now (state S.Store conn.old) (state S.Store conn.new) (λ w all.
+        (db : _) → (state S.Store conn.new).may_leave db
+        → IsOfARun (λ kept. KeepsOwn (job_record work.now.job.now work.now.asked.now (F.answer (arc_value function.now))) w.functions number items.now kept) db) }
+{
+    match collect_slice(alloc, conn, &work.slice, number, function, items) {
+        Ok(Some(end)) => Ok(end),
+        Ok(None) => Err(Failure::NotWhole { slice: number }),
+        Err(error) => Err(Failure::Slice {
+            slice: number,
+            error,
+        }),
+    }
+}
+
+/// Runs the slice, or collects it.
+fn answered<
+    F: RowFunction + Drop + 'static,
+    T: Threads + Wait + Clock + Eprint + Host + Copy + Send + Sync + 'static,
+    S: Alter,
+>(
+    rt: &T,
+    alloc: Global,
+    conn: &mut Connection<S>,
+    work: &Work,
+    number: u64,
+    results_before: u64,
+    meter: &mut Meter,
+    function: &Arc<F, Global>,
+    items: &PackedList,
+) -> Result<SliceEnd, Failure>
+    ensures ended { IfResumed work.now.slice (F.answer (arc_value function.now)) number items.now (state S.Store conn.old) (state S.Store conn.new) (λ w all.
+        IfOk result (IsSliceEnd (job_record work.now.job.now work.now.asked.now (F.answer (arc_value function.now))) number items.now)) }
+    ensures status { IfOk result (λ end. (end.status ≡ Completed) ⊎ (end.status ≡ Failed)) }
+    ensures clean { doubt (state S.Store conn.old).is_clean ≤ doubt (state S.Store conn.new).is_clean }
+    ensures crash { IfResumed work.now.slice (F.answer (arc_value function.now)) number items.now (state S.Store conn.old) (state S.Store conn.new) (λ w all.
+        (db : _) → (state S.Store conn.new).may_leave db
+        → IsOfARun (λ kept. KeepsOwn (job_record work.now.job.now work.now.asked.now (F.answer (arc_value function.now))) w.functions number items.now kept) db) }
+{
+    if is_collected(work) {
+        return collected(alloc, conn, work, number, function, items);
+    }
+    ran(
+        rt,
+        alloc,
+        conn,
+        work,
+        number,
+        results_before,
+        meter,
+        function,
+        items,
+    )
+}
+
+/// Whether slices are collected.
+fn is_collected(work: &Work) -> bool {
+    matches!(work.asked.task, Task::Collect)
+}
+
+/// A connection to the file of the slice, which is made if there is none. One that is to be collected must be there. If FOLDER/stop is there, none
+/// is opened.
+fn opened<S: Start>(
+    host: &HostRuntime,
+    work: &Work,
+    number: u64,
+    start: S,
+) -> Result<Connection<FileStore<FileFrom<S>>>, Failure>
+    ensures opened { IfOk result (λ conn. HasCleanDisk (file_state conn) → IsJustOpened (file_state conn)) }
+    ensures found { IfOk result (λ conn. HasCleanDisk (file_state conn) → (db : _) (all : _) → HoldsDatabase (image_at S.Start) db → Has db all → ShowsList (file_state conn).now all) }
+    ensures nothing { IfOk result (λ conn. HasCleanDisk (file_state conn) → IsNothing (image_at S.Start) → ShowsList (file_state conn).now []) }
+{
+    let folder = work.asked.folder.as_str();
+    if is_stopped(host, folder) {
+        return Err(Failure::Slice {
+            slice: number,
+            error: DurableError::Stopped,
+        });
+    }
+    let path = slice_path(host.alloc(), folder, number)?;
+    if is_collected(work) && is_missing(host, path.as_str()) {
+        return Err(Failure::NotWhole { slice: number });
+    }
+    if let Some(error) = other_kind(host, path.as_str()) {
+        return Err(Failure::File {
+            slice: number,
+            error,
+        });
+    }
+    match connect(host, path.as_str(), start) {
+        Ok(conn) => Ok(conn),
+        Err(error) => Err(Failure::File {
+            slice: number,
+            error,
+        }),
+    }
+}
+
+/// Runs the slice over the file at its path, which is made if there is none, or collects it; and its files, which are closed. `Err` only if
+/// the file isn't opened.
+pub(crate) fn run_slice_at<
+    F: RowFunction + Drop + 'static,
+    T: Threads + Wait + Clock + Eprint + Host + Copy + Send + Sync + 'static,
+    S: Start,
+>(
+    rt: &T,
+    work: &Work,
+    number: u64,
+    results_before: u64,
+    meter: &mut Meter,
+    start: S,
+    function: &Arc<F, Global>,
+    items: &PackedList,
+) -> Result<(Files<FileFrom<S>>, Result<SliceEnd, Failure>), Failure>
+    // Over files that held the slice so far, or nothing, it ends by what it says of its items.
+    ensures ended { IfOk result (λ r. AreClean ⟦<FileFrom<S> as Disk>⟧ r.0.log r.0.db → (functions : Functions) → AreOf functions (F.answer (arc_value function.now)) (stamps_of work.now.job.now work.now.asked.now)
+        → HoldsSlice (job_record work.now.job.now work.now.asked.now (F.answer (arc_value function.now))) functions number items.now (image_at S.Start)
+        → IfOk r.1 (IsSliceEnd (job_record work.now.job.now work.now.asked.now (F.answer (arc_value function.now))) number items.now)) }
+    ensures status { IfOk result (λ r. IfOk r.1 (λ end. (end.status ≡ Completed) ⊎ (end.status ≡ Failed))) }
+
+    // Whatever a crash leaves of them holds the slice so far again.
+    ensures crash { IfOk result (λ r. AreClean ⟦<FileFrom<S> as Disk>⟧ r.0.log r.0.db → (functions : Functions) → AreOf functions (F.answer (arc_value function.now)) (stamps_of work.now.job.now work.now.asked.now)
+        → HoldsSlice (job_record work.now.job.now work.now.asked.now (F.answer (arc_value function.now))) functions number items.now (image_at S.Start)
+        → (image : Image) → outcomes ⟦<FileFrom<S> as Disk>⟧ r.0.log r.0.db image
+        → HoldsRun (KeepsOwn (job_record work.now.job.now work.now.asked.now (F.answer (arc_value function.now))) functions number items.now) image) }
+{
+    let host = rt.host();
+    let mut conn = opened(host, work, number, start)?;
+    let answer = answered(
+        rt,
+        host.alloc(),
+        &mut conn,
+        work,
+        number,
+        results_before,
+        meter,
+        function,
+        items,
+    );
+    Ok((closed(conn), answer))
+}
+
+/// The same, and gives the files to the keeper. What they held is picked by the call.
+pub(crate) fn kept_slice<
+    F: RowFunction + Drop + 'static,
+    T: Threads + Wait + Clock + Eprint + Host + Copy + Send + Sync + 'static,
+    G: OneStored,
+    K: Keeper,
+>(
+    rt: &T,
+    work: &Work,
+    number: u64,
+    results_before: u64,
+    meter: &mut Meter,
+    function: &Arc<F, Global>,
+    items: &PackedList,
+    keeper: &mut K,
+) -> Result<SliceEnd, Failure>
+    ensures ended { IsTrue (K.are_clean keeper.new) → (functions : Functions) → AreOf functions (F.answer (arc_value function.now)) (stamps_of work.now.job.now work.now.asked.now)
+        → HoldsSlice (job_record work.now.job.now work.now.asked.now (F.answer (arc_value function.now))) functions number items.now (record { log = G.log; db = G.db })
+        → IfOk result (IsSliceEnd (job_record work.now.job.now work.now.asked.now (F.answer (arc_value function.now))) number items.now) }
+    ensures status { IfOk result (λ end. (end.status ≡ Completed) ⊎ (end.status ≡ Failed)) }
+    ensures clean { IsTrue (K.are_clean keeper.new) → IsTrue (K.are_clean keeper.old) }
+    ensures crash { IsTrue (K.are_clean keeper.new) → (functions : Functions) → AreOf functions (F.answer (arc_value function.now)) (stamps_of work.now.job.now work.now.asked.now)
+        → (k : ℕ) (read : List (List ℕ)) (image : Image) → K.may_leave keeper.new k read image
+        → IsLeft (job_record work.now.job.now work.now.asked.now (F.answer (arc_value function.now))) functions (record { log = G.log; db = G.db }) number items.now (K.may_leave keeper.old k read image) k read image }
+    ensures items { IsTrue (K.are_clean keeper.new) → (k : ℕ) (read : List (List ℕ)) (image : Image) → K.may_leave keeper.new k read image
+        → K.may_leave keeper.old k read image ⊎ ((k ≡ number) × (read ≡ items.now)) }
+{
+    let (files, answer) = run_slice_at(
+        rt,
+        work,
+        number,
+        results_before,
+        meter,
+        Before::<G>::new(),
+        function,
+        items,
+    )?;
+    keeper.keep(number, items, files);
+    answer
+}

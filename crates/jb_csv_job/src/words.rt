@@ -1,0 +1,198 @@
+//! The words of the command line.
+
+ghost use Rattle.std.specs.Prelude.{◌≡◌, ◌≤◌, map, option_map, string_bytes, IfErr, IfOk, IfSome};
+ghost use Rattle.jb_base.specs.Limits.{max_threads};
+ghost use Rattle.jb_csv_job.specs.CommandLine.{AreRefused, IsOldForm};
+ghost use Rattle.jb_csv_job.specs.Parsing.{IsAnswer};
+
+use crate::asked::{Asked, OwnOption, Request};
+use crate::command::{About, command};
+use crate::failure::{Failure, WordsFault};
+use crate::host::Host;
+use crate::job::CsvJob;
+use crate::line::asked_in;
+use clap::error::ErrorKind;
+use jb_base::MAX_THREADS;
+use jb_rows::RowsError;
+use jb_rows::numbers::number_of;
+use std::alloc::{AllocError, Global};
+use std::env::Args;
+use std::thread::Threads;
+use std::{env, io, thread};
+
+/// How many threads run if the processors can't be counted.
+const SOME_THREADS: u32 = 4;
+
+/// What the words ask for.
+#[derive(Drop)]
+pub(crate) enum Parsed {
+    Job(Asked),
+    /// The help or the version, to be printed.
+    Text(clap::Error),
+}
+
+/// The word for the threads, if the words are those of an earlier version, THREADS FILE.
+fn old_form<'a>(words: &[&'a str]) -> Option<&'a str>
+    ensures { IfSome result (λ threads. IsOldForm (map (λ w. w.now) words.now) threads.now) }
+{
+    if words.len() == 2 && number_of(words[0].as_bytes()).is_some() {
+        Some(words[0])
+    } else {
+        None
+    }
+}
+
+fn own_name<'a>(own: Option<OwnOption<'a>>) -> Option<&'a str>
+    ensures { option_map (λ o. o.now) result ≡ option_map (λ o. o.name.now) own.entry }
+{
+    match own {
+        Some(own) => Some(own.name),
+        None => None,
+    }
+}
+
+/// What the words ask for, by `clap`.
+pub(crate) fn parse_words<'a>(
+    alloc: Global,
+    about: &About<'a>,
+    own: Option<OwnOption<'a>>,
+    default: u32,
+    words: &'a [&'a str],
+) -> Result<Parsed, Failure>
+    requires some { 1 ≤ default }
+    requires few { default ≤ max_threads }
+    ensures asks { IfOk result (IsAnswer about.now.name.now (option_map (λ o. o.name.now) own.entry) (map (λ w. w.now) words.now)) }
+    ensures refused { IfErr result (AreRefused about.now.name.now (option_map (λ o. o.name.now) own.entry) (map (λ w. w.now) words.now)) }
+{
+    if let Some(threads) = old_form(words) {
+        return Err(Failure::Words(WordsFault::OldForm(threads.to_string(alloc)?)));
+    }
+    let command = command(alloc, about, own)?;
+    match command.try_get_matches_from(words) {
+        Ok(matches) => {
+            let own = own_name(own);
+            match asked_in(alloc, &matches, own, default) {
+                Ok(asked) => Ok(Parsed::Job(asked)),
+                Err(failure) => Err(failure),
+            }
+        }
+        Err(fault) => match fault.kind() {
+            ErrorKind::OutOfMemory => Err(Failure::Memory),
+            ErrorKind::DisplayHelp | ErrorKind::DisplayVersion => Ok(Parsed::Text(fault)),
+            _ => Err(Failure::Words(WordsFault::Wrong(text_of(alloc, &fault)?))),
+        },
+    }
+}
+
+/// What `clap` says of a mistake, without `error: ` before it and line ends after it.
+fn text_of(alloc: Global, fault: &clap::Error) -> Result<String, AllocError> {
+    let text = fault.to_string(alloc)?;
+    let text = text.as_str();
+    let text = text.strip_prefix("error: ").unwrap_or(text);
+    text.trim_end().to_string(alloc)
+}
+
+/// How many processors there are, at most 64; 4 if that isn't known.
+fn processors<T: Threads>(rt: &T) -> u32
+    ensures some { 1 ≤ result }
+    ensures few { result ≤ max_threads }
+{
+    match thread::available_parallelism(rt) {
+        Ok(count) => count.get().min(MAX_THREADS as usize) as u32,
+        Err(_) => SOME_THREADS,
+    }
+}
+
+/// The words after the program's name.
+fn words_of(alloc: Global, args: io::Result<Args>) -> Result<Vec<String>, Failure> {
+    match args {
+        Ok(args) => Ok(args.skip(1).collect(alloc)?),
+        Err(error) if error.kind() == io::ErrorKind::OutOfMemory => Err(Failure::Memory),
+        Err(_) => Err(Failure::Words(WordsFault::NoText)),
+    }
+}
+
+fn texts_of(alloc: Global, words: &[String]) -> Result<Vec<&str>, AllocError>
+    ensures { IfOk result (λ texts. map (λ w. w.now) texts.items ≡ map string_bytes words.now) }
+{
+    let mut texts = Vec::new(alloc);
+    for word in words {
+        texts.push(word.as_str())?;
+    }
+    Ok(texts)
+}
+
+/// The program's own option, in texts of its own.
+#[derive(Drop)]
+struct OwnTexts {
+    name: String,
+    value: String,
+    help: String,
+}
+
+fn own_texts(alloc: Global, own: Option<&OwnOption>) -> Result<Option<OwnTexts>, AllocError> {
+    let Some(own) = own else {
+        return Ok(None);
+    };
+    Ok(Some(OwnTexts {
+        name: own.name.to_string(alloc)?,
+        value: own.value.to_string(alloc)?,
+        help: own.help.to_string(alloc)?,
+    }))
+}
+
+fn own_option(own: &Option<OwnTexts>) -> Option<OwnOption<'_>> {
+    match own {
+        Some(own) => Some(OwnOption {
+            name: own.name.as_str(),
+            value: own.value.as_str(),
+            help: own.help.as_str(),
+        }),
+        None => None,
+    }
+}
+
+/// What the words of the process ask for, before the help or the version is printed.
+fn asked_by<T: Threads + Host>(
+    rt: &T,
+    job: &CsvJob,
+    own: Option<&OwnOption>,
+) -> Result<Parsed, Failure> {
+    let host = rt.host();
+    let alloc = host.alloc();
+    let args = words_of(alloc, env::args(host))?;
+    let words = texts_of(alloc, &args)?;
+    let name = job.name.to_string(alloc)?;
+    let version = format!(in alloc; "0.1.0, stamp {}", job.stamp)?;
+    let about = format!(in alloc;
+        "Reads {} in CSV on standard input, and writes {} in CSV.\n\nWhatever ends a run, the same line resumes it from its last checkpoint.",
+        job.records, job.results
+    )?;
+    let usage = format!(in alloc; "{} [OPTIONS] FOLDER < {}", job.name, job.input)?;
+    let own = own_texts(alloc, own)?;
+    let about = About {
+        name: name.as_str(),
+        version: version.as_str(),
+        about: about.as_str(),
+        usage: usage.as_str(),
+    };
+    parse_words(alloc, &about, own_option(&own), processors(rt), &words)
+}
+
+/// What the words of the process ask for. Help and version are printed on standard output.
+///
+/// # Errors
+/// `Words`: they ask for nothing. `Rows` with `Stream`: standard output failed. `Memory`.
+pub fn asked_of<T: Threads + Host>(
+    rt: &T,
+    job: &CsvJob,
+    own: Option<&OwnOption>,
+) -> Result<Request, Failure> {
+    match asked_by(rt, job, own)? {
+        Parsed::Job(asked) => Ok(Request::Job(asked)),
+        Parsed::Text(text) => match text.print(rt.host()) {
+            Ok(()) => Ok(Request::Said),
+            Err(error) => Err(Failure::Rows(RowsError::Stream(error))),
+        },
+    }
+}

@@ -1,4 +1,0 @@
-pub mod Ending
-pub mod Filing
-pub mod Resting
-pub mod Causing

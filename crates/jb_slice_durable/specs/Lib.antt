@@ -1,0 +1,4 @@
+pub mod Work
+pub mod Refusals
+pub mod Ends
+pub mod Texts

@@ -1,0 +1,55 @@
+-- Why a slice's bytes are refused.
+use Rattle.std.specs.Prelude.{ℕ, ◌≡◌, ◌≢◌, ◌⊎◌, List, ◌∷◌, Contains, ⊤}
+use Rattle.jb_slices.specs.Checkpoint.{Header}
+use Rattle.jb_slices.specs.Job as job
+use Rattle.jb_slices.specs.Job.{HaveInCommon, Job}
+use Rattle.jb_slices.specs.Refusals.{HasOtherStamp, IsOtherJob, IsOtherSlice}
+use Rattle.jb_slice_run.specs.declared.error.IdentityPart.{IdentityPart}
+use Rattle.jb_slice_run.specs.declared.error.IdentityPart.TheVariants.{Name, SliceLength, Partitions, ItemCount, Classes}
+use Rattle.jb_slice_run.specs.declared.error.SliceError.{SliceError}
+use Rattle.jb_slice_run.specs.declared.error.SliceError.TheVariants.{OtherJob, OtherSlice, OtherItems, OtherStamp}
+
+abbrev pub part_of : IdentityPart → job.IdentityPart
+part_of Name = job.Name
+part_of SliceLength = job.SliceLength
+part_of Partitions = job.Partitions
+part_of ItemCount = job.ItemCount
+part_of Classes = job.Classes
+
+-- the parts before this one are in common
+abbrev pub HaveThoseBefore : IdentityPart → (own other : Job) → Type 0
+HaveThoseBefore Name own other = ⊤
+HaveThoseBefore SliceLength own other = own.name ≡ other.name
+HaveThoseBefore Partitions own other = (own.name ≡ other.name) × (own.slice_length ≡ other.slice_length)
+HaveThoseBefore ItemCount own other = (own.name ≡ other.name) × (own.slice_length ≡ other.slice_length) × (own.partitions ≡ other.partitions)
+HaveThoseBefore Classes own other =
+    (own.name ≡ other.name) × (own.slice_length ≡ other.slice_length) × (own.partitions ≡ other.partitions) × (own.item_count ≡ other.item_count)
+
+-- it is of other items: it has another digest, or another number of them
+abbrev pub HasOthers : (own held : Header) → Type 0
+HasOthers own held = (held.digest ≢ own.digest) ⊎ (held.items ≢ own.items)
+
+-- WHY A HEADER IS REFUSED, in this order: the first part of the job's identity that differs, the slice, its items, and the stamp
+abbrev pub IsHeaderCause : (own : Header) → (stamps : List (List ℕ)) → (held : Header) → SliceError → Type 0
+IsHeaderCause own stamps held (OtherJob part) = HaveThoseBefore part own.job held.job × IsOtherJob own.job (part_of part) held
+IsHeaderCause own stamps held OtherSlice = (own.job ≡ held.job) × IsOtherSlice own.number held
+IsHeaderCause own stamps held OtherItems = (own.job ≡ held.job) × (own.number ≡ held.number) × HasOthers own held
+IsHeaderCause own stamps held OtherStamp =
+    (own.job ≡ held.job) × (own.number ≡ held.number) × (own.digest ≡ held.digest) × (own.items ≡ held.items) × HasOtherStamp own.stamp stamps held
+IsHeaderCause own stamps held _ = ⊥
+
+-- a refusal of a header
+abbrev pub IsOfHeader : SliceError → Type 0
+IsOfHeader (OtherJob part) = ⊤
+IsOfHeader OtherSlice = ⊤
+IsOfHeader OtherItems = ⊤
+IsOfHeader OtherStamp = ⊤
+IsOfHeader _ = ⊥
+
+-- A HEADER IS OUR OWN, but for its limits; its stamp is ours, or one of those that are kept
+pub record IsOwn (own : Header) (stamps : List (List ℕ)) (held : Header) : Type 0 where
+  pub job_is : own.job ≡ held.job
+  pub number_is : own.number ≡ held.number
+  pub digest_is : own.digest ≡ held.digest
+  pub items_are : own.items ≡ held.items
+  pub stamp_is : Contains (own.stamp ∷ stamps) held.stamp

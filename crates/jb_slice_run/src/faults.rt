@@ -1,0 +1,216 @@
+//! The faults of a partition's items.
+
+ghost use Rattle.std.specs.Prelude.{◌≡◌, ◌≤◌, ◌<◌, ◌+◌, ◌^◌, ◌++◌, length, map, option_copied, option_map, option_to_list, slice_get, IfOk, MatchOption, None, OnOk};
+ghost use Rattle.jb_base.specs.Rules.{RulesRecord};
+ghost use Rattle.jb_records.specs.Artifacts.{record_of};
+ghost use Rattle.jb_records.specs.Following.{FollowsRules};
+ghost use Rattle.jb_records.specs.Function.{steady};
+ghost use Rattle.jb_records.specs.Skips.{skip_by, skips_between};
+ghost use Rattle.jb_slices.specs.Function.{refusal_of};
+ghost use Rattle.jb_slice_run.specs.Held.{fault_in, faults_in, news_in};
+ghost use Rattle.jb_slice_run.specs.News.{AreNewsOf, CanAllGrow, CanGrow, IsNewsOf, IsStopTold, from_of, skipped_before};
+ghost use Rattle.jb_slice_run.specs.Rows.{fault_at, faults_at};
+
+use crate::fault::Fault;
+use crate::news::PartitionNews;
+use jb_artifacts::record_of;
+use jb_base::{ClassId, PackedList, Rules};
+use jb_ready::Note;
+use jb_records::{rules_are_kept, stop_of};
+use jb_rows::{Outcome, Row as Fields, RowBuilder, RowFunction};
+use jb_rules::Row;
+use std::alloc::{AllocError, Global};
+
+/// The class of the fault with which this item is refused, if it is. The function puts its result together in `built`.
+fn refusal_of<F: RowFunction>(
+    function: &F,
+    item: &[u8],
+    built: &mut RowBuilder,
+) -> Result<Option<ClassId>, AllocError>
+    ensures { IfOk result (λ class. class ≡ refusal_of (F.answer function.now) item.now) }
+{
+    built.clear();
+    match function.process(&Fields::of(item), built)? {
+        Outcome::Refused(class) => Ok(Some(class)),
+        Outcome::Given | Outcome::Filtered => Ok(None),
+    }
+}
+
+/// Puts the fault of the item of this number after the others, if it is refused.
+fn push_fault<F: RowFunction>(
+    function: &F,
+    items: &PackedList,
+    first: u64,
+    number: u64,
+    built: &mut RowBuilder,
+    faults: &mut Vec<Fault>,
+) -> Result<(), AllocError>
+    requires within { number < length items.now }
+    requires numbers { first + length items.now < 2 ^ 64 }
+    ensures { OnOk result (faults_in faults.new.items ≡
+        faults_in faults.old.items ++ faults_at first (option_to_list (skip_by number (refusal_of (F.answer function.now) (record_of 0 items.now number))))) }
+{
+    if let Some(class) = refusal_of(function, record_of(items, 0, number), built)? {
+        faults.push(Fault {
+            number: first + number,
+            class,
+        })?;
+    }
+    Ok(())
+}
+
+/// The faults of the items from number `lo` to `hi - 1` of a slice, whose first item has the number `first` in the job.
+fn faults_between<F: RowFunction>(
+    alloc: Global,
+    function: &F,
+    items: &PackedList,
+    first: u64,
+    lo: u64,
+    hi: u64,
+) -> Result<Vec<Fault>, AllocError>
+    requires to { hi ≤ length items.now }
+    requires numbers { first + length items.now < 2 ^ 64 }
+    ensures { IfOk result (λ faults. faults_in faults.items ≡ faults_at first (skips_between (steady (F.answer function.now)) items.now lo hi)) }
+{
+    let mut built = RowBuilder::new(alloc);
+    let mut faults = Vec::new(alloc);
+    for index in 0..hi.saturating_sub(lo) {
+        push_fault(function, items, first, lo + index, &mut built, &mut faults)?;
+    }
+    Ok(faults)
+}
+
+/// Where a partition was: at the checkpoint of its row, or at its first item if there is no row before.
+fn place_before(before: Option<&Row>, row: &Row) -> u64
+    ensures { result ≡ from_of (option_map (λ r. r.now) before.entry) row.now }
+{
+    match before {
+        Some(before) => before.at,
+        None => row.lo,
+    }
+}
+
+/// How many items it had skipped there.
+fn skips_before(before: Option<&Row>) -> u64
+    ensures { result ≡ skipped_before (option_map (λ r. r.now) before.entry) }
+{
+    match before {
+        Some(before) => before.counts.process_skip,
+        None => 0,
+    }
+}
+
+/// The faults that a partition skipped since then. The function is called again on the items between the two checkpoints, if it skipped some.
+fn new_skips<F: RowFunction>(
+    alloc: Global,
+    function: &F,
+    items: &PackedList,
+    first: u64,
+    before: Option<&Row>,
+    row: &Row,
+) -> Result<Vec<Fault>, AllocError>
+    requires numbers { first + length items.now < 2 ^ 64 }
+    ensures { (rules : RulesRecord) → CanGrow (F.answer function.now) rules items.now (option_map (λ r. r.now) before.entry) row.now
+        → IfOk result (λ faults. faults_in faults.items ≡ faults_at first (skips_between (steady (F.answer function.now)) items.now (from_of (option_map (λ r. r.now) before.entry) row.now) row.now.at)) }
+{
+    if row.counts.process_skip == skips_before(before) {
+        return Ok(Vec::new(alloc));
+    }
+    let to = row.at.min(items.len() as u64);
+    faults_between(alloc, function, items, first, place_before(before, row), to)
+}
+
+/// A record's fault by the number of its item. Of a record that there isn't it is none.
+fn fault_of(note: Option<Note>, first: u64, items: usize) -> Option<Fault>
+    requires numbers { first + items < 2 ^ 64 }
+    ensures { MatchOption note (option_map fault_in result ≡ None) (λ n. n.number < items → option_map fault_in result ≡ option_map (fault_at first) note) }
+{
+    match note {
+        Some(note) if note.number < items as u64 => Some(Fault {
+            number: first + note.number,
+            class: note.class,
+        }),
+        _ => None,
+    }
+}
+
+/// The fault by which a partition failed, if it did. The function is called again on the items from its checkpoint up to that one.
+fn stop_in<F: RowFunction>(
+    alloc: Global,
+    function: &F,
+    rules: &Rules,
+    items: &PackedList,
+    first: u64,
+    row: &Row,
+) -> Result<Option<Fault>, AllocError>
+    requires numbers { first + length items.now < 2 ^ 64 }
+    ensures { FollowsRules (steady (F.answer function.now)) rules.now items.now row.now → row.now.hi ≤ length items.now
+        → IfOk result (λ stop. IsStopTold (F.answer function.now) rules.now first items.now row.now (option_map fault_in stop)) }
+{
+    if !row.state.is_failed() {
+        return Ok(None);
+    }
+    rules_are_kept();
+    let note = stop_of(alloc, function, rules, items, row)?;
+    Ok(fault_of(note, first, items.len()))
+}
+
+/// What is new of a partition, which stood at `before`, or hadn't begun: these results, the faults that it skipped since then, and the one
+/// by which it failed.
+pub(crate) fn news_of<F: RowFunction>(
+    alloc: Global,
+    function: &F,
+    rules: &Rules,
+    items: &PackedList,
+    first: u64,
+    before: Option<&Row>,
+    row: &Row,
+    results: PackedList,
+) -> Result<PartitionNews, AllocError>
+    requires numbers { first + length items.now < 2 ^ 64 }
+    ensures { CanGrow (F.answer function.now) rules.now items.now (option_map (λ r. r.now) before.entry) row.now
+        → IfOk result (λ news. IsNewsOf (F.answer function.now) rules.now first items.now (option_map (λ r. r.now) before.entry) row.now results (news_in news)) }
+{
+    let skips = new_skips(alloc, function, items, first, before, row)?;
+    let stop = stop_in(alloc, function, rules, items, first, row)?;
+    Ok(PartitionNews {
+        results,
+        skips,
+        stop,
+    })
+}
+
+/// The row of this index, the first being 0, if there is one.
+fn row_at(rows: &[Row], index: usize) -> Option<&Row>
+    ensures { option_copied result ≡ slice_get rows.now index }
+{
+    rows.get(index)
+}
+
+/// What is new of each partition, which stood at these rows before, or hadn't begun if there are none.
+pub(crate) fn all_news<F: RowFunction>(
+    alloc: Global,
+    function: &F,
+    rules: &Rules,
+    items: &PackedList,
+    first: u64,
+    before: &[Row],
+    rows: &[Row],
+    results: Vec<PackedList>,
+) -> Result<Vec<PartitionNews>, AllocError>
+    requires numbers { first + length items.now < 2 ^ 64 }
+    ensures { length results.items ≡ length rows.now → CanAllGrow (F.answer function.now) rules.now items.now before.now rows.now
+        → IfOk result (λ news. AreNewsOf (F.answer function.now) rules.now first items.now before.now rows.now results.items (map news_in news.items)) }
+{
+    let mut all = Vec::new(alloc);
+    let mut index = 0;
+    'results: for one in results {
+        let earlier = row_at(before, index);
+        let Some(row) = row_at(rows, index) else {
+            return Ok(all);
+        };
+        all.push(news_of(alloc, function, rules, items, first, earlier, row, one)?)?;
+        index += 1;
+    }
+    Ok(all)
+}

@@ -1,0 +1,271 @@
+//! Resuming a slice after its checkpoints.
+
+ghost use Rattle.std.specs.Prelude.{ℕ, List, ◌≡◌, ◌≤◌, ◌⊎◌, ◌-◌, ◌∷◌, [], false, length, map, slice_get, IfErr, IfOk, None, OnOk, Some};
+ghost use Rattle.std.specs.Arc.{arc_value};
+ghost use Rattle.jb_records.specs.declared.error.RecordsStepError.{RecordsStepError as RecordsStepFault};
+ghost use Rattle.jb_records.specs.Causes.{IsCauseOf};
+ghost use Rattle.jb_records.specs.Function.{steady};
+ghost use Rattle.jb_slice_file.specs.Kept.{Kept, kept};
+ghost use Rattle.jb_slices.specs.Checkpoint.{Begins, Header};
+ghost use Rattle.jb_slices.specs.Slice.{Functions};
+ghost use Rattle.jb_slice_run.specs.Causes.{IsFirstOwn, IsHeaderLong, IsResumeCause};
+ghost use Rattle.jb_slice_run.specs.Held.{header_in, limits_in, news_in};
+ghost use Rattle.jb_slice_run.specs.Jobs.{job_in, kept_stamps, own_header, stamps_in};
+ghost use Rattle.jb_slice_run.specs.Kept.{IsKeptAs, KeepsSlice};
+ghost use Rattle.jb_slice_run.specs.Named.{HoldsFaults, faults_by, faults_held};
+ghost use Rattle.jb_slice_run.specs.Refusals.{IsHeaderCause, IsOfHeader, IsOwn};
+ghost use Rattle.jb_slice_run.specs.Step.{AreOf, IsStepOfSlice};
+ghost use Rattle.jb_slice_run.specs.Whole.{KeepsWhole};
+ghost use Rattle.jb_slice_run.specs.Work.{HasNoResults, IsRunDone, IsTold, IsUnderway, RunsSlice, SliceStandsAt};
+ghost use Rattle.jb_slice_run.specs.declared.error.SliceError.TheVariants.{Damaged, Memory, TooLong};
+ghost use Rattle.jb_slice_run.specs.declared.run_error.SliceRunError.TheVariants.{Step};
+ghost use Rattle.jb_slice_run.specs.declared.place.Stage.TheVariants.{Begun, Underway};
+
+use crate::digest::digest_of;
+use crate::error::SliceError;
+use crate::fault::PartitionFaults;
+use crate::header::{SliceHeader, SliceLimits};
+use crate::intervals::read_slice;
+use crate::job::SliceJob;
+use crate::laws::checkpoints_are_told;
+use crate::lists::{HeaderLists, refuse_lowered};
+use crate::news::PartitionNews;
+use crate::place::{SlicePlace, Stage};
+use crate::row_laws::rows_are_progress;
+use crate::run_error::SliceRunError;
+use crate::writing::header_checkpoint;
+use jb_base::PackedList;
+use jb_records::{RecordsRun, RecordsStep, Standing, rules_are_kept};
+use jb_rows::RowFunction;
+use jb_slice_file::Checkpoint;
+use jb_step::read_saved;
+use std::alloc::{AllocError, Global};
+use std::sync::Arc;
+
+/// The header with which the slice of this number, with these items, begins.
+fn header_of<'a>(
+    alloc: Global,
+    job: &SliceJob<'a>,
+    number: u64,
+    items: &PackedList,
+) -> Result<SliceHeader<'a>, SliceError>
+    ensures is { IfOk result (λ header. header_in header ≡ own_header job.now number items.now) }
+    ensures why { IfErr result (λ e. (e ≡ Memory) ⊎ (e ≡ TooLong) × IsHeaderLong (own_header job.now number items.now) items.now) }
+{
+    let digest = digest_of(alloc, items)?;
+    Ok(job.header(number, items.len() as u64, digest))
+}
+
+/// The limits by which a slice with this first checkpoint began, if that is our own.
+fn own_limits(
+    alloc: Global,
+    own: &SliceHeader,
+    stamps: &[&str],
+    first: &Checkpoint,
+) -> Result<SliceLimits, SliceError>
+    ensures own { OnOk result ((h : Header) → IsKeptAs (Begins h) (kept first.now) → IsOwn (header_in own.now) (map (λ stamp. stamp.now) stamps.now) h) }
+    ensures limits { (h : Header) → IsKeptAs (Begins h) (kept first.now) → IfOk result (λ limits. limits_in limits ≡ h.limits) }
+    ensures why { IfErr result (λ e. (e ≡ Memory) ⊎ (e ≡ Damaged) × ((h : Header) → IsKeptAs (Begins h) (kept first.now) → ⊥)
+        ⊎ IsOfHeader e × ((h : Header) → IsKeptAs (Begins h) (kept first.now) → IsHeaderCause (header_in own.now) (map (λ stamp. stamp.now) stamps.now) h e)) }
+{
+    let held = HeaderLists::read(alloc, first)?;
+    let own = HeaderLists::of(alloc, own)?;
+    held.refuse_others(&own, stamps)?;
+    let limits = held.limits()?;
+    Ok(limits)
+}
+
+/// The results of the partitions, and their faults.
+fn parts_of(
+    alloc: Global,
+    partitions: Vec<PartitionNews>,
+) -> Result<(Vec<PackedList>, Vec<PartitionFaults>), AllocError>
+    ensures results { IfOk result (λ r. r.0.items ≡ map (λ (news : PartitionNews). news.results) partitions.items) }
+    ensures faults { IfOk result (λ r. map faults_held r.1.items ≡ map faults_by (map news_in partitions.items)) }
+{
+    let mut results = Vec::new(alloc);
+    let mut faults = Vec::new(alloc);
+    'partitions: for news in partitions {
+        let PartitionNews {
+            results: own,
+            skips,
+            stop,
+        } = news;
+        results.push(own)?;
+        faults.push(PartitionFaults { skips, stop })?;
+    }
+    Ok((results, faults))
+}
+
+/// Begins at the first items.
+fn begun<F: RowFunction + Drop>(
+    alloc: Global,
+    job: &SliceJob,
+    step: &RecordsStep,
+    function: &Arc<F, Global>,
+    items: &PackedList,
+    stage: Stage,
+) -> Result<SlicePlace<F>, SliceRunError>
+    requires step { IsStepOfSlice (job_in job.now) (limits_in job.now.limits) job.now.threads step.now }
+    ensures runs { IfOk result (λ place. RunsSlice (job_in job.now) (F.answer (arc_value function.now)) (limits_in job.now.limits) items.now (⟦<RecordsRun<F> as Standing>⟧.standing place.run)) }
+    ensures empty { IfOk result (λ place. HasNoResults (⟦<RecordsRun<F> as Standing>⟧.standing place.run)) }
+    ensures stage { IfOk result (λ place. place.stage ≡ stage) }
+    ensures rows { IfOk result (λ place. place.rows.items ≡ []) }
+    ensures faults { IfOk result (λ place. place.faults.items ≡ []) }
+    ensures fresh { IfOk result (λ place. place.has_failed ≡ false) }
+    ensures told { IfOk result (λ place. IsTold place.has_failed place.stage (⟦<RecordsRun<F> as Standing>⟧.standing place.run) place.rows.items) }
+    ensures why { IfErr result (λ e. (why : RecordsStepFault) × (e ≡ Step why) × IsCauseOf (steady (F.answer (arc_value function.now))) step.now items.now None why) }
+{
+    rows_are_progress();
+    let run = RecordsRun::begin(alloc, step, function, items)?;
+    Ok(SlicePlace {
+        run,
+        rows: Vec::new(alloc),
+        faults: Vec::new(alloc),
+        has_failed: false,
+        stage,
+    })
+}
+
+/// Begins with the header as the first checkpoint.
+fn blank<F: RowFunction + Drop>(
+    alloc: Global,
+    job: &SliceJob,
+    step: &RecordsStep,
+    function: &Arc<F, Global>,
+    number: u64,
+    items: &PackedList,
+    own: &SliceHeader,
+) -> Result<SlicePlace<F>, SliceRunError>
+    requires step { IsStepOfSlice (job_in job.now) (limits_in job.now.limits) job.now.threads step.now }
+    requires own { header_in own.now ≡ own_header job.now number items.now }
+    ensures stands { (functions : Functions) (all : List Kept) → all ≡ [] → functions job.now.stamp.now ≡ F.answer (arc_value function.now)
+        → IfOk result (λ place. SliceStandsAt (job_in job.now) functions (F.answer (arc_value function.now)) (limits_in job.now.limits) number items.now place.stage (⟦<RecordsRun<F> as Standing>⟧.standing place.run) place.rows.items all) }
+    ensures fresh { IfOk result (λ place. place.has_failed ≡ false) }
+    ensures told { IfOk result (λ place. IsTold place.has_failed place.stage (⟦<RecordsRun<F> as Standing>⟧.standing place.run) place.rows.items) }
+    ensures faults { IfOk result (λ place. place.faults.items ≡ []) }
+    ensures why { (all : List Kept) → IfErr result (IsResumeCause job.now (F.answer (arc_value function.now)) number items.now all) }
+{
+    let first = header_checkpoint(alloc, own)?;
+    begun(alloc, job, step, function, items, Stage::Blank(first))
+}
+
+/// Begins after the header, which has these limits.
+fn after_header<F: RowFunction + Drop>(
+    alloc: Global,
+    job: &SliceJob,
+    step: &RecordsStep,
+    function: &Arc<F, Global>,
+    items: &PackedList,
+    limits: SliceLimits,
+) -> Result<SlicePlace<F>, SliceRunError>
+    requires step { IsStepOfSlice (job_in job.now) (limits_in job.now.limits) job.now.threads step.now }
+    ensures stands { (functions : Functions) (number : ℕ) (first : Kept) (h : Header) (all : List Kept) → all ≡ first ∷ [] → IsKeptAs (Begins h) first → h.limits ≡ limits_in limits → functions h.stamp ≡ F.answer (arc_value function.now)
+        → KeepsSlice (job_in job.now) functions number items.now all
+        → IfOk result (λ place. SliceStandsAt (job_in job.now) functions (F.answer (arc_value function.now)) (limits_in job.now.limits) number items.now place.stage (⟦<RecordsRun<F> as Standing>⟧.standing place.run) place.rows.items all) }
+    ensures stage { IfOk result (λ place. place.stage ≡ Begun) }
+    ensures faults { IfOk result (λ place. place.faults.items ≡ []) }
+    ensures fresh { IfOk result (λ place. place.has_failed ≡ false) }
+    ensures told { IfOk result (λ place. IsTold place.has_failed place.stage (⟦<RecordsRun<F> as Standing>⟧.standing place.run) place.rows.items) }
+    ensures why { (number : ℕ) (first : Kept) → ((h : Header) → IsKeptAs (Begins h) first → h.limits ≡ limits_in limits)
+        → IfErr result (IsResumeCause job.now (F.answer (arc_value function.now)) number items.now (first ∷ [])) }
+{
+    checkpoints_are_told();
+    refuse_lowered(job.limits, limits)?;
+    begun(alloc, job, step, function, items, Stage::Begun)
+}
+
+/// Resumes after these intervals, the last of which is this one, and which go on by these limits.
+fn behind<F: RowFunction + Drop>(
+    alloc: Global,
+    job: &SliceJob,
+    step: &RecordsStep,
+    function: &Arc<F, Global>,
+    items: &PackedList,
+    limits: SliceLimits,
+    later: &[Checkpoint],
+    last: &Checkpoint,
+) -> Result<SlicePlace<F>, SliceRunError>
+    requires step { IsStepOfSlice (job_in job.now) (limits_in job.now.limits) job.now.threads step.now }
+    requires last { slice_get later.now (length later.now - 1) ≡ Some last.now }
+    ensures underway { (functions : Functions) (number : ℕ) (first : Kept) (h : Header) → IsKeptAs (Begins h) first → h.limits ≡ limits_in limits → functions h.stamp ≡ F.answer (arc_value function.now)
+        → KeepsSlice (job_in job.now) functions number items.now (first ∷ map kept later.now)
+        → IfOk result (λ place. IsUnderway (job_in job.now) functions (F.answer (arc_value function.now)) (limits_in job.now.limits) number items.now (⟦<RecordsRun<F> as Standing>⟧.standing place.run) place.rows.items (first ∷ map kept later.now)) }
+    ensures stage { IfOk result (λ place. place.stage ≡ Underway) }
+    ensures faults { (functions : Functions) (number : ℕ) (first : Kept) → KeepsSlice (job_in job.now) functions number items.now (first ∷ map kept later.now)
+        → IfOk result (λ place. HoldsFaults (map faults_held place.faults.items) (first ∷ map kept later.now)) }
+    ensures fresh { IfOk result (λ place. place.has_failed ≡ false) }
+    ensures told { IfOk result (λ place. IsTold place.has_failed place.stage (⟦<RecordsRun<F> as Standing>⟧.standing place.run) place.rows.items) }
+    ensures done { (functions : Functions) (number : ℕ) (first : Kept) (h : Header) → IsKeptAs (Begins h) first → h.limits ≡ limits_in limits → functions h.stamp ≡ F.answer (arc_value function.now)
+        → KeepsWhole (job_in job.now) functions (limits_in job.now.limits) number items.now (first ∷ map kept later.now)
+        → IfOk result (λ place. IsRunDone place.has_failed place.stage (⟦<RecordsRun<F> as Standing>⟧.standing place.run)) }
+    ensures why { (number : ℕ) (first : Kept) → ((h : Header) → IsKeptAs (Begins h) first → h.limits ≡ limits_in limits)
+        → IfErr result (IsResumeCause job.now (F.answer (arc_value function.now)) number items.now (first ∷ map kept later.now)) }
+{
+    rules_are_kept();
+    rows_are_progress();
+    checkpoints_are_told();
+    let held = read_slice(alloc, limits, later, job.partitions)?;
+    refuse_lowered(job.limits, held.limits)?;
+    let rows = {
+        let saved = read_saved(alloc, last.saved.as_bytes())?;
+        Vec::from_slice(alloc, saved.rows())?
+    };
+    let (results, faults) = parts_of(alloc, held.partitions)?;
+    let run = RecordsRun::begin_behind(
+        alloc,
+        step,
+        function,
+        items,
+        last.saved.as_bytes(),
+        results,
+    )?;
+    Ok(SlicePlace {
+        run,
+        rows,
+        faults,
+        has_failed: false,
+        stage: Stage::Underway,
+    })
+}
+
+/// Resumes the slice of this number, with these items, after its checkpoints. It begins if there is none, or the header alone. A slice with another
+/// stamp is resumed if the job keeps that stamp. Limits may be raised.
+///
+/// # Errors
+/// `Checkpoints` with `OtherJob`, `OtherSlice`, `OtherItems` or `OtherStamp` if the header is refused, with `LoweredLimit`, with `Damaged`, with
+/// `TooLong` if a text or an item is too long for its bytes, and with `Memory`. `Step` if the step isn't begun.
+pub fn resume<F: RowFunction + Drop>(
+    alloc: Global,
+    job: &SliceJob,
+    number: u64,
+    function: &Arc<F, Global>,
+    items: &PackedList,
+    done: &[Checkpoint],
+) -> Result<SlicePlace<F>, SliceRunError>
+    ensures stands { (functions : Functions) → AreOf functions (F.answer (arc_value function.now)) (stamps_in job.now) → KeepsSlice (job_in job.now) functions number items.now (map kept done.now)
+        → IfOk result (λ place. SliceStandsAt (job_in job.now) functions (F.answer (arc_value function.now)) (limits_in job.now.limits) number items.now place.stage (⟦<RecordsRun<F> as Standing>⟧.standing place.run) place.rows.items (map kept done.now)) }
+    ensures faults { (functions : Functions) → KeepsSlice (job_in job.now) functions number items.now (map kept done.now)
+        → IfOk result (λ place. HoldsFaults (map faults_held place.faults.items) (map kept done.now)) }
+    ensures told { IfOk result (λ place. IsTold place.has_failed place.stage (⟦<RecordsRun<F> as Standing>⟧.standing place.run) place.rows.items) }
+    ensures done { (functions : Functions) → AreOf functions (F.answer (arc_value function.now)) (stamps_in job.now)
+        → KeepsWhole (job_in job.now) functions (limits_in job.now.limits) number items.now (map kept done.now)
+        → IfOk result (λ place. place.stage ≡ Underway → IsRunDone place.has_failed place.stage (⟦<RecordsRun<F> as Standing>⟧.standing place.run)) }
+    ensures fresh { IfOk result (λ place. place.has_failed ≡ false) }
+    ensures later { 2 ≤ length done.now → IfOk result (λ place. place.stage ≡ Underway) }
+    ensures own { OnOk result (IsFirstOwn (own_header job.now number items.now) (kept_stamps job.now) (map kept done.now)) }
+    ensures cause { IfErr result (IsResumeCause job.now (F.answer (arc_value function.now)) number items.now (map kept done.now)) }
+{
+    rows_are_progress();
+    checkpoints_are_told();
+    let step = job.step(alloc)?;
+    let own = header_of(alloc, job, number, items)?;
+    let Some((first, later)) = done.split_first() else {
+        return blank(alloc, job, &step, function, number, items, &own);
+    };
+    let limits = own_limits(alloc, &own, job.stamps, first)?;
+    match later.last() {
+        None => after_header(alloc, job, &step, function, items, limits),
+        Some(last) => behind(alloc, job, &step, function, items, limits, later, last),
+    }
+}
