@@ -5,15 +5,16 @@
 
 First a checkpoint by itself: 500 of them, fewer of the largest ones, each with the saved text of eight rows and with results of so many
 bytes, by the program `checkpoint`: microseconds of processor time, and of wall time the least and the median, which a busy machine makes many
-times longer; and the bytes that FILE has for each at the end. Then a payroll of 1,000,000 time sheets in eight partitions and chunks of 100,
-with a checkpoint for about each second's work, beside the same step in memory alone, by the program `unkept`, which is built of the payroll's
-own function: their pay slips are compared, they take turns, and `cpu s` is the least processor time of some runs of each, all threads
-together. `to unkept` is the one by the other.
+times longer; and the bytes that FILE has for each at the end. Then a payroll of 1,000,000 time sheets in slices of 100,000, eight partitions
+and chunks of 100, with a checkpoint for about each second's work, beside one step of all of them in memory alone, by the program `unkept`, which
+is built of the payroll's own function: their pay slips are compared, they take turns, and `cpu s` is the least processor time of some runs of
+each, all threads together. `to unkept` is the one by the other. `checkpoints` and `bytes kept` are those of all slices.
 
 The programs are no part of the gate (programs.py); the payroll is the gate's, `crates/payroll/out/payroll`, or the one that PAYROLL names. The
 files stand in the temporary folder, or in PATH: on another disk a checkpoint takes another time. No number here decides the gate.
 """
 import argparse
+import glob
 import os
 import random
 import statistics
@@ -25,7 +26,7 @@ from measure import TOP, measure
 from programs import build
 
 sys.path.append(os.path.join(TOP, "tools"))
-import checkpoints
+from zurnaskil import checkpoints
 
 PAYROLL = os.environ.get("PAYROLL") or os.path.join(TOP, "crates/payroll/out/payroll")
 MILLION = 1_000_000
@@ -35,19 +36,26 @@ THREADS = (1, 4)
 
 
 def write_sheets(path, count):
-    """Time sheets, of which one in fifty has no pay slip, and the first try at one in two hundred fails: so few that no partition of a
-    million reaches its limit of retries."""
+    """Time sheets, of which one in fifty has no pay slip."""
     chance = random.Random(1)
     with open(path, "w", encoding="utf-8") as file:
         for number in range(count):
             hours = "forty" if number % 50 == 7 else chance.randint(0, 200)
-            file.write(f"n{number},{hours},{chance.randint(1, 9_999)}{',shaky' if number % 200 == 3 else ''}\n")
+            file.write(f"n{number},{hours},{chance.randint(1, 9_999)}\n")
+
+
+def asked_of(path, question):
+    """The number that a database answers, once all of its log is in it."""
+    with checkpoints.opened(path) as base:
+        return base.execute(question).fetchone()[0]
 
 
 def bytes_kept(path):
-    """How many bytes the database has, once all of its log stands in it."""
-    with checkpoints.opened(path) as base:
-        return base.execute("SELECT page_count * page_size FROM pragma_page_count, pragma_page_size").fetchone()[0]
+    return asked_of(path, "SELECT page_count * page_size FROM pragma_page_count, pragma_page_size")
+
+
+def checkpoints_kept(path):
+    return asked_of(path, "SELECT count(*) FROM checkpoint")
 
 
 def print_checkpoints(program, folder):
@@ -86,14 +94,16 @@ def print_payrolls(unkept, folder, asked):
     write_sheets(sheets, asked.records)
     print(f"\n{'':<40} {'unkept cpu s':>13} {'kept cpu s':>11} {'to unkept':>10} {'checkpoints':>12} {'bytes kept':>11}")
     for threads in asked.threads:
-        files = [os.path.join(folder, f"{threads}-{run}.db") for run in range(asked.runs + 1)]
-        if slips_of([PAYROLL, str(threads), files[-1]], sheets) != slips_of([unkept, str(threads)], sheets):
+        payroll = [PAYROLL, "--threads", str(threads)]
+        jobs = [os.path.join(folder, f"{threads}-{run}") for run in range(asked.runs + 1)]
+        if slips_of([*payroll, jobs[-1]], sheets) != slips_of([unkept, str(threads)], sheets):
             sys.exit("the payroll and the step in memory don't write the same")
-        turns = [(cpu_of([unkept, str(threads)], sheets), cpu_of([PAYROLL, str(threads), file], sheets)) for file in files[:-1]]
+        turns = [(cpu_of([unkept, str(threads)], sheets), cpu_of([*payroll, job], sheets)) for job in jobs[:-1]]
         without, kept = map(min, zip(*turns))
-        count = checkpoints.run_of(files[0]).checkpoints
+        slices = glob.glob(os.path.join(jobs[0], "slice-*.db"))
+        count, size = sum(map(checkpoints_kept, slices)), sum(map(bytes_kept, slices))
         what = f"{asked.records:,} time sheets, {threads} thread{'s' if threads > 1 else ''}"
-        print(f"{what:<40} {without:>13.2f} {kept:>11.2f} {kept / without:>10.2f} {count:>12} {bytes_kept(files[0]):>11,}", flush=True)
+        print(f"{what:<40} {without:>13.2f} {kept:>11.2f} {kept / without:>10.2f} {count:>12} {size:>11,}", flush=True)
 
 
 def main():

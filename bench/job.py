@@ -4,8 +4,8 @@
     bench/job.py [--sheets N] [--program PATH] [--plain] [--runs N] [--folder PATH]
 
 Each reads N time sheets (1,000,000 if it isn't given), lines as `N0,37,4512`, and writes their pay slips. `payroll` runs on one thread and
-on four, with its checkpoints in a file; it is the gate's, or the one that PAYROLL or --program names. `unkept` is the same step of the same
-function in memory, and keeps nothing; programs.py proves and builds it, unless BENCH_BUILT names a folder that has it. `plain Rust`
+on four, in slices of 100,000 with their checkpoints in files; it is the gate's, or the one that PAYROLL or --program names. `unkept` is one step
+of all of them in memory, by the same function, and keeps nothing; programs.py proves and builds it, unless BENCH_BUILT names a folder that has it. `plain Rust`
 (job/main.rs) and `Python` (job/plain.py) run on one thread, and keep nothing. `Python, kept` (job/kept.py) keeps each second's work in a file
 by `sqlite3`, as `payroll` does. First their pay slips are compared, of the time sheets and of the payroll's stored run; where they differ, the
 script ends.
@@ -31,6 +31,7 @@ import glob
 import itertools
 import os
 import re
+import shutil
 import subprocess
 import sys
 import tempfile
@@ -49,8 +50,8 @@ STORED = os.path.join(TOP, "crates/payroll")
 
 @dataclasses.dataclass
 class Job:
-    """A program: what it is called, its words, whether the name of a file that isn't there yet goes behind them, how many time sheets
-    callgrind runs at most."""
+    """A program: what it is called, its words, whether the name of a file or folder that isn't there yet goes after them, how many time
+    sheets callgrind runs at most."""
 
     name: str
     words: list
@@ -67,10 +68,11 @@ def write_sheets(path, count):
 
 
 def new_files(folder):
-    """Names of files that aren't there, since a file whose run is completed has its pay slips already. The one before is removed."""
+    """Names of files or folders that aren't there, since one whose run is completed has its pay slips already. The one before is removed."""
     for number in itertools.count():
-        path = os.path.join(folder, f"{number}.db")
+        path = os.path.join(folder, f"kept-{number}")
         yield path
+        shutil.rmtree(path, ignore_errors=True)
         for part in glob.glob(path + "*"):
             os.unlink(part)
 
@@ -85,9 +87,9 @@ def plain_rust(room):
     return program
 
 
-def on_threads(name, program, is_kept):
+def on_threads(name, words, is_kept):
     for threads in (1, 4):
-        yield Job(f"{name}, {threads} thread{'s' if threads > 1 else ''}", [program, str(threads)], is_kept)
+        yield Job(f"{name}, {threads} thread{'s' if threads > 1 else ''}", [*words, str(threads)], is_kept)
 
 
 def jobs_of(asked, room):
@@ -96,8 +98,8 @@ def jobs_of(asked, room):
     if not asked.plain:
         if not os.access(asked.program, os.X_OK):
             sys.exit(f"no program {asked.program}: tools/build-program payroll builds it")
-        yield from on_threads("`payroll`", os.path.abspath(asked.program), True)
-        yield from on_threads("`unkept`", programs.build("unkept", os.path.join(room, "unkept")), False)
+        yield from on_threads("`payroll`", [os.path.abspath(asked.program), "--threads"], True)
+        yield from on_threads("`unkept`", [programs.build("unkept", os.path.join(room, "unkept"))], False)
     python = [sys.executable, "-B"]
     yield Job("plain Rust", [plain_rust(room)])
     yield Job("Python", [*python, os.path.join(BENCH, "job/plain.py")], most_counted=MOST_COUNTED_OF_PYTHON)

@@ -1,8 +1,8 @@
 """The payroll as a program of Python that keeps checkpoints: `kept.py FILE`, time sheets on standard input, pay slips on standard output.
 
-As `payroll` does, it reads all time sheets, keeps their digest and the pay slips of each second's work in FILE, a database of SQLite, by one
-commit that waits for the disk, and writes the pay slips at the end. Called again with the same time sheets, it resumes after the last
-commit; it refuses others. A stop in between loses at most a second's work."""
+It reads all time sheets, keeps their digest and the pay slips of each second's work in FILE, a database of SQLite, by one commit that waits
+for the disk, and writes the pay slips at the end. `payroll` does so for each slice. Called again with the same time sheets, it resumes after
+the last commit; it refuses others. A stop in between loses at most a second's work."""
 import csv
 import hashlib
 import io

@@ -3,15 +3,18 @@
 #SBATCH --signal=B:USR1@90
 # A job array of Slurm: each task runs its slice, and where it is run again, goes on from its last report. 90 seconds before its time is
 # over Slurm sends USR1: the task ends with the run that is at work, and is put into the queue again. A cancel (scancel) sends TERM: it
-# ends in the same way, and stays out of the queue. A stopped task that isn't in the queue says what to type.
+# ends in the same way, and stays out of the queue. A stopped task that isn't in the queue says what to type. Slurm kills what hasn't ended 30
+# seconds after a TERM (KillWait), so a run has about 15 seconds of rounds; RUN_SECONDS names another number.
 #
 # `cut` prints the line that submits it, with the numbers of the tasks and what each asks for:
 #
-#     sbatch --wait --array=0-15 --cpus-per-task=2 --mem=104M --time=7 examples/array/slurm.sh examples/array/task slices
+#     sbatch --wait --array=0-15 --cpus-per-task=2 --mem=104M --time=7 --output=slices/task-%a.log --open-mode=append \
+#         examples/array/slurm.sh examples/array/task slices
 #
 # The first argument is the script `task`, seen from the folder in which sbatch is called, on a file system that all nodes see, since
 # Slurm runs a copy of this script. The status is the task's. SCONTROL names Slurm's command, else it is scontrol.
 set -eu
+export RUN_SECONDS="${RUN_SECONDS:-15}"
 
 task= happened=stopped
 

@@ -1,5 +1,5 @@
 """A step in rounds: its plans, what its analyzer hears, how its reducer is called, and its report."""
-import limits
+from .. import limits
 
 from . import chunks, rows
 from .parts import Refused

@@ -2,7 +2,7 @@
 import dataclasses
 import pathlib
 
-TOP = pathlib.Path(__file__).resolve().parent.parent.parent
+TOP = pathlib.Path(__file__).resolve().parents[3]
 DEFINITION, TYPE, INTERFACE = "definition", "type", "interface"
 
 

@@ -1,7 +1,7 @@
 """The job record: its fault classes, and how each of its steps does its chunks and is divided."""
 from collections import namedtuple
 
-import limits
+from .. import limits
 
 from .parts import Table, listed, number, text
 from .plans import ONE_PARTITION, PARTITION

@@ -10,10 +10,10 @@ import subprocess
 import sys
 import tempfile
 
-from rules.parts import is_whole as is_number
-from rules.rows import METRICS, NUMBERS, STATES, row_of, skips_of
+from .rules.parts import is_whole as is_number
+from .rules.rows import METRICS, NUMBERS, STATES, Row, row_of, skips_of
 
-TOP = os.path.dirname(os.path.dirname(os.path.realpath(__file__)))
+TOP = os.path.dirname(os.path.dirname(os.path.dirname(os.path.realpath(__file__))))
 PROGRAM = os.environ.get("BATCHRUN") or os.path.join(TOP, "crates/batchrun/out/batchrun")
 UNPROVED = os.path.join(TOP, "crates/batchrun/out/unproved/quiet/batchrun")
 HEADINGS = ["partition", "records", "at", "state", *METRICS, "in_place", "left"]
@@ -50,7 +50,7 @@ def end_with_the_reader():
         signal.signal(number, signal.SIG_DFL)
 
 
-def program_of(tool, is_unproved):
+def program_of(tool: str, is_unproved: bool) -> str:
     """The program that a tool runs. The unproved one is built here, if it isn't current, and the tool says so; Refused if that can't be."""
     if not is_unproved:
         return PROGRAM
@@ -91,7 +91,7 @@ def tree_in(path):
     return tree_of(content_of(path), path)
 
 
-def put_in_place(path, content, is_new=False):
+def put_in_place(path: str, content: bytes, is_new: bool = False) -> None:
     """Writes a file beside its place and renames it, so that what stands there is whole, whenever this is killed. With `is_new` nothing may
     stand there: else FileExistsError is raised."""
     with tempfile.NamedTemporaryFile(dir=os.path.dirname(path) or ".", prefix=f".{os.path.basename(path)}.", delete=False) as part:
@@ -120,7 +120,7 @@ def name_new(part, path):
         os.unlink(part)
 
 
-def shown(value):
+def shown(value: object) -> str:
     """A value of a JSON tree on one line, cut where it is long."""
     text = ""
     for part in json.JSONEncoder().iterencode(value):
@@ -130,7 +130,7 @@ def shown(value):
     return text
 
 
-def numbered_in(folder):
+def numbered_in(folder: str) -> list[tuple[int, str]]:
     """The numbers and places of the reports that `run-job` keeps in a folder, the last one last."""
     names = os.listdir(folder) if os.path.exists(folder) else []
     numbers = sorted(int(match[1]) for name in names if (match := re.fullmatch(r"report-([1-9]\d{0,8})\.json", name)))
@@ -180,14 +180,14 @@ def is_plan(plan):
     return isinstance(plan, list) and len(plan) == 3 and is_text(plan[0]) and all(map(is_number, plan[1:]))
 
 
-def rows_of(rows, version, place):
+def rows_of(rows: list, version: int, place: str) -> list[Row]:
     found = [row_of(row, version) for row in rows]
     for partition, row in enumerate(found):
         checked(row is not None and row.lo <= row.at <= row.hi, f"{place}[{partition}] isn't a partition's row")
     return found
 
 
-def step_of(tree, place):
+def step_of(tree: dict, place: str) -> Step:
     is_step = has_keys(tree, STEP_KEYS) and is_text(tree["step"]) and is_text(tree["status"])
     checked(is_step and isinstance(tree["plans"], list), f"{place} isn't a step of a report")
     checked(is_saved(tree["saved"]), f"{place}.saved isn't a saved object of version 1 or 2")
@@ -197,7 +197,7 @@ def step_of(tree, place):
     return Step(tree["step"], tree["status"], tree["plans"], rows, tree)
 
 
-def joined_of(tree):
+def joined_of(tree: dict) -> Report:
     """What `join` prints, as the report of a job whose one step is completed; that all rows are done is what `join` looks at."""
     checked(is_text(tree["job"]) and is_text(tree["step"]) and isinstance(tree["rows"], list), "the text isn't what join prints")
     version = 1 if tree["rows"] and isinstance(tree["rows"][0], list) and len(tree["rows"][0]) == NUMBERS[1] + 1 else 2
@@ -209,7 +209,7 @@ def joined_of(tree):
     return Report(tree["job"], "COMPLETED", [Step(tree["step"], "COMPLETED", [], rows, tree)])
 
 
-def report_in(text, what="the text"):
+def report_in(text: str | bytes, what: str = "the text") -> Report:
     """The report, or Refused with the place where it isn't one."""
     tree = tree_of(text, what)
     if has_keys(tree, JOINED_KEYS) and not has_keys(tree, REPORT_KEYS):
@@ -222,7 +222,7 @@ def report_in(text, what="the text"):
 # ---- sums
 
 
-def sums_of(steps):
+def sums_of(steps: list[Step]) -> dict[str, int]:
     """The sums of these steps: records, skips, partitions by their states, plans and rounds, the metrics and the repeats in place."""
     rows, plans = [row for step in steps for row in step.rows], [plan for step in steps for plan in step.plans]
     return {
@@ -239,7 +239,7 @@ def sums_of(steps):
     }
 
 
-def in_words(sums):
+def in_words(sums: dict[str, int]) -> str:
     """How far the records are, and which partitions didn't get there."""
     failed = [f"{sums['partitions_failed']} of {sums['partitions']} partitions failed"] if sums["partitions_failed"] else []
     waiting = [f"{sums['partitions_waiting']} not at their end"] if failed and sums["partitions_waiting"] else []
@@ -254,7 +254,7 @@ def line_of(partition, row):
     return [partition, f"[{row.lo},{row.hi})", row.at, row.state, *numbers, row.hi - row.at]
 
 
-def table(rows, sums):
+def table(rows: list[Row], sums: dict[str, int]) -> list[str]:
     """The lines of a table: one for each partition, and their sums."""
     lines = [line_of(partition, row) for partition, row in enumerate(rows)]
     cells = [HEADINGS, *lines, ["all", "", "", "", *(sums[name] for name in SUMMED)]]

@@ -1,7 +1,7 @@
 """What a restart goes on from: the rows that a run before has saved, and its outputs."""
 from collections import namedtuple
 
-import limits
+from .. import limits
 
 from .parts import Table, bytes_in, is_whole
 from .plans import MOST_PAIRS, overlaps

@@ -1,7 +1,7 @@
 """The documents of the words, and what no JSON Schema can say of one."""
 from collections import namedtuple
 
-import limits
+from .. import limits
 
 from .data import FAULTS, Data, data_of
 from .job import CHUNK, JOB, classes_of

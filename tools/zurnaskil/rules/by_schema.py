@@ -4,7 +4,7 @@ import json
 import pathlib
 import re
 
-SCHEMAS = pathlib.Path(__file__).resolve().parents[2] / "docs/schema"
+SCHEMAS = pathlib.Path(__file__).resolve().parents[3] / "docs/schema"
 # The keys of all objects, those of each in the order of its table in docs/FORMATS.md.
 ORDER = (
     "job data resume id exception-classes step chunk partition plan item-count skip-limit retry-limit skippable-exception-classes"

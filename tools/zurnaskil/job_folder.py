@@ -1,7 +1,7 @@
 """The folder in which `run-job` keeps a job's reports.
 
     report-7.json    the last reports, each put in its place whole
-    earlier.jsonl    of each report before these, which are removed, a line with its rows
+    earlier.jsonl    of each run a line with its begin and its end; and of each report before these, which are removed, a line with its rows
     data.json        what the records, the prefix and the drop of each step were: their number, a digest, the two texts
     skipped.jsonl    all skips, by record
 
@@ -12,8 +12,10 @@ import hashlib
 import json
 import os
 import re
+import tempfile
+import time
 
-import reports
+from . import reports
 
 PARTIAL = re.compile(r"\.(report-\d+\.json|skipped\.jsonl|data\.json)\.\w{8}")  # what a killed call leaves of a file
 DATA_PARTS = {"records": "other records", "prefix": "another prefix", "drop": "another drop"}
@@ -104,6 +106,24 @@ class Folder:
         for earlier in self.kept[: -self.most_kept]:
             self.remove(*earlier)
 
+    def keep_run(self, name, began, status, rounds):
+        """Writes when a run began, which ends now; None is the name of one whose report isn't kept. Where it can't be written, all else stands."""
+        tree = {"run": name, "began": clock(began), "ended": clock(time.time()), "status": status, "rounds": rounds}
+        try:
+            append_line(self.place("earlier.jsonl"), json.dumps(tree, separators=(",", ":")).encode())
+        except OSError:
+            pass
+
+    def check_writable(self):
+        """Refuses a folder in which no file can be written, before a run."""
+        try:
+            with tempfile.NamedTemporaryFile(dir=self.path, prefix=".data.json.") as part:
+                part.write(b"\n")
+                part.flush()
+                os.fsync(part.fileno())
+        except OSError as fault:
+            raise Ended(4, f"{self.path} can't be written: {fault.strerror}; nothing was run") from None
+
     def remove(self, place, report):
         """Removes a report, where it is still there, once its rows stand in earlier.jsonl; where they can't be written, it stays."""
         if not os.path.exists(place):
@@ -156,6 +176,11 @@ def locked(path):
     return folder
 
 
+def clock(seconds):
+    """A time by the clock, of the world's day."""
+    return time.strftime("%Y-%m-%dT%H:%M:%SZ", time.gmtime(seconds))
+
+
 def is_same(place, content):
     """Whether the file holds this already."""
     try:
@@ -201,8 +226,11 @@ def step_of(tree):
 
 def append_line(path, line):
     """Writes a line behind the others, on one of its own also where a killed call left the front of one."""
-    with open(path, "ab") as file:
-        file.write(b"\n" * (file.tell() > 0) + line)
+    with open(path, "a+b") as file:
+        end = file.tell()
+        file.seek(max(end - 1, 0))
+        is_cut = file.read(1) not in (b"", b"\n")
+        file.write(b"\n" * is_cut + line + b"\n")
         file.flush()
         os.fsync(file.fileno())
 

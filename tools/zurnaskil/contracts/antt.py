@@ -3,7 +3,7 @@ import re
 
 from .pieces import DEFINITION, Piece
 
-BEGIN = re.compile(r"(?:abbrev pub|unfoldable pub|pub record|pub data|abbrev|unfoldable)\s+(\S+)")
+BEGIN = re.compile(r"(?:abbrev pub|unfoldable pub|pub record|pub data|abbrev|unfoldable|pub(?! (?:mod|use|open)\b))\s+(\S+)")
 MUTUAL = re.compile(r"pub ([\w']+) :")
 CONSTRUCTOR = re.compile(r"\s+(?:pub )?([\w']+) :")
 IMPORT = re.compile(r"[ \t]*(?:ghost |pub )?use Rattle\.([\w.]+?)(?:\.\{([^}]*)\}| as (\w+));?[ \t]*$", re.MULTILINE)

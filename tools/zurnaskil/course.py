@@ -1,10 +1,10 @@
 """What became of a job's steps over all its reports: which records were skipped, at which a partition failed, and the lines on them."""
 import json
 
-import reports
-from rules import history, rows
-from rules.chunks import Fault
-from rules.documents import chunks_of
+from . import reports
+from .rules import history, rows
+from .rules.chunks import Fault
+from .rules.documents import chunks_of
 
 SHOWN = 5  # skips of a partition that are printed
 

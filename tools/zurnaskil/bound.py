@@ -5,14 +5,15 @@ import dataclasses
 import json
 import math
 
-import limits
-from rules.plans import even_ranges
+from . import limits
+from .rules.plans import even_ranges
 
 A_TASK, MINUTES = 64_000_000, 5  # bytes of memory and minutes of any task
 # Of what is counted: how many bytes of memory one takes, and how many of them are done in a minute.
 BYTES_OF_ONE = {"bytes": 40, "records": 300, "values": 1_500, "entries": 400, "attempts": 700}
 IN_A_MINUTE = {"bytes": 200_000_000, "records": 1_000_000, "values": 1_000_000, "attempts": 100_000, "repeated": 100_000_000}
-FIRST_ROUNDS, ATTEMPTS_OF_A_RUN = 100_000, 1_000_000_000 // BYTES_OF_ONE["attempts"]  # attempts whose history takes a gigabyte
+# Of a first run: how long it may take, and what an attempt and a record of its chunk may, in microseconds.
+A_FIRST_RUN, AN_ATTEMPT, A_RECORD = 3_000_000, 100, 2
 UNSHAPED = (LookupError, TypeError, ValueError, AttributeError)  # of a tree that is no document
 
 
@@ -152,10 +153,18 @@ def asked_by(document, length):
 
 
 def first_rounds(document):
-    """How many rounds a first run may have, so that their history takes at most a gigabyte: a round has an attempt on each thread."""
+    """How many rounds a first run has, so that it is short on a slow machine, too: a round has an attempt on each thread. One digit of the number
+    is enough."""
     try:
-        plans = [step.get("partition", {}).get("plan", {}) for step in document["job"]["step"]]
-        threads = [plan.get("threads", 0) or len(plan.get("ranges", [])) or plan.get("partitions", 1) for plan in plans]
-        return min(FIRST_ROUNDS, ATTEMPTS_OF_A_RUN // min(max(threads), limits.THREADS))
+        steps = [(numbers, step.get("partition", {}).get("plan", {})) for numbers, step in zip(all_numbers(document), document["job"]["step"])]
+        of_rounds = [threads_of(plan) * (AN_ATTEMPT + A_RECORD * min(numbers.item_count, max(numbers.lengths, default=1))) for numbers, plan in steps]
+        rounds = max(A_FIRST_RUN // max(of_rounds), 1)
     except UNSHAPED:
-        return FIRST_ROUNDS
+        return 1
+    digit = 10 ** (len(str(rounds)) - 1)
+    return rounds // digit * digit
+
+
+def threads_of(plan):
+    """The threads of a plan, where 0 stands for the number of its partitions."""
+    return min(plan.get("threads", 0) or len(plan.get("ranges", [])) or plan.get("partitions", 1), limits.THREADS)

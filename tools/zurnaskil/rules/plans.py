@@ -2,7 +2,7 @@
 import itertools
 from collections import namedtuple
 
-import limits
+from .. import limits
 
 from .parts import Refused, Table, flag, is_whole, listed, number
 

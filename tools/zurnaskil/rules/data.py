@@ -2,7 +2,7 @@
 import bisect
 import functools
 
-import limits
+from .. import limits
 
 from .job import known_class
 from .parts import Table, is_whole, items, listed, text

@@ -1,7 +1,7 @@
 """A partition's row: its numbers, their rules, and how saved objects and reports list it."""
 import collections
 
-import limits
+from .. import limits
 
 from .parts import is_whole
 
