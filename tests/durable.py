@@ -1,24 +1,28 @@
-"""What the scripts on the durable payroll have in common: made-up time sheets with the pay slips that they have, a life of the payroll
-with the moment at which it is killed, and what its file has to keep."""
+"""What the scripts on the payroll have in common: made-up time sheets with the pay slips that they have, runs of the payroll with the moment at
+which one is killed, and what the files of its slices have to keep."""
+import contextlib
 import csv
 import io
+import os
 import pathlib
 import re
+import sqlite3
 import subprocess
 import sys
 
 TOP = pathlib.Path(__file__).resolve().parent.parent
 sys.path.append(str(TOP / "tools"))
-import checkpoints
+from zurnaskil import checkpoints, job_slices as slices
 
 PAYROLL = TOP / "crates" / "payroll" / "out" / "payroll"
 JOB_STATUS = TOP / "tools" / "job-status"
 TABLE = "CREATE TABLE checkpoint (number INTEGER PRIMARY KEY, saved TEXT NOT NULL, results BLOB NOT NULL, link BLOB NOT NULL) STRICT"
-LONGEST = 120  # seconds of a life
-NAMED = re.compile(rb"[A-Z][A-Za-z]+(\([A-Za-z0-9()]+\))?: [^\n]+\n")  # the line of a refusal, on standard error
-THREADS = [0, 1, 2, 3, 4, 8, 64]
-CALM = 200  # time sheets of which no first try fails, so that whole chunks are committed; among as many others some fail
-LENGTHS = [254, 255, 256, 509, 510, 511]  # of names, in bytes: round those at which a size takes one byte more
+COMPLETED, FAILED, STOPPED, REFUSED, LATER, WORDS = 0, 1, 2, 3, 4, 5  # exit statuses
+LONGEST = 120  # seconds of a run
+IN_MEMORY = "/dev/shm" if os.access("/dev/shm", os.W_OK) else None  # a run waits for the disk at each checkpoint, and here it needn't
+NAMED = re.compile(rb"[A-Z][A-Za-z]+(\([A-Za-z0-9() ]+\))?: [^\n]+\n")  # the line of a refusal, on standard error
+THREADS = [1, 2, 3, 4, 8, 64]
+LENGTHS = [254, 255, 256, 509, 510, 511]  # of names, in bytes: about those at which a size takes one byte more
 
 
 # ---- made-up payrolls
@@ -32,8 +36,6 @@ def sheet(chance, number):
         return f"{name},forty,{rate}", None  # it has no pay slip: skipped
     if kind < 0.06:
         return f"{name},{hours}", None
-    if kind < 0.14 and number // CALM % 2 == 0:
-        return f"{name},{hours},{rate},shaky", f"{name},{hours * rate}"  # its first try fails, and is made again
     if kind > 0.98:
         name = f'"{name}, jr"'
     elif kind > 0.97:
@@ -43,27 +45,64 @@ def sheet(chance, number):
     return f"{name},{hours},{rate}", f"{name},{hours * rate}"
 
 
+class Sheets:
+    """The time sheets of a payroll, and of each its pay slip, or None if it has none: both are worked out here, not by the program."""
+
+    def __init__(self, pairs):
+        self.pairs = list(pairs)
+        self.text = text_of(line for line, _ in self.pairs)
+
+    def __len__(self):
+        return len(self.pairs)
+
+    def slips(self, count=None):
+        """The pay slips of the first time sheets, as the program writes them."""
+        return text_of(slip for _, slip in self.pairs[:count] if slip is not None)
+
+    def skips(self, count=None):
+        return sum(slip is None for _, slip in self.pairs[:count])
+
+    def lines(self):
+        return self.text.splitlines(keepends=True)
+
+
 def made_up(chance, sheets):
-    """The time sheets of a payroll and its pay slips, worked out here and not by the program."""
-    pairs = [sheet(chance, number) for number in range(sheets)]
-    return text_of(line for line, _ in pairs), text_of(slip for _, slip in pairs if slip is not None)
+    return Sheets(sheet(chance, number) for number in range(sheets))
 
 
 def text_of(lines):
     return "".join(f"{line}\n" for line in lines).encode()
 
 
-# ---- lives
+# ---- runs
 
 
-def life(program, threads, file, sheets, **given):
-    """A whole life of the payroll."""
-    return subprocess.run([program, str(threads), str(file)], input=sheets, capture_output=True, timeout=LONGEST, **given)
+def words_of(program, folder, words, threads):
+    return [str(program), "--threads", str(threads), *words, str(folder)]
 
 
-def killed_life(program, threads, file, sheets, seconds):
-    """A life that is killed after so many seconds, if it hasn't ended by then. The time sheets come from a file: none waits in a pipe."""
-    with subprocess.Popen([program, str(threads), str(file)], stdin=sheets, stdout=subprocess.PIPE, stderr=subprocess.PIPE) as child:
+def environment_of(job):
+    """The environment by which the payroll of small.py takes another job: `skip_limit=3` is JOB_SKIP_LIMIT=3."""
+    return os.environ | {f"JOB_{name.upper()}": str(value) for name, value in job.items() if value is not None}
+
+
+def run(program, folder, sheets, *words, threads=2, job=None, **given):
+    """A whole run of the payroll, by so many threads; with `job`, of another job."""
+    given |= {"env": environment_of(job)} if job else {}
+    return subprocess.run(words_of(program, folder, words, threads), input=sheets, capture_output=True, timeout=LONGEST, **given)
+
+
+@contextlib.contextmanager
+def started(program, folder, sheets, *words, threads=2, job=None, output=subprocess.PIPE):
+    """A run that was started. The time sheets come from this file: none waits in a pipe."""
+    streams = {"stdout": output, "stderr": subprocess.PIPE, "env": environment_of(job or {})}
+    with open(sheets, "rb") as given, subprocess.Popen(words_of(program, folder, words, threads), stdin=given, **streams) as child:
+        yield child
+
+
+def killed_run(program, folder, sheets, seconds, *words, **how):
+    """A run that is killed after so many seconds, if it hasn't ended by then."""
+    with started(program, folder, sheets, *words, **how) as child:
         try:
             output, error = child.communicate(timeout=seconds)
         except subprocess.TimeoutExpired:
@@ -72,65 +111,87 @@ def killed_life(program, threads, file, sheets, seconds):
     return subprocess.CompletedProcess(child.args, child.returncode, output, error)
 
 
-def is_refusal(done):
-    """Whether it ended with a named refusal, and without a pay slip."""
-    return done.returncode == 3 and not done.stdout and bool(NAMED.fullmatch(done.stderr.splitlines(keepends=True)[-1] if done.stderr else b""))
+def last_line(done):
+    return done.stderr.splitlines(keepends=True)[-1] if done.stderr else b""
+
+
+def is_refusal(done, slips=b""):
+    """Whether it ended with a named refusal, and wrote no more than a front of these pay slips."""
+    return done.returncode in (REFUSED, LATER) and slips.startswith(done.stdout) and bool(NAMED.fullmatch(last_line(done)))
 
 
 def told(done):
-    """A life that ended otherwise, on one line."""
-    return f"status {done.returncode}, {len(done.stdout)} bytes {done.stdout[:40]!r}, {done.stderr[-160:]!r}"
+    """A run that ended otherwise, on one line."""
+    return f"status {done.returncode}, {len(done.stdout)} bytes {done.stdout[:40]!r}, {done.stderr[-240:]!r}"
 
 
-# ---- what a file keeps
+# ---- what the files keep
 
 
-def kept_in(file):
-    """The checkpoints of a copy of both files: (number, saved, results, link). None where there is no file, or no table in it yet."""
+def kept_by(file):
+    """The checkpoints of a copy of a slice's file and its log: (number, saved, results, link). None of them if there is no table yet."""
     try:
         with checkpoints.refusing(file), checkpoints.opened(str(file)) as base:
             if base.execute("PRAGMA integrity_check").fetchall() != [("ok",)]:
                 raise checkpoints.Refused("Damaged", f"{file} isn't sound")
             if base.execute("SELECT count(*) FROM sqlite_master").fetchone() == (0,):
                 return []
-            return base.execute("SELECT number, saved, results, link FROM checkpoint ORDER BY number").fetchall()
+            return base.execute("SELECT number, CAST(saved AS BLOB), results, link FROM checkpoint ORDER BY number").fetchall()
     except checkpoints.Refused as refused:
         if refused.name in ("NoFile", "Empty"):
             return []
         raise
 
 
-def faults_of(file, before):
-    """What a file keeps after a life, and a line for each thing that is wrong with it. `before`: what it kept before that life."""
+def kept_in(folder):
+    """The checkpoints of each slice of a folder, by its number, as far as it has some."""
+    found = {number: kept_by(slices.path_of(folder, number)) for number in slices.numbers_in(folder)} if os.path.isdir(folder) else {}
+    return {number: kept for number, kept in found.items() if kept}
+
+
+def faults_of(folder, before):
+    """What a folder keeps after a run, and a line for each thing that is wrong with it. `before`: what it kept before that run."""
     try:
-        kept = kept_in(file)
-        run = checkpoints.run_of(str(file)) if kept else None
+        after = kept_in(folder)
+        lines = [line for number, kept in after.items() for line in faults_in(number, kept, before.get(number, []))]
     except checkpoints.Refused as refused:
         return before, [str(refused)]
-    lines = []
-    if [number for number, *_ in kept] != list(range(1, len(kept) + 1)):
-        lines.append("its checkpoints aren't numbered from 1 on")
+    return after, lines + [f"slice {number} has no checkpoint any more" for number in before.keys() - after.keys()]
+
+
+def faults_in(number, kept, before):
+    """A line for each thing that is wrong with the checkpoints of a slice."""
+    if [place for place, *_ in kept] != list(range(1, len(kept) + 1)):
+        yield f"the checkpoints of slice {number} aren't numbered from 1 on"
     if kept[: len(before)] != before:
-        lines.append(f"it had {len(before)} checkpoints, and has others now: {len(kept)}")
-    if run and not has_results(run, kept):
-        lines.append("its results aren't as many packed records as its rows say")
-    return kept, lines
+        yield f"slice {number} had {len(before)} checkpoints, and has others now: {len(kept)}"
+    link = checkpoints.NO_LINK
+    for place, saved, results, own in kept:
+        link = checkpoints.link_of(link, place, saved, results)
+        if own != link:
+            yield f"checkpoint {place} of slice {number} has another link than it must have"
+    try:
+        found = slices.slice_in([(saved, results) for _, saved, results, _ in kept])
+        if found.header["slice"] != number or not has_results(found, kept):
+            yield f"the results of slice {number} aren't as many packed records as its rows say, or it is another slice"
+    except checkpoints.Refused as refused:
+        yield f"slice {number}: {refused}"
 
 
-def has_results(run, kept):
+def has_results(found, kept):
     """Whether each partition has as many results, over all checkpoints, as its row has written, and each is a packed record."""
-    news = [checkpoints.news_of(coded, run.form.partitions) for _, _, coded, _ in kept[1:]]
-    if None in news or any(checkpoints.fields_in(packed) is None for new in news for results in new for packed in results):
+    news = [slices.news_of(coded, found.header["partitions"])[1] for _, _, coded, _ in kept[1:]]
+    if any(slices.fields_in(packed) is None for new in news for results, _, _ in new for packed in results):
         return False
-    return [row.written for row in run.rows] == [sum(len(new[place]) for new in news) for place in range(run.form.partitions)]
+    written = [sum(len(new[place][0]) for new in news) for place in range(len(found.rows))]
+    are_skips = [len(faults) == row.PROCESS_SKIP for faults, row in zip(found.skips, found.rows)]
+    return [row.written for row in found.rows] == written and all(are_skips)
 
 
-def slips_in(file):
-    """All pay slips that a file has, partition by partition, as lines of CSV. None where a result is no packed record."""
-    with checkpoints.opened(str(file)) as base:
-        joined = checkpoints.results_in(base, checkpoints.run_in(base, file).form.partitions)
-    records = [checkpoints.fields_in(packed) for results in joined for packed in results]
-    return None if None in records else lines_of(records)
+def slips_in(folder):
+    """All pay slips that a folder has, slice by slice, as lines of CSV."""
+    results = [result for _, kept in sorted(kept_in(folder).items()) for result in slices.results_in([row[1:3] for row in kept])]
+    return lines_of(map(slices.fields_in, results))
 
 
 def lines_of(records):
@@ -138,3 +199,37 @@ def lines_of(records):
     text = io.StringIO()
     csv.writer(text, lineterminator="\n").writerows([field.decode("latin-1") for field in fields] for fields in records)
     return text.getvalue().encode("latin-1")
+
+
+# ---- files that are made here
+
+
+def remove(file):
+    """Removes a slice's file and its log."""
+    for part in ("", checkpoints.LOG):
+        pathlib.Path(f"{file}{part}").unlink(missing_ok=True)
+
+
+def make_file(file, kept):
+    """A slice's file with these checkpoints, and no log: of each its text and its results. Their numbers and links are as they have to be."""
+    remove(file)
+    with contextlib.closing(sqlite3.connect(file)) as base:
+        base.execute(TABLE)
+        link = checkpoints.NO_LINK
+        for number, (saved, results) in enumerate(kept, 1):
+            link = checkpoints.link_of(link, number, saved, results)
+            base.execute("INSERT INTO checkpoint VALUES (?, ?, ?, ?)", (number, saved.decode(), results, link))
+        base.commit()
+
+
+def with_header(kept, **changed):
+    """The checkpoints of a slice under a header in which this is another: `slice_length=5`. `digest` may be one of them."""
+    tree, lists = slices.header_in(*kept[0]), slices.lists_in(kept[0][1])
+    digest = changed.pop("digest", lists[0][0])
+    tree |= {name.replace("_", "-"): value for name, value in changed.items()}
+    return [(slices.text_of(tree), slices.coded(slices.lists_of_header(tree, digest))), *kept[1:]]
+
+
+def cut_back(file, most):
+    """Takes all checkpoints of a slice but so many away, as an older copy has them."""
+    make_file(file, [row[1:3] for row in kept_by(file)][:most])
