@@ -7,6 +7,7 @@ pub mod Joining
 mod Matching
 pub mod Owning
 pub mod Sinks
+mod Skipping
 pub mod Taking
 mod Worked
 pub mod Writing

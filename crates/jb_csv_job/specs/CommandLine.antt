@@ -44,8 +44,9 @@ abbrev pub program : Text → App
 program name = record (new_app name) { top = record (new_app name).top { no_binary_name = true; has_version = true } }
 
 abbrev pub job_app : (name : Text) → (own : Option Text) → App
-job_app name own = with_rule (with_own (with_rule (with_rule (with_rule (with_rule (with_rule (with_rule (program name)
-    (option_rule (codes "threads"))) (option_rule (codes "part"))) (flag_rule (codes "collect"))) (many_rule (codes "keep-stamp"))) (option_rule (codes "output"))) (option_rule (codes "records"))) own) folder_rule
+job_app name own = with_rule (with_own (with_rule (with_rule (with_rule (with_rule (with_rule (with_rule (with_rule (program name)
+    (option_rule (codes "threads"))) (option_rule (codes "part"))) (flag_rule (codes "collect"))) (many_rule (codes "keep-stamp"))) (option_rule (codes "output"))) (option_rule (codes "skipped")))
+    (option_rule (codes "records"))) own) folder_rule
 
 -- ---- what their values ask for, by the first value of an option, and by all of them
 
@@ -61,6 +62,7 @@ pub record IsLine (first : Text → Option Text) (all : Text → Option (List Te
   pub task : task_in (is_collect (first (codes "collect"))) (first (codes "part")) ≡ Some asked.task
   pub records : asked.records ≡ option_and_then (number_between 0 (2 ^ 64 - 1)) (first (codes "records"))
   pub output : option_map string_bytes asked.output ≡ first (codes "output")
+  pub skipped : option_map string_bytes asked.skipped ≡ first (codes "skipped")
   pub own_is : option_map string_bytes asked.own ≡ option_and_then first own
 
 -- why a value isn't taken

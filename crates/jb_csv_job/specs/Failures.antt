@@ -31,7 +31,7 @@ folder_text folder folder_fault.NotAFolder = Some (codes "NotAFolder: " ++ (fold
 folder_text folder (folder_fault.CannotMake error) = None
 
 abbrev pub output_text : (path : List ℕ) → OutputFault → Option (List ℕ)
-output_text path output.NotAFile = Some (codes "NotAFile: " ++ (path ++ codes " is no regular file. Name another one by --output, or leave it out and write to standard output."))
+output_text path output.NotAFile = Some (codes "NotAFile: " ++ (path ++ codes " is no regular file. Name another one, or leave its option out."))
 output_text path output.Busy = Some (codes "Busy: another process is writing " ++ (path ++ codes ". Type the same line again when it has ended."))
 output_text path (output.CannotWrite error) = None
 

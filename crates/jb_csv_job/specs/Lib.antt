@@ -10,6 +10,7 @@ pub mod Parsing
 pub mod Paths
 pub mod Reports
 pub mod Sinks
+pub mod Skipped
 pub mod SliceTexts
 pub mod Slices
 pub mod Statuses

@@ -31,6 +31,8 @@ pub struct Asked {
     pub records: Option<u64>,
     /// The path of the file that gets the results. There is none with a part.
     pub output: Option<String>,
+    /// The path of the file that gets the records that were skipped, and those by which partitions failed.
+    pub skipped: Option<String>,
     /// The value of the program's own option.
     pub own: Option<String>,
     pub ghost some: { 1 ≤ threads },

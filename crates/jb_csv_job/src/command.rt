@@ -156,6 +156,13 @@ pub(crate) fn command<'a>(
     let command = with_option(
         alloc,
         command,
+        "skipped",
+        "PATH",
+        "Write the skipped records, and those by which partitions failed, to PATH.part, and rename it to PATH at the end",
+    )?;
+    let command = with_option(
+        alloc,
+        command,
         "records",
         "N",
         "Refuse an input with another number of records: at its end at the latest, before the last slice is run",

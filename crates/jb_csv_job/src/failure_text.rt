@@ -96,7 +96,7 @@ impl<'a> fmt::Display for OutputText<'a> {
         match self.why {
             OutputFault::NotAFile => write!(
                 f,
-                "NotAFile: {path} is no regular file. Name another one by --output, or leave it out and write to standard output."
+                "NotAFile: {path} is no regular file. Name another one, or leave its option out."
             ),
             OutputFault::Busy => write!(
                 f,

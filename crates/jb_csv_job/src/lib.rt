@@ -6,7 +6,7 @@
 //! - `reading`: the records of a slice. `work`, `one_slice`: a slice over its file; `folder`, `path`: the file's path. `kinds`: files of another kind.
 //! - `giving`, `sink`, `output`: results to their taker. `tally`: what is kept from slice to slice.
 //! - `stored`, `keeper`: what files hold before and after, as contracts see it.
-//! - `report`, `progress`, `meter`: lines on standard error. `history`: the folder's history; `stopping`: the file that stops a job.
+//! - `report`, `progress`, `meter`: lines on standard error. `skipped`: the list of skipped records. `history`: the folder's history; `stopping`: the file that stops a job.
 //! - `exit`: the status; `failure`: why there is no answer, with `failure_status`, `failure_text`, `slice_text` and `reason`.
 #![tactic(auto)]
 
@@ -38,6 +38,7 @@ mod reason;
 mod report;
 mod run;
 mod sink;
+mod skipped;
 mod slice_text;
 mod stopping;
 mod stored;

@@ -117,6 +117,7 @@ pub(crate) fn asked_in(
     if matches!(task, Task::Part { .. }) && output.is_some() {
         return Err(Failure::Words(WordsFault::PartAndOutput));
     }
+    let skipped = own_text(alloc, matches.get_str("skipped"))?;
     let Some(folder) = matches.get_str("FOLDER") else {
         return Err(Failure::Words(WordsFault::NoFolder));
     };
@@ -133,6 +134,7 @@ pub(crate) fn asked_in(
         task,
         records,
         output,
+        skipped,
         own,
     })
 }

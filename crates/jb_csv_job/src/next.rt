@@ -128,9 +128,10 @@ pub(crate) fn next_slice<
         work.job,
         work.asked.folder.as_str(),
         number,
+        &*rows,
         reader.lines(),
         &end,
-    );
+    )?;
     let goes_on = settle(work, &end, sink, tally)?;
     if is_last {
         return Ok(false);

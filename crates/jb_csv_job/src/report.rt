@@ -3,14 +3,18 @@
 ghost use Rattle.std.specs.Prelude.{◌≡◌, ◌+◌, ◌≤◌, length, OnOk};
 ghost use Rattle.jb_csv_job.specs.Reports.{line_at, named_skips};
 
+use crate::asked::Asked;
+use crate::failure::Failure;
 use crate::history::{Event, note, skips_by_class};
 use crate::host::Host;
 use crate::job::CsvJob;
 use crate::meter::Meter;
 use crate::progress::clear_line;
+use crate::skipped::{SkipList, SliceRecords};
 use jb_answers::{FaultClass, name_of};
+use jb_rows::Rows;
 use jb_slice_durable::SliceEnd;
-use jb_slice_run::{Failure, Fault};
+use jb_slice_run::{Failure as FailedPartition, Fault};
 use std::fmt;
 use std::time::Clock;
 
@@ -91,7 +95,7 @@ impl<'a> fmt::Display for FailText<'a> {
 }
 
 /// The line in which the record of this number begins, if `first` is the number of the first of these records; 0 if it isn't among them.
-fn line_at(lines: &[u64], first: u64, number: u64) -> u64
+pub(crate) fn line_at(lines: &[u64], first: u64, number: u64) -> u64
     ensures { result ≡ line_at lines.now first number }
 {
     let place = number.saturating_sub(first) as usize;
@@ -111,21 +115,35 @@ fn named_of(before: u64, skips: &[Fault]) -> &[Fault]
 }
 
 /// Reports on standard error which records were skipped, and which failed. The first ten skipped ones of the job are named, and the others
-/// counted.
+/// counted. With `--skipped` it lists all of them too, in a file.
 #[derive(Drop)]
 pub struct Reporter {
+    list: Option<SkipList>,
     /// How many records were skipped so far.
     skips: u64,
     meter: Meter,
 }
 
 impl Reporter {
-    /// Of a run that begins now.
-    pub fn new<C: Clock>(clock: &C) -> Reporter {
-        Reporter {
+    /// Of a run that begins now. `header` is the header row of the input, if there is one.
+    ///
+    /// # Errors
+    /// `Output`: the file of `--skipped` isn't written. `Memory`.
+    pub fn open<T: Host + Clock>(
+        rt: &T,
+        job: &CsvJob,
+        asked: &Asked,
+        header: &Rows,
+    ) -> Result<Reporter, Failure> {
+        let list = match &asked.skipped {
+            Some(path) => Some(SkipList::open(rt.host(), job, header, path.as_str())?),
+            None => None,
+        };
+        Ok(Reporter {
+            list,
             skips: 0,
-            meter: Meter::new(clock),
-        }
+            meter: Meter::new(rt),
+        })
     }
 
     /// The meter of the run, if so many records are read, perhaps all, and so many are said to be there.
@@ -141,15 +159,19 @@ impl Reporter {
     }
 
     /// Reports the end of a slice, and keeps it in the history of FOLDER. `lines` has the line of each of its records.
+    ///
+    /// # Errors
+    /// `Output`: the file of `--skipped` isn't written. `Memory`.
     pub fn report<T: Eprint + Host>(
         &mut self,
         rt: &T,
         job: &CsvJob,
         folder: &str,
         slice: u64,
+        records: &Rows,
         lines: &[u64],
         end: &SliceEnd,
-    ) {
+    ) -> Result<(), Failure> {
         note_slice(rt.host(), job, folder, slice, end);
         clear_line(rt);
         let first = slice.saturating_mul(job.slice_length);
@@ -165,10 +187,30 @@ impl Reporter {
         for failure in &end.failures {
             report_failure(rt, job.classes, slice, first, lines, failure);
         }
+        match &mut self.list {
+            Some(list) => {
+                let of = SliceRecords {
+                    records: records.as_list(),
+                    lines,
+                    first,
+                };
+                list.write(
+                    rt.host().alloc(),
+                    job.classes,
+                    &of,
+                    &end.skips,
+                    &end.failures,
+                )
+            }
+            None => Ok(()),
+        }
     }
 
-    /// Reports how many skipped records weren't named.
-    pub fn finish<T: Eprint + Host>(&self, rt: &T, job: &CsvJob) {
+    /// Reports how many skipped records weren't named. The file of `--skipped` gets its name.
+    ///
+    /// # Errors
+    /// `Output`.
+    pub fn finish<T: Eprint + Host>(&mut self, rt: &T, job: &CsvJob) -> Result<(), Failure> {
         let others = self.skips.saturating_sub(MOST_NAMED);
         if others > 0 {
             clear_line(rt);
@@ -177,6 +219,10 @@ impl Reporter {
                 records: job.records,
             };
             let _told = eprintln!(rt; "{text}");
+        }
+        match self.list.take() {
+            Some(list) => list.close(rt.host()),
+            None => Ok(()),
         }
     }
 }
@@ -200,7 +246,7 @@ fn report_failure<T: Eprint>(
     slice: u64,
     first: u64,
     lines: &[u64],
-    failure: &Failure,
+    failure: &FailedPartition,
 ) {
     let text = FailText {
         slice,

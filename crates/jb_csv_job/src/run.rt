@@ -74,7 +74,7 @@ fn all_slices<
         → IsLeftOfAny (job_record work.now.job.now work.now.asked.now (F.answer (arc_value function.now))) functions (image_by H.log H.db) (K.may_leave keeper.old k items image) k items image }
 {
     let mut rows = Rows::new(rt.host().alloc());
-    let mut reporter = Reporter::new(rt);
+    let mut reporter = Reporter::open(rt, work.job, work.asked, reader.header())?;
     let mut tally = Tally::new();
     for number in 0..u64::MAX {
         let more = match next_slice::<F, T, H, K, R, N>(
@@ -93,7 +93,7 @@ fn all_slices<
             Err(failure) => return Err(failure),
         };
         if !more {
-            reporter.finish(rt, work.job);
+            reporter.finish(rt, work.job)?;
             return Ok(tally.end());
         }
     }

@@ -13,6 +13,7 @@ returns c =
     let third = c.in_ok-command-3.ensures ∙ ap (λ a. with_rule a (flag_rule (codes "collect"))) second in
     let fourth = c.in_ok-command-4.ensures ∙ ap (λ a. with_rule a (many_rule (codes "keep-stamp"))) third in
     let fifth = c.in_ok-command-5.ensures ∙ ap (λ a. option a (codes "output")) fourth in
-    let sixth = c.in_ok-command-6.ensures ∙ ap (λ a. option a (codes "records")) fifth in
-    let seventh = c.in_ok-command-7.ensures ∙ ap (λ a. with_own a own) sixth in
-    subst (λ a. IfOk c.with_folder.result (λ made. app_of made ≡ with_rule a folder_rule)) seventh c.with_folder.ensures
+    let sixth = c.in_ok-command-6.ensures ∙ ap (λ a. option a (codes "skipped")) fifth in
+    let seventh = c.in_ok-command-7.ensures ∙ ap (λ a. option a (codes "records")) sixth in
+    let eighth = c.in_ok-command-8.ensures ∙ ap (λ a. with_own a own) seventh in
+    subst (λ a. IfOk c.with_folder.result (λ made. app_of made ≡ with_rule a folder_rule)) eighth c.with_folder.ensures

@@ -89,11 +89,25 @@ returns-in_err-end-clause-items g c clean text records read stands k xs image ma
     let own : is_own c.args.work.now.asked.now.task c.args.number ≡ true = search rules in
     of-text job records c.args.number stands.has own c.as_list.result.now (c.as_list.ensures.packed ∙ slice.items) (g.K.Keeper.may_leave c.args.keeper.now k xs image) k xs (c.kept_slice.ensures.items clean k xs image may)
 
+pub returns-in_err-report-clause-crash : goal.returns-in_err-report-clause-crash
+returns-in_err-report-clause-crash g c clean functions stamps k read image may =
+    let job = job_record c.args.work.now.job.now c.args.work.now.asked.now (g.F.RowFunction.answer (arc_value c.args.function.now)) in
+    subst (λ xs. IsLeft job functions (image_by g.H.Stored.log g.H.Stored.db c.args.number) c.args.number xs (g.K.Keeper.may_leave c.args.keeper.now k read image) k read image) c.as_list.ensures.packed
+    (c.kept_slice.ensures.crash clean functions stamps k read image may)
+
 pub returns-in_err-goes_on-clause-crash : goal.returns-in_err-goes_on-clause-crash
 returns-in_err-goes_on-clause-crash g c clean functions stamps k read image may =
     let job = job_record c.args.work.now.job.now c.args.work.now.asked.now (g.F.RowFunction.answer (arc_value c.args.function.now)) in
     subst (λ xs. IsLeft job functions (image_by g.H.Stored.log g.H.Stored.db c.args.number) c.args.number xs (g.K.Keeper.may_leave c.args.keeper.now k read image) k read image) c.as_list.ensures.packed
     (c.kept_slice.ensures.crash clean functions stamps k read image may)
+
+pub returns-in_err-report-clause-items : goal.returns-in_err-report-clause-items
+returns-in_err-report-clause-items g c clean text records read stands k xs image may =
+    let f = g.F.RowFunction.answer (arc_value c.args.function.now) in
+    let job = job_record c.args.work.now.job.now c.args.work.now.asked.now f in
+    let slice = c.in_ok-is_last.ensures.read f text records c.args.number read stands in
+    let own : is_own c.args.work.now.asked.now.task c.args.number ≡ true = search rules in
+    of-text job records c.args.number stands.has own c.as_list.result.now (c.as_list.ensures.packed ∙ slice.items) (g.K.Keeper.may_leave c.args.keeper.now k xs image) k xs (c.kept_slice.ensures.items clean k xs image may)
 
 pub returns-in_err-goes_on-clause-items : goal.returns-in_err-goes_on-clause-items
 returns-in_err-goes_on-clause-items g c clean text records read stands k xs image may =

@@ -5,8 +5,14 @@ use Rattle.jb_csv_job.specs.Job.{job_record}
 use Rattle.jb_csv_job.specs.Kept.{image_by}
 use Rattle.jb_csv_job.specs.Done.{HasTakenSoFar}
 use Rattle.jb_csv_job.specs.Loop.{AreDone, HasGoneOn, IsLeftOfAny, IsOfText, StandsBefore}
+use Rattle.jb_csv_job.proofs.Carrying.{either-way, none-taken}
 use Rattle.jb_csv_job.proofs.Going.{any-left, first-stands, has-ended, left-of-text, none-done, read-of, so-far}
 use Rattle.jb_csv_job.proofs.run.all_slices.Goals as goal
+
+pub returns-in_err-reporter-clause-so_far : goal.returns-in_err-reporter-clause-so_far
+returns-in_err-reporter-clause-so_far g c clean text given functions up =
+    let job = job_record c.args.work.now.job.now c.args.work.now.asked.now (g.F.RowFunction.answer (arc_value c.args.function.now)) in
+    either-way g.N.Sink.may_refuse _ _ (none-taken job functions text g.H.Stored.log g.H.Stored.db up (g.N.Sink.took c.args.sink.now c.args.sink.now) (g.met.N.Sink.none c.args.sink.now))
 
 pub loop-number-init : goal.loop-number-init
 loop-number-init g c =
@@ -90,6 +96,45 @@ returns-then-not-more-clause-left g c clean text given functions up k read image
 
 pub returns-then-not-more-clause-crash : goal.returns-then-not-more-clause-crash
 returns-then-not-more-clause-crash g c clean functions stamps k read image may =
+    let job = job_record c.args.work.now.job.now c.args.work.now.asked.now (g.F.RowFunction.answer (arc_value c.args.function.now)) in
+    let at = c.loop-number.invariant in
+    let next = c.in-Ok.ensures in
+    elim (any-left job functions (image_by g.H.Stored.log g.H.Stored.db) c.loop-number.number _ _ k read image (next.crash clean functions stamps k read image may)) [
+      | inl before ↦ at.crash (next.clean clean) functions stamps k read image before
+      | inr run ↦ inr run
+    ]
+
+pub returns-in_err-finish-clause-so_far : goal.returns-in_err-finish-clause-so_far
+returns-in_err-finish-clause-so_far g c clean text given functions up =
+    let job = job_record c.args.work.now.job.now c.args.work.now.asked.now (g.F.RowFunction.answer (arc_value c.args.function.now)) in
+    let at = c.loop-number.invariant in
+    let next = c.in-Ok.ensures in
+    let there = at.goes (next.clean clean) text given functions up in
+    let read = read-of job functions text g.H.Stored.log g.H.Stored.db up in
+    let stands = at.reads text up.records given read in
+    let r = next.goes clean functions up.stamps text up.records read stands (up.each c.loop-number.number stands.has) c.args.sink.now there.0 there.1 there.2 in
+    either-way g.N.Sink.may_refuse _ _ (so-far job text up.records _ r.0 read r.1 r.2.done.front)
+
+pub returns-in_err-finish-clause-left : goal.returns-in_err-finish-clause-left
+returns-in_err-finish-clause-left g c clean text given functions up k read image may =
+    let job = job_record c.args.work.now.job.now c.args.work.now.asked.now (g.F.RowFunction.answer (arc_value c.args.function.now)) in
+    let at = c.loop-number.invariant in
+    let next = c.in-Ok.ensures in
+    let crash : IsLeftOfAny job functions (image_by g.H.Stored.log g.H.Stored.db) (g.K.Keeper.may_leave c.args.keeper.now k read image) k read image =
+    elim (any-left job functions (image_by g.H.Stored.log g.H.Stored.db) c.loop-number.number _ _ k read image (next.crash clean functions up.stamps k read image may)) [
+      | inl before ↦ at.crash (next.clean clean) functions up.stamps k read image before
+      | inr run ↦ inr run
+    ] in
+    let are = read-of job functions text g.H.Stored.log g.H.Stored.db up in
+    let items : IsOfText job up.records (g.K.Keeper.may_leave c.args.keeper.now k read image) k read =
+    elim (next.items clean text up.records are (at.reads text up.records given are) k read image may) [
+      | inl before ↦ at.items (next.clean clean) text up.records given are k read image before
+      | inr is ↦ inr is
+    ] in
+    left-of-text job functions text g.H.Stored.log g.H.Stored.db up _ k read image crash items
+
+pub returns-in_err-finish-clause-crash : goal.returns-in_err-finish-clause-crash
+returns-in_err-finish-clause-crash g c clean functions stamps k read image may =
     let job = job_record c.args.work.now.job.now c.args.work.now.asked.now (g.F.RowFunction.answer (arc_value c.args.function.now)) in
     let at = c.loop-number.invariant in
     let next = c.in-Ok.ensures in
