@@ -5,7 +5,7 @@ use Rattle.std.proofs.lemmas.List.{length-map}
 use Rattle.jb_collect.specs.declared.calls.Status.TheVariants.{Completed, Failed}
 use Rattle.jb_mapper.specs.EvenCover.{even_ranges}
 use Rattle.jb_records.specs.Shares.{joined}
-use Rattle.jb_slice_durable.specs.declared.end.SliceEnd.{SliceEnd}
+use Rattle.jb_slice_run.specs.declared.durable.end.SliceEnd.{SliceEnd}
 use Rattle.jb_slice_run.specs.Held.{fault_in, faults_in}
 use Rattle.jb_slices.specs.Function.{Fault, all_results, fault_classes, faults_from}
 use Rattle.jb_slices.specs.Job.{HasSlice, IsLastSlice, first_of, rules_of, slice_at}

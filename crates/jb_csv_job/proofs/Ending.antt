@@ -8,8 +8,8 @@ use Rattle.sqlite_wal.specs.Recovery.{Image}
 use Rattle.jb_collect.specs.declared.calls.Status.{Status}
 use Rattle.jb_collect.specs.declared.calls.Status.TheVariants.{Completed, Failed}
 use Rattle.jb_records.specs.Shares.{joined}
-use Rattle.jb_slice_durable.specs.Work.{IsResumed, work_of}
-use Rattle.jb_slice_durable.specs.declared.end.SliceEnd.{SliceEnd}
+use Rattle.jb_slice_run.specs.durable.Work.{IsResumed, work_of}
+use Rattle.jb_slice_run.specs.declared.durable.end.SliceEnd.{SliceEnd}
 use Rattle.jb_slice_file.specs.Connections.{IsJustOpened}
 use Rattle.jb_slice_file.specs.Files.{IsOfARun}
 use Rattle.jb_slice_file.specs.Kept.{Kept}

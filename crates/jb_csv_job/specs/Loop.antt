@@ -6,7 +6,7 @@ use Rattle.jb_collect.specs.declared.calls.Status.TheVariants.{Completed, Failed
 use Rattle.jb_rows.specs.Fields.{Fields, packed}
 use Rattle.jb_rows.specs.Streams.{HasGivenRows}
 use Rattle.jb_rows.specs.declared.rows_reader.RowsReader.{RowsReader}
-use Rattle.jb_slice_durable.specs.declared.end.SliceEnd.{SliceEnd}
+use Rattle.jb_slice_run.specs.declared.durable.end.SliceEnd.{SliceEnd}
 use Rattle.jb_slice_file.specs.Files.{HoldsRun}
 use Rattle.jb_slices.specs.Function.{all_results, fault_classes}
 use Rattle.jb_slices.specs.Job.{HasSlice, IsLastSlice, first_of, slice_at}

@@ -4,8 +4,8 @@ use Rattle.std.specs.Prelude.{ℕ, ◌++◌, List, Option, Some, None, codes, de
 use Rattle.jb_csv_job.specs.Paths.{slice_path}
 use Rattle.jb_records.specs.declared.error.RecordsStepError.{RecordsStepError}
 use Rattle.jb_records.specs.declared.error.RecordsStepError.TheVariants as step
-use Rattle.jb_slice_durable.specs.declared.error.DurableError.{DurableError}
-use Rattle.jb_slice_durable.specs.declared.error.DurableError.TheVariants as run
+use Rattle.jb_slice_run.specs.declared.durable.error.DurableError.{DurableError}
+use Rattle.jb_slice_run.specs.declared.durable.error.DurableError.TheVariants as run
 use Rattle.jb_slice_file.specs.declared.error.StoreError.{StoreError}
 use Rattle.jb_slice_file.specs.declared.error.StoreError.TheVariants as store
 use Rattle.jb_slice_run.specs.declared.error.IdentityPart.{IdentityPart}

@@ -2,7 +2,7 @@
 use Rattle.std.specs.Prelude.{ℕ, ◌≡◌, List}
 use Rattle.jb_collect.specs.declared.calls.Status.TheVariants.{Completed, Failed}
 use Rattle.jb_records.specs.Shares.{joined}
-use Rattle.jb_slice_durable.specs.declared.end.SliceEnd.{SliceEnd}
+use Rattle.jb_slice_run.specs.declared.durable.end.SliceEnd.{SliceEnd}
 use Rattle.jb_slice_run.specs.Held.{faults_in, limits_in}
 use Rattle.jb_slice_run.specs.Jobs.{job_in, stamps_in}
 use Rattle.jb_slice_run.specs.declared.job.SliceJob.{SliceJob}

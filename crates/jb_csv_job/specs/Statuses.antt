@@ -7,8 +7,8 @@ use Rattle.jb_csv_job.specs.declared.failure.FolderFault.{FolderFault}
 use Rattle.jb_csv_job.specs.declared.failure.FolderFault.TheVariants as folder
 use Rattle.jb_csv_job.specs.declared.failure.OutputFault.{OutputFault}
 use Rattle.jb_csv_job.specs.declared.failure.OutputFault.TheVariants as output
-use Rattle.jb_slice_durable.specs.declared.error.DurableError.{DurableError}
-use Rattle.jb_slice_durable.specs.declared.error.DurableError.TheVariants as run
+use Rattle.jb_slice_run.specs.declared.durable.error.DurableError.{DurableError}
+use Rattle.jb_slice_run.specs.declared.durable.error.DurableError.TheVariants as run
 use Rattle.jb_slice_run.specs.declared.error.SliceError.{SliceError}
 use Rattle.jb_slice_run.specs.declared.error.SliceError.TheVariants as slice
 use Rattle.jb_slice_run.specs.declared.run_error.SliceRunError.{SliceRunError}

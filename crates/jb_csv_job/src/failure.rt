@@ -4,7 +4,7 @@ ghost use Rattle.std.specs.Prelude.{◌≡◌};
 ghost use Rattle.jb_csv_job.specs.declared.failure.Failure.TheVariants.{Memory, Rows};
 
 use jb_rows::RowsError;
-use jb_slice_durable::DurableError;
+use jb_slice_run::DurableError;
 use jb_slice_file::StoreError;
 use std::alloc::{AllocError, AllocFailed};
 use std::io;

@@ -6,9 +6,8 @@ ghost use Rattle.jb_csv_job.specs.Statuses.{failure_status, part_status, rows_st
 use crate::failure::{Failure, FolderFault, OutputFault};
 use jb_records::RecordsStepError;
 use jb_rows::RowsError;
-use jb_slice_durable::DurableError;
+use jb_slice_run::{DurableError, SliceError, SliceRunError};
 use jb_slice_file::StoreError;
-use jb_slice_run::{SliceError, SliceRunError};
 use jb_step::StepError;
 
 /// The same line won't help.

@@ -28,7 +28,7 @@ use crate::stored::Stored;
 use crate::tally::{Seam, Tally};
 use crate::work::Work;
 use jb_rows::{RowFunction, Rows, RowsReader};
-use jb_slice_durable::SliceEnd;
+use jb_slice_run::SliceEnd;
 use std::alloc::Global;
 use std::io::Read;
 use std::marker::Brand;

@@ -4,7 +4,7 @@ use crate::history::{Event, note};
 use crate::host::Host;
 use crate::meter::Meter;
 use crate::stopping::is_stopped;
-use jb_slice_durable::{Onlooker, Progress};
+use jb_slice_run::{Onlooker, Progress};
 use std::fmt;
 use std::io::IsTerminal;
 use std::time::Clock;

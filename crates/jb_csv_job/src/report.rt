@@ -13,8 +13,7 @@ use crate::progress::clear_line;
 use crate::skipped::{SkipList, SliceRecords};
 use jb_answers::{FaultClass, name_of};
 use jb_rows::Rows;
-use jb_slice_durable::SliceEnd;
-use jb_slice_run::{Failure as FailedPartition, Fault};
+use jb_slice_run::{Failure as FailedPartition, Fault, SliceEnd};
 use std::fmt;
 use std::time::Clock;
 

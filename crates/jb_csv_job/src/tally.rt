@@ -8,7 +8,7 @@ use crate::failure::Failure;
 use crate::run::JobEnd;
 use jb_base::PackedList;
 use jb_collect::Status;
-use jb_slice_durable::SliceEnd;
+use jb_slice_run::SliceEnd;
 
 /// What is counted from slice to slice.
 #[derive(Clone, Copy, Debug)]

@@ -24,3 +24,4 @@ mod Working
 mod Refusing
 mod Resumed
 mod Naming
+mod durable

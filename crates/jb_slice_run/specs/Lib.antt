@@ -18,3 +18,4 @@ pub mod Work
 pub mod News
 pub mod Causes
 pub mod Named
+pub mod durable

@@ -14,6 +14,7 @@
 mod coding;
 mod decoding;
 mod digest;
+mod durable;
 mod error;
 mod fault;
 mod faults;
@@ -36,6 +37,7 @@ mod strings;
 mod text;
 mod writing;
 
+pub use durable::{DurableError, LastLife, Meaning, Nobody, Onlooker, Progress, SliceEnd, collect_slice, run_slice, slice_through_crashes};
 pub use error::{IdentityPart, SliceError};
 pub use fault::{Fault, PartitionFaults};
 pub use header::{SliceHeader, SliceLimits};

@@ -1,0 +1,57 @@
+use Rattle.std.proofs.Common.{◌≡◌, ◌⊎◌, List, false, inl, inr, map, refl, sym, ap, subst, ◌∙◌}
+use Rattle.jb_collect.specs.declared.calls.Status.TheVariants.{Failed}
+use Rattle.jb_rules.specs.declared.row.Row.{Row}
+use Rattle.jb_slice_file.proofs.Handed.{handed_on}
+use Rattle.jb_step.specs.Statuses.{status_of}
+use Rattle.jb_slice_run.specs.Named.{Faults, HoldsFaults, faults_held}
+use Rattle.jb_slice_run.specs.Work.{HaveRowsEnded}
+use Rattle.jb_slice_run.specs.declared.place.Stage.TheVariants.{Underway}
+use Rattle.jb_slice_run.specs.durable.Refusals.{IsUnended}
+use Rattle.jb_slice_run.specs.durable.Work.{work_of}
+use Rattle.jb_slice_run.specs.declared.durable.error.DurableError.{DurableError}
+use Rattle.jb_slice_run.specs.declared.durable.error.DurableError.TheVariants.{Stopped, TooMany}
+use Rattle.jb_slice_run.proofs.durable.Telling.{has_ended_so, underway_at, whole_completed, with_rows}
+use Rattle.jb_slice_run.proofs.durable.end.ended.Goals as goal
+
+-- why a slice whose intervals were cut off or stopped has no end
+cut_or_stopped : (is_cut : Type 0) (e : DurableError) → ((e ≡ TooMany) × is_cut) ⊎ (e ≡ Stopped) → IsUnended is_cut e
+cut_or_stopped is_cut e (inl (is, cut)) = subst (IsUnended is_cut) (sym is) cut
+cut_or_stopped is_cut e (inr is) = subst (IsUnended is_cut) (sym is) tt
+
+pub returns-in_err-status-clause-why : goal.returns-in_err-status-clause-why
+returns-in_err-status-clause-why g c =
+    handed_on c.from_residual.result c.in_err-status.field-0.0 _ c.from_residual.ensures.1 (cut_or_stopped _ c.in_err-status.field-0.0 c.in_err-status.ensures.cut)
+
+pub returns-clause-ends : goal.returns-clause-ends
+returns-clause-ends g c functions f number items all paused told =
+    let w = work_of c.args.job.now functions f number items in
+    let status = c.in_ok-status.ensures in
+    let stage : c.args.place.stage ≡ Underway = elim status.either [
+      | inl done ↦ told.settled (status.whole done)
+      | inr fails ↦ told.told.kept (told.failed (status.failed fails))
+    ] in
+    let rows = c.deref.ensures.value ∙ c.parts_of-results.ensures.rows in
+    let at = with_rows w _ _ all c.deref.result.now rows (underway_at w _ _ all c.args.place.stage stage paused.place) in
+    let held : map faults_held c.deref-2.result.now ≡ map faults_held c.args.place.faults.items = ap (map faults_held) c.deref-2.ensures.value ∙ c.parts_of-results.ensures.faults in
+    has_ended_so w _ c.deref.result.now all c.checkpoints_are_told.ensures.one c.rows_are_progress.ensures.ends _ c.in_ok-faults.faults at
+    (c.in_ok-faults.ensures functions f w.limits number items _ all at (subst (λ (h : List Faults). HoldsFaults h all) (sym held) paused.faults)) (sym c.deref.ensures.value) c.parts_of-results.ensures.results refl refl
+    (λ done. paused.whole (status.whole done))
+    (λ is.
+    let fails = told.failed (status.failed is) in (
+      paused.by fails,
+      subst (λ (r : List Row). status_of r false ≡ Failed) (sym rows) (told.told.failed fails),
+      subst HaveRowsEnded (sym rows) (told.told.ended fails),
+    ))
+
+pub returns-clause-told : goal.returns-clause-told
+returns-clause-told g c told =
+    let status = c.in_ok-status.ensures in
+    subst (λ (r : List Row). (c.in_ok-status.status ≡ status_of r false) × HaveRowsEnded r) (sym c.parts_of-results.ensures.rows)
+    (elim status.either [
+      | inl done ↦
+          let both = whole_completed c.args.place.rows.items (told.told.whole (told.finished (status.whole done))) in
+          (done ∙ sym both.0, both.1)
+      | inr fails ↦
+          let why = told.failed (status.failed fails) in
+          (fails ∙ sym (told.told.failed why), told.told.ended why)
+    ])

@@ -1,0 +1,53 @@
+//! Where a slice's run stands after the checkpoints of a database that was just opened.
+
+ghost use Rattle.std.specs.Prelude.{◌≤◌, ◌⊎◌, List, length, IfErr, IfOk, IsTrue, OnOk};
+ghost use Rattle.std.specs.Arc.{arc_value};
+ghost use Rattle.sqlite.specs.Held.{state};
+ghost use Rattle.sqlite.specs.State.{HasCleanDisk};
+ghost use Rattle.sqlite_disk.specs.Disk.{MoreFaults};
+ghost use Rattle.sqlite_trees.specs.View.{doubt};
+ghost use Rattle.jb_slice_file.specs.Connections.{IsJustOpened, Keeps};
+ghost use Rattle.jb_slice_file.specs.Kept.{Kept};
+ghost use Rattle.jb_slice_file.specs.Rows.{Has, ShowsList};
+ghost use Rattle.jb_slice_run.specs.Causes.{IsFirstOwn};
+ghost use Rattle.jb_slice_run.specs.Jobs.{kept_stamps, own_header};
+ghost use Rattle.jb_slice_run.specs.durable.Refusals.{IsRefusal, IsUntaken};
+ghost use Rattle.jb_slice_run.specs.durable.Work.{IfResumed, IfShown, IsAtRest, IsSeenDone, IsSeenTold, IsWhole};
+
+use crate::durable::error::DurableError;
+use crate::durable::seen::Placed;
+use jb_base::PackedList;
+use jb_rows::RowFunction;
+use jb_slice_file::{ListEnd, begin};
+use crate::{SliceJob, SlicePlace, resume};
+use sqlite::{Alter, Connection};
+use std::alloc::Global;
+use std::sync::Arc;
+
+/// The slice's run as it stands after the checkpoints of a database that was just opened, and where these end.
+pub(crate) fn resumed<F: RowFunction + Drop, S: Alter>(
+    alloc: Global,
+    conn: &mut Connection<S>,
+    job: &SliceJob,
+    number: u64,
+    function: &Arc<F, Global>,
+    items: &PackedList,
+) -> Result<(SlicePlace<F>, ListEnd), DurableError>
+    ensures shown { IsJustOpened (state S.Store conn.old) → (all : List Kept) → Has (state S.Store conn.old).now.trees all → ShowsList (state S.Store conn.old).now all }
+    ensures rests { IfResumed job.now (F.answer (arc_value function.now)) number items.now (state S.Store conn.old) (state S.Store conn.new) (λ w all. IfOk result (λ r. IsAtRest w (state S.Store conn.new) (⟦<SlicePlace<F> as Placed>⟧.seen r.0) r.1 all)) }
+    ensures told { IfOk result (λ r. IsSeenTold (⟦<SlicePlace<F> as Placed>⟧.seen r.0)) }
+    ensures done { IfResumed job.now (F.answer (arc_value function.now)) number items.now (state S.Store conn.old) (state S.Store conn.new) (λ w all. IsWhole w all → 2 ≤ length all → IfOk result (λ r. IsSeenDone (⟦<SlicePlace<F> as Placed>⟧.seen r.0))) }
+    ensures left { IfShown (state S.Store conn.old) (state S.Store conn.new) (λ all. (db : _) → (state S.Store conn.new).may_leave db → Has db all) }
+    ensures kept { IfShown (state S.Store conn.old) (state S.Store conn.new) (λ all. OnOk result (Keeps (state S.Store conn.new) all)) }
+    ensures own { IfShown (state S.Store conn.old) (state S.Store conn.new) (λ all. OnOk result (IsFirstOwn (own_header job.now number items.now) (kept_stamps job.now) all)) }
+    ensures refused { IfShown (state S.Store conn.old) (state S.Store conn.new) (λ all. IfErr result (λ e. IsRefusal e → IsUntaken job.now (F.answer (arc_value function.now)) number items.now (state S.Store conn.old) (state S.Store conn.new) all e × Keeps (state S.Store conn.new) all)) }
+    ensures cause { IfShown (state S.Store conn.old) (state S.Store conn.new) (λ all. IfErr result (IsUntaken job.now (F.answer (arc_value function.now)) number items.now (state S.Store conn.old) (state S.Store conn.new) all)) }
+    ensures counts { (state S.Store conn.old).faults ≤ (state S.Store conn.new).faults }
+    ensures shut { HasCleanDisk (state S.Store conn.new) → IsTrue (state S.Store conn.old).is_open
+        → IsTrue (state S.Store conn.new).is_open ⊎ MoreFaults (state S.Store conn.old).faults (state S.Store conn.new).faults }
+    ensures clean { doubt (state S.Store conn.old).is_clean ≤ doubt (state S.Store conn.new).is_clean }
+{
+    let (done, end) = begin(alloc, conn)?;
+    let place = resume(alloc, job, number, function, items, &done)?;
+    Ok((place, end))
+}
